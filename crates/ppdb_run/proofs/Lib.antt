@@ -17,6 +17,7 @@ pub mod Composing
 pub mod MapSteps
 pub mod Steps
 pub mod Writing
+pub mod Carried
 pub mod Alone
 pub mod Identity
 pub mod NoClash

@@ -5,7 +5,7 @@ use Rattle.ppdb_base.specs.Files.{Files}
 use Rattle.ppdb_base.specs.Written.{appended}
 use Rattle.ppdb_base.proofs.Written.{appended_nothing}
 use Rattle.ppdb_run_stops.specs.declared.stop.Stop.{Stop}
-use Rattle.ppdb_run.specs.Ends.{IsApart, IsValid, KeepsFiles, OnTask, OnAsked, WritesAgain, WritesValid}
+use Rattle.ppdb_run.specs.Ends.{IsApart, IsValid, KeepsFiles, OnTask, OnAsked, WritesValid}
 use Rattle.ppdb_run_stops.specs.Refusals.{Outcome}
 use Rattle.ppdb_run.specs.Outcome.{IsOutcome, steps_of, written}
 use Rattle.ppdb_run_stops.specs.Causes.{cause_of, refusal_of}
@@ -67,9 +67,6 @@ module _ (task : Task) (output : List ℕ) (files : Option Files) where
 
     pub written_valid : IsValid task bytes → OnOk result (OnTask task files (WritesValid (Some task)))
     written_valid valid = done result (on_written (WritesValid (Some task)) bytes h valid)
-
-    pub written_again : WritesAgain (Some task) (written output bytes) → OnOk result (OnTask task files (WritesAgain (Some task)))
-    written_again again = done result (on_written (WritesAgain (Some task)) bytes h again)
 
   -- where nothing was written the files are as before
   pub nothing_written : (stop : Stop) (old new : Option Files) → new ≡ old → OnTask task files (λ due. LeavesAt (cause_of stop) due.writes old new)

@@ -1,8 +1,9 @@
 -- What a command and its steps come to: an answer, or a stop and what holds then.
-use Rattle.std.specs.Prelude.{ℕ, List, Option, Result, Ok, Err, IfErr, IfSome, OnOk, ◌≡◌, ◌≤◌}
+use Rattle.std.specs.Prelude.{ℕ, List, [], Option, Some, Result, Ok, Err, IfErr, IfSome, OnOk, ◌≡◌, ◌≤◌}
 use Rattle.ppdb_base.specs.{Causes.Rose, Files.Files, Written.{appended, AppendsPrefix}}
 use Rattle.ppdb_run_stops.specs.{declared.status.Status.Status, declared.stop.Stop.Stop, Refusals.Outcome, Causes.{Cause, Unwritten, OutOfMemory, cause_of, refusal_of, status_of, line_of, OnCut}}
-use Rattle.ppdb_run.specs.{Ends.OnSeen, Outcome.{Step, IsEnd, IsOutcome}, Writes.{WritesAll, WritesPrefix}}
+use Rattle.ppdb_run_words.specs.Words.{Task}
+use Rattle.ppdb_run.specs.{Ends.{OnSeen, OnTask, WritesAgain, WritesValid}, Means.WritesMeaning, Outcome.{Step, IsEnd, IsOutcome}, Writes.{WritesAll, WritesPrefix}}
 use Rattle.ppdb_run_stops.specs.declared.status.Status.TheVariants as statuses
 
 -- the files where a command stopped that writes these bytes
@@ -36,6 +37,17 @@ FindsOutcome words files result = OnSeen words files (λ asked all. Finds result
 abbrev pub Leaves : {T : Type 0} → Result T Stop → Option (List ℕ × List ℕ) → Option Files → Option Files → Type 0
 Leaves (Ok _) writes old new = WritesAll writes old new
 Leaves (Err stop) writes old new = LeavesAt (cause_of stop) writes old new
+
+-- What a command that writes a file comes to, by the files that the folder reports before it and after it.
+pub record WritesOutcome {T : Type 0} (task : Task) (result : Result T Stop) (old new : Option Files) : Type 0 where
+  pub found : IfSome old (λ all. Finds result (IsOutcome (Some task) all))
+  pub told : OnTask task old (Settles result)
+  pub silent : OnTask task old (λ due. OnOk result (due.text ≡ []))
+  pub files : OnTask task old (λ due. Leaves result due.writes old new)
+  -- what it wrote is valid, is rebuilt to itself, and means what its inputs meant
+  pub accepted : OnOk result (OnTask task old (WritesValid (Some task)))
+  pub again : OnOk result (OnTask task old (WritesAgain (Some task)))
+  pub means : OnOk result (OnTask task old (WritesMeaning old (Some task)))
 
 -- steps were carried out, and come to an outcome: they were done, or stopped at it, and its text was put
 pub record Delivers {T : Type 0} (steps : Step Outcome) (result : Result T Stop) (old new : Option (List ℕ)) : Type 0 where

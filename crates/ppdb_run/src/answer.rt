@@ -1,14 +1,15 @@
 // The answers to questions about one file: what is read and verified, and what is put.
 ghost use Rattle.std.specs.Prelude.{◌≡◌, ◌≤◌, Some, None, OnOk, IfErr, IfSome};
 ghost use Rattle.ppdb_base.specs.Causes.{Rose};
-ghost use Rattle.ppdb_base.specs.Written.{appended, AppendsPrefix, Puts};
+ghost use Rattle.ppdb_base.specs.Written.{appended, AppendsPrefix};
 ghost use Rattle.ppdb_run.specs.Ends.{OnTask, IsWithinRows, IsWithinBound, ReadsNoRows};
 ghost use Rattle.ppdb_run.specs.Outcome.{IsOutcome, answer_of, id_text, outcome_of};
-ghost use Rattle.ppdb_run_stops.specs.Causes.{cause_of, ComesFrom, no_file, OnCut, OnUntold};
+ghost use Rattle.ppdb_run_stops.specs.Causes.{cause_of, ComesFrom, no_file, OnCut, OnUntold, StopsPutting};
 ghost use Rattle.ppdb_run.specs.Stops.{Settles, Finds};
 ghost use Rattle.ppdb_run_words.specs.Task.{question_of};
 ghost use Rattle.ppdb_run_words.specs.Words.{Ask};
 ghost use Rattle.ppdb_verify.specs.Views.{raw_file};
+ghost use Rattle.ppdb_run_stops.specs.Sinks.{PutsInto};
 
 use crate::form::answer_form;
 use crate::sources::{answer_breaks, answer_links};
@@ -73,7 +74,7 @@ fn put_answer<'a, O: Sink, L: Ledger>(
 ) -> Result<(), Stop<'a>>
     ensures told { Settles result (outcome_of (answer_of (question_of question.entry) name.now (raw_file file.now))) }
     ensures text { OnOk result (O.written out.new ≡ appended (O.written out.old) (outcome_of (answer_of (question_of question.entry) name.now (raw_file file.now))).text) }
-    ensures causes { IfErr result (λ stop. ComesFrom (cause_of stop) ⊥ no_file no_file None ⊥ ⊥ (Rose (O.faults out.old) (O.faults out.new))) }
+    ensures causes { StopsPutting O.faults result out.old out.new }
     ensures silent { IfErr result (λ stop. OnUntold (cause_of stop) (O.written out.new ≡ O.written out.old)) }
     ensures cut { IfErr result (λ stop. OnCut (cause_of stop)
         (AppendsPrefix (O.written out.old) (O.written out.new) (outcome_of (answer_of (question_of question.entry) name.now (raw_file file.now))).text)) }
@@ -109,7 +110,7 @@ fn put_answer<'a, O: Sink, L: Ledger>(
 
 /// Puts the two lines of `id`.
 fn put_id<O: Sink>(printer: Printer<'_>, out: &mut O, file: &Verified<'_>) -> Result<(), WriteError>
-    ensures { Puts result (O.written out.old) (O.written out.new) (O.faults out.old) (O.faults out.new) (id_text printer.entry.form (raw_file file.now)) }
+    ensures { PutsInto O.written O.faults result out.old out.new (id_text printer.entry.form (raw_file file.now)) }
 {
     file.keeps();
     let head = file.head();

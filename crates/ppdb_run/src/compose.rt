@@ -1,12 +1,11 @@
 // The command `compose`: the map of two maps.
-ghost use Rattle.std.specs.Prelude.{◌≡◌, ◌≤◌, ℕ, List, [], Some, None, IfOk, OnOk, IfErr, IfSome};
-ghost use Rattle.ppdb_base.specs.Causes.{Rose};
+ghost use Rattle.std.specs.Prelude.{◌≡◌, ◌≤◌, ℕ, List, IfOk, IfErr, IfSome};
 ghost use Rattle.ppdb_maps.specs.Map.{Map};
 ghost use Rattle.ppdb_maps.specs.Text.{IsMapOf};
-ghost use Rattle.ppdb_run.specs.Ends.{OnTask, WritesValid, IsUnreadOf};
-ghost use Rattle.ppdb_run.specs.Outcome.{IsOutcome, composed_text, steps_of, written};
-ghost use Rattle.ppdb_run_stops.specs.Causes.{cause_of, ComesFrom, OnKept, no_file};
-ghost use Rattle.ppdb_run.specs.Stops.{Settles, Finds, Gives, Leaves};
+ghost use Rattle.ppdb_run.specs.Ends.{IsUnreadOf};
+ghost use Rattle.ppdb_run.specs.Outcome.{composed_text, steps_of, written};
+ghost use Rattle.ppdb_run_stops.specs.Causes.{cause_of, OnKept, StopsInside, StopsReading, StopsWriting};
+ghost use Rattle.ppdb_run.specs.Stops.{Gives, WritesOutcome};
 ghost use Rattle.ppdb_run_words.specs.Words.{Compose};
 
 use crate::map::read_map_file;
@@ -26,24 +25,12 @@ pub fn compose<'a, F: Folder>(
     folder: &mut F,
 ) -> Result<(), Stop<'a>>
     // What it comes to over reported files.
-    ensures found { IfSome (F.files folder.old) (λ all. Finds result (IsOutcome (Some (Compose first.now second.now output.now)) all)) }
-    ensures told { OnTask (Compose first.now second.now output.now) (F.files folder.old) (Settles result) }
-    ensures silent { OnTask (Compose first.now second.now output.now) (F.files folder.old) (λ due. OnOk result (due.text ≡ [])) }
-    ensures files { OnTask (Compose first.now second.now output.now) (F.files folder.old)
-        (λ due. Leaves result due.writes (F.files folder.old) (F.files folder.new)) }
-
-    ensures accepted { OnOk result (OnTask (Compose first.now second.now output.now) (F.files folder.old)
-        (WritesValid (Some (Compose first.now second.now output.now)))) }
+    ensures comes { WritesOutcome (Compose first.now second.now output.now) result (F.files folder.old) (F.files folder.new) }
 
     // What a stop comes from, and what it leaves.
-    ensures causes { IfErr result (λ stop. ComesFrom (cause_of stop)
-        ⊥
+    ensures causes { StopsWriting F.files F.read_faults F.write_faults result folder.old folder.new
         (IsUnreadOf (Compose first.now second.now output.now) (F.files folder.old) (F.reads folder.old) (F.reads folder.new))
-        (λ failed. failed ≡ output.now)
-        (F.files folder.old)
-        (Rose (F.read_faults folder.old) (F.read_faults folder.new))
-        (Rose (F.write_faults folder.old) (F.write_faults folder.new))
-        ⊥) }
+        output.now }
     ensures kept { IfErr result (λ stop. OnKept (cause_of stop) (F.files folder.new ≡ F.files folder.old)) }
 {
     let text = match composed_bytes(alloc, first, second, folder) {
@@ -65,14 +52,8 @@ fn composed_bytes<'a, F: Folder>(
     ensures files { F.files folder.new ≡ F.files folder.old }
     ensures write_faults { F.write_faults folder.new ≡ F.write_faults folder.old }
     ensures later { F.read_faults folder.old ≤ F.read_faults folder.new }
-    ensures causes { (output : List ℕ) → IfErr result (λ stop. ComesFrom (cause_of stop)
-        ⊥
-        (IsUnreadOf (Compose first.now second.now output) (F.files folder.old) (F.reads folder.old) (F.reads folder.new))
-        no_file
-        (F.files folder.old)
-        (Rose (F.read_faults folder.old) (F.read_faults folder.new))
-        ⊥
-        ⊥) }
+    ensures causes { (output : List ℕ) → StopsReading F.files F.read_faults result folder.old folder.new
+        (IsUnreadOf (Compose first.now second.now output) (F.files folder.old) (F.reads folder.old) (F.reads folder.new)) }
 {
     let before = match read_map_file(alloc, first, folder) {
         Ok(map) => map,
@@ -89,7 +70,7 @@ fn composed_bytes<'a, F: Folder>(
 fn text_of_both<'a>(alloc: Global, first: &MapText, second: &MapText) -> Result<Bytes, Stop<'a>>
     ensures told { Gives (λ text. text) result (composed_text first.now second.now) }
     ensures read { IfOk result (λ text. (m : Map) × IsMapOf text m) }
-    ensures causes { IfErr result (λ stop. ComesFrom (cause_of stop) ⊥ no_file no_file None ⊥ ⊥ ⊥) }
+    ensures causes { StopsInside result }
 {
     match compose_maps(alloc, first, second) {
         Ok(text) => Ok(text),

@@ -1,8 +1,8 @@
 // The files that a command reads.
-ghost use Rattle.std.specs.Prelude.{◌≡◌, ◌≤◌, is_ok, length, IfOk, IfErr, IfSome};
-ghost use Rattle.ppdb_base.specs.Causes.{Rose, counted_where};
+ghost use Rattle.std.specs.Prelude.{◌≡◌, ◌≤◌, is_ok, length, IfOk, IfSome};
+ghost use Rattle.ppdb_base.specs.Causes.{counted_where};
 ghost use Rattle.ppdb_run.specs.Outcome.{file_at};
-ghost use Rattle.ppdb_run_stops.specs.Causes.{cause_of, ComesFrom, no_file};
+ghost use Rattle.ppdb_run_stops.specs.Causes.{StopsReading};
 ghost use Rattle.ppdb_run.specs.Stops.{Gives};
 
 use ppdb_base::{Bytes, Folder, List, MAX_FILE_BYTES, ReadError};
@@ -17,14 +17,8 @@ pub fn read_input<'a, F: Folder>(
 ) -> Result<Bytes, Stop<'a>>
     ensures told { IfSome (F.files folder.old) (λ files. Gives (λ bytes. bytes) result (file_at files name.now)) }
     ensures short { IfOk result (λ bytes. length bytes ≤ MAX_FILE_BYTES) }
-    ensures causes { IfErr result (λ stop. ComesFrom (cause_of stop)
-        ⊥
-        (λ failed. (failed ≡ name.now) × (F.reads folder.new ≡ F.reads folder.old))
-        no_file
-        (F.files folder.old)
-        (Rose (F.read_faults folder.old) (F.read_faults folder.new))
-        ⊥
-        ⊥) }
+    ensures causes { StopsReading F.files F.read_faults result folder.old folder.new
+        (λ failed. (failed ≡ name.now) × (F.reads folder.new ≡ F.reads folder.old)) }
     ensures reads { F.reads folder.new ≡ counted_where (is_ok result) (F.reads folder.old) }
     ensures later { F.read_faults folder.old ≤ F.read_faults folder.new }
     ensures files { F.files folder.new ≡ F.files folder.old }

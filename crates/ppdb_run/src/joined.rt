@@ -1,5 +1,5 @@
 // The canonical file of what inputs are joined to.
-ghost use Rattle.std.specs.Prelude.{◌≤◌, ℕ, List, length, None, IfOk, IfErr, IfSome};
+ghost use Rattle.std.specs.Prelude.{◌≤◌, ℕ, List, length, None, IfOk, IfSome};
 ghost use Rattle.ppdb_base.specs.First.{IsAccepted};
 ghost use Rattle.ppdb_values_sound_laws.specs.Sound.{IsSound};
 ghost use Rattle.ppdb_verify.specs.Files.{FileFaults};
@@ -10,7 +10,7 @@ ghost use Rattle.ppdb_run.specs.Joined.{GivesIfSome, IsJoinedFile, joined_steps}
 ghost use Rattle.ppdb_run.specs.MeaningLaws.{SaysButForId};
 ghost use Rattle.ppdb_run.specs.Outcome.{gives, in_limits, written};
 ghost use Rattle.ppdb_run.specs.Stops.{Gives};
-ghost use Rattle.ppdb_run_stops.specs.Causes.{cause_of, ComesFrom, no_file};
+ghost use Rattle.ppdb_run_stops.specs.Causes.{StopsInside};
 ghost use Rattle.ppdb_run_words.specs.Task.{inputs_of};
 
 use crate::joined_value::{input_of, joined_value_bytes};
@@ -39,7 +39,7 @@ pub(crate) fn joined_bytes<'a, L: Ledger>(
         Gives (written output) result (joined_steps (inputs_of inputs.entry) output (record { keep_id = keep_id; marks = marks }) merger.entry.traces) }
     ensures joined { IfOk result (IsJoinedFile keep_id merger.entry.traces) }
     ensures accepted { IfOk result (λ bytes. IsAccepted (FileFaults bytes)) }
-    ensures causes { IfErr result (λ stop. ComesFrom (cause_of stop) ⊥ no_file no_file None ⊥ ⊥ ⊥) }
+    ensures causes { StopsInside result }
 {
     match merger.misfit() {
         Some(error) => return Err(Stop::Unfit(inputs.file(input_of(error)), error)),
@@ -70,7 +70,7 @@ fn rows_bytes<'a, L: Ledger>(
     ensures says { IfOk result (λ file. IfSome file (λ bytes. SaysButForId bytes (joined_inputs (moved_inputs inputs.now)))) }
     ensures again { (output : List ℕ) (marks : List (List ℕ)) →
         IfOk result (λ file. IfSome file (λ bytes. RebuildsWhereKnown (record { keep_id = keep_id; marks = marks }) (output, bytes))) }
-    ensures causes { IfErr result (λ stop. ComesFrom (cause_of stop) ⊥ no_file no_file None ⊥ ⊥ ⊥) }
+    ensures causes { StopsInside result }
 {
     match write_joined(alloc, inputs, choice(keep_id), key, steps) {
         Ok(file) => Ok(file),

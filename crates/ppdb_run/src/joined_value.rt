@@ -1,5 +1,5 @@
 // The canonical file of what inputs are joined to, from the value of it.
-ghost use Rattle.std.specs.Prelude.{◌≡◌, ◌≤◌, ℕ, List, length, None, Ok, IfOk, IfErr};
+ghost use Rattle.std.specs.Prelude.{◌≡◌, ◌≤◌, ℕ, List, length, Ok, IfOk};
 ghost use Rattle.ppdb_base.specs.First.{IsAccepted};
 ghost use Rattle.ppdb_merge.specs.Together.{joined_of};
 ghost use Rattle.ppdb_values_sound_laws.specs.Sound.{IsSound};
@@ -9,7 +9,7 @@ ghost use Rattle.ppdb_run.specs.Joined.{IsJoinedFile, joined_steps};
 ghost use Rattle.ppdb_run.specs.MeaningLaws.{SaysButForId};
 ghost use Rattle.ppdb_run.specs.Outcome.{all_joined, gives, in_limits, input_in, written};
 ghost use Rattle.ppdb_run.specs.Stops.{Gives};
-ghost use Rattle.ppdb_run_stops.specs.Causes.{cause_of, ComesFrom, no_file};
+ghost use Rattle.ppdb_run_stops.specs.Causes.{StopsInside};
 ghost use Rattle.ppdb_run_words.specs.Task.{inputs_of};
 
 use crate::rebuild::choice;
@@ -36,7 +36,7 @@ pub(crate) fn joined_value_bytes<'a, L: Ledger>(
         Gives (written output) result (joined_steps (inputs_of inputs.entry) output (record { keep_id = keep_id; marks = marks }) merger.entry.traces) }
     ensures joined { IfOk result (IsJoinedFile keep_id merger.entry.traces) }
     ensures accepted { IfOk result (λ bytes. IsAccepted (FileFaults bytes)) }
-    ensures causes { IfErr result (λ stop. ComesFrom (cause_of stop) ⊥ no_file no_file None ⊥ ⊥ ⊥) }
+    ensures causes { StopsInside result }
 {
     let value = match joined(inputs, merger, steps) {
         Ok(value) => value,
@@ -55,7 +55,7 @@ fn joined<'a, L: Ledger>(
     ensures told { Gives (λ value. value) result (gives (all_joined (inputs_of inputs.entry) (joined_of merger.entry.traces))) }
     ensures value { IfOk result (λ value. joined_of merger.entry.traces ≡ Ok value) }
     ensures sound { IfOk result IsSound }
-    ensures causes { IfErr result (λ stop. ComesFrom (cause_of stop) ⊥ no_file no_file None ⊥ ⊥ ⊥) }
+    ensures causes { StopsInside result }
 {
     match merger.finish(steps) {
         Ok(value) => Ok(value),
@@ -87,7 +87,7 @@ fn value_bytes<'a>(
     ensures says { IfOk result (λ bytes. SaysButForId bytes value.now) }
     ensures again { (output : List ℕ) (marks : List (List ℕ)) →
         IfOk result (λ bytes. RebuildsWhereKnown (record { keep_id = keep_id; marks = marks }) (output, bytes)) }
-    ensures causes { IfErr result (λ stop. ComesFrom (cause_of stop) ⊥ no_file no_file None ⊥ ⊥ ⊥) }
+    ensures causes { StopsInside result }
 {
     match write_file_under(alloc, value, choice(keep_id), key) {
         Ok(bytes) => Ok(bytes),

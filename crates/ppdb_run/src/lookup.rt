@@ -1,5 +1,5 @@
 // The command `lookup`: the answers to all that a list asks of one file.
-ghost use Rattle.std.specs.Prelude.{◌≡◌, ◌≤◌, ◌+◌, List, Some, None, OnOk, IfErr, IfSome, length};
+ghost use Rattle.std.specs.Prelude.{◌≡◌, ◌≤◌, ◌+◌, List, Some, OnOk, IfErr, IfSome, length};
 ghost use Rattle.std.specs.Str.Lines.{lines};
 ghost use Rattle.ppdb_base.specs.Causes.{Rose};
 ghost use Rattle.ppdb_base.specs.Written.{appended, AppendsPrefix};
@@ -8,7 +8,7 @@ ghost use Rattle.ppdb_queries_list.specs.declared.line.MethodOffset.{MethodOffse
 ghost use Rattle.ppdb_show.specs.Lookup.{lookup_rows};
 ghost use Rattle.ppdb_run.specs.Ends.{OnTask, IsUnreadOf, IsWithinRows};
 ghost use Rattle.ppdb_run.specs.Outcome.{IsOutcome, form_of, looked_up};
-ghost use Rattle.ppdb_run_stops.specs.Causes.{cause_of, ComesFrom, no_file, OnCut, OnUntold};
+ghost use Rattle.ppdb_run_stops.specs.Causes.{cause_of, ComesFrom, no_file, OnCut, OnUntold, StopsPutting};
 ghost use Rattle.ppdb_run.specs.Stops.{Delivers, Settles, Finds};
 ghost use Rattle.ppdb_run_words.specs.Words.{Lookup};
 ghost use Rattle.ppdb_verify.specs.Views.{raw_file};
@@ -86,7 +86,7 @@ fn answer_list<'a, O: Sink, L: Ledger>(
     requires { length list.now ≤ MAX_FILE_BYTES }
     ensures answered { Delivers (looked_up (form_of json) name.now (raw_file file.now) list.now) result (O.written out.old) (O.written out.new) }
     ensures bound { (asked : List MethodOffset) → Lists (lines list.now) asked → steps.new ≤ steps.old + lookup_rows (raw_file file.now).tables asked }
-    ensures causes { IfErr result (λ stop. ComesFrom (cause_of stop) ⊥ no_file no_file None ⊥ ⊥ (Rose (O.faults out.old) (O.faults out.new))) }
+    ensures causes { StopsPutting O.faults result out.old out.new }
     ensures silent { IfErr result (λ stop. OnUntold (cause_of stop) (O.written out.new ≡ O.written out.old)) }
     ensures later { O.faults out.old ≤ O.faults out.new }
 {

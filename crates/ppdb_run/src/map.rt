@@ -1,8 +1,8 @@
 // The maps that a command reads.
-ghost use Rattle.std.specs.Prelude.{◌≡◌, ◌≤◌, None, length, IfOk, IfErr, IfSome};
-ghost use Rattle.ppdb_base.specs.Causes.{Rose, counted};
+ghost use Rattle.std.specs.Prelude.{◌≡◌, ◌≤◌, length, IfOk, IfSome};
+ghost use Rattle.ppdb_base.specs.Causes.{counted};
 ghost use Rattle.ppdb_run.specs.Outcome.{map_at, map_in};
-ghost use Rattle.ppdb_run_stops.specs.Causes.{cause_of, ComesFrom, no_file};
+ghost use Rattle.ppdb_run_stops.specs.Causes.{StopsInside, StopsReading};
 ghost use Rattle.ppdb_run.specs.Stops.{Gives};
 
 use crate::input::read_input;
@@ -18,14 +18,8 @@ pub fn read_map_file<'a, F: Folder>(
     folder: &mut F,
 ) -> Result<MapText, Stop<'a>>
     ensures told { IfSome (F.files folder.old) (λ files. Gives (λ read. read) result (map_at files name.now)) }
-    ensures causes { IfErr result (λ stop. ComesFrom (cause_of stop)
-        ⊥
-        (λ failed. (failed ≡ name.now) × (F.reads folder.new ≡ F.reads folder.old))
-        no_file
-        (F.files folder.old)
-        (Rose (F.read_faults folder.old) (F.read_faults folder.new))
-        ⊥
-        ⊥) }
+    ensures causes { StopsReading F.files F.read_faults result folder.old folder.new
+        (λ failed. (failed ≡ name.now) × (F.reads folder.new ≡ F.reads folder.old)) }
     ensures reads { IfOk result (λ _. F.reads folder.new ≡ counted (F.reads folder.old)) }
     ensures later { F.read_faults folder.old ≤ F.read_faults folder.new }
     ensures files { F.files folder.new ≡ F.files folder.old }
@@ -42,7 +36,7 @@ pub fn read_map_file<'a, F: Folder>(
 pub fn map_of<'a>(alloc: Global, name: &'a str, text: Bytes) -> Result<MapText, Stop<'a>>
     requires { length text ≤ 134217728 }
     ensures told { Gives (λ read. read) result (map_in name.now text) }
-    ensures causes { IfErr result (λ stop. ComesFrom (cause_of stop) ⊥ no_file no_file None ⊥ ⊥ ⊥) }
+    ensures causes { StopsInside result }
 {
     let read = read_map(alloc, text.as_slice());
     give_up(text);

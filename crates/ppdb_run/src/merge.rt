@@ -1,12 +1,11 @@
 // The commands `remap` and `merge`: the canonical file of inputs that are moved and joined.
-ghost use Rattle.std.specs.Prelude.{◌≡◌, ◌≤◌, ℕ, List, [], length, Some, IfOk, OnOk, IfErr, IfSome};
-ghost use Rattle.ppdb_base.specs.Causes.{Rose};
+ghost use Rattle.std.specs.Prelude.{◌≡◌, ◌≤◌, ℕ, List, length, IfOk, IfErr, IfSome};
 ghost use Rattle.ppdb_base.specs.First.{IsAccepted};
-ghost use Rattle.ppdb_run.specs.Ends.{IsUnreadOf, OnTask, WritesAgain, WritesValid};
-ghost use Rattle.ppdb_run.specs.Means.{ExactlyMeans, WritesMeaning};
-ghost use Rattle.ppdb_run.specs.Outcome.{IsOutcome, steps_of, written};
-ghost use Rattle.ppdb_run_stops.specs.Causes.{cause_of, ComesFrom, OnKept, no_file};
-ghost use Rattle.ppdb_run.specs.Stops.{Settles, Finds, Gives, Leaves};
+ghost use Rattle.ppdb_run.specs.Ends.{IsUnreadOf};
+ghost use Rattle.ppdb_run.specs.Means.{ExactlyMeans};
+ghost use Rattle.ppdb_run.specs.Outcome.{steps_of, written};
+ghost use Rattle.ppdb_run_stops.specs.Causes.{cause_of, OnKept, StopsReading, StopsWriting};
+ghost use Rattle.ppdb_run.specs.Stops.{Gives, WritesOutcome};
 ghost use Rattle.ppdb_run_words.specs.Task.{inputs_of, options_of};
 ghost use Rattle.ppdb_run_words.specs.Words.{Merge};
 ghost use Rattle.ppdb_verify.specs.Files.{FileFaults};
@@ -38,28 +37,12 @@ pub fn merge<'a, F: Folder, K: Ledger, L: Ledger>(
     requires most { length (inputs_of inputs) ≤ 256 }
 
     // What it comes to over reported files.
-    ensures found { IfSome (F.files folder.old) (λ all. Finds result (IsOutcome (Some (Merge (inputs_of inputs.entry) output.now (options_of options.entry))) all)) }
-    ensures told { OnTask (Merge (inputs_of inputs.entry) output.now (options_of options.entry)) (F.files folder.old) (Settles result) }
-    ensures silent { OnTask (Merge (inputs_of inputs.entry) output.now (options_of options.entry)) (F.files folder.old) (λ due. OnOk result (due.text ≡ [])) }
-    ensures files { OnTask (Merge (inputs_of inputs.entry) output.now (options_of options.entry)) (F.files folder.old)
-        (λ due. Leaves result due.writes (F.files folder.old) (F.files folder.new)) }
-
-    ensures accepted { OnOk result (OnTask (Merge (inputs_of inputs.entry) output.now (options_of options.entry)) (F.files folder.old)
-        (WritesValid (Some (Merge (inputs_of inputs.entry) output.now (options_of options.entry))))) }
-    ensures again { OnOk result (OnTask (Merge (inputs_of inputs.entry) output.now (options_of options.entry)) (F.files folder.old)
-        (WritesAgain (Some (Merge (inputs_of inputs.entry) output.now (options_of options.entry))))) }
-    ensures means { OnOk result (OnTask (Merge (inputs_of inputs.entry) output.now (options_of options.entry)) (F.files folder.old)
-        (WritesMeaning (F.files folder.old) (Some (Merge (inputs_of inputs.entry) output.now (options_of options.entry))))) }
+    ensures comes { WritesOutcome (Merge (inputs_of inputs.entry) output.now (options_of options.entry)) result (F.files folder.old) (F.files folder.new) }
 
     // What a stop comes from, and what it leaves.
-    ensures causes { IfErr result (λ stop. ComesFrom (cause_of stop)
-        ⊥
+    ensures causes { StopsWriting F.files F.read_faults F.write_faults result folder.old folder.new
         (IsUnreadOf (Merge (inputs_of inputs.entry) output.now (options_of options.entry)) (F.files folder.old) (F.reads folder.old) (F.reads folder.new))
-        (λ failed. failed ≡ output.now)
-        (F.files folder.old)
-        (Rose (F.read_faults folder.old) (F.read_faults folder.new))
-        (Rose (F.write_faults folder.old) (F.write_faults folder.new))
-        ⊥) }
+        output.now }
     ensures kept { IfErr result (λ stop. OnKept (cause_of stop) (F.files folder.new ≡ F.files folder.old)) }
 {
     let bytes = match merged_bytes(alloc, inputs, options, folder, checks, steps) {
@@ -88,14 +71,8 @@ fn merged_bytes<'a, F: Folder, K: Ledger, L: Ledger>(
     ensures files { F.files folder.new ≡ F.files folder.old }
     ensures write_faults { F.write_faults folder.new ≡ F.write_faults folder.old }
     ensures later { F.read_faults folder.old ≤ F.read_faults folder.new }
-    ensures causes { (output : List ℕ) → IfErr result (λ stop. ComesFrom (cause_of stop)
-        ⊥
-        (IsUnreadOf (Merge (inputs_of inputs.entry) output (options_of options.entry)) (F.files folder.old) (F.reads folder.old) (F.reads folder.new))
-        no_file
-        (F.files folder.old)
-        (Rose (F.read_faults folder.old) (F.read_faults folder.new))
-        ⊥
-        ⊥) }
+    ensures causes { (output : List ℕ) → StopsReading F.files F.read_faults result folder.old folder.new
+        (IsUnreadOf (Merge (inputs_of inputs.entry) output (options_of options.entry)) (F.files folder.old) (F.reads folder.old) (F.reads folder.new)) }
 {
     read_inputs_are_valid();
     joined_kinds_are_known();

@@ -1,9 +1,9 @@
 // Inputs that are read, and moved by their maps, one after the other.
-ghost use Rattle.std.specs.Prelude.{◌≡◌, ◌≤◌, ◌<◌, ◌+◌, ℕ, Bool, List, [], ◌∷◌, length, None, IfOk, OnOk, IfErr, IfSome};
-ghost use Rattle.ppdb_base.specs.Causes.{Rose, counted};
+ghost use Rattle.std.specs.Prelude.{◌≡◌, ◌≤◌, ◌<◌, ◌+◌, ℕ, Bool, List, [], ◌∷◌, length, IfOk, OnOk, IfSome};
+ghost use Rattle.ppdb_base.specs.Causes.{counted};
 ghost use Rattle.ppdb_run.specs.Ends.{IsUnreadOf, IsInputUnread};
 ghost use Rattle.ppdb_run.specs.Outcome.{with_input, with_inputs, with_texts};
-ghost use Rattle.ppdb_run_stops.specs.Causes.{cause_of, ComesFrom, no_file};
+ghost use Rattle.ppdb_run_stops.specs.Causes.{StopsInside, StopsReading};
 ghost use Rattle.ppdb_run.specs.Stops.{Gives};
 ghost use Rattle.ppdb_run_words.specs.Task.{input_of, inputs_of, pairs_of};
 ghost use Rattle.ppdb_run_words.specs.Words.{Merge, texts};
@@ -54,15 +54,9 @@ pub fn merged<'a, 'b, F: Folder, K: Ledger, L: Ledger>(
     ensures files { F.files folder.new ≡ F.files folder.old }
     ensures write_faults { F.write_faults folder.new ≡ F.write_faults folder.old }
     ensures later { F.read_faults folder.old ≤ F.read_faults folder.new }
-    ensures causes { (output : List ℕ) (keep_id : Bool) → IfErr result (λ stop. ComesFrom (cause_of stop)
-        ⊥
+    ensures causes { (output : List ℕ) (keep_id : Bool) → StopsReading F.files F.read_faults result folder.old folder.new
         (IsUnreadOf (Merge (inputs_of inputs.entry) output (record { keep_id = keep_id; marks = marks })) (F.files folder.old) (F.reads folder.old)
-        (F.reads folder.new))
-        no_file
-        (F.files folder.old)
-        (Rose (F.read_faults folder.old) (F.read_faults folder.new))
-        ⊥
-        ⊥) }
+        (F.reads folder.new)) }
 {
     let merger = RowMerger::new(alloc, marks);
     match inputs {
@@ -91,15 +85,9 @@ fn add_one<'a, 'b, F: Folder, K: Ledger, L: Ledger>(
     ensures files { F.files folder.new ≡ F.files folder.old }
     ensures write_faults { F.write_faults folder.new ≡ F.write_faults folder.old }
     ensures later { F.read_faults folder.old ≤ F.read_faults folder.new }
-    ensures causes { (output : List ℕ) (keep_id : Bool) → IfErr result (λ stop. ComesFrom (cause_of stop)
-        ⊥
+    ensures causes { (output : List ℕ) (keep_id : Bool) → StopsReading F.files F.read_faults result folder.old folder.new
         (IsUnreadOf (Merge (input_of input.entry ∷ []) output (record { keep_id = keep_id; marks = merger.entry.marks })) (F.files folder.old) (F.reads folder.old)
-        (F.reads folder.new))
-        no_file
-        (F.files folder.old)
-        (Rose (F.read_faults folder.old) (F.read_faults folder.new))
-        ⊥
-        ⊥) }
+        (F.reads folder.new)) }
 {
     let mut merger = merger;
     let cell = &mut cells[0];
@@ -137,15 +125,9 @@ fn add_pairs<'a, 'b, F: Folder, K: Ledger, L: Ledger>(
     ensures files { F.files folder.new ≡ F.files folder.old }
     ensures write_faults { F.write_faults folder.new ≡ F.write_faults folder.old }
     ensures later { F.read_faults folder.old ≤ F.read_faults folder.new }
-    ensures causes { (output : List ℕ) (keep_id : Bool) → IfErr result (λ stop. ComesFrom (cause_of stop)
-        ⊥
+    ensures causes { (output : List ℕ) (keep_id : Bool) → StopsReading F.files F.read_faults result folder.old folder.new
         (IsUnreadOf (Merge (pairs_of (texts words.now)) output (record { keep_id = keep_id; marks = merger.entry.marks })) (F.files folder.old) (F.reads folder.old)
-        (F.reads folder.new))
-        no_file
-        (F.files folder.old)
-        (Rose (F.read_faults folder.old) (F.read_faults folder.new))
-        ⊥
-        ⊥) }
+        (F.reads folder.new)) }
 {
     let mut merger = merger;
     let mut rest = words;
@@ -196,14 +178,8 @@ fn add_input<'a, 'b, F: Folder, K: Ledger, L: Ledger>(
     ensures files { F.files folder.new ≡ F.files folder.old }
     ensures write_faults { F.write_faults folder.new ≡ F.write_faults folder.old }
     ensures later { F.read_faults folder.old ≤ F.read_faults folder.new }
-    ensures causes { IfErr result (λ stop. ComesFrom (cause_of stop)
-        ⊥
-        (IsInputUnread (F.files folder.old) (input_of input.entry) (F.reads folder.old) (F.reads folder.new))
-        no_file
-        (F.files folder.old)
-        (Rose (F.read_faults folder.old) (F.read_faults folder.new))
-        ⊥
-        ⊥) }
+    ensures causes { StopsReading F.files F.read_faults result folder.old folder.new
+        (IsInputUnread (F.files folder.old) (input_of input.entry) (F.reads folder.old) (F.reads folder.new)) }
 {
     let bytes = match read_input(alloc, folder, input.file) {
         Ok(bytes) => bytes,
@@ -235,7 +211,7 @@ fn add_texts<'a, 'b, K: Ledger, L: Ledger>(
     ensures told { Gives (λ _. merger.new.traces) result (with_texts merger.old.marks merger.old.traces (input_of input.entry) bytes.now text) }
     ensures marks { merger.new.marks ≡ merger.old.marks }
     ensures one { OnOk result (length merger.new.traces ≡ length merger.old.traces + 1) }
-    ensures causes { IfErr result (λ stop. ComesFrom (cause_of stop) ⊥ no_file no_file None ⊥ ⊥ ⊥) }
+    ensures causes { StopsInside result }
 {
     let file = match verify(alloc, bytes, checks) {
         Ok(file) => file,

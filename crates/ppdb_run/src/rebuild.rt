@@ -1,13 +1,12 @@
 // The command `rebuild`: the canonical file of a file.
-ghost use Rattle.std.specs.Prelude.{◌≡◌, ◌≤◌, ℕ, List, [], Some, None, IfOk, OnOk, IfErr, IfSome};
-ghost use Rattle.ppdb_base.specs.Causes.{Rose};
+ghost use Rattle.std.specs.Prelude.{◌≡◌, ◌≤◌, ℕ, List, Some, None, IfOk, IfErr, IfSome};
 ghost use Rattle.ppdb_base.specs.First.{IsAccepted};
 ghost use Rattle.ppdb_merge_fits.specs.Clashes.{is_unknown as neither_read_nor_free};
-ghost use Rattle.ppdb_run.specs.Ends.{OnTask, RebuildsToItself, WritesAgain, WritesValid};
-ghost use Rattle.ppdb_run.specs.Means.{ExactlyMeans, WritesMeaning};
-ghost use Rattle.ppdb_run.specs.Outcome.{IsOutcome, choice_of, gives, rebuilt, steps_of, unknown_kind, written};
-ghost use Rattle.ppdb_run_stops.specs.Causes.{cause_of, ComesFrom, OnKept, no_file};
-ghost use Rattle.ppdb_run.specs.Stops.{Settles, Finds, Gives, Leaves};
+ghost use Rattle.ppdb_run.specs.Ends.{RebuildsToItself};
+ghost use Rattle.ppdb_run.specs.Means.{ExactlyMeans};
+ghost use Rattle.ppdb_run.specs.Outcome.{choice_of, gives, rebuilt, steps_of, unknown_kind, written};
+ghost use Rattle.ppdb_run_stops.specs.Causes.{cause_of, OnKept, StopsInside, StopsReading, StopsWriting};
+ghost use Rattle.ppdb_run.specs.Stops.{Gives, WritesOutcome};
 ghost use Rattle.ppdb_run_words.specs.Task.{options_of};
 ghost use Rattle.ppdb_run_words.specs.Words.{Rebuild};
 ghost use Rattle.ppdb_values.specs.Value.{value_of};
@@ -40,28 +39,12 @@ pub fn rebuild<'a, F: Folder, K: Ledger, L: Ledger>(
     steps: &mut Steps<L>,
 ) -> Result<(), Stop<'a>>
     // What it comes to over reported files.
-    ensures found { IfSome (F.files folder.old) (λ all. Finds result (IsOutcome (Some (Rebuild input.now output.now (options_of options.entry))) all)) }
-    ensures told { OnTask (Rebuild input.now output.now (options_of options.entry)) (F.files folder.old) (Settles result) }
-    ensures silent { OnTask (Rebuild input.now output.now (options_of options.entry)) (F.files folder.old) (λ due. OnOk result (due.text ≡ [])) }
-    ensures files { OnTask (Rebuild input.now output.now (options_of options.entry)) (F.files folder.old)
-        (λ due. Leaves result due.writes (F.files folder.old) (F.files folder.new)) }
-
-    ensures accepted { OnOk result (OnTask (Rebuild input.now output.now (options_of options.entry)) (F.files folder.old)
-        (WritesValid (Some (Rebuild input.now output.now (options_of options.entry))))) }
-    ensures again { OnOk result (OnTask (Rebuild input.now output.now (options_of options.entry)) (F.files folder.old)
-        (WritesAgain (Some (Rebuild input.now output.now (options_of options.entry))))) }
-    ensures means { OnOk result (OnTask (Rebuild input.now output.now (options_of options.entry)) (F.files folder.old)
-        (WritesMeaning (F.files folder.old) (Some (Rebuild input.now output.now (options_of options.entry))))) }
+    ensures comes { WritesOutcome (Rebuild input.now output.now (options_of options.entry)) result (F.files folder.old) (F.files folder.new) }
 
     // What a stop comes from, and what it leaves.
-    ensures causes { IfErr result (λ stop. ComesFrom (cause_of stop)
-        ⊥
+    ensures causes { StopsWriting F.files F.read_faults F.write_faults result folder.old folder.new
         (λ failed. (failed ≡ input.now) × (F.reads folder.new ≡ F.reads folder.old))
-        (λ failed. failed ≡ output.now)
-        (F.files folder.old)
-        (Rose (F.read_faults folder.old) (F.read_faults folder.new))
-        (Rose (F.write_faults folder.old) (F.write_faults folder.new))
-        ⊥) }
+        output.now }
     ensures kept { IfErr result (λ stop. OnKept (cause_of stop) (F.files folder.new ≡ F.files folder.old)) }
 {
     let bytes = match rebuilt_bytes(alloc, input, options, folder, checks, steps) {
@@ -89,14 +72,8 @@ fn rebuilt_bytes<'a, F: Folder, K: Ledger, L: Ledger>(
     ensures files { F.files folder.new ≡ F.files folder.old }
     ensures write_faults { F.write_faults folder.new ≡ F.write_faults folder.old }
     ensures later { F.read_faults folder.old ≤ F.read_faults folder.new }
-    ensures causes { IfErr result (λ stop. ComesFrom (cause_of stop)
-        ⊥
-        (λ failed. (failed ≡ input.now) × (F.reads folder.new ≡ F.reads folder.old))
-        no_file
-        (F.files folder.old)
-        (Rose (F.read_faults folder.old) (F.read_faults folder.new))
-        ⊥
-        ⊥) }
+    ensures causes { StopsReading F.files F.read_faults result folder.old folder.new
+        (λ failed. (failed ≡ input.now) × (F.reads folder.new ≡ F.reads folder.old)) }
 {
     rebuilt_files_keep_themselves();
     let marks = options.marks(alloc)?;
@@ -132,7 +109,7 @@ fn file_bytes<'a, L: Ledger>(
     ensures accepted { IfOk result (λ bytes. IsAccepted (FileFaults bytes)) }
     ensures says { IfOk result (λ bytes. SaysButForId bytes (value_of (raw_file file.now))) }
     ensures again { IfOk result (RebuildsToItself (record { keep_id = keep_id; marks = marks.now })) }
-    ensures causes { IfErr result (λ stop. ComesFrom (cause_of stop) ⊥ no_file no_file None ⊥ ⊥ ⊥) }
+    ensures causes { StopsInside result }
 {
     match unknown(file, marks, steps) {
         Some(error) => return Err(Stop::Unfit(name, error)),

@@ -1,13 +1,13 @@
 // The command `sample`: what the sample file of so many methods comes to.
 ghost use Rattle.std.specs.Prelude.{◌≡◌, ◌≤◌, None, OnOk, IfErr};
-ghost use Rattle.ppdb_base.specs.Causes.{Rose};
-ghost use Rattle.ppdb_base.specs.Written.{appended, AppendsPrefix, Puts};
+ghost use Rattle.ppdb_base.specs.Written.{appended, AppendsPrefix};
 ghost use Rattle.ppdb_show_lines.specs.Lines.{text_of};
 ghost use Rattle.ppdb_show_lines.specs.Views.{content_of};
 ghost use Rattle.ppdb_run.specs.Sample.{sample_text, told_line};
 ghost use Rattle.ppdb_run.specs.Outcome.{outcome_of, sampled};
-ghost use Rattle.ppdb_run_stops.specs.Causes.{cause_of, ComesFrom, no_file, OnCut, OnUntold};
+ghost use Rattle.ppdb_run_stops.specs.Causes.{cause_of, OnCut, OnUntold, StopsPutting};
 ghost use Rattle.ppdb_run.specs.Stops.{Settles};
+ghost use Rattle.ppdb_run_stops.specs.Sinks.{PutsInto};
 
 use crate::report::{SampleReport, sampled};
 use ppdb_base::{Sink, Steps, WriteError};
@@ -33,7 +33,7 @@ pub fn sample<'a, O: Sink, K: Ledger, L: Ledger>(
     ensures text { OnOk result (O.written out.new ≡ appended (O.written out.old) (outcome_of (sampled methods)).text) }
 
     // What a stop comes from, and what it leaves.
-    ensures causes { IfErr result (λ stop. ComesFrom (cause_of stop) ⊥ no_file no_file None ⊥ ⊥ (Rose (O.faults out.old) (O.faults out.new))) }
+    ensures causes { StopsPutting O.faults result out.old out.new }
     ensures silent { IfErr result (λ stop. OnUntold (cause_of stop) (O.written out.new ≡ O.written out.old)) }
     ensures cut { IfErr result (λ stop. OnCut (cause_of stop) (AppendsPrefix (O.written out.old) (O.written out.new) (outcome_of (sampled methods)).text)) }
     ensures later { O.faults out.old ≤ O.faults out.new }
@@ -50,7 +50,7 @@ pub fn sample<'a, O: Sink, K: Ledger, L: Ledger>(
 
 /// Puts what the sample comes to.
 fn put_report<O: Sink>(out: &mut O, methods: u32, report: &SampleReport) -> Result<(), WriteError>
-    ensures { Puts result (O.written out.old) (O.written out.new) (O.faults out.old) (O.faults out.new) (sample_text methods report.now) }
+    ensures { PutsInto O.written O.faults result out.old out.new (sample_text methods report.now) }
 {
     put_told(out, "sample", Number(methods))?;
     put_told(out, "bytes", Number(report.bytes))?;
@@ -60,7 +60,7 @@ fn put_report<O: Sink>(out: &mut O, methods: u32, report: &SampleReport) -> Resu
 
 /// Puts a line of words and of what stands after them.
 fn put_told<O: Sink>(out: &mut O, words: &str, item: Item<'_>) -> Result<(), WriteError>
-    ensures { Puts result (O.written out.old) (O.written out.new) (O.faults out.old) (O.faults out.new) (text_of (told_line words.now (content_of item.entry))) }
+    ensures { PutsInto O.written O.faults result out.old out.new (text_of (told_line words.now (content_of item.entry))) }
 {
     put_text_line(out, words, &[Field(" ", Key::None, item)])
 }

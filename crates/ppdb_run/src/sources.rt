@@ -1,13 +1,12 @@
 // The answers of where the sources of a file are, and where a debugger may stop.
-ghost use Rattle.std.specs.Prelude.{◌≡◌, ◌≤◌, false, None, OnOk, IfErr};
-ghost use Rattle.ppdb_base.specs.Causes.{Rose};
+ghost use Rattle.std.specs.Prelude.{◌≡◌, ◌≤◌, false, OnOk, IfErr};
 ghost use Rattle.ppdb_base.specs.Written.{appended, AppendsPrefix};
 ghost use Rattle.break_lines.specs.Breaks.{document_named as named};
 ghost use Rattle.ppdb_show_sources.specs.Links.{file_links as links_of};
 ghost use Rattle.ppdb_values.specs.Value.{value_of};
 ghost use Rattle.ppdb_run.specs.Ends.{IsWithinBound};
 ghost use Rattle.ppdb_run.specs.Outcome.{breaks_answer, links_answer, outcome_of};
-ghost use Rattle.ppdb_run_stops.specs.Causes.{cause_of, ComesFrom, no_file, OnCut, OnUntold};
+ghost use Rattle.ppdb_run_stops.specs.Causes.{cause_of, OnCut, OnUntold, StopsPutting};
 ghost use Rattle.ppdb_run.specs.Stops.{Settles};
 ghost use Rattle.ppdb_run_words.specs.Words.{Links, Breaks};
 ghost use Rattle.ppdb_verify.specs.Views.{raw_file};
@@ -32,7 +31,7 @@ pub fn answer_links<'a, O: Sink, L: Ledger>(
         (outcome_of (links_answer printer.entry.form name.now (value_of (raw_file file.now)) (links_of (value_of (raw_file file.now))))) }
     ensures text { OnOk result (O.written out.new ≡ appended (O.written out.old)
         (outcome_of (links_answer printer.entry.form name.now (value_of (raw_file file.now)) (links_of (value_of (raw_file file.now))))).text) }
-    ensures causes { IfErr result (λ stop. ComesFrom (cause_of stop) ⊥ no_file no_file None ⊥ ⊥ (Rose (O.faults out.old) (O.faults out.new))) }
+    ensures causes { StopsPutting O.faults result out.old out.new }
     ensures silent { IfErr result (λ stop. OnUntold (cause_of stop) (O.written out.new ≡ O.written out.old)) }
     ensures cut { IfErr result (λ stop. OnCut (cause_of stop)
         (AppendsPrefix (O.written out.old) (O.written out.new)
@@ -62,7 +61,7 @@ pub fn answer_breaks<'a, O: Sink, L: Ledger>(
         (outcome_of (breaks_answer printer.entry.form document.now line (value_of (raw_file file.now)) (named (value_of (raw_file file.now)) document.now))) }
     ensures text { OnOk result (O.written out.new ≡ appended (O.written out.old)
         (outcome_of (breaks_answer printer.entry.form document.now line (value_of (raw_file file.now)) (named (value_of (raw_file file.now)) document.now))).text) }
-    ensures causes { IfErr result (λ stop. ComesFrom (cause_of stop) ⊥ no_file no_file None ⊥ ⊥ (Rose (O.faults out.old) (O.faults out.new))) }
+    ensures causes { StopsPutting O.faults result out.old out.new }
     ensures silent { IfErr result (λ stop. OnUntold (cause_of stop) (O.written out.new ≡ O.written out.old)) }
     ensures cut { IfErr result (λ stop. OnCut (cause_of stop)
         (AppendsPrefix (O.written out.old) (O.written out.new)

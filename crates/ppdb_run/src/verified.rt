@@ -1,8 +1,7 @@
 // The files that a command reads and verifies.
-ghost use Rattle.std.specs.Prelude.{◌≡◌, ◌≤◌, None, IfErr, IfSome, length};
-ghost use Rattle.ppdb_base.specs.Causes.{Rose};
+ghost use Rattle.std.specs.Prelude.{◌≡◌, ◌≤◌, IfSome, length};
 ghost use Rattle.ppdb_run.specs.Outcome.{judged, verified};
-ghost use Rattle.ppdb_run_stops.specs.Causes.{cause_of, ComesFrom, no_file};
+ghost use Rattle.ppdb_run_stops.specs.Causes.{StopsInside, StopsReading};
 ghost use Rattle.ppdb_run.specs.Stops.{Gives};
 ghost use Rattle.ppdb_verify.specs.Files.{FileFaults, IsRawOf};
 ghost use Rattle.ppdb_verify.specs.Views.{raw_file};
@@ -29,14 +28,8 @@ pub fn read_verified<'a, 'b, F: Folder, L: Ledger>(
     ensures files { F.files folder.new ≡ F.files folder.old }
     ensures write_faults { F.write_faults folder.new ≡ F.write_faults folder.old }
     ensures later { F.read_faults folder.old ≤ F.read_faults folder.new }
-    ensures causes { IfErr result (λ stop. ComesFrom (cause_of stop)
-        ⊥
-        (λ failed. (failed ≡ file.now) × (F.reads folder.new ≡ F.reads folder.old))
-        no_file
-        (F.files folder.old)
-        (Rose (F.read_faults folder.old) (F.read_faults folder.new))
-        ⊥
-        ⊥) }
+    ensures causes { StopsReading F.files F.read_faults result folder.old folder.new
+        (λ failed. (failed ≡ file.now) × (F.reads folder.new ≡ F.reads folder.old)) }
 {
     match read_input(alloc, folder, file) {
         Ok(contents) => {
@@ -61,7 +54,7 @@ pub fn verify_bytes<'a, 'b, L: Ledger>(
 ) -> Result<Verified<'b>, Stop<'a>>
     requires { length bytes.now ≤ MAX_FILE_BYTES }
     ensures told { Gives raw_file result (judged file.now (FileFaults bytes.now) (IsRawOf bytes.now)) }
-    ensures causes { IfErr result (λ stop. ComesFrom (cause_of stop) ⊥ no_file no_file None ⊥ ⊥ ⊥) }
+    ensures causes { StopsInside result }
 {
     match verify(alloc, bytes, steps) {
         Ok(verified) => Ok(verified),

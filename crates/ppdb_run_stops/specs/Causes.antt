@@ -1,6 +1,6 @@
 -- Why a run stopped, and what that says.
-use Rattle.std.specs.Prelude.{ℕ, List, [], Option, Some, None, ◌≡◌, ◌⊎◌}
-use Rattle.ppdb_base.specs.{declared.sink.WriteError.WriteError, Files.Files}
+use Rattle.std.specs.Prelude.{ℕ, List, [], Option, Some, None, Result, IfErr, ◌≡◌, ◌⊎◌}
+use Rattle.ppdb_base.specs.{declared.sink.WriteError.WriteError, Causes.Rose, Files.Files}
 use Rattle.ppdb_run_stops.specs.{declared.status.Status.Status, declared.stop.Stop.Stop, Lines.{read_fault_line, write_fault_line}}
 use Rattle.ppdb_run_stops.specs.Refusals.{Outcome, usage, absent, too_long, refused, no_map, unfit, limited, map_limited, no_method, unlinked, no_document, sizes_differ, unlisted}
 use Rattle.ppdb_base.specs.declared.link_error.LinkError.TheVariants as link_errors
@@ -104,3 +104,26 @@ ComesFrom OutOfMemory Misused ToRead ToWrite files ReadFailed WriteFailed PutFai
 -- no file: a stop that comes from no file of this kind
 abbrev pub no_file : List ℕ → Type 0
 no_file name = ⊥
+
+-- ---- what the stop of a result comes from
+
+-- nothing outside: it is a refusal, or there was no memory left
+abbrev pub StopsInside : {T : Type 0} → Result T Stop → Type 0
+StopsInside result = IfErr result (λ stop. ComesFrom (cause_of stop) ⊥ no_file no_file None ⊥ ⊥ ⊥)
+
+-- nothing outside but a sink, which is seen by its count of faults
+abbrev pub StopsPutting : {S T : Type 0} → (S → ℕ) → Result T Stop → (old new : S) → Type 0
+StopsPutting faults result old new = IfErr result (λ stop. ComesFrom (cause_of stop) ⊥ no_file no_file None ⊥ ⊥ (Rose (faults old) (faults new)))
+
+-- nothing outside but a folder, which is seen by its files and by its count of failed reads: ToRead says which file was to be read
+abbrev pub StopsReading : {S T : Type 0} → (S → Option Files) → (S → ℕ) → Result T Stop → (old new : S) → (ToRead : List ℕ → Type 0) → Type 0
+StopsReading files read_faults result old new ToRead =
+    IfErr result (λ stop. ComesFrom (cause_of stop) ⊥ ToRead no_file (files old) (Rose (read_faults old) (read_faults new)) ⊥ ⊥)
+
+-- nothing outside but a folder, which is seen by its files and by its counts of failed reads and writes: ToRead says which file was to be
+-- read, and output was to be written
+abbrev pub StopsWriting : {S T : Type 0} → (S → Option Files) → (read_faults write_faults : S → ℕ) → Result T Stop → (old new : S)
+    → (ToRead : List ℕ → Type 0) → (output : List ℕ) → Type 0
+StopsWriting files read_faults write_faults result old new ToRead output =
+    IfErr result (λ stop. ComesFrom (cause_of stop) ⊥ ToRead (λ name. name ≡ output) (files old) (Rose (read_faults old) (read_faults new))
+    (Rose (write_faults old) (write_faults new)) ⊥)

@@ -1,14 +1,14 @@
 // The lines of limits.
-ghost use Rattle.ppdb_base.specs.Written.{Puts};
 ghost use Rattle.ppdb_show_lines.specs.Pieces.{line, numbered, signed};
 ghost use Rattle.ppdb_run_stops.specs.Lines.{limit_text};
+ghost use Rattle.ppdb_run_stops.specs.Sinks.{PutsInto};
 
 use ppdb_base::{Limit, Sink, WriteError};
 use ppdb_show_lines::{put_numbered, put_numbered64, put_signed, put_tabled};
 
 /// Puts the line of a limit that would be passed.
 pub fn put_limit<O: Sink>(out: &mut O, limit: Limit) -> Result<(), WriteError>
-    ensures { Puts result (O.written out.old) (O.written out.new) (O.faults out.old) (O.faults out.new) (limit_text limit) }
+    ensures { PutsInto O.written O.faults result out.old out.new (limit_text limit) }
 {
     match limit {
         Limit::TableRows { table, rows } => {
@@ -34,7 +34,7 @@ pub fn put_limit<O: Sink>(out: &mut O, limit: Limit) -> Result<(), WriteError>
 
 /// Puts words and a number as the end of a line.
 pub fn put_number_line<O: Sink>(out: &mut O, words: &[u8], number: u64) -> Result<(), WriteError>
-    ensures { Puts result (O.written out.old) (O.written out.new) (O.faults out.old) (O.faults out.new) (line (numbered words.now number)) }
+    ensures { PutsInto O.written O.faults result out.old out.new (line (numbered words.now number)) }
 {
     put_numbered64(out, words, number)?;
     out.put(b"\n")
@@ -42,7 +42,7 @@ pub fn put_number_line<O: Sink>(out: &mut O, words: &[u8], number: u64) -> Resul
 
 /// Puts words and a signed number as the end of a line.
 fn put_signed_line<O: Sink>(out: &mut O, words: &[u8], number: i64) -> Result<(), WriteError>
-    ensures { Puts result (O.written out.old) (O.written out.new) (O.faults out.old) (O.faults out.new) (line (signed words.now number)) }
+    ensures { PutsInto O.written O.faults result out.old out.new (line (signed words.now number)) }
 {
     put_signed(out, words, number)?;
     out.put(b"\n")

@@ -1,11 +1,11 @@
 // What ends a run before its answer, and the line that says so.
 ghost use Rattle.std.specs.Prelude.{◌≡◌, []};
-ghost use Rattle.ppdb_base.specs.Written.{Puts};
 ghost use Rattle.ppdb_show_lines.specs.Lines.{text_of};
 ghost use Rattle.ppdb_show.specs.Lookup.{no_method_line};
 ghost use Rattle.ppdb_run_stops.specs.declared.stop.Stop.TheVariants as stops;
 ghost use Rattle.ppdb_run_stops.specs.Lines.{about, links_line, list_line, map_line, sizes_line};
 ghost use Rattle.ppdb_run_stops.specs.Causes.{cause_of, line_of, status_of, stop_of};
+ghost use Rattle.ppdb_run_stops.specs.Sinks.{PutsInto};
 
 use crate::fault::put_refused;
 use crate::limit::{put_limit, put_number_line};
@@ -106,7 +106,7 @@ impl Stop<'_> {
 
     /// Puts the line that says so, if there is one.
     pub fn put<O: Sink>(self, out: &mut O) -> Result<(), WriteError>
-        ensures { Puts result (O.written out.old) (O.written out.new) (O.faults out.old) (O.faults out.new) (line_of (cause_of self.entry)) }
+        ensures { PutsInto O.written O.faults result out.old out.new (line_of (cause_of self.entry)) }
     {
         match self {
             Stop::Usage => put_text_line(out, "usage", &[]),
@@ -136,14 +136,14 @@ impl Stop<'_> {
 
 /// Puts a line of words and a name.
 fn put_name<O: Sink>(out: &mut O, words: &str, name: &str) -> Result<(), WriteError>
-    ensures { Puts result (O.written out.old) (O.written out.new) (O.faults out.old) (O.faults out.new) (text_of (about words.now name.now [])) }
+    ensures { PutsInto O.written O.faults result out.old out.new (text_of (about words.now name.now [])) }
 {
     put_text_line(out, words, &[Field(" ", Key::None, Name(name.as_bytes()))])
 }
 
 /// Puts the line of a map's text that has no reading.
 fn put_map<O: Sink>(out: &mut O, name: &str, line: u32, kind: u8) -> Result<(), WriteError>
-    ensures { Puts result (O.written out.old) (O.written out.new) (O.faults out.old) (O.faults out.new) (text_of (map_line name.now line kind)) }
+    ensures { PutsInto O.written O.faults result out.old out.new (text_of (map_line name.now line kind)) }
 {
     let name = Field(" ", Key::None, Name(name.as_bytes()));
     let line = Field(" line ", Key::None, Number(line));
@@ -153,7 +153,7 @@ fn put_map<O: Sink>(out: &mut O, name: &str, line: u32, kind: u8) -> Result<(), 
 
 /// Puts the line of a list's text that a list cannot have.
 fn put_list<O: Sink>(out: &mut O, name: &str, line: u32) -> Result<(), WriteError>
-    ensures { Puts result (O.written out.old) (O.written out.new) (O.faults out.old) (O.faults out.new) (text_of (list_line name.now line)) }
+    ensures { PutsInto O.written O.faults result out.old out.new (text_of (list_line name.now line)) }
 {
     let name = Field(" ", Key::None, Name(name.as_bytes()));
     let line = Field(" line ", Key::None, Number(line));
@@ -162,14 +162,14 @@ fn put_list<O: Sink>(out: &mut O, name: &str, line: u32) -> Result<(), WriteErro
 
 /// Puts the line of a method that is not there.
 fn put_no_method<O: Sink>(out: &mut O, method: u32) -> Result<(), WriteError>
-    ensures { Puts result (O.written out.old) (O.written out.new) (O.faults out.old) (O.faults out.new) (text_of (no_method_line method)) }
+    ensures { PutsInto O.written O.faults result out.old out.new (text_of (no_method_line method)) }
 {
     put_text_line(out, "no method", &[Field(" ", Key::Method, Number(method))])
 }
 
 /// Puts the line of a Source Link record that gives no addresses.
 fn put_unlinked<O: Sink>(out: &mut O, name: &str, error: LinkError) -> Result<(), WriteError>
-    ensures { Puts result (O.written out.old) (O.written out.new) (O.faults out.old) (O.faults out.new) (text_of (links_line name.now error)) }
+    ensures { PutsInto O.written O.faults result out.old out.new (text_of (links_line name.now error)) }
 {
     let name = Field(" ", Key::None, Name(name.as_bytes()));
     match error {
@@ -181,7 +181,7 @@ fn put_unlinked<O: Sink>(out: &mut O, name: &str, error: LinkError) -> Result<()
 
 /// Puts the line of maps that do not fit one another.
 fn put_sizes<O: Sink>(out: &mut O, method: u32, first: u32, second: u32) -> Result<(), WriteError>
-    ensures { Puts result (O.written out.old) (O.written out.new) (O.faults out.old) (O.faults out.new) (text_of (sizes_line method first second)) }
+    ensures { PutsInto O.written O.faults result out.old out.new (text_of (sizes_line method first second)) }
 {
     let method = Field(" method ", Key::None, Number(method));
     let first = Field(" ", Key::None, Number(first));

@@ -1,8 +1,8 @@
 // The lines of inputs that are not joined.
 ghost use Rattle.ppdb_base.specs.declared.merge_error.MergeError.TheVariants as merge_errors;
-ghost use Rattle.ppdb_base.specs.Written.{Puts};
 ghost use Rattle.ppdb_show_lines.specs.Lines.{text_of};
 ghost use Rattle.ppdb_run_stops.specs.Lines.{unfit_line};
+ghost use Rattle.ppdb_run_stops.specs.Sinks.{PutsInto};
 
 use crate::fault::{ROWS, part_name};
 use ppdb_base::{MergeError, Place, Sink, WriteError};
@@ -12,7 +12,7 @@ use ppdb_show_lines::{Key, put_text_line};
 
 /// Puts the line of an input that is not joined.
 pub fn put_unfit<O: Sink>(out: &mut O, file: &str, error: MergeError) -> Result<(), WriteError>
-    ensures { Puts result (O.written out.old) (O.written out.new) (O.faults out.old) (O.faults out.new) (text_of (unfit_line file.now error)) }
+    ensures { PutsInto O.written O.faults result out.old out.new (text_of (unfit_line file.now error)) }
 {
     use MergeError as E;
 
@@ -76,8 +76,7 @@ fn put_unmapped<O: Sink>(
     row: u32,
     place: Place,
 ) -> Result<(), WriteError>
-    ensures { Puts result (O.written out.old) (O.written out.new) (O.faults out.old) (O.faults out.new)
-        (text_of (unfit_line file.now (merge_errors.Unmapped table row place))) }
+    ensures { PutsInto O.written O.faults result out.old out.new (text_of (unfit_line file.now (merge_errors.Unmapped table row place))) }
 {
     let file = Field(" ", Key::None, Name(file.as_bytes()));
     let table = Field(" M1 table ", Key::None, Table(table));
@@ -116,8 +115,7 @@ fn put_image_twice<O: Sink>(
     second: u32,
     image: u32,
 ) -> Result<(), WriteError>
-    ensures { Puts result (O.written out.old) (O.written out.new) (O.faults out.old) (O.faults out.new)
-        (text_of (unfit_line file.now (merge_errors.ImageTwice table first second image))) }
+    ensures { PutsInto O.written O.faults result out.old out.new (text_of (unfit_line file.now (merge_errors.ImageTwice table first second image))) }
 {
     let file = Field(" ", Key::None, Name(file.as_bytes()));
     let table = Field(" M2 table ", Key::None, Table(table));
@@ -136,8 +134,7 @@ fn put_method_taken<O: Sink>(
     second: u32,
     image: u32,
 ) -> Result<(), WriteError>
-    ensures { Puts result (O.written out.old) (O.written out.new) (O.faults out.old) (O.faults out.new)
-        (text_of (unfit_line file.now (merge_errors.MethodTaken input first second image))) }
+    ensures { PutsInto O.written O.faults result out.old out.new (text_of (unfit_line file.now (merge_errors.MethodTaken input first second image))) }
 {
     let file = Field(" ", Key::None, Name(file.as_bytes()));
     let input = Field(" M3 input ", Key::None, Number(input));
@@ -155,8 +152,7 @@ fn put_offset_beyond<O: Sink>(
     offset: u32,
     size: u32,
 ) -> Result<(), WriteError>
-    ensures { Puts result (O.written out.old) (O.written out.new) (O.faults out.old) (O.faults out.new)
-        (text_of (unfit_line file.now (merge_errors.OffsetBeyond method offset size))) }
+    ensures { PutsInto O.written O.faults result out.old out.new (text_of (unfit_line file.now (merge_errors.OffsetBeyond method offset size))) }
 {
     let file = Field(" ", Key::None, Name(file.as_bytes()));
     let method = Field(" M4 method ", Key::None, Number(method));
@@ -172,8 +168,7 @@ fn put_async_lost<O: Sink>(
     method: u32,
     offset: u32,
 ) -> Result<(), WriteError>
-    ensures { Puts result (O.written out.old) (O.written out.new) (O.faults out.old) (O.faults out.new)
-        (text_of (unfit_line file.now (merge_errors.AsyncLost method offset))) }
+    ensures { PutsInto O.written O.faults result out.old out.new (text_of (unfit_line file.now (merge_errors.AsyncLost method offset))) }
 {
     let file = Field(" ", Key::None, Name(file.as_bytes()));
     let method = Field(" M5 method ", Key::None, Number(method));
@@ -188,8 +183,7 @@ fn put_kind_unknown<O: Sink>(
     row: u32,
     kind: [u8; 16],
 ) -> Result<(), WriteError>
-    ensures { Puts result (O.written out.old) (O.written out.new) (O.faults out.old) (O.faults out.new)
-        (text_of (unfit_line file.now (merge_errors.KindUnknown row kind))) }
+    ensures { PutsInto O.written O.faults result out.old out.new (text_of (unfit_line file.now (merge_errors.KindUnknown row kind))) }
 {
     let file = Field(" ", Key::None, Name(file.as_bytes()));
     let row = Field(" M6 row ", Key::None, Number(row));
@@ -204,8 +198,7 @@ fn put_document_conflict<O: Sink>(
     row: u32,
     joined: u32,
 ) -> Result<(), WriteError>
-    ensures { Puts result (O.written out.old) (O.written out.new) (O.faults out.old) (O.faults out.new)
-        (text_of (unfit_line file.now (merge_errors.DocumentConflict row joined))) }
+    ensures { PutsInto O.written O.faults result out.old out.new (text_of (unfit_line file.now (merge_errors.DocumentConflict row joined))) }
 {
     let file = Field(" ", Key::None, Name(file.as_bytes()));
     let row = Field(" M7 document ", Key::None, Number(row));
@@ -222,8 +215,7 @@ fn put_rows_differ<O: Sink>(
     first: u32,
     second: u32,
 ) -> Result<(), WriteError>
-    ensures { Puts result (O.written out.old) (O.written out.new) (O.faults out.old) (O.faults out.new)
-        (text_of (unfit_line file.now (merge_errors.RowsDiffer input table first second))) }
+    ensures { PutsInto O.written O.faults result out.old out.new (text_of (unfit_line file.now (merge_errors.RowsDiffer input table first second))) }
 {
     let file = Field(" ", Key::None, Name(file.as_bytes()));
     let table = Field(" M8 table ", Key::None, Table(table));
@@ -242,8 +234,7 @@ fn put_image_range<O: Sink>(
     image: u32,
     rows: u32,
 ) -> Result<(), WriteError>
-    ensures { Puts result (O.written out.old) (O.written out.new) (O.faults out.old) (O.faults out.new)
-        (text_of (unfit_line file.now (merge_errors.ImageRange input table row image rows))) }
+    ensures { PutsInto O.written O.faults result out.old out.new (text_of (unfit_line file.now (merge_errors.ImageRange input table row image rows))) }
 {
     let file = Field(" ", Key::None, Name(file.as_bytes()));
     let table = Field(" M9 table ", Key::None, Table(table));
@@ -260,8 +251,7 @@ fn put_slot_unmapped<O: Sink>(
     row: u32,
     slot: u16,
 ) -> Result<(), WriteError>
-    ensures { Puts result (O.written out.old) (O.written out.new) (O.faults out.old) (O.faults out.new)
-        (text_of (unfit_line file.now (merge_errors.SlotUnmapped row slot))) }
+    ensures { PutsInto O.written O.faults result out.old out.new (text_of (unfit_line file.now (merge_errors.SlotUnmapped row slot))) }
 {
     let file = Field(" ", Key::None, Name(file.as_bytes()));
     let row = Field(" M10 variable ", Key::None, Number(row));
@@ -278,8 +268,7 @@ fn put_slot_twice<O: Sink>(
     second: u16,
     image: u16,
 ) -> Result<(), WriteError>
-    ensures { Puts result (O.written out.old) (O.written out.new) (O.faults out.old) (O.faults out.new)
-        (text_of (unfit_line file.now (merge_errors.SlotTwice method first second image))) }
+    ensures { PutsInto O.written O.faults result out.old out.new (text_of (unfit_line file.now (merge_errors.SlotTwice method first second image))) }
 {
     let file = Field(" ", Key::None, Name(file.as_bytes()));
     let method = Field(" M11 method ", Key::None, Number(method));
@@ -296,8 +285,7 @@ fn put_document_twice<O: Sink>(
     first: u32,
     second: u32,
 ) -> Result<(), WriteError>
-    ensures { Puts result (O.written out.old) (O.written out.new) (O.faults out.old) (O.faults out.new)
-        (text_of (unfit_line file.now (merge_errors.DocumentTwice first second))) }
+    ensures { PutsInto O.written O.faults result out.old out.new (text_of (unfit_line file.now (merge_errors.DocumentTwice first second))) }
 {
     let file = Field(" ", Key::None, Name(file.as_bytes()));
     let first = Field(" M12 documents ", Key::None, Number(first));
@@ -307,8 +295,7 @@ fn put_document_twice<O: Sink>(
 
 /// Puts M13: a Source Link record differs from that of an earlier input.
 fn put_link_differs<O: Sink>(out: &mut O, file: &str, row: u32) -> Result<(), WriteError>
-    ensures { Puts result (O.written out.old) (O.written out.new) (O.faults out.old) (O.faults out.new)
-        (text_of (unfit_line file.now (merge_errors.LinkDiffers row))) }
+    ensures { PutsInto O.written O.faults result out.old out.new (text_of (unfit_line file.now (merge_errors.LinkDiffers row))) }
 {
     let file = Field(" ", Key::None, Name(file.as_bytes()));
     let row = Field(" M13 row ", Key::None, Number(row));

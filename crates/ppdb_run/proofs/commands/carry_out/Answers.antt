@@ -143,38 +143,38 @@ returns-in-Rebuild-clause-found g c =
     let words = subst (λ task. Words task (texts c.args.words.now)) (sym c.in-Rebuild.ensures) c.in-Ok.ensures.command in
     of_told (λ asked all. Finds c.rebuild.result (IsOutcome asked all)) (texts c.args.words.now)
     (Rebuild c.in-Rebuild.input.now c.in-Rebuild.output.now (options_of c.in-Rebuild.options))
-    (g.F.Folder.files c.args.folder.now) c.rebuild.ensures.found words (λ a. a)
+    (g.F.Folder.files c.args.folder.now) c.rebuild.ensures.comes.found words (λ a. a)
 
 pub returns-in-Rebuild-clause-told : goal.returns-in-Rebuild-clause-told
 returns-in-Rebuild-clause-told g c =
     let words = subst (λ task. Words task (texts c.args.words.now)) (sym c.in-Rebuild.ensures) c.in-Ok.ensures.command in
-    of_task _ _ _ c.rebuild.ensures.told words (λ a. a)
+    of_task _ _ _ c.rebuild.ensures.comes.told words (λ a. a)
 
 pub returns-in-Rebuild-clause-text : goal.returns-in-Rebuild-clause-text
 returns-in-Rebuild-clause-text g c =
     let words = subst (λ task. Words task (texts c.args.words.now)) (sym c.in-Rebuild.ensures) c.in-Ok.ensures.command in
     of_task _ _ _ (nothing_put (Rebuild c.in-Rebuild.input.now c.in-Rebuild.output.now (options_of c.in-Rebuild.options)) c.in-Rebuild.output.now
     (g.F.Folder.files c.args.folder.now) c.rebuild.result
-    (g.O.Sink.written c.args.out.now) c.rebuild.ensures.silent) words (λ a. a)
+    (g.O.Sink.written c.args.out.now) c.rebuild.ensures.comes.silent) words (λ a. a)
 
 pub returns-in-Rebuild-clause-files : goal.returns-in-Rebuild-clause-files
 returns-in-Rebuild-clause-files g c =
     let words = subst (λ task. Words task (texts c.args.words.now)) (sym c.in-Rebuild.ensures) c.in-Ok.ensures.command in
-    of_task _ _ _ c.rebuild.ensures.files words (λ a. a)
+    of_task _ _ _ c.rebuild.ensures.comes.files words (λ a. a)
 
 pub returns-in-Rebuild-clause-accepted : goal.returns-in-Rebuild-clause-accepted
 returns-in-Rebuild-clause-accepted g c =
     let words = subst (λ task. Words task (texts c.args.words.now)) (sym c.in-Rebuild.ensures) c.in-Ok.ensures.command in
     on_then c.rebuild.result (λ h. on_asked WritesValid _ (Rebuild c.in-Rebuild.input.now c.in-Rebuild.output.now (options_of c.in-Rebuild.options))
     (g.F.Folder.files c.args.folder.now) h words (λ a. a))
-    c.rebuild.ensures.accepted
+    c.rebuild.ensures.comes.accepted
 
 pub returns-in-Rebuild-clause-again : goal.returns-in-Rebuild-clause-again
 returns-in-Rebuild-clause-again g c =
     let words = subst (λ task. Words task (texts c.args.words.now)) (sym c.in-Rebuild.ensures) c.in-Ok.ensures.command in
     on_then c.rebuild.result (λ h. on_asked WritesAgain _ (Rebuild c.in-Rebuild.input.now c.in-Rebuild.output.now (options_of c.in-Rebuild.options))
     (g.F.Folder.files c.args.folder.now) h words (λ a. a))
-    c.rebuild.ensures.again
+    c.rebuild.ensures.comes.again
 
 pub returns-in-Rebuild-clause-rows : goal.returns-in-Rebuild-clause-rows
 returns-in-Rebuild-clause-rows g c =
@@ -203,30 +203,30 @@ pub returns-in-Compose-clause-found : goal.returns-in-Compose-clause-found
 returns-in-Compose-clause-found g c =
     let words = subst (λ task. Words task (texts c.args.words.now)) (sym c.in-Compose.ensures) c.in-Ok.ensures.command in
     of_told (λ asked all. Finds c.compose.result (IsOutcome asked all)) (texts c.args.words.now)
-    (Compose c.in-Compose.first.now c.in-Compose.second.now c.in-Compose.output.now) (g.F.Folder.files c.args.folder.now) c.compose.ensures.found words (λ a. a)
+    (Compose c.in-Compose.first.now c.in-Compose.second.now c.in-Compose.output.now) (g.F.Folder.files c.args.folder.now) c.compose.ensures.comes.found words (λ a. a)
 
 pub returns-in-Compose-clause-told : goal.returns-in-Compose-clause-told
 returns-in-Compose-clause-told g c =
     let words = subst (λ task. Words task (texts c.args.words.now)) (sym c.in-Compose.ensures) c.in-Ok.ensures.command in
-    of_task _ _ _ c.compose.ensures.told words (λ a. a)
+    of_task _ _ _ c.compose.ensures.comes.told words (λ a. a)
 
 pub returns-in-Compose-clause-text : goal.returns-in-Compose-clause-text
 returns-in-Compose-clause-text g c =
     let words = subst (λ task. Words task (texts c.args.words.now)) (sym c.in-Compose.ensures) c.in-Ok.ensures.command in
     of_task _ _ _ (nothing_put (Compose c.in-Compose.first.now c.in-Compose.second.now c.in-Compose.output.now) c.in-Compose.output.now
-    (g.F.Folder.files c.args.folder.now) c.compose.result (g.O.Sink.written c.args.out.now) c.compose.ensures.silent) words (λ a. a)
+    (g.F.Folder.files c.args.folder.now) c.compose.result (g.O.Sink.written c.args.out.now) c.compose.ensures.comes.silent) words (λ a. a)
 
 pub returns-in-Compose-clause-files : goal.returns-in-Compose-clause-files
 returns-in-Compose-clause-files g c =
     let words = subst (λ task. Words task (texts c.args.words.now)) (sym c.in-Compose.ensures) c.in-Ok.ensures.command in
-    of_task _ _ _ c.compose.ensures.files words (λ a. a)
+    of_task _ _ _ c.compose.ensures.comes.files words (λ a. a)
 
 pub returns-in-Compose-clause-accepted : goal.returns-in-Compose-clause-accepted
 returns-in-Compose-clause-accepted g c =
     let words = subst (λ task. Words task (texts c.args.words.now)) (sym c.in-Compose.ensures) c.in-Ok.ensures.command in
     on_then c.compose.result (λ h. on_asked WritesValid _ (Compose c.in-Compose.first.now c.in-Compose.second.now c.in-Compose.output.now)
     (g.F.Folder.files c.args.folder.now) h words (λ a. a))
-    c.compose.ensures.accepted
+    c.compose.ensures.comes.accepted
 
 pub returns-in-Compose-clause-again : goal.returns-in-Compose-clause-again
 returns-in-Compose-clause-again g c =
@@ -259,37 +259,37 @@ returns-in-Merge-clause-found g c =
     let words = subst (λ task. Words task (texts c.args.words.now)) (sym c.in-Merge.ensures) c.in-Ok.ensures.command in
     of_told (λ asked all. Finds c.merge.result (IsOutcome asked all)) (texts c.args.words.now)
     (Merge (inputs_of c.in-Merge.inputs) c.in-Merge.output.now (options_of c.in-Merge.options)) (g.F.Folder.files c.args.folder.now)
-    c.merge.ensures.found words (λ a. a)
+    c.merge.ensures.comes.found words (λ a. a)
 
 pub returns-in-Merge-clause-told : goal.returns-in-Merge-clause-told
 returns-in-Merge-clause-told g c =
     let words = subst (λ task. Words task (texts c.args.words.now)) (sym c.in-Merge.ensures) c.in-Ok.ensures.command in
-    of_task _ _ _ c.merge.ensures.told words (λ a. a)
+    of_task _ _ _ c.merge.ensures.comes.told words (λ a. a)
 
 pub returns-in-Merge-clause-text : goal.returns-in-Merge-clause-text
 returns-in-Merge-clause-text g c =
     let words = subst (λ task. Words task (texts c.args.words.now)) (sym c.in-Merge.ensures) c.in-Ok.ensures.command in
     of_task _ _ _ (nothing_put (Merge (inputs_of c.in-Merge.inputs) c.in-Merge.output.now (options_of c.in-Merge.options)) c.in-Merge.output.now
-    (g.F.Folder.files c.args.folder.now) c.merge.result (g.O.Sink.written c.args.out.now) c.merge.ensures.silent) words (λ a. a)
+    (g.F.Folder.files c.args.folder.now) c.merge.result (g.O.Sink.written c.args.out.now) c.merge.ensures.comes.silent) words (λ a. a)
 
 pub returns-in-Merge-clause-files : goal.returns-in-Merge-clause-files
 returns-in-Merge-clause-files g c =
     let words = subst (λ task. Words task (texts c.args.words.now)) (sym c.in-Merge.ensures) c.in-Ok.ensures.command in
-    of_task _ _ _ c.merge.ensures.files words (λ a. a)
+    of_task _ _ _ c.merge.ensures.comes.files words (λ a. a)
 
 pub returns-in-Merge-clause-accepted : goal.returns-in-Merge-clause-accepted
 returns-in-Merge-clause-accepted g c =
     let words = subst (λ task. Words task (texts c.args.words.now)) (sym c.in-Merge.ensures) c.in-Ok.ensures.command in
     on_then c.merge.result (λ h. on_asked WritesValid _ (Merge (inputs_of c.in-Merge.inputs) c.in-Merge.output.now (options_of c.in-Merge.options))
     (g.F.Folder.files c.args.folder.now) h words (λ a. a))
-    c.merge.ensures.accepted
+    c.merge.ensures.comes.accepted
 
 pub returns-in-Merge-clause-again : goal.returns-in-Merge-clause-again
 returns-in-Merge-clause-again g c =
     let words = subst (λ task. Words task (texts c.args.words.now)) (sym c.in-Merge.ensures) c.in-Ok.ensures.command in
     on_then c.merge.result (λ h. on_asked WritesAgain _ (Merge (inputs_of c.in-Merge.inputs) c.in-Merge.output.now (options_of c.in-Merge.options))
     (g.F.Folder.files c.args.folder.now) h words (λ a. a))
-    c.merge.ensures.again
+    c.merge.ensures.comes.again
 
 pub returns-in-Merge-clause-rows : goal.returns-in-Merge-clause-rows
 returns-in-Merge-clause-rows g c =
@@ -391,7 +391,7 @@ returns-in-Rebuild-clause-means g c =
     let words = subst (λ task. Words task (texts c.args.words.now)) (sym c.in-Rebuild.ensures) c.in-Ok.ensures.command in
     on_then c.rebuild.result (λ h. on_asked (WritesMeaning (g.F.Folder.files c.args.folder.now)) _
     (Rebuild c.in-Rebuild.input.now c.in-Rebuild.output.now (options_of c.in-Rebuild.options)) (g.F.Folder.files c.args.folder.now) h words (λ a. a))
-    c.rebuild.ensures.means
+    c.rebuild.ensures.comes.means
 
 pub returns-in-Compose-clause-means : goal.returns-in-Compose-clause-means
 returns-in-Compose-clause-means g c =
@@ -404,7 +404,7 @@ returns-in-Merge-clause-means g c =
     let words = subst (λ task. Words task (texts c.args.words.now)) (sym c.in-Merge.ensures) c.in-Ok.ensures.command in
     on_then c.merge.result (λ h. on_asked (WritesMeaning (g.F.Folder.files c.args.folder.now)) _
     (Merge (inputs_of c.in-Merge.inputs) c.in-Merge.output.now (options_of c.in-Merge.options)) (g.F.Folder.files c.args.folder.now) h words (λ a. a))
-    c.merge.ensures.means
+    c.merge.ensures.comes.means
 
 pub returns-in-Sample-clause-means : goal.returns-in-Sample-clause-means
 returns-in-Sample-clause-means g c =

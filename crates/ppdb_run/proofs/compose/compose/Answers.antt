@@ -1,59 +1,29 @@
 use Rattle.std.proofs.Common.{◌∙◌, subst}
 use Rattle.ppdb_base.specs.Causes.{Rose}
-use Rattle.ppdb_run.specs.Outcome.{written}
 use Rattle.ppdb_run_stops.specs.Causes.{cause_of}
-use Rattle.ppdb_run_words.specs.Words.{Compose}
+use Rattle.ppdb_run_words.specs.Words.{Compose, Task}
 use Rattle.ppdb_run_stops.proofs.Causes.{widened, widened_stop}
-use Rattle.ppdb_run.proofs.Outcomes.{stop_found, stop_settles}
-use Rattle.ppdb_run.proofs.Writing.{nothing_written, written_found, written_settles, written_silent, written_leaves, written_valid}
+use Rattle.ppdb_run.proofs.Writing.{nothing_due}
+use Rattle.ppdb_run.proofs.Carried.{stopped, wrote}
 use Rattle.ppdb_run.proofs.compose.compose.Goals as goal
 
-pub returns-in-Err-clause-found : goal.returns-in-Err-clause-found
-returns-in-Err-clause-found g c =
-    stop_found (Unit {0}) (Compose c.args.first.now c.args.second.now c.args.output.now) (g.F.Folder.files c.args.folder.now) (written c.args.output.now)
-    c.in-Err.stop (c.in-Err.ensures.told c.args.output.now)
-
-pub returns-in-Err-clause-told : goal.returns-in-Err-clause-told
-returns-in-Err-clause-told g c =
-    stop_settles (Unit {0}) (Compose c.args.first.now c.args.second.now c.args.output.now) (g.F.Folder.files c.args.folder.now) (written c.args.output.now)
-    c.in-Err.stop (c.in-Err.ensures.told c.args.output.now)
-
-pub returns-in-Err-clause-files : goal.returns-in-Err-clause-files
-returns-in-Err-clause-files g c =
-    nothing_written (Compose c.args.first.now c.args.second.now c.args.output.now) c.args.output.now (g.F.Folder.files c.args.folder.now) c.in-Err.stop _ _
-    c.in-Err.ensures.files
+pub returns-in-Err-clause-comes : goal.returns-in-Err-clause-comes
+returns-in-Err-clause-comes g c =
+    stopped (Unit {0}) (Compose c.args.first.now c.args.second.now c.args.output.now) c.args.output.now (g.F.Folder.files c.args.folder.now) _ c.in-Err.stop
+    (c.in-Err.ensures.told c.args.output.now) c.in-Err.ensures.files
 
 pub returns-in-Err-clause-causes : goal.returns-in-Err-clause-causes
 returns-in-Err-clause-causes g c =
     widened (cause_of c.in-Err.stop) (λ m. m) (λ name r. r) (λ name w. absurd w) (λ e. e) (λ a. a) (λ b. absurd b) (λ p. p)
     (c.in-Err.ensures.causes c.args.output.now)
 
-pub returns-clause-found : goal.returns-clause-found
-returns-clause-found g c =
-    written_found (Compose c.args.first.now c.args.second.now c.args.output.now) c.args.output.now (g.F.Folder.files c.args.folder.now) c.write_output.result _
-    c.write_output.ensures.no_refusal (c.in-Ok.ensures.told c.args.output.now)
-
-pub returns-clause-told : goal.returns-clause-told
-returns-clause-told g c =
-    written_settles (Compose c.args.first.now c.args.second.now c.args.output.now) c.args.output.now (g.F.Folder.files c.args.folder.now)
-    c.write_output.result _
-    c.write_output.ensures.no_refusal (c.in-Ok.ensures.told c.args.output.now)
-
-pub returns-clause-silent : goal.returns-clause-silent
-returns-clause-silent g c =
-    written_silent (Compose c.args.first.now c.args.second.now c.args.output.now) c.args.output.now (g.F.Folder.files c.args.folder.now) c.write_output.result _
-    c.write_output.ensures.no_refusal (c.in-Ok.ensures.told c.args.output.now)
-
-pub returns-clause-files : goal.returns-clause-files
-returns-clause-files g c =
-    written_leaves (Compose c.args.first.now c.args.second.now c.args.output.now) c.args.output.now (g.F.Folder.files c.args.folder.now) c.write_output.result _
-    c.write_output.ensures.no_refusal (c.in-Ok.ensures.told c.args.output.now) _ _ _ c.in-Ok.ensures.files
-    (rw c.as_slice.ensures at c.write_output.ensures.files)
-
-pub returns-clause-accepted : goal.returns-clause-accepted
-returns-clause-accepted g c =
-    written_valid (Compose c.args.first.now c.args.second.now c.args.output.now) c.args.output.now (g.F.Folder.files c.args.folder.now) c.write_output.result _
-    c.write_output.ensures.no_refusal (c.in-Ok.ensures.told c.args.output.now) c.in-Ok.ensures.read
+pub returns-clause-comes : goal.returns-clause-comes
+returns-clause-comes g c =
+    let task : Task = Compose c.args.first.now c.args.second.now c.args.output.now in
+    let files = g.F.Folder.files c.args.folder.now in
+    let told = c.in-Ok.ensures.told c.args.output.now in
+    wrote task c.args.output.now files _ _ c.write_output.result _ c.write_output.ensures.no_refusal told c.in-Ok.ensures.files
+    (rw c.as_slice.ensures at c.write_output.ensures.files) c.in-Ok.ensures.read (nothing_due task files) (nothing_due task files)
 
 pub returns-clause-causes : goal.returns-clause-causes
 returns-clause-causes g c =

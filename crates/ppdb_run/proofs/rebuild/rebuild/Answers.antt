@@ -1,74 +1,32 @@
 use Rattle.std.proofs.Common.{◌∙◌, subst}
 use Rattle.ppdb_base.specs.Causes.{Rose}
-use Rattle.ppdb_run.specs.Outcome.{written}
+use Rattle.ppdb_run.specs.Ends.{WritesAgain}
 use Rattle.ppdb_run_words.specs.Task.{options_of}
-use Rattle.ppdb_run_words.specs.Words.{Rebuild}
+use Rattle.ppdb_run_words.specs.Words.{Rebuild, Task}
+use Rattle.std.specs.Prelude.{Some}
 use Rattle.ppdb_run_stops.proofs.Causes.{widened_stop}
-use Rattle.ppdb_run.proofs.Outcomes.{stop_found, stop_settles}
-use Rattle.ppdb_run.proofs.Writing.{nothing_written, written_found, written_settles, written_silent, written_leaves, written_valid, written_again, on_done}
 use Rattle.ppdb_run.proofs.Means.{means_written}
+use Rattle.ppdb_run.proofs.Writing.{on_written}
+use Rattle.ppdb_run.proofs.Carried.{stopped, wrote}
 use Rattle.ppdb_run.proofs.rebuild.rebuild.Goals as goal
 
-pub returns-in-Err-clause-found : goal.returns-in-Err-clause-found
-returns-in-Err-clause-found g c =
-    stop_found (Unit {0}) (Rebuild c.args.input.now c.args.output.now (options_of c.args.options)) (g.F.Folder.files c.args.folder.now)
-    (written c.args.output.now)
-    c.in-Err.stop (c.in-Err.ensures.told c.args.output.now)
+pub returns-in-Err-clause-comes : goal.returns-in-Err-clause-comes
+returns-in-Err-clause-comes g c =
+    stopped (Unit {0}) (Rebuild c.args.input.now c.args.output.now (options_of c.args.options)) c.args.output.now (g.F.Folder.files c.args.folder.now) _ c.in-Err.stop
+    (c.in-Err.ensures.told c.args.output.now) c.in-Err.ensures.files
 
-pub returns-in-Err-clause-told : goal.returns-in-Err-clause-told
-returns-in-Err-clause-told g c =
-    stop_settles (Unit {0}) (Rebuild c.args.input.now c.args.output.now (options_of c.args.options)) (g.F.Folder.files c.args.folder.now)
-    (written c.args.output.now)
-    c.in-Err.stop (c.in-Err.ensures.told c.args.output.now)
-
-pub returns-in-Err-clause-files : goal.returns-in-Err-clause-files
-returns-in-Err-clause-files g c =
-    nothing_written (Rebuild c.args.input.now c.args.output.now (options_of c.args.options)) c.args.output.now (g.F.Folder.files c.args.folder.now)
-    c.in-Err.stop _ _ c.in-Err.ensures.files
-
-pub returns-clause-found : goal.returns-clause-found
-returns-clause-found g c =
-    written_found (Rebuild c.args.input.now c.args.output.now (options_of c.args.options)) c.args.output.now (g.F.Folder.files c.args.folder.now)
-    c.write_output.result _
-    c.write_output.ensures.no_refusal (c.in-Ok.ensures.told c.args.output.now)
-
-pub returns-clause-told : goal.returns-clause-told
-returns-clause-told g c =
-    written_settles (Rebuild c.args.input.now c.args.output.now (options_of c.args.options)) c.args.output.now (g.F.Folder.files c.args.folder.now)
-    c.write_output.result _
-    c.write_output.ensures.no_refusal (c.in-Ok.ensures.told c.args.output.now)
-
-pub returns-clause-silent : goal.returns-clause-silent
-returns-clause-silent g c =
-    written_silent (Rebuild c.args.input.now c.args.output.now (options_of c.args.options)) c.args.output.now (g.F.Folder.files c.args.folder.now)
-    c.write_output.result _
-    c.write_output.ensures.no_refusal (c.in-Ok.ensures.told c.args.output.now)
-
-pub returns-clause-files : goal.returns-clause-files
-returns-clause-files g c =
-    written_leaves (Rebuild c.args.input.now c.args.output.now (options_of c.args.options)) c.args.output.now (g.F.Folder.files c.args.folder.now)
-    c.write_output.result _
-    c.write_output.ensures.no_refusal (c.in-Ok.ensures.told c.args.output.now) _ _ _ c.in-Ok.ensures.files
-    (rw c.as_slice.ensures at c.write_output.ensures.files)
-
-pub returns-clause-accepted : goal.returns-clause-accepted
-returns-clause-accepted g c =
-    written_valid (Rebuild c.args.input.now c.args.output.now (options_of c.args.options)) c.args.output.now (g.F.Folder.files c.args.folder.now)
-    c.write_output.result _
-    c.write_output.ensures.no_refusal (c.in-Ok.ensures.told c.args.output.now) c.in-Ok.ensures.accepted
-
-pub returns-clause-again : goal.returns-clause-again
-returns-clause-again g c =
-    written_again (Rebuild c.args.input.now c.args.output.now (options_of c.args.options)) c.args.output.now (g.F.Folder.files c.args.folder.now)
-    c.write_output.result _
-    c.write_output.ensures.no_refusal (c.in-Ok.ensures.told c.args.output.now) c.in-Ok.ensures.again
+pub returns-clause-comes : goal.returns-clause-comes
+returns-clause-comes g c =
+    let task : Task = Rebuild c.args.input.now c.args.output.now (options_of c.args.options) in
+    let files = g.F.Folder.files c.args.folder.now in
+    let told = c.in-Ok.ensures.told c.args.output.now in
+    let means = c.in-Ok.ensures.means c.args.output.now in
+    wrote task c.args.output.now files _ _ c.write_output.result _ c.write_output.ensures.no_refusal told c.in-Ok.ensures.files
+    (rw c.as_slice.ensures at c.write_output.ensures.files) c.in-Ok.ensures.accepted
+    (on_written task c.args.output.now files (WritesAgain (Some task)) _ told c.in-Ok.ensures.again)
+    (means_written task c.args.output.now (options_of c.args.options) files _ told means)
 
 pub returns-clause-causes : goal.returns-clause-causes
 returns-clause-causes g c =
     widened_stop c.write_output.result (λ m. m) (λ name r. absurd r) (λ name w. w) (λ e. c.in-Ok.ensures.files ∙ e) (λ a. absurd a)
     (λ b. subst (λ n. Rose n (g.F.Folder.write_faults c.write_output.new.folder)) c.in-Ok.ensures.write_faults b) (λ p. p) c.write_output.ensures.causes
-
-pub returns-clause-means : goal.returns-clause-means
-returns-clause-means g c =
-    on_done c.write_output.result (means_written (Rebuild c.args.input.now c.args.output.now (options_of c.args.options)) c.args.output.now
-    (options_of c.args.options) (g.F.Folder.files c.args.folder.now) _ (c.in-Ok.ensures.told c.args.output.now) (c.in-Ok.ensures.means c.args.output.now))

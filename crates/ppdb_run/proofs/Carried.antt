@@ -1,0 +1,41 @@
+-- What a command that writes a file comes to, whether it stopped before the write or wrote.
+use Rattle.std.proofs.Common.{ℕ, ◌≡◌, List}
+use Rattle.std.specs.Prelude.{Option, Some, None, Result, Ok, Err, IfSome, IfErr}
+use Rattle.ppdb_base.specs.Files.{Files}
+use Rattle.ppdb_run_stops.specs.declared.stop.Stop.{Stop}
+use Rattle.ppdb_run_stops.specs.Causes.{cause_of, refusal_of}
+use Rattle.ppdb_run_words.specs.Words.{Task}
+use Rattle.ppdb_run.specs.Ends.{IsValid, OnTask, WritesAgain}
+use Rattle.ppdb_run.specs.Means.{WritesMeaning}
+use Rattle.ppdb_run.specs.Outcome.{steps_of, written}
+use Rattle.ppdb_run.specs.Stops.{Gives, Leaves, WritesOutcome}
+use Rattle.ppdb_run.proofs.Outcomes.{stop_found, stop_settles}
+use Rattle.ppdb_run.proofs.Writing.{nothing_due, nothing_written, on_done, written_found, written_leaves, written_settles, written_silent, written_valid}
+
+-- it stopped before
+pub stopped : (T : Type 0) (task : Task) (output : List ℕ) (old new : Option Files) (stop : Stop)
+    → IfSome old (λ all. Gives (written output) (Err stop) (steps_of task all)) → new ≡ old → WritesOutcome {T = T} task (Err stop) old new
+stopped T task output old new stop told same = record {
+  found = stop_found T task old (written output) stop told;
+  told = stop_settles T task old (written output) stop told;
+  silent = nothing_due task old;
+  files = nothing_written task output old stop old new same;
+  accepted = tt;
+  again = tt;
+  means = tt;
+}
+
+-- it wrote, or could not
+pub wrote : {T : Type 0} (task : Task) (output : List ℕ) (old mid new : Option Files) (result : Result T Stop) (bytes : List ℕ)
+    → IfErr result (λ stop. refusal_of (cause_of stop) ≡ None) → IfSome old (λ all. steps_of task all (Ok (written output bytes)))
+    → mid ≡ old → Leaves result (Some (output, bytes)) mid new → IsValid task bytes
+    → OnTask task old (WritesAgain (Some task)) → OnTask task old (WritesMeaning old (Some task)) → WritesOutcome task result old new
+wrote task output old mid new result bytes none told same leaves valid again means = record {
+  found = written_found task output old result bytes none told;
+  told = written_settles task output old result bytes none told;
+  silent = written_silent task output old result bytes none told;
+  files = written_leaves task output old result bytes none told old mid new same leaves;
+  accepted = written_valid task output old result bytes none told valid;
+  again = on_done result again;
+  means = on_done result means;
+}
