@@ -71,11 +71,12 @@ fn tell_more(rt: &HostRuntime, words: &[String], status: Status, reason: Option<
     };
 }
 
-/// The text of words that ask for the program itself and are no command.
+/// The text of words that ask for the program itself and are no command. Only words that have such a text are read here: `run` reads
+/// those of all commands.
 fn asked_text(words: &[String]) -> Option<&'static str> {
-    match read_words(words) {
-        Ok(_) => None,
-        Err(_) => help::own_text(words),
+    match help::own_text(words) {
+        Some(text) if read_words(words).is_err() => Some(text),
+        _ => None,
     }
 }
 
