@@ -1,7 +1,7 @@
 // Names and other bytes as printed text.
 ghost use Rattle.std.specs.Prelude.{◌≡◌, [], ◌∷◌, All, IsTrue};
 ghost use Rattle.std.specs.Bool.{OnTrue};
-ghost use Rattle.ppdb_base.specs.Written.{Puts};
+ghost use Rattle.ppdb_base.specs.Written.{PutsInto};
 ghost use Rattle.ppdb_base.specs.Escaped.{escaped, escaped_byte, code_of, is_plain};
 ghost use Rattle.hex.specs.Hex.{encode_lower};
 
@@ -10,7 +10,7 @@ use crate::sink::{Sink, WriteError};
 /// Puts bytes as text: printable ASCII but the backslash as it is, any other byte as `\x` and two digits,
 /// and no bytes as `\-`.
 pub fn put_escaped<O: Sink>(out: &mut O, bytes: &[u8]) -> Result<(), WriteError>
-    ensures { Puts result (O.written out.old) (O.written out.new) (O.faults out.old) (O.faults out.new) (escaped bytes.now) }
+    ensures { PutsInto O.written O.faults result out.old out.new (escaped bytes.now) }
 {
     if bytes.is_empty() {
         return out.put(b"\\-");
@@ -32,7 +32,7 @@ fn are_plain(bytes: &[u8]) -> bool
 }
 
 fn put_escaped_byte<O: Sink>(out: &mut O, byte: u8) -> Result<(), WriteError>
-    ensures { Puts result (O.written out.old) (O.written out.new) (O.faults out.old) (O.faults out.new) (escaped_byte byte) }
+    ensures { PutsInto O.written O.faults result out.old out.new (escaped_byte byte) }
 {
     if stands_for_itself(byte) {
         out.put(&[byte])
@@ -43,7 +43,7 @@ fn put_escaped_byte<O: Sink>(out: &mut O, byte: u8) -> Result<(), WriteError>
 
 /// Puts `\x` and the digits of a byte.
 fn put_code<O: Sink>(out: &mut O, byte: u8) -> Result<(), WriteError>
-    ensures { Puts result (O.written out.old) (O.written out.new) (O.faults out.old) (O.faults out.new) (code_of byte) }
+    ensures { PutsInto O.written O.faults result out.old out.new (code_of byte) }
 {
     out.put(b"\\x")?;
     out.put(&hex_digits(byte))

@@ -1,7 +1,7 @@
 // The answers to questions about one file: what is read and verified, and what is put.
 ghost use Rattle.std.specs.Prelude.{◌≡◌, ◌≤◌, Some, None, OnOk, IfErr, IfSome};
 ghost use Rattle.ppdb_base.specs.Causes.{Rose};
-ghost use Rattle.ppdb_base.specs.Written.{appended, AppendsPrefix};
+ghost use Rattle.ppdb_base.specs.Written.{appended, AppendsPrefix, PutsInto};
 ghost use Rattle.ppdb_run.specs.Ends.{OnTask, IsWithinRows, IsWithinBound, ReadsNoRows};
 ghost use Rattle.ppdb_run.specs.Outcome.{IsOutcome, answer_of, id_text, outcome_of};
 ghost use Rattle.ppdb_run_stops.specs.Causes.{cause_of, ComesFrom, no_file, OnCut, OnUntold, StopsPutting};
@@ -9,7 +9,6 @@ ghost use Rattle.ppdb_run.specs.Stops.{Settles, Finds};
 ghost use Rattle.ppdb_run_words.specs.Task.{question_of};
 ghost use Rattle.ppdb_run_words.specs.Words.{Ask};
 ghost use Rattle.ppdb_verify.specs.Views.{raw_file};
-ghost use Rattle.ppdb_run_stops.specs.Sinks.{PutsInto};
 
 use crate::form::answer_form;
 use crate::sources::{answer_breaks, answer_links};

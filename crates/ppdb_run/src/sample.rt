@@ -1,13 +1,12 @@
 // The command `sample`: what the sample file of so many methods comes to.
 ghost use Rattle.std.specs.Prelude.{◌≡◌, ◌≤◌, None, OnOk, IfErr};
-ghost use Rattle.ppdb_base.specs.Written.{appended, AppendsPrefix};
+ghost use Rattle.ppdb_base.specs.Written.{appended, AppendsPrefix, PutsInto};
 ghost use Rattle.ppdb_show_lines.specs.Lines.{text_of};
 ghost use Rattle.ppdb_show_lines.specs.Views.{content_of};
 ghost use Rattle.ppdb_run.specs.Sample.{sample_text, told_line};
 ghost use Rattle.ppdb_run.specs.Outcome.{outcome_of, sampled};
 ghost use Rattle.ppdb_run_stops.specs.Causes.{cause_of, OnCut, OnUntold, StopsPutting};
 ghost use Rattle.ppdb_run.specs.Stops.{Settles};
-ghost use Rattle.ppdb_run_stops.specs.Sinks.{PutsInto};
 
 use crate::report::{SampleReport, sampled};
 use ppdb_base::{Sink, Steps, WriteError};

@@ -3,7 +3,7 @@ ghost use Rattle.std.specs.Prelude.{◌≡◌};
 ghost use Rattle.ppdb_show_lines.specs.Lines.{text_of};
 ghost use Rattle.ppdb_run_stops.specs.Faults.{part_text};
 ghost use Rattle.ppdb_run_stops.specs.Lines.{refused_line};
-ghost use Rattle.ppdb_run_stops.specs.Sinks.{PutsInto};
+ghost use Rattle.ppdb_base.specs.Written.{PutsInto};
 
 use ppdb_base::{Fault, Sink, WriteError};
 use ppdb_show_lines::Item::{Name, Number, Table};

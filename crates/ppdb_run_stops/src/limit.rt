@@ -1,7 +1,7 @@
 // The lines of limits.
 ghost use Rattle.ppdb_show_lines.specs.Pieces.{line, numbered, signed};
 ghost use Rattle.ppdb_run_stops.specs.Lines.{limit_text};
-ghost use Rattle.ppdb_run_stops.specs.Sinks.{PutsInto};
+ghost use Rattle.ppdb_base.specs.Written.{PutsInto};
 
 use ppdb_base::{Limit, Sink, WriteError};
 use ppdb_show_lines::{put_numbered, put_numbered64, put_signed, put_tabled};

@@ -5,7 +5,7 @@ ghost use Rattle.ppdb_show.specs.Lookup.{no_method_line};
 ghost use Rattle.ppdb_run_stops.specs.declared.stop.Stop.TheVariants as stops;
 ghost use Rattle.ppdb_run_stops.specs.Lines.{about, links_line, list_line, map_line, sizes_line};
 ghost use Rattle.ppdb_run_stops.specs.Causes.{cause_of, line_of, status_of, stop_of};
-ghost use Rattle.ppdb_run_stops.specs.Sinks.{PutsInto};
+ghost use Rattle.ppdb_base.specs.Written.{PutsInto};
 
 use crate::fault::put_refused;
 use crate::limit::{put_limit, put_number_line};

@@ -2,7 +2,7 @@
 ghost use Rattle.ppdb_base.specs.declared.merge_error.MergeError.TheVariants as merge_errors;
 ghost use Rattle.ppdb_show_lines.specs.Lines.{text_of};
 ghost use Rattle.ppdb_run_stops.specs.Lines.{unfit_line};
-ghost use Rattle.ppdb_run_stops.specs.Sinks.{PutsInto};
+ghost use Rattle.ppdb_base.specs.Written.{PutsInto};
 
 use crate::fault::{ROWS, part_name};
 use ppdb_base::{MergeError, Place, Sink, WriteError};

@@ -1,7 +1,7 @@
 // What belongs to each offset of a list, one after the other.
 ghost use Rattle.std.specs.Prelude.{◌+◌, ◌≤◌, [], ◌∷◌, List};
 ghost use Rattle.std.specs.Str.Lines.{lines};
-ghost use Rattle.ppdb_base.specs.Written.{Puts};
+ghost use Rattle.ppdb_base.specs.Written.{PutsInto};
 ghost use Rattle.ppdb_queries_list.specs.Lists.{Lists};
 ghost use Rattle.ppdb_queries_list.specs.declared.line.MethodOffset.{MethodOffset as Asked};
 ghost use Rattle.ppdb_show_lines.specs.Forms.{lines_as};
@@ -22,7 +22,7 @@ use std::sync::ledger::Ledger;
 
 /// Puts the line of what is asked.
 fn put_at<O: Sink>(printer: Printer<'_>, out: &mut O, at: MethodOffset) -> Result<(), WriteError>
-    ensures { Puts result (O.written out.old) (O.written out.new) (O.faults out.old) (O.faults out.new) (lines_as printer.entry.form (at_line at ∷ [])) }
+    ensures { PutsInto O.written O.faults result out.old out.new (lines_as printer.entry.form (at_line at ∷ [])) }
 {
     let parts = [
         Field(" ", Key::Method, Number(at.method)),
@@ -37,7 +37,7 @@ pub fn put_no_method<O: Sink>(
     out: &mut O,
     method: u32,
 ) -> Result<(), WriteError>
-    ensures { Puts result (O.written out.old) (O.written out.new) (O.faults out.old) (O.faults out.new) (lines_as printer.entry.form (no_method_line method ∷ [])) }
+    ensures { PutsInto O.written O.faults result out.old out.new (lines_as printer.entry.form (no_method_line method ∷ [])) }
 {
     let parts = [Field(" ", Key::Method, Number(method))];
     printer.put_line(out, "no method", &[0, 1], &parts)
@@ -54,7 +54,7 @@ fn put_one<O: Sink, L: Ledger>(
 ) -> Result<(), WriteError>
     requires known { AreNotes printer.form (raw_file file.now).tables notes.old }
     ensures known { AreNotes printer.entry.form (raw_file file.now).tables notes.new }
-    ensures puts { Puts result (O.written out.old) (O.written out.new) (O.faults out.old) (O.faults out.new)
+    ensures puts { PutsInto O.written O.faults result out.old out.new
         (lines_as printer.entry.form (answer_lines (raw_file file.now) at)) }
     ensures cost { steps.new ≤ steps.old + query_rows (raw_file file.now).tables at.method at.offset }
 {
@@ -81,7 +81,7 @@ pub fn put_lookup<O: Sink, L: Ledger>(
 ) -> Result<(), WriteError>
     requires { (asked : List Asked) × Lists (lines list.now) asked }
     ensures puts { (asked : List Asked) → Lists (lines list.now) asked
-        → Puts result (O.written out.old) (O.written out.new) (O.faults out.old) (O.faults out.new)
+        → PutsInto O.written O.faults result out.old out.new
         (lookup_text_of printer.entry.form (raw_file file.now) asked) }
     ensures cost { (asked : List Asked) → Lists (lines list.now) asked → steps.new ≤ steps.old + lookup_rows (raw_file file.now).tables asked }
 {

@@ -1,5 +1,5 @@
 // All rows of a file, as text or as JSON.
-ghost use Rattle.ppdb_base.specs.Written.{Puts};
+ghost use Rattle.ppdb_base.specs.Written.{PutsInto};
 ghost use Rattle.ppdb_verify.specs.Views.{raw_file};
 ghost use Rattle.ppdb_show_lines.specs.Forms.{lines_as};
 ghost use Rattle.ppdb_show_lines.specs.declared.form.Form.TheVariants.{Text, Json};
@@ -33,7 +33,7 @@ pub fn put_show<O: Sink, L: Ledger>(
     out: &mut O,
     steps: &mut Steps<L>,
 ) -> Result<(), WriteError>
-    ensures { Puts result (O.written out.old) (O.written out.new) (O.faults out.old) (O.faults out.new) (show_text_of printer.entry.form (raw_file file.now)) }
+    ensures { PutsInto O.written O.faults result out.old out.new (show_text_of printer.entry.form (raw_file file.now)) }
 {
     put_head(printer, file, out)?;
     put_tables(printer, file, out, steps)
@@ -50,7 +50,7 @@ pub fn show_text<O: Sink, L: Ledger>(
     out: &mut O,
     steps: &mut Steps<L>,
 ) -> Result<(), WriteError>
-    ensures { Puts result (O.written out.old) (O.written out.new) (O.faults out.old) (O.faults out.new) (show_text_of Text (raw_file file.now)) }
+    ensures { PutsInto O.written O.faults result out.old out.new (show_text_of Text (raw_file file.now)) }
 {
     let room = Cell::new(Vec::new(alloc));
     let printer = Printer {
@@ -72,7 +72,7 @@ pub fn show_json<O: Sink, L: Ledger>(
     out: &mut O,
     steps: &mut Steps<L>,
 ) -> Result<(), WriteError>
-    ensures { Puts result (O.written out.old) (O.written out.new) (O.faults out.old) (O.faults out.new) (show_text_of Json (raw_file file.now)) }
+    ensures { PutsInto O.written O.faults result out.old out.new (show_text_of Json (raw_file file.now)) }
 {
     let room = Cell::new(Vec::new(alloc));
     let printer = Printer {
@@ -90,7 +90,7 @@ fn put_tables<O: Sink, L: Ledger>(
     out: &mut O,
     steps: &mut Steps<L>,
 ) -> Result<(), WriteError>
-    ensures { Puts result (O.written out.old) (O.written out.new) (O.faults out.old) (O.faults out.new) (lines_as printer.entry.form (row_lines (raw_file file.now).tables)) }
+    ensures { PutsInto O.written O.faults result out.old out.new (lines_as printer.entry.form (row_lines (raw_file file.now).tables)) }
 {
     put_rows(printer, Rows::Documents, file, out, steps)?;
     put_rows(printer, Rows::Methods, file, out, steps)?;

@@ -1,6 +1,6 @@
 // Lines as text or as JSON.
 ghost use Rattle.std.specs.Prelude.{[], ◌∷◌};
-ghost use Rattle.ppdb_base.specs.Written.{Puts};
+ghost use Rattle.ppdb_base.specs.Written.{PutsInto};
 ghost use Rattle.ppdb_show_lines.specs.Forms.{lines_as};
 ghost use Rattle.ppdb_show_lines.specs.Tokens.{IsKeyOrder};
 ghost use Rattle.ppdb_show_lines.specs.Views.{line_of};
@@ -40,7 +40,7 @@ impl Printer<'_> {
         parts: &[Part<'_>],
     ) -> Result<(), WriteError>
         requires { IsKeyOrder order.now (line_of word.now parts.now) }
-        ensures { Puts result (O.written out.old) (O.written out.new) (O.faults out.old) (O.faults out.new) (lines_as self.entry.form (line_of word.now parts.now ∷ [])) }
+        ensures { PutsInto O.written O.faults result out.old out.new (lines_as self.entry.form (line_of word.now parts.now ∷ [])) }
     {
         match self.form {
             Form::Text => put_text_line(out, word, parts),

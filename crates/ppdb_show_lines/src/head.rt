@@ -1,6 +1,6 @@
 // The lines of a file's identity and of its entry point.
 ghost use Rattle.std.specs.Prelude.{◌≡◌, ◌<◌, ◌^◌, [], ◌∷◌};
-ghost use Rattle.ppdb_base.specs.Written.{Puts};
+ghost use Rattle.ppdb_base.specs.Written.{PutsInto};
 ghost use Rattle.ppdb_show_lines.specs.Forms.{lines_as};
 ghost use Rattle.ppdb_show_lines.specs.Heads.{id_line, entry_line, token_of};
 
@@ -16,7 +16,7 @@ pub fn put_id_line<O: Sink>(
     out: &mut O,
     id: &[u8; 20],
 ) -> Result<(), WriteError>
-    ensures { Puts result (O.written out.old) (O.written out.new) (O.faults out.old) (O.faults out.new) (lines_as printer.entry.form (id_line id.now ∷ [])) }
+    ensures { PutsInto O.written O.faults result out.old out.new (lines_as printer.entry.form (id_line id.now ∷ [])) }
 {
     printer.put_line(
         out,
@@ -33,7 +33,7 @@ pub fn put_entry_line<O: Sink>(
     row: u32,
 ) -> Result<(), WriteError>
     requires { row < 2 ^ 24 }
-    ensures { Puts result (O.written out.old) (O.written out.new) (O.faults out.old) (O.faults out.new) (lines_as printer.entry.form (entry_line row ∷ [])) }
+    ensures { PutsInto O.written O.faults result out.old out.new (lines_as printer.entry.form (entry_line row ∷ [])) }
 {
     let token = Token(method_token(row));
     printer.put_line(

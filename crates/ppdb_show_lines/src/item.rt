@@ -1,5 +1,5 @@
 // What a field holds, as text.
-ghost use Rattle.ppdb_base.specs.Written.{Puts};
+ghost use Rattle.ppdb_base.specs.Written.{PutsInto};
 ghost use Rattle.ppdb_show_lines.specs.Lines.{content_text};
 ghost use Rattle.ppdb_show_lines.specs.Views.{content_of};
 
@@ -10,7 +10,7 @@ use ppdb_base::{Sink, WriteError, put_escaped};
 
 /// Puts what a field holds.
 pub fn put_item<O: Sink>(out: &mut O, item: &Item<'_>) -> Result<(), WriteError>
-    ensures { Puts result (O.written out.old) (O.written out.new) (O.faults out.old) (O.faults out.new) (content_text (content_of item.now)) }
+    ensures { PutsInto O.written O.faults result out.old out.new (content_text (content_of item.now)) }
 {
     match *item {
         Item::Number(number) => out.put(Buffer::new().format(number).as_bytes()),

@@ -1,7 +1,7 @@
 // A line as an object of JSON.
 ghost use Rattle.std.specs.Prelude.{◌≡◌, ◌++◌, ◌∷◌, [], decimal, OnOk, IfOk};
 ghost use Rattle.json.specs.Token as tokens;
-ghost use Rattle.ppdb_base.specs.Written.{Puts};
+ghost use Rattle.ppdb_base.specs.Written.{PutsInto};
 ghost use Rattle.ppdb_show_lines.specs.Lines.{content_text, json_of};
 ghost use Rattle.ppdb_show_lines.specs.Tokens.{IsKeyOrder, content_token, member_tokens};
 ghost use Rattle.ppdb_show_lines.specs.Views.{content_of, line_of, IsText};
@@ -27,7 +27,7 @@ pub(crate) fn put_json_line<O: Sink>(
     parts: &[Part<'_>],
 ) -> Result<(), WriteError>
     requires { IsKeyOrder order.now (line_of word.now parts.now) }
-    ensures { Puts result (O.written out.old) (O.written out.new) (O.faults out.old) (O.faults out.new) (json_of (line_of word.now parts.now)) }
+    ensures { PutsInto O.written O.faults result out.old out.new (json_of (line_of word.now parts.now)) }
 {
     let text = object_line(alloc, room.replace(Vec::new(alloc)), word, order, parts)?;
     let put = out.put(text.as_slice());

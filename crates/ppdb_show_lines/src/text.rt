@@ -1,6 +1,6 @@
 // A line as text.
 ghost use Rattle.std.specs.Prelude.{◌++◌};
-ghost use Rattle.ppdb_base.specs.Written.{Puts};
+ghost use Rattle.ppdb_base.specs.Written.{PutsInto};
 ghost use Rattle.ppdb_show_lines.specs.Keeping.{Keeps};
 ghost use Rattle.ppdb_show_lines.specs.Lines.{content_text, field_text, text_of};
 ghost use Rattle.ppdb_show_lines.specs.Views.{content_of, field_of, line_of, fields_text};
@@ -13,7 +13,7 @@ use ppdb_base::{Sink, WriteError};
 /// Puts a line as text. Its words and numbers are kept and put together.
 #[tactic(auto, unfolding(crate::specs::Lines::text_of))]
 pub fn put_text_line<O: Sink>(out: &mut O, word: &str, parts: &[Part<'_>]) -> Result<(), WriteError>
-    ensures { Puts result (O.written out.old) (O.written out.new) (O.faults out.old) (O.faults out.new) (text_of (line_of word.now parts.now)) }
+    ensures { PutsInto O.written O.faults result out.old out.new (text_of (line_of word.now parts.now)) }
 {
     let mut kept = Kept::new();
     kept.put(out, word.as_bytes())?;

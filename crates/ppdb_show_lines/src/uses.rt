@@ -1,6 +1,6 @@
 // The line of an import.
 ghost use Rattle.std.specs.Prelude.{[], ◌∷◌};
-ghost use Rattle.ppdb_base.specs.Written.{Puts};
+ghost use Rattle.ppdb_base.specs.Written.{PutsInto};
 ghost use Rattle.type_blobs.specs.ImportReading.{shown};
 ghost use Rattle.ppdb_values.specs.Imports.{import_value};
 ghost use Rattle.ppdb_show_lines.specs.Forms.{lines_as};
@@ -35,7 +35,7 @@ pub fn put_use<O: Sink>(
     out: &mut O,
     import: &Import<'_>,
 ) -> Result<(), WriteError>
-    ensures { Puts result (O.written out.old) (O.written out.new) (O.faults out.old) (O.faults out.new)
+    ensures { PutsInto O.written O.faults result out.old out.new
         (lines_as printer.entry.form (use_line (import_value (shown import.now)) ∷ [])) }
 {
     match *import {

@@ -1,6 +1,6 @@
 // The lines of breaks.
 ghost use Rattle.std.specs.Prelude.{◌+◌, ◌≤◌, [], ◌∷◌};
-ghost use Rattle.ppdb_base.specs.Written.{Puts};
+ghost use Rattle.ppdb_base.specs.Written.{PutsInto};
 ghost use Rattle.ppdb_show_lines.specs.Forms.{lines_as};
 ghost use Rattle.ppdb_show_sources.specs.Breaks.{break_line, text_of_breaks};
 
@@ -13,7 +13,7 @@ use std::sync::ledger::Ledger;
 
 /// Puts the line of a break.
 fn put_break<O: Sink>(printer: Printer<'_>, out: &mut O, found: &Break) -> Result<(), WriteError>
-    ensures { Puts result (O.written out.old) (O.written out.new) (O.faults out.old) (O.faults out.new) (lines_as printer.entry.form (break_line found.now ∷ [])) }
+    ensures { PutsInto O.written O.faults result out.old out.new (lines_as printer.entry.form (break_line found.now ∷ [])) }
 {
     let parts = [
         Field(" ", Key::Method, Number(found.method)),
@@ -33,7 +33,7 @@ pub fn put_breaks<O: Sink, L: Ledger>(
     out: &mut O,
     steps: &mut Steps<L>,
 ) -> Result<(), WriteError>
-    ensures puts { Puts result (O.written out.old) (O.written out.new) (O.faults out.old) (O.faults out.new) (text_of_breaks printer.entry.form breaks.entry.items) }
+    ensures puts { PutsInto O.written O.faults result out.old out.new (text_of_breaks printer.entry.form breaks.entry.items) }
     ensures later { steps.old ≤ steps.new }
     ensures cost { steps.new ≤ steps.old + breaks.entry.rows }
 {

@@ -1,6 +1,6 @@
 // The lines of the documents, with the addresses of their sources.
 ghost use Rattle.std.specs.Prelude.{◌≡◌, ◌+◌, ◌*◌, ◌≤◌, [], ◌∷◌, length, Some, option_copied, IfOk};
-ghost use Rattle.ppdb_base.specs.Written.{Puts};
+ghost use Rattle.ppdb_base.specs.Written.{PutsInto};
 ghost use Rattle.ppdb_tables.specs.RawTables.{count as count_of};
 ghost use Rattle.ppdb_tables.specs.declared.rows.DocumentRow.{DocumentRow};
 ghost use Rattle.ppdb_tables.specs.RawTables.{row_at};
@@ -68,7 +68,7 @@ fn put_address<O: Sink>(
     address: Option<&[u8]>,
     out: &mut O,
 ) -> Result<(), WriteError>
-    ensures { Puts result (O.written out.old) (O.written out.new) (O.faults out.old) (O.faults out.new)
+    ensures { PutsInto O.written O.faults result out.old out.new
         (lines_as printer.entry.form (link_line row (option_copied address.entry) ∷ [])) }
 {
     let parts = [
@@ -90,7 +90,7 @@ fn put_link<O: Sink, L: Ledger>(
 ) -> Result<(), WriteError>
     requires { HasRow (raw_file file.now).tables 0x30 row }
     ensures puts { (cells : DocumentRow) → row_at (raw_file file.now).tables.documents row ≡ Some cells
-        → Puts result (O.written out.old) (O.written out.new) (O.faults out.old) (O.faults out.new)
+        → PutsInto O.written O.faults result out.old out.new
         (lines_as printer.entry.form (link_of links.now (row, document_of (raw_file file.now).tables cells) ∷ [])) }
     ensures step { steps.new ≡ steps.old + 1 }
 {
@@ -112,7 +112,7 @@ pub fn put_links<O: Sink, L: Ledger>(
     out: &mut O,
     steps: &mut Steps<L>,
 ) -> Result<(), WriteError>
-    ensures puts { Puts result (O.written out.old) (O.written out.new) (O.faults out.old) (O.faults out.new)
+    ensures puts { PutsInto O.written O.faults result out.old out.new
         (link_text printer.entry.form (value_of (raw_file file.now)) links.now) }
     ensures later { steps.old ≤ steps.new }
     ensures cost { steps.new ≤ steps.old + count_of (raw_file file.now).tables 0x30 }

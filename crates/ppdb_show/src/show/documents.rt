@@ -1,6 +1,6 @@
 // The lines of a document.
 ghost use Rattle.std.specs.Prelude.{◌≡◌, [], ◌∷◌, Some, IfOk};
-ghost use Rattle.ppdb_base.specs.Written.{Puts};
+ghost use Rattle.ppdb_base.specs.Written.{PutsInto};
 ghost use Rattle.ppdb_tables.specs.RawTables.{row_at};
 ghost use Rattle.ppdb_values.specs.Documents.{document_of};
 ghost use Rattle.ppdb_verify.specs.Views.{raw_file};
@@ -29,7 +29,7 @@ pub(crate) fn put_document<O: Sink, L: Ledger>(
     steps: &mut Steps<L>,
 ) -> Result<(), WriteError>
     requires { HasRow (raw_file file.now).tables 0x30 row }
-    ensures { Puts result (O.written out.old) (O.written out.new) (O.faults out.old) (O.faults out.new)
+    ensures { PutsInto O.written O.faults result out.old out.new
         (lines_as printer.entry.form (lines_of_document (raw_file file.now).tables row)) }
 {
     let document = document(file, row, steps);
@@ -44,7 +44,7 @@ fn put_value<O: Sink>(
     document: &DocumentValue,
     out: &mut O,
 ) -> Result<(), WriteError>
-    ensures { Puts result (O.written out.old) (O.written out.new) (O.faults out.old) (O.faults out.new) (lines_as printer.entry.form (document_line row document.now ∷ [])) }
+    ensures { PutsInto O.written O.faults result out.old out.new (lines_as printer.entry.form (document_line row document.now ∷ [])) }
 {
     let parts = [
         Field(" ", Key::Row, Number(row)),

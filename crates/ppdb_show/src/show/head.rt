@@ -1,6 +1,6 @@
 // The lines of the identity, of the entry point, and of the tables of the type system.
 ghost use Rattle.std.specs.Prelude.{◌<◌};
-ghost use Rattle.ppdb_base.specs.Written.{Puts};
+ghost use Rattle.ppdb_base.specs.Written.{PutsInto};
 ghost use Rattle.ppdb_tables.specs.RawOf.{raw_of};
 ghost use Rattle.ppdb_verify.specs.Views.{raw_file};
 ghost use Rattle.ppdb_show_lines.specs.Forms.{lines_as};
@@ -22,7 +22,7 @@ pub(crate) fn put_head<O: Sink>(
     file: &Verified<'_>,
     out: &mut O,
 ) -> Result<(), WriteError>
-    ensures { Puts result (O.written out.old) (O.written out.new) (O.faults out.old) (O.faults out.new) (lines_as printer.entry.form (head_lines (raw_file file.now))) }
+    ensures { PutsInto O.written O.faults result out.old out.new (lines_as printer.entry.form (head_lines (raw_file file.now))) }
 {
     file.keeps();
     let head = file.head();
@@ -37,7 +37,7 @@ fn put_counts<O: Sink>(
     tables: &Tables<'_>,
     out: &mut O,
 ) -> Result<(), WriteError>
-    ensures { Puts result (O.written out.old) (O.written out.new) (O.faults out.old) (O.faults out.new) (lines_as printer.entry.form (count_lines (raw_of tables.now))) }
+    ensures { PutsInto O.written O.faults result out.old out.new (lines_as printer.entry.form (count_lines (raw_of tables.now))) }
 {
     let mut table = 0;
     'counts: while table < TYPE_SYSTEM {
@@ -55,7 +55,7 @@ fn put_count<O: Sink>(
     out: &mut O,
 ) -> Result<(), WriteError>
     requires { table < 64 }
-    ensures { Puts result (O.written out.old) (O.written out.new) (O.faults out.old) (O.faults out.new)
+    ensures { PutsInto O.written O.faults result out.old out.new
         (lines_as printer.entry.form (count_lines_of (raw_of tables.now) table)) }
 {
     let count = tables.rows(table);

@@ -1,6 +1,6 @@
 // The lines of an import scope.
 ghost use Rattle.std.specs.Prelude.{◌≡◌, map, None, Some};
-ghost use Rattle.ppdb_base.specs.Written.{Puts};
+ghost use Rattle.ppdb_base.specs.Written.{PutsInto};
 ghost use Rattle.ppdb_values.specs.Imports.{import_value};
 ghost use Rattle.ppdb_verify.specs.Views.{raw_file};
 ghost use Rattle.ppdb_show_lines.specs.Forms.{lines_as};
@@ -26,7 +26,7 @@ pub(crate) fn put_import<O: Sink, L: Ledger>(
     steps: &mut Steps<L>,
 ) -> Result<(), WriteError>
     requires { HasRow (raw_file file.now).tables 0x35 row }
-    ensures { Puts result (O.written out.old) (O.written out.new) (O.faults out.old) (O.faults out.new)
+    ensures { PutsInto O.written O.faults result out.old out.new
         (lines_as printer.entry.form (lines_of_import_row (raw_file file.now).tables row)) }
 {
     let import = import(file, row, steps);
@@ -46,7 +46,7 @@ fn put_uses<O: Sink>(
     out: &mut O,
 ) -> Result<(), WriteError>
     requires { imports.old.fault ≡ None }
-    ensures { Puts result (O.written out.old) (O.written out.new) (O.faults out.old) (O.faults out.new)
+    ensures { PutsInto O.written O.faults result out.old out.new
         (lines_as printer.entry.form (map use_line (map import_value imports.old.items))) }
 {
     'imports: loop {

@@ -1,6 +1,6 @@
 // The lines of a method and of its points.
 ghost use Rattle.std.specs.Prelude.{◌≡◌, ◌<◌, ◌≢◌, [], ◌∷◌, map, None, Some};
-ghost use Rattle.ppdb_base.specs.Written.{Puts};
+ghost use Rattle.ppdb_base.specs.Written.{PutsInto};
 ghost use Rattle.ppdb_tables.specs.RawTables.{row_at};
 ghost use Rattle.ppdb_values.specs.Documents.{points_in, signature_in};
 ghost use Rattle.ppdb_values.specs.RawFile.{blob};
@@ -29,7 +29,7 @@ pub(crate) fn put_method<O: Sink, L: Ledger>(
     steps: &mut Steps<L>,
 ) -> Result<(), WriteError>
     requires { HasRow (raw_file file.now).tables 0x31 row }
-    ensures { Puts result (O.written out.old) (O.written out.new) (O.faults out.old) (O.faults out.new)
+    ensures { PutsInto O.written O.faults result out.old out.new
         (lines_as printer.entry.form (lines_of_method_row (raw_file file.now).tables row)) }
 {
     let method = method_debug(file, row, steps);
@@ -71,7 +71,7 @@ fn put_points<O: Sink>(
     out: &mut O,
 ) -> Result<(), WriteError>
     requires { points.old.left.fault ≡ None }
-    ensures { Puts result (O.written out.old) (O.written out.new) (O.faults out.old) (O.faults out.new) (lines_as printer.entry.form (map point_line points.old.left.items)) }
+    ensures { PutsInto O.written O.faults result out.old out.new (lines_as printer.entry.form (map point_line points.old.left.items)) }
 {
     'points: loop {
         match points.next() {
@@ -84,7 +84,7 @@ fn put_points<O: Sink>(
 
 /// Puts the line of a point.
 fn put_point<O: Sink>(printer: Printer<'_>, point: Point, out: &mut O) -> Result<(), WriteError>
-    ensures { Puts result (O.written out.old) (O.written out.new) (O.faults out.old) (O.faults out.new) (lines_as printer.entry.form (point_line point ∷ [])) }
+    ensures { PutsInto O.written O.faults result out.old out.new (lines_as printer.entry.form (point_line point ∷ [])) }
 {
     let offset = Field(" ", Key::Offset, Number(point.offset));
     let document = Field(" ", Key::Document, Number(point.document));

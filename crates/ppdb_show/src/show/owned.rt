@@ -1,6 +1,6 @@
 // The lines of the variables and constants, which belong to scopes.
 ghost use Rattle.std.specs.Prelude.{◌≡◌, ◌≤◌, ◌<◌, ◌+◌, ◌-◌, ℕ};
-ghost use Rattle.ppdb_base.specs.Written.{Puts};
+ghost use Rattle.ppdb_base.specs.Written.{PutsInto};
 ghost use Rattle.ppdb_tables.specs.RawOf.{raw_of};
 ghost use Rattle.ppdb_values.specs.Owners.{list_end};
 ghost use Rattle.ppdb_verify.specs.Views.{raw_file};
@@ -72,7 +72,7 @@ pub(crate) fn put_owned<O: Sink, L: Ledger>(
     out: &mut O,
     steps: &mut Steps<L>,
 ) -> Result<(), WriteError>
-    ensures { Puts result (O.written out.old) (O.written out.new) (O.faults out.old) (O.faults out.new)
+    ensures { PutsInto O.written O.faults result out.old out.new
         (lines_as printer.entry.form (lines_of_items (raw_file file.now).tables owned)) }
 {
     file.keeps();
@@ -104,7 +104,7 @@ fn put_items<O: Sink, L: Ledger>(
     requires forward { items.first ≤ items.end }
     requires last { items.end ≤ items_of (raw_file file.now).tables owned + 1 }
     requires owner { (item : ℕ) → items.first ≤ item → item < items.end → OwnsItem (raw_file file.now).tables owned scope item }
-    ensures { Puts result (O.written out.old) (O.written out.new) (O.faults out.old) (O.faults out.new)
+    ensures { PutsInto O.written O.faults result out.old out.new
         (lines_as printer.entry.form (lines_between (raw_file file.now).tables owned items.first items.end)) }
 {
     file.keeps();
@@ -128,7 +128,7 @@ fn put_item<O: Sink, L: Ledger>(
 ) -> Result<(), WriteError>
     requires there { HasRow (raw_file file.now).tables (item_table owned) item }
     requires owner { OwnsItem (raw_file file.now).tables owned scope item }
-    ensures { Puts result (O.written out.old) (O.written out.new) (O.faults out.old) (O.faults out.new)
+    ensures { PutsInto O.written O.faults result out.old out.new
         (lines_as printer.entry.form (lines_of_item (raw_file file.now).tables owned item)) }
 {
     match owned {
@@ -148,7 +148,7 @@ fn put_variable<O: Sink, L: Ledger>(
 ) -> Result<(), WriteError>
     requires there { HasRow (raw_file file.now).tables 0x33 row }
     requires owner { OwnsItem (raw_file file.now).tables Owned.Variables scope row }
-    ensures { Puts result (O.written out.old) (O.written out.new) (O.faults out.old) (O.faults out.new)
+    ensures { PutsInto O.written O.faults result out.old out.new
         (lines_as printer.entry.form (lines_of_item (raw_file file.now).tables Owned.Variables row)) }
 {
     let variable = variable(file, row, steps);
@@ -177,7 +177,7 @@ fn put_constant<O: Sink, L: Ledger>(
 ) -> Result<(), WriteError>
     requires there { HasRow (raw_file file.now).tables 0x34 row }
     requires owner { OwnsItem (raw_file file.now).tables Owned.Constants scope row }
-    ensures { Puts result (O.written out.old) (O.written out.new) (O.faults out.old) (O.faults out.new)
+    ensures { PutsInto O.written O.faults result out.old out.new
         (lines_as printer.entry.form (lines_of_item (raw_file file.now).tables Owned.Constants row)) }
 {
     let constant = constant(file, row, steps);

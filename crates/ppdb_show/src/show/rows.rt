@@ -1,6 +1,6 @@
 // The lines of the rows of a table.
 ghost use Rattle.std.specs.Prelude.{◌≡◌, ◌<◌, ◌+◌, Some};
-ghost use Rattle.ppdb_base.specs.Written.{Puts};
+ghost use Rattle.ppdb_base.specs.Written.{PutsInto};
 ghost use Rattle.ppdb_verify.specs.Views.{raw_file};
 ghost use Rattle.ppdb_show_lines.specs.Forms.{lines_as};
 ghost use Rattle.ppdb_show.specs.ShowWalk.{number_of, lines_of_row, lines_of_table, lines_of_scope, lines_of_machine, lines_of_custom};
@@ -59,7 +59,7 @@ pub(crate) fn put_rows<O: Sink, L: Ledger>(
     out: &mut O,
     steps: &mut Steps<L>,
 ) -> Result<(), WriteError>
-    ensures { Puts result (O.written out.old) (O.written out.new) (O.faults out.old) (O.faults out.new)
+    ensures { PutsInto O.written O.faults result out.old out.new
         (lines_as printer.entry.form (lines_of_table (raw_file file.now).tables rows)) }
 {
     file.keeps();
@@ -82,7 +82,7 @@ fn put_row<O: Sink, L: Ledger>(
     steps: &mut Steps<L>,
 ) -> Result<(), WriteError>
     requires { HasRow (raw_file file.now).tables (number_of rows) row }
-    ensures { Puts result (O.written out.old) (O.written out.new) (O.faults out.old) (O.faults out.new)
+    ensures { PutsInto O.written O.faults result out.old out.new
         (lines_as printer.entry.form (lines_of_row (raw_file file.now).tables rows row)) }
 {
     match rows {
@@ -104,7 +104,7 @@ fn put_scope<O: Sink, L: Ledger>(
     steps: &mut Steps<L>,
 ) -> Result<(), WriteError>
     requires { HasRow (raw_file file.now).tables 0x32 row }
-    ensures { Puts result (O.written out.old) (O.written out.new) (O.faults out.old) (O.faults out.new)
+    ensures { PutsInto O.written O.faults result out.old out.new
         (lines_as printer.entry.form (lines_of_scope (raw_file file.now).tables row)) }
 {
     file.keeps();
@@ -128,7 +128,7 @@ fn put_machine<O: Sink, L: Ledger>(
     steps: &mut Steps<L>,
 ) -> Result<(), WriteError>
     requires { HasRow (raw_file file.now).tables 0x36 row }
-    ensures { Puts result (O.written out.old) (O.written out.new) (O.faults out.old) (O.faults out.new)
+    ensures { PutsInto O.written O.faults result out.old out.new
         (lines_as printer.entry.form (lines_of_machine (raw_file file.now).tables row)) }
 {
     let machine = machine(file, row, steps);
@@ -149,7 +149,7 @@ fn put_custom<O: Sink, L: Ledger>(
     steps: &mut Steps<L>,
 ) -> Result<(), WriteError>
     requires { HasRow (raw_file file.now).tables 0x37 row }
-    ensures { Puts result (O.written out.old) (O.written out.new) (O.faults out.old) (O.faults out.new)
+    ensures { PutsInto O.written O.faults result out.old out.new
         (lines_as printer.entry.form (lines_of_custom (raw_file file.now).tables row)) }
 {
     file.keeps();
