@@ -15,6 +15,7 @@ use crate::item::Break;
 use crate::laws::breaks_are_rows;
 use crate::method::MethodBreaks;
 use ppdb_base::Steps;
+use ppdb_tables::{DOCUMENT, METHOD_DEBUG};
 use ppdb_verify::Verified;
 use ppdb_verify_rows::{count, method_debug, points_of};
 use std::marker::Model;
@@ -97,7 +98,7 @@ impl<'a> BreakCursor<'a> {
                 return Some(found);
             }
             self.file.keeps();
-            if self.done == count(&self.file, 0x31) {
+            if self.done == count(&self.file, METHOD_DEBUG) {
                 return None;
             }
             let method = self.done + 1;
@@ -122,7 +123,7 @@ pub fn breaks_at<'a>(
     ensures breaks { IfOk result (λ breaks. breaks.items ≡ breaks_in (value_of (raw_file file.now)) document line) }
     ensures rows { IfOk result (λ breaks. breaks.rows ≡ length (raw_file file.now).tables.methods) }
 {
-    if document == 0 || count(file, 0x30) < document {
+    if document == 0 || count(file, DOCUMENT) < document {
         return Err(NoDocument);
     }
     breaks_are_rows();

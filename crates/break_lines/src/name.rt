@@ -10,6 +10,7 @@ ghost use Rattle.break_lines.specs.Laws.{joined};
 use crate::laws::names_are_parts;
 use ppdb_base::Steps;
 use ppdb_heaps::NameCursor;
+use ppdb_tables::DOCUMENT;
 use ppdb_verify::Verified;
 use ppdb_verify_rows::{count, document};
 use std::sync::ledger::Ledger;
@@ -52,7 +53,7 @@ pub fn document_named<L: Ledger>(
     ensures cost { steps.new ≤ steps.old + count_of (raw_file file.now).tables 0x30 }
 {
     file.keeps();
-    'rows: for row in 1..count(file, 0x30) + 1 {
+    'rows: for row in 1..count(file, DOCUMENT) + 1 {
         let cells = document(file, row, steps);
         if has_name(ppdb_verify_rows::name(file, row, &cells), name) {
             return Some(row);

@@ -15,7 +15,7 @@ use ppdb_maps::MapText;
 use ppdb_merge_parts::joined_parts_are_flat;
 use ppdb_merge_records_laws::joined_records_are_flat;
 use ppdb_merge_rows::RowInput;
-use ppdb_tables::{PdbHead, VariableRow};
+use ppdb_tables::{METHOD_DEF, PdbHead, VariableRow};
 use ppdb_verify::Verified;
 
 /// The rows of each table of the type system in the output.
@@ -38,7 +38,7 @@ fn moved_head(input: &RowInput<'_>) -> PdbHead
     rows_are_long(head);
     PdbHead {
         id: head.id,
-        entry: input.map.moved_row(0x06, head.entry),
+        entry: input.map.moved_row(METHOD_DEF, head.entry),
         rows: moved_rows(&head.rows, &input.map),
     }
 }

@@ -13,7 +13,7 @@ use crate::error::BuildError;
 use ppdb_base::{Limit, Memory};
 use ppdb_build_draft::{Drafting, lent_body};
 use ppdb_build_heaps::ItemStore;
-use ppdb_tables::MachineRow;
+use ppdb_tables::{METHOD_DEF, MachineRow};
 use ppdb_values::{
     ConstantValue, CustomValue, DocumentValue, FileValue, ImportScopeValue, MethodValue,
     ScopeValue, VariableValue,
@@ -160,7 +160,7 @@ fn add_documents_and_methods(draft: &mut Drafting, value: &FileValue) -> Result<
         Ok(()) => {}
         Err(error) => return Err(error),
     }
-    draft.end_methods(value.rows[0x06])?;
+    draft.end_methods(value.rows[METHOD_DEF as usize])?;
     Ok(())
 }
 

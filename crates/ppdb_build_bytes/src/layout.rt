@@ -9,6 +9,10 @@ use ppdb_base::{Bytes, Memory};
 use ppdb_build_canon::IdChoice;
 use ppdb_build_draft::Drafting;
 use ppdb_build_layout::{Rows, put_prefix};
+use ppdb_tables::{
+    CUSTOM, DOCUMENT, IMPORT_SCOPE, LOCAL_CONSTANT, LOCAL_SCOPE, LOCAL_VARIABLE, METHOD_DEBUG,
+    STATE_MACHINE,
+};
 use std::alloc::Global;
 
 /// A length as a row count.
@@ -23,14 +27,14 @@ fn debug_counts(rows: &Rows) -> [u32; 64]
     ensures { result ≡ debug_counts_of rows.now }
 {
     let mut counts = [0; 64];
-    counts[0x30] = count_of(rows.documents.len());
-    counts[0x31] = count_of(rows.methods.len());
-    counts[0x32] = count_of(rows.scopes.len());
-    counts[0x33] = count_of(rows.variables.len());
-    counts[0x34] = count_of(rows.constants.len());
-    counts[0x35] = count_of(rows.imports.len());
-    counts[0x36] = count_of(rows.machines.len());
-    counts[0x37] = count_of(rows.customs.len());
+    counts[DOCUMENT as usize] = count_of(rows.documents.len());
+    counts[METHOD_DEBUG as usize] = count_of(rows.methods.len());
+    counts[LOCAL_SCOPE as usize] = count_of(rows.scopes.len());
+    counts[LOCAL_VARIABLE as usize] = count_of(rows.variables.len());
+    counts[LOCAL_CONSTANT as usize] = count_of(rows.constants.len());
+    counts[IMPORT_SCOPE as usize] = count_of(rows.imports.len());
+    counts[STATE_MACHINE as usize] = count_of(rows.machines.len());
+    counts[CUSTOM as usize] = count_of(rows.customs.len());
     counts
 }
 

@@ -8,6 +8,7 @@ ghost use Rattle.ppdb_build_draft.specs.Draft.{with_constant};
 
 use ppdb_base::{List, Memory, Steps};
 use ppdb_build_draft::Drafting;
+use ppdb_tables::LOCAL_CONSTANT;
 use ppdb_values_reading::read_constant;
 use ppdb_verify::Verified;
 use ppdb_verify_rows::count;
@@ -45,7 +46,7 @@ pub(crate) fn add_constants<L: Ledger>(
 {
     file.keeps();
     let mut modifiers = List::new(alloc);
-    let count = count(file, 0x34);
+    let count = count(file, LOCAL_CONSTANT);
     let mut row = 1;
     'rows: while row <= count {
         add_constant(file, row, draft, &mut modifiers, steps)?;

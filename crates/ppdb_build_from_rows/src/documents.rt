@@ -8,6 +8,7 @@ ghost use Rattle.ppdb_build_draft.specs.Draft.{with_document};
 
 use ppdb_base::{Bytes, Memory, Steps};
 use ppdb_build_draft::Drafting;
+use ppdb_tables::DOCUMENT;
 use ppdb_values_reading::read_document;
 use ppdb_verify::Verified;
 use ppdb_verify_rows::count;
@@ -43,7 +44,7 @@ pub(crate) fn add_documents<L: Ledger>(
 {
     file.keeps();
     let mut name = Bytes::new(alloc);
-    let count = count(file, 0x30);
+    let count = count(file, DOCUMENT);
     let mut row = 1;
     'rows: while row <= count {
         add_document(file, row, draft, &mut name, steps)?;

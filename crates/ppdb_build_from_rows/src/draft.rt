@@ -16,6 +16,7 @@ use crate::scopes::add_scopes;
 use ppdb_base::{Memory, Steps};
 use ppdb_build_draft::{Drafting, drafts_are_canonical};
 use ppdb_build_heaps::ItemStore;
+use ppdb_tables::METHOD_DEF;
 use ppdb_values::values_have_types;
 use ppdb_values_reading::scopes_own_their_lists;
 use ppdb_verify::Verified;
@@ -37,7 +38,7 @@ fn add_documents_and_methods<L: Ledger>(
     file.keeps();
     add_documents(alloc, file, draft, steps)?;
     add_methods(alloc, file, draft, steps)?;
-    draft.end_methods(count(file, 0x06))?;
+    draft.end_methods(count(file, METHOD_DEF))?;
     Ok(())
 }
 

@@ -8,6 +8,7 @@ ghost use Rattle.ppdb_build_draft.specs.Drafted.{IsDraftOf};
 
 use ppdb_base::Limit;
 use ppdb_build_draft::Drafting;
+use ppdb_tables::{LOCAL_CONSTANT, LOCAL_VARIABLE};
 
 /// The limit on a list of a table of so many rows, where the list of the last scope begins at a row.
 fn past_end(table: u8, rows: usize, last: u32) -> Option<Limit>
@@ -27,8 +28,8 @@ pub fn list_limit(draft: &Drafting) -> Option<Limit>
 {
     let rows = draft.rows();
     match rows.scopes.as_slice().last() {
-        Some(last) => past_end(0x33, rows.variables.len(), last.variables).or(past_end(
-            0x34,
+        Some(last) => past_end(LOCAL_VARIABLE, rows.variables.len(), last.variables).or(past_end(
+            LOCAL_CONSTANT,
             rows.constants.len(),
             last.constants,
         )),

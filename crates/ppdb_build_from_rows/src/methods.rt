@@ -8,6 +8,7 @@ ghost use Rattle.ppdb_build_draft.specs.Draft.{with_method};
 
 use ppdb_base::{List, Memory, Steps};
 use ppdb_build_draft::Drafting;
+use ppdb_tables::METHOD_DEBUG;
 use ppdb_values_reading::read_method;
 use ppdb_verify::Verified;
 use ppdb_verify_rows::count;
@@ -50,7 +51,7 @@ pub(crate) fn add_methods<L: Ledger>(
 {
     file.keeps();
     let mut points = List::new(alloc);
-    let count = count(file, 0x31);
+    let count = count(file, METHOD_DEBUG);
     let mut row = 1;
     'rows: while row <= count {
         add_method(file, row, draft, &mut points, steps)?;

@@ -8,6 +8,7 @@ ghost use Rattle.ppdb_build_draft.specs.Draft.{with_import, with_machine, with_c
 
 use ppdb_base::{Memory, Steps};
 use ppdb_build_draft::Drafting;
+use ppdb_tables::{CUSTOM, IMPORT_SCOPE, STATE_MACHINE};
 use ppdb_values_reading::{Scratch, custom_value, import_scope_value};
 use ppdb_values_sound_laws::sound_parts_can_be_written;
 use ppdb_verify::Verified;
@@ -45,7 +46,7 @@ pub(crate) fn add_imports<L: Ledger>(
     ensures cost { OnOk result (steps.new ≡ steps.old + length (raw_file file.now).tables.imports) }
 {
     file.keeps();
-    let count = count(file, 0x35);
+    let count = count(file, IMPORT_SCOPE);
     let mut row = 1;
     'rows: while row <= count {
         add_import(alloc, file, row, draft, steps)?;
@@ -80,7 +81,7 @@ pub(crate) fn add_machines<L: Ledger>(
     ensures cost { OnOk result (steps.new ≡ steps.old + length (raw_file file.now).tables.machines) }
 {
     file.keeps();
-    let count = count(file, 0x36);
+    let count = count(file, STATE_MACHINE);
     let mut row = 1;
     'rows: while row <= count {
         add_machine(file, row, draft, steps)?;
@@ -121,7 +122,7 @@ pub(crate) fn add_customs<L: Ledger>(
 {
     file.keeps();
     let mut scratch = Scratch::new(alloc);
-    let count = count(file, 0x37);
+    let count = count(file, CUSTOM);
     let mut row = 1;
     'rows: while row <= count {
         add_custom(alloc, file, row, draft, &mut scratch, steps)?;

@@ -8,6 +8,10 @@ ghost use Rattle.ppdb_build_canon.specs.Canonical.{method_rows};
 ghost use Rattle.ppdb_build_canon.specs.Limits.{above, met, owns_none, too_many_rows as many_rows, list_past_end, tables, first_met};
 
 use ppdb_base::Limit;
+use ppdb_tables::{
+    CUSTOM, DOCUMENT, IMPORT_SCOPE, LOCAL_CONSTANT, LOCAL_SCOPE, LOCAL_VARIABLE, METHOD_DEBUG,
+    METHOD_DEF, STATE_MACHINE,
+};
 use ppdb_values::{FileValue, ScopeValue};
 
 /// The most rows of a table.
@@ -53,7 +57,7 @@ fn count_methods(value: &FileValue) -> u64
     if value.methods.is_empty() {
         0
     } else {
-        value.rows[0x06] as u64
+        value.rows[METHOD_DEF as usize] as u64
     }
 }
 
@@ -95,14 +99,14 @@ fn too_many_rows(value: &FileValue, variables: u64, constants: u64) -> Option<Li
     requires constants { constants ≡ told (sum_by (λ scope. length scope.constants) value.now.scopes) }
     ensures { result ≡ first_of (filter_map (many_rows value.now) tables) }
 {
-    rows_limit(0x30, value.documents.len() as u64)
-        .or(rows_limit(0x31, count_methods(value)))
-        .or(rows_limit(0x32, value.scopes.len() as u64))
-        .or(rows_limit(0x33, variables))
-        .or(rows_limit(0x34, constants))
-        .or(rows_limit(0x35, value.imports.len() as u64))
-        .or(rows_limit(0x36, value.machines.len() as u64))
-        .or(rows_limit(0x37, value.customs.len() as u64))
+    rows_limit(DOCUMENT, value.documents.len() as u64)
+        .or(rows_limit(METHOD_DEBUG, count_methods(value)))
+        .or(rows_limit(LOCAL_SCOPE, value.scopes.len() as u64))
+        .or(rows_limit(LOCAL_VARIABLE, variables))
+        .or(rows_limit(LOCAL_CONSTANT, constants))
+        .or(rows_limit(IMPORT_SCOPE, value.imports.len() as u64))
+        .or(rows_limit(STATE_MACHINE, value.machines.len() as u64))
+        .or(rows_limit(CUSTOM, value.customs.len() as u64))
 }
 
 /// L1 and L2, from the lengths of lists alone.
@@ -115,6 +119,6 @@ pub fn length_limit(value: &FileValue) -> Option<Limit>
     let variables = count_variables(scopes);
     let constants = count_constants(scopes);
     too_many_rows(value, variables, constants)
-        .or(list_limit(0x33, variables, last_has_no_variables(scopes)))
-        .or(list_limit(0x34, constants, last_has_no_constants(scopes)))
+        .or(list_limit(LOCAL_VARIABLE, variables, last_has_no_variables(scopes)))
+        .or(list_limit(LOCAL_CONSTANT, constants, last_has_no_constants(scopes)))
 }

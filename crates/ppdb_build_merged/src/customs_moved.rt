@@ -16,6 +16,7 @@ use crate::inputs::Placed;
 use crate::stopped::Stopped;
 use ppdb_base::{List, Memory, Steps};
 use ppdb_merge_rows::{MovedBody, moved_record};
+use ppdb_tables::CUSTOM;
 use ppdb_values::{CustomBody, CustomValue};
 use ppdb_verify_rows::count;
 use std::alloc::Global;
@@ -108,7 +109,7 @@ fn records_of_input<L: Ledger>(
         ≡ filter_map (record_image (inputs_of placed.now) (numbered_by number one.now)) (value_of (raw_of one.now)).customs) }
 {
     one.input.file.keeps();
-    let count = count(&one.input.file, 0x37);
+    let count = count(&one.input.file, CUSTOM);
     let mut records = List::new(alloc);
     let mut row = 1;
     'rows: while row <= count {

@@ -18,7 +18,7 @@ use ppdb_base::Steps;
 use ppdb_maps::{MapText, RowImage};
 use ppdb_merge_moved::custom_stays;
 use ppdb_merge_records_laws::import_scopes_follow;
-use ppdb_tables::Parent;
+use ppdb_tables::{DOCUMENT, IMPORT_SCOPE, Parent};
 use ppdb_values::CustomValue;
 use std::alloc::Global;
 use std::sync::ledger::Ledger;
@@ -92,10 +92,10 @@ fn parent_row<L: Ledger>(
     ensures made { AreMade placed.now rows.new }
 {
     let table = parent.table;
-    if table == 0x30 {
+    if table == DOCUMENT {
         return Ok(document_row(one.documents.as_slice(), parent.row));
     }
-    if table == 0x35 {
+    if table == IMPORT_SCOPE {
         return Ok(Some(import_row(placed, number, one, parent.row)));
     }
     if !is_owned(table) {

@@ -13,6 +13,7 @@ use crate::inputs::Placed;
 use crate::stopped::Stopped;
 use ppdb_base::{List, Memory, Steps};
 use ppdb_merge_order::{Key, new_rows};
+use ppdb_tables::{LOCAL_CONSTANT, LOCAL_SCOPE, LOCAL_VARIABLE};
 use ppdb_verify_rows::count;
 use std::alloc::Global;
 use std::sync::ledger::Ledger;
@@ -43,11 +44,11 @@ fn keys_in<L: Ledger>(
     ensures { IfOk result (λ keys. map origin_in keys.items ≡ origins_in (inputs_of placed.now) table) }
 {
     let scopes = scope_keys(alloc, placed, steps)?;
-    if table == 0x33 {
+    if table == LOCAL_VARIABLE {
         let variables = owned_keys(alloc, placed, Owned::Variables, scopes.as_slice(), steps)?;
         return Ok(variables);
     }
-    if table == 0x34 {
+    if table == LOCAL_CONSTANT {
         let constants = owned_keys(alloc, placed, Owned::Constants, scopes.as_slice(), steps)?;
         return Ok(constants);
     }
@@ -177,12 +178,36 @@ impl NewRows {
         ensures row { IfOk result (λ new. new ≡ row_of (origins_in (inputs_of placed.now) table) (number, row)) }
         ensures made { AreMade placed.now self.new }
     {
-        if table == 0x33 {
-            return find_in(alloc, placed, 0x33, &mut self.variables, number, row, steps);
+        if table == LOCAL_VARIABLE {
+            return find_in(
+                alloc,
+                placed,
+                LOCAL_VARIABLE,
+                &mut self.variables,
+                number,
+                row,
+                steps,
+            );
         }
-        if table == 0x34 {
-            return find_in(alloc, placed, 0x34, &mut self.constants, number, row, steps);
+        if table == LOCAL_CONSTANT {
+            return find_in(
+                alloc,
+                placed,
+                LOCAL_CONSTANT,
+                &mut self.constants,
+                number,
+                row,
+                steps,
+            );
         }
-        find_in(alloc, placed, 0x32, &mut self.scopes, number, row, steps)
+        find_in(
+            alloc,
+            placed,
+            LOCAL_SCOPE,
+            &mut self.scopes,
+            number,
+            row,
+            steps,
+        )
     }
 }

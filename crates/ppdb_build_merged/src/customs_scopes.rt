@@ -13,6 +13,7 @@ use crate::there::has_row;
 use ppdb_base::{List, Memory, Steps};
 use ppdb_merge_order::Key;
 use ppdb_merge_rows::{moved_constant, moved_scope, read_scope, rows_are_images};
+use ppdb_tables::LOCAL_SCOPE;
 use ppdb_values_reading::{ListRange, Scope, scopes_own_their_lists};
 use std::alloc::Global;
 use std::sync::ledger::Ledger;
@@ -35,7 +36,7 @@ fn scope_stays<L: Ledger>(one: &Placed<'_, '_>, row: u32, steps: &mut Steps<L>) 
     let input = one.input;
     rows_are_images();
     input.file.keeps();
-    if !has_row(&input.file, 0x32, row) {
+    if !has_row(&input.file, LOCAL_SCOPE, row) {
         return false;
     }
     let scope = read_scope(&input.file, row, steps);
@@ -181,7 +182,7 @@ fn put_scope<L: Ledger>(
 {
     scopes_own_their_lists();
     one.input.file.keeps();
-    if !has_row(&one.input.file, 0x32, row) {
+    if !has_row(&one.input.file, LOCAL_SCOPE, row) {
         return Ok(());
     }
     let scope = read_scope(&one.input.file, row, steps);

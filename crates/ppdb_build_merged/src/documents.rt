@@ -18,6 +18,7 @@ use crate::stopped::Stopped;
 use ppdb_base::{Bytes, List, Memory, Steps};
 use ppdb_build_draft::Drafting;
 use ppdb_merge_rows::RowInput;
+use ppdb_tables::{DOCUMENT, IMPORT_SCOPE};
 use ppdb_values_reading::read_document;
 use ppdb_verify_rows::count;
 use std::alloc::Global;
@@ -78,7 +79,7 @@ fn add_input<L: Ledger>(
 {
     input.file.keeps();
     let mut rows = List::new(alloc);
-    let count = count(&input.file, 0x30);
+    let count = count(&input.file, DOCUMENT);
     let mut row = 1;
     'documents: while row <= count {
         let new = add_document(alloc, input, row, names, draft, name, steps)?;
@@ -113,7 +114,7 @@ pub(crate) fn add_documents<'r, 'a, L: Ledger>(
             before,
             documents,
         })?;
-        before += count(&input.file, 0x35);
+        before += count(&input.file, IMPORT_SCOPE);
     }
     Ok(placed)
 }

@@ -24,6 +24,7 @@ use ppdb_build_draft::Drafting;
 use ppdb_build_heaps::ItemStore;
 use ppdb_merge_parts::joined_parts_are_flat;
 use ppdb_merge_rows::{RowInput, fitting_points_fit, rows_are_images};
+use ppdb_tables::METHOD_DEF;
 use ppdb_values_sound_laws::sound_parts_can_be_written;
 use ppdb_verify_rows::count;
 use std::alloc::Global;
@@ -37,7 +38,9 @@ fn method_count(inputs: &[RowInput<'_>]) -> u32
     joined_parts_are_flat();
     let first = &inputs[0];
     first.file.keeps();
-    first.map.output_rows(0x06, count(&first.file, 0x06))
+    first
+        .map
+        .output_rows(METHOD_DEF, count(&first.file, METHOD_DEF))
 }
 
 /// Adds the methods.

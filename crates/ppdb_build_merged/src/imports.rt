@@ -12,6 +12,7 @@ use crate::inputs::Placed;
 use ppdb_base::{Memory, Steps};
 use ppdb_build_draft::Drafting;
 use ppdb_merge_rows::moved_import_scope;
+use ppdb_tables::IMPORT_SCOPE;
 use ppdb_verify_rows::count;
 use std::alloc::Global;
 use std::sync::ledger::Ledger;
@@ -48,7 +49,7 @@ fn add_input<L: Ledger>(
 {
     let file = &placed.input.file;
     file.keeps();
-    let count = count(file, 0x35);
+    let count = count(file, IMPORT_SCOPE);
     let mut row = 1;
     'rows: while row <= count {
         add_import(alloc, placed, row, draft, steps)?;

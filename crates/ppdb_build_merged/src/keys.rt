@@ -8,6 +8,7 @@ ghost use Rattle.ppdb_build_merged.specs.Keyed.{rows_in, method_in, keys_in, key
 use crate::inputs::Placed;
 use ppdb_base::{Memory, Steps};
 use ppdb_merge_order::{Key, set_in_order};
+use ppdb_tables::{LOCAL_SCOPE, METHOD_DEBUG, METHOD_DEF, STATE_MACHINE};
 use ppdb_verify::Verified;
 use ppdb_verify_rows::{count, machine, scope};
 use std::alloc::Global;
@@ -31,9 +32,9 @@ fn rows_of(file: &Verified<'_>, table: Table) -> u32
 {
     file.keeps();
     match table {
-        Table::Methods => count(file, 0x31),
-        Table::Scopes => count(file, 0x32),
-        Table::Machines => count(file, 0x36),
+        Table::Methods => count(file, METHOD_DEBUG),
+        Table::Scopes => count(file, LOCAL_SCOPE),
+        Table::Machines => count(file, STATE_MACHINE),
     }
 }
 
@@ -66,7 +67,7 @@ fn put_keys<L: Ledger>(
     let mut row = 1;
     'rows: while row <= count {
         let method = method_of(file, table, row, steps);
-        let image = placed.input.map.moved_row(0x06, method);
+        let image = placed.input.map.moved_row(METHOD_DEF, method);
         keys.push(Key {
             image,
             input: number,

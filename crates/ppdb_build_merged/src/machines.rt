@@ -9,6 +9,7 @@ use ppdb_base::{Memory, Steps};
 use ppdb_build_draft::Drafting;
 use ppdb_merge_moved::Stays;
 use ppdb_merge_order::Key;
+use ppdb_tables::STATE_MACHINE;
 use ppdb_verify_rows::machine;
 use std::sync::ledger::Ledger;
 
@@ -23,7 +24,7 @@ fn add_row<L: Ledger>(
 {
     let input = placed.input;
     input.file.keeps();
-    if !has_row(&input.file, 0x36, row) {
+    if !has_row(&input.file, STATE_MACHINE, row) {
         return Ok(());
     }
     let cells = machine(&input.file, row, steps);

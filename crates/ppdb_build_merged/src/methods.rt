@@ -14,6 +14,7 @@ use ppdb_base::{Bytes, Steps};
 use ppdb_build_draft::Drafting;
 use ppdb_merge_order::Key;
 use ppdb_merge_rows::{MovedMethod, methods_have_their_rows, moved_method_into};
+use ppdb_tables::{METHOD_DEBUG, METHOD_DEF};
 use std::alloc::Global;
 use std::sync::ledger::Ledger;
 
@@ -33,7 +34,7 @@ fn add_row<L: Ledger>(
     let file = &placed.input.file;
     file.keeps();
     methods_have_their_rows();
-    if !has_row(file, 0x31, row) {
+    if !has_row(file, METHOD_DEBUG, row) {
         return Ok(());
     }
     blob.clear();
@@ -43,7 +44,7 @@ fn add_row<L: Ledger>(
         MovedMethod::Gone => Ok(()),
         MovedMethod::Listed => Err(Stopped::Limit),
         MovedMethod::Blob { column } => {
-            let method = placed.input.map.moved_row(0x06, row);
+            let method = placed.input.map.moved_row(METHOD_DEF, row);
             draft.method_blob(method, column, blob.as_slice())?;
             Ok(())
         }

@@ -19,6 +19,7 @@ use ppdb_merge_order::Key;
 use ppdb_merge_rows::{
     MovedScope, RowInput, moved_scope, moved_variable, read_scope, rows_are_images,
 };
+use ppdb_tables::LOCAL_SCOPE;
 use ppdb_values_reading::{ListRange, Scope};
 use std::alloc::Global;
 use std::sync::ledger::Ledger;
@@ -93,7 +94,7 @@ fn add_row<L: Ledger>(
     let input = placed.input;
     rows_are_images();
     input.file.keeps();
-    if !has_row(&input.file, 0x32, row) {
+    if !has_row(&input.file, LOCAL_SCOPE, row) {
         return Ok(());
     }
     let scope = read_scope(&input.file, row, steps);

@@ -4,7 +4,7 @@ ghost use Rattle.ppdb_build_sample.specs.Sample.{counted, is_fourth, sample_cust
 
 use custom_info::{HOISTED_SCOPES, Range, Slot, kinds_are_their_guids};
 use ppdb_base::{List, Memory};
-use ppdb_tables::Parent;
+use ppdb_tables::{METHOD_DEF, Parent};
 use ppdb_values::{CustomBody, CustomValue};
 use std::alloc::Global;
 
@@ -18,7 +18,7 @@ fn hoisted(alloc: Global, method: u32) -> Result<CustomValue, Memory>
     kinds_are_their_guids();
     Ok(CustomValue {
         parent: Parent {
-            table: 0x06,
+            table: METHOD_DEF,
             row: method,
         },
         kind: HOISTED_SCOPES,

@@ -7,6 +7,7 @@ use crate::methods::methods;
 use crate::parts::{documents, imports};
 use crate::scopes::scopes;
 use ppdb_base::{List, Memory};
+use ppdb_tables::METHOD_DEF;
 use ppdb_values::FileValue;
 use std::alloc::Global;
 
@@ -16,7 +17,7 @@ fn rows(n: u32) -> [u32; 64]
 {
     let mut rows = [0; 64];
     rows[0x01] = 1;
-    rows[0x06] = n;
+    rows[METHOD_DEF as usize] = n;
     rows[0x11] = 1;
     rows[0x23] = 1;
     rows

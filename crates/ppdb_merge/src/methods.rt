@@ -8,6 +8,7 @@ ghost use Rattle.ppdb_merge.specs.Refusals.{methods_in, taken};
 
 use ppdb_base::{Memory, MergeError};
 use ppdb_merge_names::Imaged;
+use ppdb_tables::METHOD_DEF;
 use std::alloc::Global;
 use std::collections::BTreeMap;
 
@@ -40,7 +41,7 @@ impl Methods {
         ensures { OnOk result ((claimed : List (ℕ × image_entry)) → HoldsMethods claimed self.old
             → HoldsMethods (claimed ++ claims_of input (imaged.now ∷ [])) self.new) }
     {
-        if imaged.to != 0x06 {
+        if imaged.to != METHOD_DEF {
             return Ok(());
         }
         if self.by_image.contains_key(&imaged.image) {
@@ -80,7 +81,7 @@ impl Methods {
     fn lesser(&self, imaged: Imaged, found: Option<Imaged>) -> Option<Imaged>
         ensures { (claimed : List (ℕ × image_entry)) → HoldsMethods claimed self.now → result ≡ lesser claimed imaged found }
     {
-        if imaged.to != 0x06 || !self.by_image.contains_key(&imaged.image) {
+        if imaged.to != METHOD_DEF || !self.by_image.contains_key(&imaged.image) {
             return found;
         }
         match found {

@@ -15,6 +15,7 @@ use crate::documents::Documents;
 use ppdb_base::{List, Memory, MergeError, Steps};
 use ppdb_maps::MapText;
 use ppdb_merge_rows::RowInput;
+use ppdb_tables::DOCUMENT;
 use ppdb_values::DocumentValue;
 use ppdb_values_reading::{Scratch, document_value};
 use ppdb_verify::Verified;
@@ -62,7 +63,7 @@ pub(crate) fn add_rows<L: Ledger>(
         → HoldsDocuments (firsts [] (all ++ map (moved_document input.now.map) (value_of (raw_file input.now.file)).documents)) documents.new) }
 {
     input.file.keeps();
-    let count = count(&input.file, 0x30);
+    let count = count(&input.file, DOCUMENT);
     let mut scratch = Scratch::new(documents.alloc);
     let mut row = 1;
     'rows: while row <= count {
@@ -83,7 +84,7 @@ pub(crate) fn first_conflict_in<L: Ledger>(
         → told ≡ slice_get (filter_map (moved_conflict map.now all) (numbered (value_of (raw_file file.now)).documents)) 0) }
 {
     file.keeps();
-    let count = count(file, 0x30);
+    let count = count(file, DOCUMENT);
     let mut scratch = Scratch::new(documents.alloc);
     let mut row = 1;
     'rows: while row <= count {

@@ -19,6 +19,7 @@ use ppdb_base::{List, Memory, MergeError, Steps};
 use ppdb_maps::MapText;
 use ppdb_merge_moved::{Stays, is_gone_row, is_link};
 use ppdb_merge_rows::RowInput;
+use ppdb_tables::CUSTOM;
 use ppdb_values::{CustomBody, CustomValue};
 use ppdb_values_reading::{Scratch, custom_value, read_custom};
 use ppdb_verify::Verified;
@@ -88,7 +89,7 @@ pub(crate) fn add_links<L: Ledger>(
     ensures { OnOk result (links.new ≡ links.old ++ filter_map (link_after input.now.map) (value_of (raw_file input.now.file)).customs) }
 {
     input.file.keeps();
-    let count = count(&input.file, 0x37);
+    let count = count(&input.file, CUSTOM);
     let mut scratch = Scratch::new(alloc);
     let mut row = 1;
     'rows: while row <= count {
@@ -112,7 +113,7 @@ fn first_link_in<L: Ledger>(alloc: Global, file: &Verified<'_>, steps: &mut Step
     ensures { result ≡ slice_get (filter_map link_row (numbered (value_of (raw_file file.now)).customs)) 0 }
 {
     file.keeps();
-    let count = count(file, 0x37);
+    let count = count(file, CUSTOM);
     let mut row = 1;
     'rows: while row <= count {
         if is_link_in(alloc, file, row, steps) {

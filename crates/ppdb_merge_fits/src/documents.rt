@@ -7,6 +7,7 @@ ghost use Rattle.ppdb_merge_fits.specs.Names.{row_of};
 
 use ppdb_base::{Bytes, Memory, MergeError, Steps};
 use ppdb_maps::MapText;
+use ppdb_tables::DOCUMENT;
 use ppdb_values_reading::read_document;
 use ppdb_verify::Verified;
 use ppdb_verify_rows::count;
@@ -59,7 +60,7 @@ fn first_name_twice<L: Ledger>(
     ensures { IfOk result (λ told. told ≡ slice_get (names_twice map.now (value_of (raw_file file.now)).documents) 0) }
 {
     file.keeps();
-    let count = count(file, 0x30);
+    let count = count(file, DOCUMENT);
     let mut names = Names::new(alloc);
     let mut text = Bytes::new(alloc);
     let mut row: u32 = 0;

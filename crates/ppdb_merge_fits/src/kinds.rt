@@ -13,7 +13,7 @@ use custom_info::{Kind, Marks, kind_of};
 use ppdb_base::{List, Memory, MergeError, Steps};
 use ppdb_maps::MapText;
 use ppdb_merge_moved::{constant_goes, is_gone_row};
-use ppdb_tables::Parent;
+use ppdb_tables::{CUSTOM, LOCAL_CONSTANT, LOCAL_SCOPE, LOCAL_VARIABLE, METHOD_DEF, Parent};
 use ppdb_values::{ConstantValue, CustomValue, FileValue, ScopeValue};
 use ppdb_values_reading::value_of;
 use ppdb_verify::Verified;
@@ -142,10 +142,10 @@ impl<'v> Rows<'v> {
         ensures { result ≡ method_at self.now.1 parent }
     {
         match parent.table {
-            0x06 => Some(parent.row),
-            0x32 => entry(self.scopes.as_slice(), parent.row),
-            0x33 => entry(self.variables.as_slice(), parent.row),
-            0x34 => entry(self.constants.as_slice(), parent.row),
+            METHOD_DEF => Some(parent.row),
+            LOCAL_SCOPE => entry(self.scopes.as_slice(), parent.row),
+            LOCAL_VARIABLE => entry(self.variables.as_slice(), parent.row),
+            LOCAL_CONSTANT => entry(self.constants.as_slice(), parent.row),
             _ => None,
         }
     }
@@ -164,7 +164,7 @@ impl<'v> Rows<'v> {
     fn is_at_gone_constant(&self, parent: Parent) -> bool
         ensures { result ≡ is_at_gone_constant self.now.0 self.now.1 parent }
     {
-        parent.table == 0x34 && entry(self.gone.as_slice(), parent.row).unwrap_or(false)
+        parent.table == LOCAL_CONSTANT && entry(self.gone.as_slice(), parent.row).unwrap_or(false)
     }
 
     /// Whether the custom records on a row are removed.
@@ -192,7 +192,7 @@ fn any_unknown<L: Ledger>(file: &Verified<'_>, marks: &Marks, steps: &mut Steps<
     ensures { result ≡ has_unknown marks.now (value_in (raw_file file.now)).customs }
 {
     file.keeps();
-    let count = count(file, 0x37);
+    let count = count(file, CUSTOM);
     let mut row: u32 = 0;
     'rows: while row < count {
         row += 1;

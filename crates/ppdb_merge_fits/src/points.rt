@@ -14,6 +14,7 @@ use crate::offsets::end_beyond;
 use custom_info::Range;
 use ppdb_base::{MergeError, Steps};
 use ppdb_maps::MapText;
+use ppdb_tables::{LOCAL_SCOPE, METHOD_DEBUG};
 use ppdb_values::values_are_rows;
 use ppdb_verify::Verified;
 use ppdb_verify_rows::{count, method_debug, points_of, scope};
@@ -63,7 +64,7 @@ pub(crate) fn first_point_beyond<L: Ledger>(
 {
     file.keeps();
     values_are_rows();
-    let count = count(file, 0x31);
+    let count = count(file, METHOD_DEBUG);
     let mut row: u32 = 0;
     'rows: while row < count {
         row += 1;
@@ -103,7 +104,7 @@ pub(crate) fn first_range_beyond<L: Ledger>(
     ensures { result ≡ slice_get (flat_map (scope_beyond map.now) (value_of (raw_file file.now)).scopes) 0 }
 {
     file.keeps();
-    let count = count(file, 0x32);
+    let count = count(file, LOCAL_SCOPE);
     let mut row: u32 = 0;
     'rows: while row < count {
         row += 1;

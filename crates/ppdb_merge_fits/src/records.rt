@@ -17,7 +17,7 @@ use custom_info::{AsyncCursor, AsyncStep, Slot, SlotCursor};
 use ppdb_base::{MergeError, Steps};
 use ppdb_maps::{MapText, RowImage};
 use ppdb_merge_moved::is_gone_row;
-use ppdb_tables::Parent;
+use ppdb_tables::{CUSTOM, METHOD_DEF, Parent};
 use ppdb_values_reading::{LentBody, LentCustom, read_custom};
 use ppdb_verify::Verified;
 use ppdb_verify_rows::count;
@@ -174,7 +174,7 @@ fn record_stays(map: &MapText, record: &LentCustom<'_>) -> bool
     ensures { result ≡ live_custom map.now (custom_shown record.now) }
 {
     let Parent { table, row } = record.parent;
-    if table == 0x06 && map.dropped(row) {
+    if table == METHOD_DEF && map.dropped(row) {
         return false;
     }
     !is_gone_row(map, table, row) && !leaves_types(map, record)
@@ -211,7 +211,7 @@ pub(crate) fn first_of_records<Q: AsksBody, L: Ledger>(
     ensures { result ≡ slice_get (flat_map (record_told map.now (Q.tells_body question.now)) (value_of (raw_file file.now)).customs) 0 }
 {
     file.keeps();
-    let count = count(file, 0x37);
+    let count = count(file, CUSTOM);
     let mut row: u32 = 0;
     'rows: while row < count {
         row += 1;

@@ -10,6 +10,7 @@ use crate::twice::by_all;
 use ppdb_base::{List, Memory, Steps};
 use ppdb_maps::MapText;
 use ppdb_merge_names::Imaged;
+use ppdb_tables::METHOD_DEBUG;
 use ppdb_values::values_are_rows;
 use ppdb_verify::Verified;
 use ppdb_verify_rows::{count, method_debug, points_of};
@@ -73,7 +74,7 @@ fn given_signatures<L: Ledger>(
     if map.signature_line(0).is_none() {
         return Ok(all);
     }
-    let count = count(file, 0x31);
+    let count = count(file, METHOD_DEBUG);
     let mut row: u32 = 0;
     'rows: while row < count {
         row += 1;

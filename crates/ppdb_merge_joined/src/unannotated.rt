@@ -8,7 +8,7 @@ use crate::placing::{move_all, place, take_apart};
 use crate::sorting::set_in_order;
 use ppdb_base::{List, Memory};
 use ppdb_merge_items::{AnnotatedFile, AnnotatedScope};
-use ppdb_tables::Parent;
+use ppdb_tables::{DOCUMENT, IMPORT_SCOPE, LOCAL_CONSTANT, LOCAL_SCOPE, LOCAL_VARIABLE, Parent};
 use ppdb_values::{CustomValue, FileValue, ScopeValue};
 use std::alloc::Global;
 
@@ -37,12 +37,31 @@ fn take_scopes(alloc: Global, scopes: List<AnnotatedScope>) -> Result<Scopes, Me
     let mut on_constants = List::new(alloc);
     let (mut row, mut variable, mut constant) = (1, 1, 1);
     for scope in scopes.into_vec() {
-        place(scope.customs, Parent { table: 0x32, row }, &mut on_scopes)?;
+        place(
+            scope.customs,
+            Parent {
+                table: LOCAL_SCOPE,
+                row,
+            },
+            &mut on_scopes,
+        )?;
         row += 1;
         let (many, more) = (scope.variables.len() as u32, scope.constants.len() as u32);
-        let variables = take_apart(alloc, scope.variables, 0x33, variable, &mut on_variables)?;
+        let variables = take_apart(
+            alloc,
+            scope.variables,
+            LOCAL_VARIABLE,
+            variable,
+            &mut on_variables,
+        )?;
         variable += many;
-        let constants = take_apart(alloc, scope.constants, 0x34, constant, &mut on_constants)?;
+        let constants = take_apart(
+            alloc,
+            scope.constants,
+            LOCAL_CONSTANT,
+            constant,
+            &mut on_constants,
+        )?;
         constant += more;
         values.push(ScopeValue {
             method: scope.method,
@@ -76,12 +95,12 @@ pub fn value_of(alloc: Global, file: AnnotatedFile) -> Result<FileValue, Memory>
         machines,
         mut customs,
     } = file;
-    let documents = take_apart(alloc, documents, 0x30, 1, &mut customs)?;
+    let documents = take_apart(alloc, documents, DOCUMENT, 1, &mut customs)?;
     let parts = take_scopes(alloc, scopes)?;
     move_all(parts.on_scopes, &mut customs)?;
     move_all(parts.on_variables, &mut customs)?;
     move_all(parts.on_constants, &mut customs)?;
-    let imports = take_apart(alloc, imports, 0x35, 1, &mut customs)?;
+    let imports = take_apart(alloc, imports, IMPORT_SCOPE, 1, &mut customs)?;
     let mut customs = customs.into_vec();
     set_in_order(&mut customs)?;
     Ok(FileValue {

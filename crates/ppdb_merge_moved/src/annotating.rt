@@ -6,6 +6,7 @@ ghost use Rattle.ppdb_merge_moved.specs.OnRows.{IsPlaced, HasAll, annotated_by, 
 
 use ppdb_base::{List, Memory};
 use ppdb_merge_items::{AnnotatedFile, AnnotatedScope};
+use ppdb_tables::{DOCUMENT, IMPORT_SCOPE, LOCAL_CONSTANT, LOCAL_SCOPE, LOCAL_VARIABLE};
 use ppdb_values::{Annotation, Custom, CustomValue, FileValue, ScopeValue};
 use std::alloc::Global;
 use std::mem;
@@ -56,27 +57,27 @@ impl OnRows {
             value,
         } = custom;
         match parent.table {
-            0x30 => put_on(
+            DOCUMENT => put_on(
                 self.documents.as_mut_slice(),
                 parent.row,
                 Custom { kind, value },
             ),
-            0x32 => put_on(
+            LOCAL_SCOPE => put_on(
                 self.scopes.as_mut_slice(),
                 parent.row,
                 Custom { kind, value },
             ),
-            0x33 => put_on(
+            LOCAL_VARIABLE => put_on(
                 self.variables.as_mut_slice(),
                 parent.row,
                 Custom { kind, value },
             ),
-            0x34 => put_on(
+            LOCAL_CONSTANT => put_on(
                 self.constants.as_mut_slice(),
                 parent.row,
                 Custom { kind, value },
             ),
-            0x35 => put_on(
+            IMPORT_SCOPE => put_on(
                 self.imports.as_mut_slice(),
                 parent.row,
                 Custom { kind, value },

@@ -7,6 +7,7 @@ use crate::named::{moved_customs, name_documents};
 use ppdb_base::Memory;
 use ppdb_maps::MapText;
 use ppdb_merge_items::AnnotatedFile;
+use ppdb_tables::METHOD_DEF;
 use std::alloc::Global;
 
 /// The rows of each table of the type system in the output.
@@ -32,7 +33,7 @@ pub fn moved_file(
     move_all(file.imports.as_mut_slice(), map);
     Ok(AnnotatedFile {
         id: file.id,
-        entry: map.moved_row(0x06, file.entry),
+        entry: map.moved_row(METHOD_DEF, file.entry),
         rows: moved_rows(&file.rows, map),
         documents: file.documents,
         methods: moved_all(alloc, file.methods, map)?,

@@ -3,7 +3,7 @@ use crate::moves::{InMethod, Moves, Stays, move_all};
 use crate::types::move_constants;
 use ppdb_maps::MapText;
 use ppdb_merge_items::AnnotatedScope;
-use ppdb_tables::MachineRow;
+use ppdb_tables::{METHOD_DEF, MachineRow};
 use ppdb_values::VariableValue;
 
 impl Moves<InMethod<'_>> for VariableValue {
@@ -26,7 +26,7 @@ impl Moves<MapText> for AnnotatedScope {
         self.range.move_by(&map.method(method));
         move_all(self.variables.as_mut_slice(), &InMethod { map, method });
         move_constants(&mut self.constants, map);
-        self.method = map.moved_row(0x06, method);
+        self.method = map.moved_row(METHOD_DEF, method);
     }
 }
 
@@ -57,8 +57,8 @@ impl Stays<MapText> for MachineRow {
             return None;
         }
         Some(MachineRow {
-            move_next: map.moved_row(0x06, self.move_next),
-            kickoff: map.moved_row(0x06, self.kickoff),
+            move_next: map.moved_row(METHOD_DEF, self.move_next),
+            kickoff: map.moved_row(METHOD_DEF, self.kickoff),
         })
     }
 }

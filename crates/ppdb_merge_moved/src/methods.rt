@@ -7,6 +7,7 @@ use crate::moves::Stays;
 use crate::offsets::moved_offset;
 use ppdb_base::{List, OffsetImage};
 use ppdb_maps::MapText;
+use ppdb_tables::METHOD_DEF;
 use ppdb_values::MethodValue;
 use sequence_points::Point;
 
@@ -62,7 +63,7 @@ impl Stays<MapText> for MethodValue {
             return None;
         }
         self.signature = map.moved_signature(self.method, self.signature);
-        self.method = map.moved_row(0x06, self.method);
+        self.method = map.moved_row(METHOD_DEF, self.method);
         Some(self)
     }
 }

@@ -9,7 +9,7 @@ use crate::moves::{InMethod, Moves, Stays, move_all};
 use crate::offsets::moved_offset;
 use custom_info::AsyncStep;
 use ppdb_maps::{MapText, RowImage};
-use ppdb_tables::Parent;
+use ppdb_tables::{METHOD_DEF, Parent};
 use ppdb_values::{CustomBody, CustomValue};
 
 impl Moves<InMethod<'_>> for AsyncStep {
@@ -20,7 +20,7 @@ impl Moves<InMethod<'_>> for AsyncStep {
     fn move_by(&mut self, by: &InMethod<'_>) {
         self.pause = moved_offset(&by.map.method(by.method), self.pause);
         self.resume = moved_offset(&by.map.method(self.method), self.resume);
-        self.method = by.map.moved_row(0x06, self.method);
+        self.method = by.map.moved_row(METHOD_DEF, self.method);
     }
 }
 
@@ -69,7 +69,7 @@ fn parent_image(map: &MapText, custom: &CustomValue) -> Option<RowImage>
     ensures { result ≡ cond (live_custom map.now custom.now) (Some (row_image map.now custom.now.parent.table custom.now.parent.row)) None }
 {
     let Parent { table, row } = custom.parent;
-    if table == 0x06 && map.dropped(row) {
+    if table == METHOD_DEF && map.dropped(row) {
         return None;
     }
     let image = map.row_image(table, row);

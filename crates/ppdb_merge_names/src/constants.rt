@@ -13,6 +13,7 @@ use crate::imaged::ReferenceError;
 use crate::imager::Imager;
 use crate::rows::add_live_rows;
 use ppdb_base::Steps;
+use ppdb_tables::LOCAL_CONSTANT;
 use ppdb_values::lists_are_owned;
 use ppdb_values_reading::{ListRange, Scope, ScopeCursor, scopes_own_their_lists};
 use ppdb_verify::Verified;
@@ -61,7 +62,7 @@ fn add_types(
     }
     add_live_rows(
         &mut ConstantTypes::new(signature, limits),
-        0x34,
+        LOCAL_CONSTANT,
         row,
         1,
         imager,

@@ -14,7 +14,10 @@ use crate::imaged::ReferenceError;
 use crate::imager::Imager;
 use custom_info::Kind;
 use ppdb_base::{Place, Steps};
-use ppdb_tables::{CustomRow, ImportRow, MachineRow, MethodDebugRow, Parent, ScopeRow, parent_of};
+use ppdb_tables::{
+    CUSTOM, CustomRow, IMPORT_SCOPE, ImportRow, LOCAL_SCOPE, METHOD_DEBUG, METHOD_DEF, MachineRow,
+    MethodDebugRow, Parent, STATE_MACHINE, ScopeRow, parent_of,
+};
 use ppdb_values::values_are_rows;
 use ppdb_verify::Verified;
 use ppdb_verify_rows::{
@@ -39,11 +42,11 @@ pub(crate) fn table_number(table: Table) -> u8
     ensures { result ≡ table_number table }
 {
     match table {
-        Table::MethodDebug => 0x31,
-        Table::LocalScope => 0x32,
-        Table::ImportScope => 0x35,
-        Table::StateMachine => 0x36,
-        Table::Custom => 0x37,
+        Table::MethodDebug => METHOD_DEBUG,
+        Table::LocalScope => LOCAL_SCOPE,
+        Table::ImportScope => IMPORT_SCOPE,
+        Table::StateMachine => STATE_MACHINE,
+        Table::Custom => CUSTOM,
     }
 }
 
@@ -142,7 +145,7 @@ pub(crate) fn add_entry(
         column: 0,
         byte: 20,
     };
-    imager.add_some(0x06, entry, place)
+    imager.add_some(METHOD_DEF, entry, place)
 }
 
 /// Adds the local signature of a method, unless the map gives it another or its row is gone.
@@ -158,7 +161,7 @@ fn add_signature(row: u32, signature: u32, imager: &mut Imager<'_>) -> Result<()
     if imager.is_gone(0x11, signature) {
         return Ok(());
     }
-    imager.add(0x11, signature, cell(0x31, row, 1))
+    imager.add(0x11, signature, cell(METHOD_DEBUG, row, 1))
 }
 
 /// Adds a method that has points, and its local signature.
@@ -178,7 +181,7 @@ fn add_method(
     let Some(cursor) = points_of(file, row, cells) else {
         return Ok(());
     };
-    imager.add(0x06, row, cell(0x31, row, 1))?;
+    imager.add(METHOD_DEF, row, cell(METHOD_DEBUG, row, 1))?;
     add_signature(row, cursor.signature(), imager)
 }
 
@@ -195,8 +198,8 @@ fn add_steps(
 {
     match kind(alloc, file, row, cells) {
         Kind::Async => {
-            let mut methods = ResumeMethods::new(blob(file, cells.value), count(file, 0x06));
-            add_rows(&mut methods, 0x37, row, 2, imager)
+            let mut methods = ResumeMethods::new(blob(file, cells.value), count(file, METHOD_DEF));
+            add_rows(&mut methods, CUSTOM, row, 2, imager)
         }
         _ => Ok(()),
     }
@@ -214,7 +217,7 @@ fn add_parent(
     requires { row_at (raw_file file.now).tables.customs row ≡ Some cells.now }
     ensures { Goes imager.old (of_parent (raw_file file.now).tables (row, cells.now) parent) imager.new result }
 {
-    imager.add(parent.table, parent.row, cell(0x37, row, 0))?;
+    imager.add(parent.table, parent.row, cell(CUSTOM, row, 0))?;
     add_steps(alloc, file, row, cells, imager)
 }
 
@@ -280,7 +283,7 @@ fn add_scope(row: u32, cells: &ScopeRow, imager: &mut Imager<'_>) -> Result<(), 
     if imager.drops(cells.method) {
         return Ok(());
     }
-    imager.add(0x06, cells.method, cell(0x32, row, 0))
+    imager.add(METHOD_DEF, cells.method, cell(LOCAL_SCOPE, row, 0))
 }
 
 /// Adds the types and the assemblies that those imports of a scope name that are kept.
@@ -294,7 +297,7 @@ fn add_import(
 {
     let content = blob(file, cells.imports);
     let mut rows = ImportRows::new(content, blobs(file), type_limits(file));
-    add_live_rows(&mut rows, 0x35, row, 1, imager)
+    add_live_rows(&mut rows, IMPORT_SCOPE, row, 1, imager)
 }
 
 /// Whether a method of a state machine is dropped.
@@ -311,8 +314,8 @@ fn add_machine(row: u32, cells: &MachineRow, imager: &mut Imager<'_>) -> Result<
     if drops_machine(imager, cells) {
         return Ok(());
     }
-    imager.add(0x06, cells.move_next, cell(0x36, row, 0))?;
-    imager.add(0x06, cells.kickoff, cell(0x36, row, 1))
+    imager.add(METHOD_DEF, cells.move_next, cell(STATE_MACHINE, row, 0))?;
+    imager.add(METHOD_DEF, cells.kickoff, cell(STATE_MACHINE, row, 1))
 }
 
 /// Adds what a row of a table names.

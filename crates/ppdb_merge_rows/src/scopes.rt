@@ -14,6 +14,7 @@ use custom_info::Range;
 use ppdb_base::Steps;
 use ppdb_maps::MapText;
 use ppdb_merge_moved::Moves;
+use ppdb_tables::{LOCAL_CONSTANT, LOCAL_SCOPE, LOCAL_VARIABLE, METHOD_DEF};
 use ppdb_values_reading::{LentVariable, ListRange, Scope, read_variable, scopes_own_their_lists};
 use ppdb_verify::Verified;
 use ppdb_verify_rows::{count, scope};
@@ -38,11 +39,14 @@ fn ends_of<L: Ledger>(file: &Verified<'_>, row: u32, steps: &mut Steps<L>) -> (u
     ensures cost { steps.new ≤ steps.old + 1 }
 {
     file.keeps();
-    if row < count(file, 0x32) {
+    if row < count(file, LOCAL_SCOPE) {
         let next = scope(file, row + 1, steps);
         (next.variables, next.constants)
     } else {
-        (count(file, 0x33) + 1, count(file, 0x34) + 1)
+        (
+            count(file, LOCAL_VARIABLE) + 1,
+            count(file, LOCAL_CONSTANT) + 1,
+        )
     }
 }
 
@@ -89,7 +93,7 @@ pub fn moved_scope(map: &MapText, scope: &Scope, before: u32) -> Option<MovedSco
         return None;
     }
     Some(MovedScope {
-        method: map.moved_row(0x06, scope.method),
+        method: map.moved_row(METHOD_DEF, scope.method),
         import: shifted(before, scope.import),
         range,
     })

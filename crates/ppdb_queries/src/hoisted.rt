@@ -17,7 +17,7 @@ use crate::run::{Run, customs_of};
 use crate::scopes::holds;
 use custom_info::{HOISTED_SCOPES, Range, Slot, SlotCursor};
 use ppdb_base::Steps;
-use ppdb_tables::{CustomRow, Parent};
+use ppdb_tables::{CustomRow, METHOD_DEF, Parent};
 use ppdb_verify::Verified;
 use ppdb_verify_rows::{custom, guid_of_kind};
 use std::marker::Model;
@@ -199,7 +199,7 @@ pub fn hoisted_at<'a, L: Ledger>(
 {
     judge_method(file, method)?;
     let parent = Parent {
-        table: 0x06,
+        table: METHOD_DEF,
         row: method,
     };
     let run = customs_of(file, parent, steps);

@@ -14,7 +14,7 @@ ghost use Rattle.ppdb_queries.specs.Digits.{digits};
 
 use crate::method::{NoMethod, judge_method};
 use ppdb_base::Steps;
-use ppdb_tables::MachineRow;
+use ppdb_tables::{MachineRow, STATE_MACHINE};
 use ppdb_verify::Verified;
 use ppdb_verify_rows::{count, machine};
 use std::sync::ledger::Ledger;
@@ -62,7 +62,7 @@ fn machine_with<L: Ledger>(
 {
     file.keeps();
     let mut first = 1;
-    let mut end = count(file, 0x36) + 1;
+    let mut end = count(file, STATE_MACHINE) + 1;
     'halves: while first < end {
         let middle = first + (end - first) / 2;
         let machine = machine(file, middle, steps);
@@ -121,7 +121,7 @@ pub fn move_next_of<L: Ledger>(
 {
     judge_method(file, method)?;
     file.keeps();
-    for row in 1..count(file, 0x36) + 1 {
+    for row in 1..count(file, STATE_MACHINE) + 1 {
         let machine = machine(file, row, steps);
         if machine.kickoff == method {
             return Ok(Some(machine.move_next));
@@ -163,7 +163,7 @@ fn read_order<L: Ledger>(
     let mut found = None;
     let mut rises = true;
     let mut last = 0;
-    let end = count(file, 0x36) + 1;
+    let end = count(file, STATE_MACHINE) + 1;
     for row in 1..end {
         let machine = machine(file, row, steps);
         found = found_by(found, machine, method);

@@ -5,6 +5,7 @@ ghost use Rattle.ppdb_values.specs.Rules.{HasRow};
 ghost use Rattle.ppdb_verify.specs.Views.{tables_of};
 ghost use Rattle.ppdb_queries.specs.Runs.{IsNoMethod};
 
+use ppdb_tables::METHOD_DEF;
 use ppdb_verify::Verified;
 use ppdb_verify_rows::count;
 
@@ -17,7 +18,7 @@ pub(crate) fn judge_method(file: &Verified<'_>, method: u32) -> Result<(), NoMet
     ensures there { OnOk result (HasRow (raw_of (tables_of file.now)) 0x06 method) }
     ensures none { OnErr result (IsNoMethod (raw_of (tables_of file.now)) method) }
 {
-    if method == 0 || count(file, 0x06) < method {
+    if method == 0 || count(file, METHOD_DEF) < method {
         return Err(NoMethod);
     }
     Ok(())

@@ -10,6 +10,7 @@ ghost use Rattle.ppdb_queries.specs.Runs.{IsNoMethod};
 use crate::method::{NoMethod, judge_method};
 use ppdb_base::Steps;
 use ppdb_heaps::NameCursor;
+use ppdb_tables::METHOD_DEBUG;
 use ppdb_verify::Verified;
 use ppdb_verify_rows::{count, document, method_debug, name, points_of};
 use sequence_points::{Point, PointCursor};
@@ -60,7 +61,7 @@ pub fn point_at<'a, L: Ledger>(
 {
     judge_method(file, method)?;
     file.keeps();
-    if count(file, 0x31) < method {
+    if count(file, METHOD_DEBUG) < method {
         return Ok(None);
     }
     let row = method_debug(file, method, steps);

@@ -10,7 +10,7 @@ ghost use Rattle.ppdb_queries.specs.Digits.{digits};
 use crate::method::{NoMethod, judge_method};
 use crate::search::{KeyedRows, rows_with};
 use ppdb_base::Steps;
-use ppdb_tables::{Parent, coded_parent, codes_are_parents};
+use ppdb_tables::{CUSTOM, LOCAL_SCOPE, Parent, coded_parent, codes_are_parents};
 use ppdb_verify::Verified;
 use ppdb_verify_rows::{count, custom, scope};
 use std::sync::ledger::Ledger;
@@ -33,7 +33,7 @@ impl<'f, 'a> KeyedRows for ByMethod<'f, 'a> {
 
     fn rows(&self) -> u32 {
         self.file.keeps();
-        count(self.file, 0x32)
+        count(self.file, LOCAL_SCOPE)
     }
 
     fn key<L: Ledger>(&self, row: u32, steps: &mut Steps<L>) -> u32 {
@@ -53,7 +53,7 @@ impl<'f, 'a> KeyedRows for ByParent<'f, 'a> {
 
     fn rows(&self) -> u32 {
         self.file.keeps();
-        count(self.file, 0x37)
+        count(self.file, CUSTOM)
     }
 
     fn key<L: Ledger>(&self, row: u32, steps: &mut Steps<L>) -> u32 {

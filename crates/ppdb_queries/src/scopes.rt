@@ -16,7 +16,7 @@ use crate::method::NoMethod;
 use crate::run::{Run, scope_run};
 use custom_info::Range;
 use ppdb_base::Steps;
-use ppdb_tables::ScopeRow;
+use ppdb_tables::{LOCAL_CONSTANT, LOCAL_SCOPE, LOCAL_VARIABLE, ScopeRow};
 use ppdb_verify::Verified;
 use ppdb_verify_rows::{count, scope};
 use std::marker::Model;
@@ -63,11 +63,14 @@ fn list_ends<L: Ledger>(file: &Verified<'_>, row: u32, steps: &mut Steps<L>) -> 
     ensures cost { steps.new ≤ steps.old + 1 }
 {
     file.keeps();
-    if row < count(file, 0x32) {
+    if row < count(file, LOCAL_SCOPE) {
         let next = scope(file, row + 1, steps);
         (next.variables, next.constants)
     } else {
-        (count(file, 0x33) + 1, count(file, 0x34) + 1)
+        (
+            count(file, LOCAL_VARIABLE) + 1,
+            count(file, LOCAL_CONSTANT) + 1,
+        )
     }
 }
 

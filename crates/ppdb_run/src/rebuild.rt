@@ -23,6 +23,7 @@ use ppdb_build::{BuildError, IdChoice};
 use ppdb_build_heaps::{ItemKey, KeyMaker};
 use ppdb_run_stops::Stop;
 use ppdb_run_words::Options;
+use ppdb_tables::CUSTOM;
 use ppdb_verify::Verified;
 use ppdb_verify_rows::{count, custom, guid_of_kind};
 use std::alloc::Global;
@@ -142,7 +143,7 @@ fn unknown<L: Ledger>(
     ensures { result ≡ unknown_kind marks.now (value_of (raw_file file.now)) }
 {
     file.keeps();
-    for row in 1..count(file, 0x37) + 1 {
+    for row in 1..count(file, CUSTOM) + 1 {
         let cells = custom(file, row, steps);
         let kind = guid_of_kind(file, row, &cells);
         if is_unknown(kind_of(&kind, marks)) {

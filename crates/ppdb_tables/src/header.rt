@@ -5,6 +5,7 @@ ghost use Rattle.ppdb_tables.specs.Tables.{TableFieldFaults, IsForeign, heap_siz
 
 use crate::counts::{MAX_ROWS, Part};
 use crate::head::PdbHead;
+use crate::numbers::METHOD_DEBUG;
 use metadata_root::{u8_at, u64_at};
 use ppdb_base::{Code, Fault};
 use row_layout::Sizes;
@@ -69,7 +70,7 @@ fn read_valid(bytes: &[u8], methods: u32) -> Result<u64, Fault>
 fn differ_from_methods(table: usize, count: u32, methods: u32) -> bool
     ensures { IsTrue result ↔ (table ≡ 0x31) × (count ≢ 0) × (count ≢ methods) }
 {
-    table == 0x31 && count != 0 && count != methods
+    table == METHOD_DEBUG && count != 0 && count != methods
 }
 
 /// The rows of a table, where `#~` has so many.

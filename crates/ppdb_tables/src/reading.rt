@@ -10,6 +10,10 @@ use crate::bounds::place_tables;
 use crate::head::PdbHead;
 use crate::header::read_header;
 use crate::layouts::Layouts;
+use crate::numbers::{
+    CUSTOM, DOCUMENT, IMPORT_SCOPE, LOCAL_CONSTANT, LOCAL_SCOPE, LOCAL_VARIABLE, METHOD_DEBUG,
+    STATE_MACHINE,
+};
 use crate::streams::stream_bytes;
 use crate::table::Table;
 use crate::tables::Tables;
@@ -39,13 +43,48 @@ pub fn read_tables<'a>(root: &Root<'a>, head: &PdbHead) -> Result<Tables<'a>, Fa
         strings: Strings::new(stream_bytes(root, StreamKind::Strings)),
         guids: Guids::new(stream_bytes(root, StreamKind::Guids)),
         blobs: Blobs::new(stream_bytes(root, StreamKind::Blobs)),
-        documents: Table::at(stream, places[0], rows[0x30], &layouts.documents),
-        methods: Table::at(stream, places[1], rows[0x31], &layouts.methods),
-        scopes: Table::at(stream, places[2], rows[0x32], &layouts.scopes),
-        variables: Table::at(stream, places[3], rows[0x33], &layouts.variables),
-        constants: Table::at(stream, places[4], rows[0x34], &layouts.constants),
-        imports: Table::at(stream, places[5], rows[0x35], &layouts.imports),
-        machines: Table::at(stream, places[6], rows[0x36], &layouts.machines),
-        customs: Table::at(stream, places[7], rows[0x37], &layouts.customs),
+        documents: Table::at(
+            stream,
+            places[0],
+            rows[DOCUMENT as usize],
+            &layouts.documents,
+        ),
+        methods: Table::at(
+            stream,
+            places[1],
+            rows[METHOD_DEBUG as usize],
+            &layouts.methods,
+        ),
+        scopes: Table::at(
+            stream,
+            places[2],
+            rows[LOCAL_SCOPE as usize],
+            &layouts.scopes,
+        ),
+        variables: Table::at(
+            stream,
+            places[3],
+            rows[LOCAL_VARIABLE as usize],
+            &layouts.variables,
+        ),
+        constants: Table::at(
+            stream,
+            places[4],
+            rows[LOCAL_CONSTANT as usize],
+            &layouts.constants,
+        ),
+        imports: Table::at(
+            stream,
+            places[5],
+            rows[IMPORT_SCOPE as usize],
+            &layouts.imports,
+        ),
+        machines: Table::at(
+            stream,
+            places[6],
+            rows[STATE_MACHINE as usize],
+            &layouts.machines,
+        ),
+        customs: Table::at(stream, places[7], rows[CUSTOM as usize], &layouts.customs),
     })
 }

@@ -12,7 +12,7 @@ use crate::filling::fill;
 use crate::scratch::Scratch;
 use custom_info::{AsyncCursor, Kind, RowCursor, SlotCursor};
 use ppdb_base::{List, Memory, Steps};
-use ppdb_tables::{CustomRow, Parent, parent_of};
+use ppdb_tables::{CustomRow, DOCUMENT, Parent, parent_of};
 use ppdb_values::{CustomBody, CustomValue, values_are_read};
 use ppdb_verify::Verified;
 use ppdb_verify_rows::{blob, count, custom, guid_of_kind, kind, slots_of, stepping_of};
@@ -52,7 +52,7 @@ fn documents_of<'a>(file: &Verified<'a>, row: u32, cells: &CustomRow) -> RowCurs
 {
     file.keeps();
     values_are_read();
-    RowCursor::new(blob(file, cells.value), count(file, 0x30))
+    RowCursor::new(blob(file, cells.value), count(file, DOCUMENT))
 }
 
 /// What a record says.

@@ -12,7 +12,7 @@ use crate::scratch::Scratch;
 use crate::variables::variable_value;
 use custom_info::Range;
 use ppdb_base::{List, Memory, Steps};
-use ppdb_tables::ScopeRow;
+use ppdb_tables::{LOCAL_CONSTANT, LOCAL_SCOPE, LOCAL_VARIABLE, ScopeRow};
 use ppdb_values::{ConstantValue, ScopeValue, VariableValue};
 use ppdb_verify::Verified;
 use ppdb_verify_rows::{count, scope};
@@ -49,7 +49,7 @@ fn cells_at<L: Ledger>(file: &Verified<'_>, row: u32, steps: &mut Steps<L>) -> O
     ensures cost { steps.new + (length (raw_file file.now).tables.scopes - row) ≡ steps.old + (length (raw_file file.now).tables.scopes + 1 - row) }
 {
     file.keeps();
-    if row <= count(file, 0x32) {
+    if row <= count(file, LOCAL_SCOPE) {
         Some(scope(file, row, steps))
     } else {
         None
@@ -65,7 +65,10 @@ fn scope_at(file: &Verified<'_>, row: u32, cells: &ScopeRow, next: Option<ScopeR
     file.keeps();
     let (variables_end, constants_end) = match next {
         Some(next) => (next.variables, next.constants),
-        None => (count(file, 0x33) + 1, count(file, 0x34) + 1),
+        None => (
+            count(file, LOCAL_VARIABLE) + 1,
+            count(file, LOCAL_CONSTANT) + 1,
+        ),
     };
     Scope {
         method: cells.method,

@@ -14,7 +14,9 @@ use crate::methods::method_value;
 use crate::scopes::{ScopeCursor, scope_value};
 use crate::scratch::Scratch;
 use ppdb_base::{List, Memory, Steps};
-use ppdb_tables::MachineRow;
+use ppdb_tables::{
+    CUSTOM, DOCUMENT, IMPORT_SCOPE, LOCAL_SCOPE, METHOD_DEBUG, MachineRow, STATE_MACHINE,
+};
 use ppdb_values::{
     CustomValue, DocumentValue, FileValue, ImportScopeValue, MethodValue, ScopeValue,
     values_are_rows,
@@ -72,7 +74,7 @@ fn documents<L: Ledger>(
     ensures cost { OnOk result (steps.new ≡ steps.old + length (raw_file file.now).tables.documents) }
 {
     file.keeps();
-    let count = count(file, 0x30);
+    let count = count(file, DOCUMENT);
     let mut documents = List::with_capacity(alloc, count as usize)?;
     let mut row = 1;
     'rows: while row <= count {
@@ -94,7 +96,7 @@ fn methods<L: Ledger>(
 {
     file.keeps();
     values_are_rows();
-    let count = count(file, 0x31);
+    let count = count(file, METHOD_DEBUG);
     let mut methods = List::new(alloc);
     let mut row = 1;
     'rows: while row <= count {
@@ -118,7 +120,7 @@ fn scopes<L: Ledger>(
 {
     file.keeps();
     scopes_own_their_lists();
-    let mut scopes = List::with_capacity(alloc, count(file, 0x32) as usize)?;
+    let mut scopes = List::with_capacity(alloc, count(file, LOCAL_SCOPE) as usize)?;
     let mut cursor = ScopeCursor::new(file, steps);
     'scopes: while let Some(scope) = cursor.next(steps) {
         scopes.push(scope_value(alloc, file, &scope, scratch, steps)?)?;
@@ -136,7 +138,7 @@ fn imports<L: Ledger>(
     ensures cost { OnOk result (steps.new ≡ steps.old + length (raw_file file.now).tables.imports) }
 {
     file.keeps();
-    let count = count(file, 0x35);
+    let count = count(file, IMPORT_SCOPE);
     let mut imports = List::with_capacity(alloc, count as usize)?;
     let mut row = 1;
     'rows: while row <= count {
@@ -156,7 +158,7 @@ fn machines<L: Ledger>(
     ensures cost { OnOk result (steps.new ≡ steps.old + length (raw_file file.now).tables.machines) }
 {
     file.keeps();
-    let count = count(file, 0x36);
+    let count = count(file, STATE_MACHINE);
     let mut machines = List::with_capacity(alloc, count as usize)?;
     let mut row = 1;
     'rows: while row <= count {
@@ -177,7 +179,7 @@ fn customs<L: Ledger>(
     ensures cost { OnOk result (steps.new ≡ steps.old + length (raw_file file.now).tables.customs) }
 {
     file.keeps();
-    let count = count(file, 0x37);
+    let count = count(file, CUSTOM);
     let mut customs = List::with_capacity(alloc, count as usize)?;
     let mut row = 1;
     'rows: while row <= count {

@@ -9,7 +9,7 @@ ghost use Rattle.ppdb_verify_rows.specs.Customs.{IsOfKind, slots_in, SteppingIs}
 use crate::heaps::{blob, guid};
 use crate::rows::count;
 use custom_info::{AsyncCursor, Kind, Marks, SlotCursor, kind_of};
-use ppdb_tables::CustomRow;
+use ppdb_tables::{CustomRow, METHOD_DEF};
 use ppdb_values::values_are_read;
 use ppdb_verify::Verified;
 use std::alloc::Global;
@@ -50,7 +50,7 @@ pub fn stepping_of<'a>(file: &Verified<'a>, row: u32, cells: &CustomRow) -> Asyn
 {
     file.keeps();
     values_are_read();
-    match AsyncCursor::new(blob(file, cells.value), count(file, 0x06)) {
+    match AsyncCursor::new(blob(file, cells.value), count(file, METHOD_DEF)) {
         Ok(cursor) => cursor,
         Err(_) => unreachable!(),
     }

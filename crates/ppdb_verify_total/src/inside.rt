@@ -11,6 +11,7 @@ use crate::sum::add;
 use blob_grammar::PlacedIndex;
 use ppdb_base::Fault;
 use ppdb_heaps::{Blobs, NameIndexes};
+use ppdb_tables::{DOCUMENT, IMPORT_SCOPE};
 use type_blobs::{ImportField, ImportFields, TypeLimits};
 
 /// Adds a blob that is named inside the blob of a cell.
@@ -52,7 +53,7 @@ pub(crate) fn add_parts(
         let Some(at) = next else {
             return Ok(sum);
         };
-        match add_index(blobs, 0x30, row, 0, at, sum) {
+        match add_index(blobs, DOCUMENT, row, 0, at, sum) {
             Ok(after) => sum = after,
             Err(fault) => return Err(fault),
         }
@@ -73,7 +74,7 @@ fn add_field(blobs: Blobs<'_>, row: u32, field: ImportField, total: u64) -> Resu
         byte: field.byte,
         index: field.number,
     };
-    add_index(blobs, 0x35, row, 1, at, total)
+    add_index(blobs, IMPORT_SCOPE, row, 1, at, total)
 }
 
 /// Adds the texts that imports name, each at its byte, up to the end of the longest valid prefix.

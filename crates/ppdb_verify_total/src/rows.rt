@@ -10,7 +10,9 @@ ghost use Rattle.ppdb_verify_total.specs.TableRows.{number_of, rows_of};
 use crate::inside::{add_imports, add_parts};
 use crate::sum::{add, add_blob, add_text};
 use ppdb_base::{Fault, Steps};
-use ppdb_tables::Tables;
+use ppdb_tables::{
+    CUSTOM, DOCUMENT, IMPORT_SCOPE, LOCAL_CONSTANT, LOCAL_VARIABLE, METHOD_DEBUG, Tables,
+};
 use ppdb_verify_rules::type_limits;
 use std::sync::ledger::Ledger;
 
@@ -30,12 +32,12 @@ pub(crate) fn number_of(table: Table) -> u8
     ensures { result ≡ number_of table }
 {
     match table {
-        Table::Document => 0x30,
-        Table::MethodDebug => 0x31,
-        Table::LocalVariable => 0x33,
-        Table::LocalConstant => 0x34,
-        Table::ImportScope => 0x35,
-        Table::Custom => 0x37,
+        Table::Document => DOCUMENT,
+        Table::MethodDebug => METHOD_DEBUG,
+        Table::LocalVariable => LOCAL_VARIABLE,
+        Table::LocalConstant => LOCAL_CONSTANT,
+        Table::ImportScope => IMPORT_SCOPE,
+        Table::Custom => CUSTOM,
     }
 }
 
@@ -48,9 +50,9 @@ fn add_name(tables: &Tables<'_>, row: u32, index: u32, total: u64) -> Result<u64
 {
     let blobs = tables.blobs();
     let Some(content) = blobs.get(index) else {
-        return add(total, 0, 0x30, row, 0, 0);
+        return add(total, 0, DOCUMENT, row, 0, 0);
     };
-    match add(total, content.len(), 0x30, row, 0, 0) {
+    match add(total, content.len(), DOCUMENT, row, 0, 0) {
         Ok(sum) => add_parts(content, blobs, row, sum),
         Err(fault) => Err(fault),
     }
@@ -66,9 +68,9 @@ fn add_list(tables: &Tables<'_>, row: u32, index: u32, total: u64) -> Result<u64
     let blobs = tables.blobs();
     let limits = type_limits(tables);
     let Some(content) = blobs.get(index) else {
-        return add(total, 0, 0x35, row, 1, 0);
+        return add(total, 0, IMPORT_SCOPE, row, 1, 0);
     };
-    match add(total, content.len(), 0x35, row, 1, 0) {
+    match add(total, content.len(), IMPORT_SCOPE, row, 1, 0) {
         Ok(sum) => add_imports(content, blobs, limits, row, sum),
         Err(fault) => Err(fault),
     }
@@ -91,22 +93,22 @@ pub(crate) fn add_row<L: Ledger>(
         Table::Document => {
             let document = tables.document(row, steps);
             match add_name(tables, row, document.name, total) {
-                Ok(sum) => add_blob(tables, sum, 0x30, row, 2, document.hash),
+                Ok(sum) => add_blob(tables, sum, DOCUMENT, row, 2, document.hash),
                 Err(fault) => Err(fault),
             }
         }
         Table::MethodDebug => {
             let method = tables.method_debug(row, steps);
-            add_blob(tables, total, 0x31, row, 1, method.points)
+            add_blob(tables, total, METHOD_DEBUG, row, 1, method.points)
         }
         Table::LocalVariable => {
             let variable = tables.variable(row, steps);
-            add_text(tables, total, 0x33, row, 2, variable.name)
+            add_text(tables, total, LOCAL_VARIABLE, row, 2, variable.name)
         }
         Table::LocalConstant => {
             let constant = tables.constant(row, steps);
-            match add_text(tables, total, 0x34, row, 0, constant.name) {
-                Ok(sum) => add_blob(tables, sum, 0x34, row, 1, constant.signature),
+            match add_text(tables, total, LOCAL_CONSTANT, row, 0, constant.name) {
+                Ok(sum) => add_blob(tables, sum, LOCAL_CONSTANT, row, 1, constant.signature),
                 Err(fault) => Err(fault),
             }
         }
@@ -116,7 +118,7 @@ pub(crate) fn add_row<L: Ledger>(
         }
         Table::Custom => {
             let custom = tables.custom(row, steps);
-            add_blob(tables, total, 0x37, row, 2, custom.value)
+            add_blob(tables, total, CUSTOM, row, 2, custom.value)
         }
     }
 }
