@@ -3,8 +3,7 @@ use Rattle.std.proofs.Common.{◌≡◌, ℕ, zero, suc, ◌+◌, ◌≤◌, Lis
 use Rattle.ppdb_tables.specs.declared.head.PdbHead.{PdbHead}
 use Rattle.ppdb_maps.specs.Map.{Map, output_count}
 use Rattle.ppdb_merge_moved.specs.Moved.{moved_counts}
-use Rattle.ppdb_merge_meaning_laws.specs.Kept.{joined_inputs}
-use Rattle.ppdb_merge_parts.specs.Flat.{JoinedPartsAreFlat}
+use Rattle.ppdb_merge_parts.specs.Flat.{joined_inputs, JoinedPartsAreFlat}
 use Rattle.ppdb_merge_rows.specs.Inputs.{moved_by, moved_inputs}
 use Rattle.ppdb_merge_rows.specs.declared.inputs.RowInput.{RowInput}
 use Rattle.ppdb_build.specs.Joining.{IsHeadOf, IsMovedHead}

@@ -10,7 +10,7 @@ ghost use Rattle.ppdb_build_canon.specs.Limits.{first_limit};
 ghost use Rattle.ppdb_build_draft.specs.Drafted.{drafted, IsDraftOf};
 ghost use Rattle.ppdb_build_written_laws.specs.Written.{IsSameAgain, Says};
 ghost use Rattle.ppdb_merge_items.specs.Each.{Each};
-ghost use Rattle.ppdb_merge_meaning_laws.specs.Kept.{InputsFit, joined_inputs};
+ghost use Rattle.ppdb_merge_parts.specs.Flat.{InputsFit, joined_inputs};
 ghost use Rattle.ppdb_merge_rows.specs.Inputs.{moved_inputs};
 ghost use Rattle.ppdb_merge_rows.specs.Methods.{HasForms};
 ghost use Rattle.ppdb_build.specs.Building.{IsLimitOf, early_limit_of};

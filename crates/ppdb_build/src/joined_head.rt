@@ -5,7 +5,7 @@ ghost use Rattle.ppdb_values.specs.Types.{HasTypes, IsNarrowRow};
 ghost use Rattle.ppdb_verify.specs.Views.{raw_file};
 ghost use Rattle.ppdb_build_draft.specs.Drafted.{IsDraftOf};
 ghost use Rattle.ppdb_merge_moved.specs.Moved.{moved_counts};
-ghost use Rattle.ppdb_merge_meaning_laws.specs.Kept.{InputsFit, joined_inputs};
+ghost use Rattle.ppdb_merge_parts.specs.Flat.{InputsFit, joined_inputs};
 ghost use Rattle.ppdb_merge_rows.specs.Inputs.{moved_by, moved_inputs};
 ghost use Rattle.ppdb_build.specs.Joining.{IsHeadOf, IsMovedHead};
 

@@ -33,10 +33,9 @@ use Rattle.ppdb_merge_items.proofs.Mapped.{filter_map_both, map_map_both, row_ma
 use Rattle.ppdb_merge_items.proofs.Orders.{in_order_each}
 use Rattle.ppdb_merge_joined.proofs.Names.{position_cons}
 use Rattle.ppdb_merge_moved.specs.Moved.{is_empty, moved_range}
-use Rattle.ppdb_merge_meaning_laws.specs.Kept.{MovedBy}
 use Rattle.ppdb_merge_order.specs.declared.keys.Key.{Key}
 use Rattle.ppdb_merge_order.specs.NewRows.{AreNewRows, new_row}
-use Rattle.ppdb_merge_parts.specs.Flat.{constant_image, moved_scope_value, scope_image}
+use Rattle.ppdb_merge_parts.specs.Flat.{MovedBy, constant_image, moved_scope_value, scope_image}
 use Rattle.ppdb_merge_parts.proofs.Lists.{map_append}
 use Rattle.ppdb_merge_parts.proofs.Ordered.{in_order_map}
 use Rattle.ppdb_merge_records_laws.specs.Records.{Numbered, Origin, constant_origins, origins_in, row_of, rows_left, scope_origins, scopes_left, variable_origins}

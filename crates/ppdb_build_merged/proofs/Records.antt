@@ -24,8 +24,7 @@ use Rattle.ppdb_merge_items.proofs.Lists.{Each-unmap, Each-weaker}
 use Rattle.ppdb_merge_items.proofs.Mapped.{map_map_both, row_map}
 use Rattle.ppdb_merge_joined.specs.Joined.{row_in, with_documents}
 use Rattle.ppdb_merge_moved.specs.Moved.{linked, moved_body, moved_parent}
-use Rattle.ppdb_merge_meaning_laws.specs.Kept.{FitsAlone, InputsFit, MovedBy, in_turn}
-use Rattle.ppdb_merge_parts.specs.Flat.{Counted, counted, documents_of, document_rows}
+use Rattle.ppdb_merge_parts.specs.Flat.{FitsAlone, InputsFit, MovedBy, in_turn, Counted, counted, documents_of, document_rows}
 use Rattle.ppdb_merge_records_laws.specs.Records.{ImportScopesFollow, Numbered, Origin, constant_origins, import_origins, origins_in, parent_image, parent_row}
 use Rattle.ppdb_merge_records_laws.specs.Records.{record_image, record_on, row_of, scope_origins, variable_origins}
 use Rattle.ppdb_merge_rows.specs.declared.inputs.RowInput.{RowInput}

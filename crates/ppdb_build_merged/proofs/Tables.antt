@@ -35,8 +35,8 @@ use Rattle.ppdb_merge_joined.specs.Joined.{firsts, row_named}
 use Rattle.ppdb_merge_joined.proofs.Names.{firsts_has, found_within, is_named}
 use Rattle.ppdb_merge_moved.specs.Fits.{Fits}
 use Rattle.ppdb_merge_moved.specs.Moved.{moved_counts}
-use Rattle.ppdb_merge_meaning_laws.specs.Kept.{FitsAlone, InputsFit, MovedBy, in_turn, joined_inputs}
 use Rattle.ppdb_merge_order.specs.declared.keys.Key.{Key}
+use Rattle.ppdb_merge_parts.specs.Flat.{FitsAlone, InputsFit, MovedBy, in_turn, joined_inputs}
 use Rattle.ppdb_merge_parts.specs.Flat.{Counted, counted, moved_documents, documents_of, document_rows, method_image, scope_image, import_image, machine_image}
 use Rattle.ppdb_merge_parts.specs.Flat.{JoinedPartsAreFlat}
 use Rattle.ppdb_merge_parts.proofs.Lists.{map_flat, flat_same}

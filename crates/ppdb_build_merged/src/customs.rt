@@ -5,7 +5,7 @@ ghost use Rattle.ppdb_values_sound_laws.specs.Sound.{IsSound};
 ghost use Rattle.ppdb_values_sound_laws.specs.Writing.{IsWritable};
 ghost use Rattle.ppdb_build_draft.specs.Draft.{with_custom};
 ghost use Rattle.ppdb_merge_items.specs.Each.{Each};
-ghost use Rattle.ppdb_merge_meaning_laws.specs.Kept.{InputsFit, joined_inputs};
+ghost use Rattle.ppdb_merge_parts.specs.Flat.{InputsFit, joined_inputs};
 ghost use Rattle.ppdb_merge_rows.specs.Inputs.{moved_inputs};
 ghost use Rattle.ppdb_build_merged.specs.Inputs.{ArePlaced, HasRoom};
 

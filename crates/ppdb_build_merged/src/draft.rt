@@ -4,7 +4,7 @@ ghost use Rattle.ppdb_values_sound_laws.specs.Sound.{IsSound};
 ghost use Rattle.ppdb_build_draft.specs.Draft.{empty_draft, with_import, with_machine};
 ghost use Rattle.ppdb_build_draft.specs.Drafted.{drafted, with_documents, with_methods, with_lists};
 ghost use Rattle.ppdb_merge_items.specs.Each.{Each};
-ghost use Rattle.ppdb_merge_meaning_laws.specs.Kept.{InputsFit, joined_inputs};
+ghost use Rattle.ppdb_merge_parts.specs.Flat.{InputsFit, joined_inputs};
 ghost use Rattle.ppdb_merge_rows.specs.Inputs.{moved_inputs};
 ghost use Rattle.ppdb_merge_rows.specs.Methods.{HasForms};
 ghost use Rattle.ppdb_build_merged.specs.Inputs.{ArePlaced, HasRoom, IsReady};

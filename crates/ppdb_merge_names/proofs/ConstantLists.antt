@@ -16,7 +16,8 @@ use Rattle.ppdb_values.specs.Rules.{KeepsLists}
 use Rattle.ppdb_values.specs.Value.{owner_of}
 use Rattle.ppdb_values_reading.specs.declared.scopes.ListRange.{ListRange}
 use Rattle.ppdb_values_reading.specs.declared.scopes.Scope.{Scope}
-use Rattle.ppdb_values_reading.specs.Scopes.{scope_in, scopes_in, list_range, IsWithin, next_of}
+pub use Rattle.ppdb_values_reading.specs.Scopes.{scope_in}
+use Rattle.ppdb_values_reading.specs.Scopes.{scopes_in, list_range, IsWithin, next_of}
 use Rattle.ppdb_values_reading.proofs.Shared.{list_within}
 use Rattle.ppdb_merge_names.specs.References.{Reference, types_of, is_dropped_scope, is_dropped_constant, of_constant}
 use Rattle.ppdb_merge_names.specs.Lists.{of_list, of_scope_constants}

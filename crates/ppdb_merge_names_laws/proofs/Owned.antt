@@ -35,11 +35,10 @@ use Rattle.ppdb_values.specs.Parts.{first_item}
 use Rattle.ppdb_values.specs.RawFile.{RawFile, blob, records_of, begun_of, type_limits}
 use Rattle.ppdb_values.specs.Rules.{KeepsRules}
 use Rattle.ppdb_values.specs.Value.{value_of, scope_of}
-use Rattle.ppdb_values_reading.specs.Scopes.{scope_in}
 use Rattle.ppdb_merge_names.specs.References.{names as names_at, types_of, of_constant, of_import, of_machine, methods_in, methods_of, of_parent}
 use Rattle.ppdb_merge_names.specs.References.{is_type_documents, is_live_parent, is_live_record, of_custom}
 use Rattle.ppdb_merge_names.specs.Lists.{of_list, of_scope_constants}
-use Rattle.ppdb_merge_names.proofs.ConstantLists.{all-scopes, get_numbered, get_take, get_drop}
+use Rattle.ppdb_merge_names.proofs.ConstantLists.{all-scopes, get_numbered, get_take, get_drop, scope_in}
 use Rattle.ppdb_merge_items.specs.declared.file.AnnotatedScope.{AnnotatedScope}
 use Rattle.ppdb_merge_items.specs.Annotated.{annotated_file, with_item}
 use Rattle.ppdb_merge_items.specs.NamedRows.{Named, names, in_constant, in_import, in_steps, is_gone_row, leaves_table, live_scope, live_machine, live_custom}

@@ -8,7 +8,7 @@ use Rattle.ppdb_values.specs.declared.scope.{ConstantValue.ConstantValue, ScopeV
 use Rattle.ppdb_merge_items.specs.{NamedRows.{goes_constant, with_live_body}, Sorted.in_order}
 use Rattle.ppdb_merge_joined.specs.Joined.{firsts, row_named, row_in, shifted, renumbered_method, renumbered_import}
 use Rattle.ppdb_merge_moved.specs.Moved.{moved_range, is_empty, moved_variable, moved_constant, moved_import_scope, moved_method, moved_machine, moved_document, moved_counts}
-use Rattle.ppdb_merge_meaning_laws.specs.Kept.{MovedBy, joined_inputs}
+pub use Rattle.ppdb_merge_meaning_laws.specs.Kept.{FitsAlone, InputsFit, MovedBy, in_turn, joined_inputs}
 
 -- ---- rows of inputs
 

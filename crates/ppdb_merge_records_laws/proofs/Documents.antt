@@ -28,9 +28,8 @@ use Rattle.ppdb_merge_items.proofs.Values.{by_parent}
 use Rattle.ppdb_merge_joined.specs.Joined.{row_named}
 use Rattle.ppdb_merge_joined.proofs.Each.{Each-unflat}
 use Rattle.ppdb_merge_joined.proofs.Names.{bytes_same, same_bytes, bytes_apart, found_within, is_named, firsts_differ, firsts_has, each_row_at}
-use Rattle.ppdb_merge_meaning_laws.specs.Kept.{MovedBy}
 use Rattle.ppdb_merge_moved.specs.Moved.{moved_document}
-use Rattle.ppdb_merge_parts.specs.Flat.{documents_of, document_rows, moved_documents}
+use Rattle.ppdb_merge_parts.specs.Flat.{MovedBy, documents_of, document_rows, moved_documents}
 use Rattle.ppdb_merge_records_laws.proofs.Numbers.{comes_at, passes, found_at}
 use Rattle.ppdb_merge_records_laws.proofs.Placed.{filter_none}
 

@@ -29,7 +29,7 @@ use Rattle.ppdb_merge_joined.specs.Joined.{joined_document, customs_named, renum
 use Rattle.ppdb_merge_joined.specs.Same.{fresh, same_custom}
 use Rattle.ppdb_merge_joined.proofs.Each.{Each-flat}
 use Rattle.ppdb_merge_moved.specs.Moved.{moved_scope, moved_import_scope, moved_range, moved_variable, moved_constant, is_empty, scope_image as annotated_image}
-use Rattle.ppdb_merge_meaning_laws.specs.Kept.{MovedBy}
+use Rattle.ppdb_merge_parts.specs.Flat.{MovedBy}
 use Rattle.ppdb_merge_records_laws.specs.Records.{Numbered, Origin, numbered_rows, origin_of, scopes_left, scope_origins, rows_left, owned_origins, import_origins}
 use Rattle.ppdb_merge_records_laws.specs.Records.{variable_origins, constant_origins}
 use Rattle.ppdb_merge_parts.proofs.Flat.{moved_of}

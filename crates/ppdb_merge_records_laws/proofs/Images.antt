@@ -33,8 +33,7 @@ use Rattle.ppdb_merge_items.proofs.Rows.{at}
 use Rattle.ppdb_merge_joined.specs.Joined.{row_in, with_documents, renumbered_custom}
 use Rattle.ppdb_merge_moved.specs.Moved.{linked, moved_body, moved_custom, moved_parent, table_in, row_in as image_row}
 use Rattle.ppdb_merge_moved.proofs.ImageRows.{StaysOrCrosses, image_cases}
-use Rattle.ppdb_merge_meaning_laws.specs.Kept.{MovedBy}
-use Rattle.ppdb_merge_parts.specs.Flat.{documents_of, document_rows}
+use Rattle.ppdb_merge_parts.specs.Flat.{MovedBy, documents_of, document_rows}
 use Rattle.ppdb_merge_records_laws.specs.Records.{Numbered, parent_row, record_on, record_image}
 use Rattle.ppdb_merge_records_laws.proofs.Groups.{map_each}
 use Rattle.ppdb_merge_records_laws.proofs.Numbers.{comes_at}

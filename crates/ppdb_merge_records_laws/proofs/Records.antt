@@ -31,8 +31,7 @@ use Rattle.ppdb_merge_joined.specs.Same.{fresh, same_custom, same_record}
 use Rattle.ppdb_merge_joined.proofs.Each.{Each-with}
 use Rattle.ppdb_merge_joined.proofs.Kept.{fresh_each}
 use Rattle.ppdb_merge_moved.specs.Moved.{moved_custom, moved_document}
-use Rattle.ppdb_merge_meaning_laws.specs.Kept.{MovedBy, joined_inputs}
-use Rattle.ppdb_merge_parts.specs.Flat.{documents_of, document_rows, moved_documents}
+use Rattle.ppdb_merge_parts.specs.Flat.{MovedBy, joined_inputs, documents_of, document_rows, moved_documents}
 use Rattle.ppdb_merge_records_laws.specs.Records.{Numbered, Origin, scope_origins, variable_origins, constant_origins, import_origins, origins_in, row_of, parent_row}
 use Rattle.ppdb_merge_records_laws.specs.Records.{record_image, records_of}
 use Rattle.ppdb_merge_records_laws.specs.Records.{JoinedRecordsAreFlat}

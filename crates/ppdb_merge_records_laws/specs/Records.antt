@@ -9,8 +9,7 @@ use Rattle.ppdb_values_sound_laws.specs.Customs.{SoundCustoms, coded_of}
 use Rattle.ppdb_merge_items.specs.{Each.Each, NamedRows.{goes_constant, live_custom}, Sorted.in_order}
 use Rattle.ppdb_merge_joined.specs.{Joined.{row_in, with_documents}, Same.{fresh, same_record}}
 use Rattle.ppdb_merge_moved.specs.Moved.{moved_range, is_empty, linked, moved_body, moved_parent}
-use Rattle.ppdb_merge_meaning_laws.specs.Kept.{MovedBy, joined_inputs}
-use Rattle.ppdb_merge_parts.specs.Flat.{documents_of, document_rows}
+use Rattle.ppdb_merge_parts.specs.Flat.{MovedBy, joined_inputs, documents_of, document_rows}
 
 -- ---- rows with their numbers
 

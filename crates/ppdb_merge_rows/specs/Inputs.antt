@@ -2,7 +2,7 @@
 use Rattle.std.specs.Prelude.{List, map}
 use Rattle.ppdb_values.specs.Value.{value_of}
 use Rattle.ppdb_verify.specs.Views.{raw_file}
-use Rattle.ppdb_merge_meaning_laws.specs.Kept.{MovedBy}
+use Rattle.ppdb_merge_parts.specs.Flat.{MovedBy}
 use Rattle.ppdb_merge_rows.specs.declared.inputs.RowInput.{RowInput}
 
 -- what the file of an input says, and its map

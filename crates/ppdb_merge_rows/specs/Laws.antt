@@ -7,8 +7,7 @@ use Rattle.ppdb_values_reading.specs.{declared.scopes.Scope.Scope, Scopes.scope_
 use Rattle.ppdb_merge_items.specs.{Annotated.annotated_file, NamedRows.live_custom}
 use Rattle.ppdb_merge_joined.specs.Joined.{row_in, renumbered_custom}
 use Rattle.ppdb_merge_moved.specs.{Fits.Fits, Moved.{linked, moved_custom, moved_parent}}
-use Rattle.ppdb_merge_meaning_laws.specs.Kept.{MovedBy}
-use Rattle.ppdb_merge_parts.specs.Flat.{document_rows, import_image, method_image, scope_image}
+use Rattle.ppdb_merge_parts.specs.Flat.{MovedBy, document_rows, import_image, method_image, scope_image}
 use Rattle.ppdb_merge_rows.specs.{Methods.{method_after, PointsFit}, Rows.{body_after, imports_after, scope_after, scope_value}}
 
 -- a file and its map

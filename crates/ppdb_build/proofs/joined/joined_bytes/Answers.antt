@@ -1,5 +1,5 @@
 use Rattle.std.proofs.Common.{sym}
-use Rattle.ppdb_merge_meaning_laws.specs.Kept.{joined_inputs}
+use Rattle.ppdb_merge_parts.specs.Flat.{joined_inputs}
 use Rattle.ppdb_merge_rows.specs.Inputs.{moved_inputs}
 use Rattle.ppdb_build.proofs.Early.{drafted_from, is_draft_of}
 use Rattle.ppdb_build.proofs.Limits.{early_first}

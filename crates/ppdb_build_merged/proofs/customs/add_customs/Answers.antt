@@ -3,7 +3,7 @@ use Rattle.ppdb_values.specs.declared.custom.CustomValue.{CustomValue}
 use Rattle.ppdb_values_sound_laws.specs.Writing.{IsWritable}
 use Rattle.ppdb_build_draft.specs.Draft.{with_custom}
 use Rattle.ppdb_merge_items.specs.Each.{Each}
-use Rattle.ppdb_merge_meaning_laws.specs.Kept.{joined_inputs}
+use Rattle.ppdb_merge_parts.specs.Flat.{joined_inputs}
 use Rattle.ppdb_merge_rows.specs.Inputs.{moved_inputs}
 use Rattle.ppdb_build_merged.proofs.Written.{customs_taken}
 use Rattle.ppdb_build_merged.proofs.customs.add_customs.Goals as goal

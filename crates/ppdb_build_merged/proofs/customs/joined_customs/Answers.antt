@@ -3,7 +3,7 @@ use Rattle.ppdb_values.specs.declared.custom.CustomValue.{CustomValue}
 use Rattle.ppdb_values_sound_laws.specs.Customs.{coded_of}
 use Rattle.ppdb_merge_items.specs.Sorted.{in_order}
 use Rattle.ppdb_merge_joined.specs.Same.{fresh, same_record}
-use Rattle.ppdb_merge_meaning_laws.specs.Kept.{MovedBy}
+use Rattle.ppdb_merge_parts.specs.Flat.{MovedBy}
 use Rattle.ppdb_merge_records_laws.specs.Records.{records_of}
 use Rattle.ppdb_merge_rows.specs.Inputs.{moved_inputs}
 use Rattle.ppdb_build_merged.proofs.Records.{all_inputs, inputs_sound}

@@ -4,7 +4,7 @@ use Rattle.ppdb_values.specs.declared.file.MethodValue.{MethodValue}
 use Rattle.ppdb_build_draft.specs.Draft.{with_method, with_all_methods}
 use Rattle.ppdb_build_draft.specs.Drafted.{with_documents}
 use Rattle.ppdb_merge_items.specs.Each.{Each}
-use Rattle.ppdb_merge_meaning_laws.specs.Kept.{joined_inputs}
+use Rattle.ppdb_merge_parts.specs.Flat.{joined_inputs}
 use Rattle.ppdb_merge_order.specs.declared.keys.Key.{Key}
 use Rattle.ppdb_merge_rows.specs.Inputs.{moved_inputs}
 use Rattle.ppdb_merge_rows.specs.Methods.{HasForms}

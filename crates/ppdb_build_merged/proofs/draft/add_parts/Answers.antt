@@ -1,7 +1,7 @@
 use Rattle.std.proofs.Common.{◌≤◌, List, length, fold, sym, ap, subst, ◌∙◌, arith}
 use Rattle.ppdb_build_draft.specs.Draft.{with_custom, with_document, with_import, with_machine}
 use Rattle.ppdb_merge_items.specs.Each.{Each}
-use Rattle.ppdb_merge_meaning_laws.specs.Kept.{joined_inputs}
+use Rattle.ppdb_merge_parts.specs.Flat.{joined_inputs}
 use Rattle.ppdb_build_merged.specs.declared.inputs.Placed.{Placed}
 use Rattle.ppdb_merge_rows.specs.Inputs.{moved_inputs}
 use Rattle.ppdb_build_merged.specs.Inputs.{ArePlaced, HasRoom, IsReady}
