@@ -37,7 +37,7 @@ use Rattle.ppdb_merge_joined.proofs.Kept.{fresh_each}
 use Rattle.ppdb_merge_moved.specs.Moved.{linked, moved_counts, moved_document}
 use Rattle.ppdb_merge_moved.proofs.Lists.{Each-filter_map}
 use Rattle.ppdb_merge_parts.specs.Flat.{FitsAlone, InputsFit, MovedBy, joined_inputs, JoinedPartsAreFlat, documents_of, moved_documents}
-use Rattle.ppdb_merge_records_laws.specs.Records.{JoinedRecordsAreFlat, Numbered, parent_image, record_image, record_on, records_of}
+use Rattle.ppdb_build_merged.specs.Records.{JoinedRecordsAreFlat, Numbered, parent_image, record_image, record_on, records_of}
 use Rattle.ppdb_merge_rows.specs.Inputs.{moved_by, moved_inputs}
 use Rattle.ppdb_merge_rows.specs.declared.inputs.RowInput.{RowInput}
 

@@ -6,6 +6,7 @@ use Rattle.ppdb_values.specs.declared.file.FileValue.{FileValue}
 use Rattle.ppdb_build_layout.specs.declared.rows.Rows.{Rows}
 use Rattle.ppdb_merge_moved.specs.Moved.{moved_counts}
 use Rattle.ppdb_merge_parts.specs.Flat.{MovedBy}
+pub use Rattle.ppdb_merge_rows.specs.Inputs.{moved_inputs}
 
 -- The head of an input, moved (Portable PDB v1.0, "#Pdb stream"): its identity, its entry point and the row counts of the type system in
 -- the output.

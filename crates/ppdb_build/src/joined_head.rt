@@ -11,9 +11,9 @@ ghost use Rattle.ppdb_build.specs.Joining.{IsHeadOf, IsMovedHead};
 
 use crate::rebuilding::rows_are_long;
 use ppdb_build_draft::Drafting;
+use ppdb_build_merged::joined_records_are_flat;
 use ppdb_maps::MapText;
 use ppdb_merge_parts::joined_parts_are_flat;
-use ppdb_merge_records_laws::joined_records_are_flat;
 use ppdb_merge_rows::RowInput;
 use ppdb_tables::{METHOD_DEF, PdbHead, VariableRow};
 use ppdb_verify::Verified;

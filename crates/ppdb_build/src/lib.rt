@@ -16,6 +16,7 @@ pub use ppdb_base::Limit;
 pub use ppdb_build_canon::IdChoice;
 pub use ppdb_build_heaps::{ItemKey, KeyMaker};
 pub use ppdb_build_sample::sample_value;
+pub use ppdb_merge_rows::RowInput;
 pub use ppdb_values::{
     ConstantBody, ConstantValue, CustomBody, CustomValue, DocumentValue, FileValue,
     ImportScopeValue, ImportValue, MethodValue, ScopeValue, VariableValue,

@@ -2,7 +2,7 @@
 use Rattle.std.specs.Prelude.{◌≡◌, ℕ, List, Option, Some, length, map, slice_get, sum_by, take, option_and_then}
 use Rattle.ppdb_values.specs.{declared.custom.CustomValue.CustomValue, Names.row_at, Value.value_of}
 use Rattle.ppdb_merge_parts.specs.Flat.{MovedBy, documents_of, document_rows}
-use Rattle.ppdb_merge_records_laws.specs.Records.{Numbered, record_image}
+pub use Rattle.ppdb_merge_records_laws.specs.Records.{JoinedRecordsAreFlat, Numbered, parent_image, record_image, record_on, records_of}
 use Rattle.ppdb_merge_rows.specs.Inputs.{moved_by}
 use Rattle.ppdb_build_merged.specs.{declared.inputs.Placed.Placed, Inputs.raw_of}
 

@@ -24,3 +24,4 @@ mod stopped;
 mod there;
 
 pub use draft::draft_of_inputs;
+pub use ppdb_merge_records_laws::joined_records_are_flat;

@@ -2,7 +2,7 @@ use Rattle.std.proofs.Common.{ℕ, List, sym, ap, subst, ◌∙◌, arith}
 use Rattle.std.specs.Prelude.{Option, Ok, Err, IfSome}
 use Rattle.ppdb_values_sound_laws.specs.Sound.{IsSound}
 use Rattle.ppdb_merge_meaning_laws.specs.Kept.{InputsFit, MovedBy, joined_inputs}
-use Rattle.ppdb_merge_rows.specs.Inputs.{moved_inputs}
+use Rattle.ppdb_build.specs.Joining.{moved_inputs}
 use Rattle.ppdb_run.specs.Ends.{RebuildsWhereKnown}
 use Rattle.ppdb_run.specs.Joined.{GivesIfSome}
 use Rattle.ppdb_run.specs.MeaningLaws.{SaysButForId}

@@ -1,5 +1,5 @@
 use Rattle.ppdb_merge_meaning_laws.specs.Kept.{joined_inputs}
-use Rattle.ppdb_merge_rows.specs.Inputs.{moved_inputs}
+use Rattle.ppdb_build.specs.Joining.{moved_inputs}
 use Rattle.ppdb_run.proofs.Merging.{some_again, some_says, some_told}
 use Rattle.ppdb_run.proofs.joined.rows_bytes.Goals as goal
 
