@@ -24,8 +24,8 @@ use std::alloc::Global;
 /// The text of the map of two maps, counted on where it is too long.
 fn counted_map(alloc: Global, first: &MapText, second: &MapText) -> Result<Counted, Memory>
     requires agree { SizesAgree first.now second.now }
-    requires own { NamesFit 134217728 first.now }
-    requires other { NamesFit 134217728 second.now }
+    requires own { NamesFit MAX_FILE_BYTES first.now }
+    requires other { NamesFit MAX_FILE_BYTES second.now }
     ensures { IfOk result (λ text. Counts text (map_text (composed first.now second.now))) }
 {
     first.keeps();
@@ -54,7 +54,7 @@ pub fn compose_maps(alloc: Global, first: &MapText, second: &MapText) -> Result<
     ensures text { IfOk result (λ text. text ≡ map_text (composed first.now second.now)) }
     ensures read { IfOk result (λ text. IsMapOf text (composed first.now second.now)) }
     ensures agree { IfOk result (λ _. SizesAgree first.now second.now) }
-    ensures short { IfOk result (λ text. length text ≤ 134217728) }
+    ensures short { IfOk result (λ text. length text ≤ MAX_FILE_BYTES) }
     ensures refused { IfErr result (RefusesFor first.now second.now) }
 {
     first.keeps();

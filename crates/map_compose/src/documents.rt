@@ -12,7 +12,7 @@ ghost use Rattle.map_compose.specs.Spelled.{new_lengths};
 use crate::name_lengths::NameLengths;
 use crate::part::Passed;
 use crate::spelled::spelled_length;
-use ppdb_base::Memory;
+use ppdb_base::{MAX_FILE_BYTES, Memory};
 use ppdb_maps::MapText;
 use ppdb_maps_text::Counted;
 use std::alloc::Global;
@@ -28,8 +28,8 @@ fn name_at(map: &MapText, index: u32) -> Option<&[u8]>
 
 /// The next name of both maps' lines, each once.
 fn next_name<'a>(first: &'a MapText, second: &'a MapText, passed: &mut Passed) -> Option<&'a [u8]>
-    requires own { length (named first.now) ≤ 134217728 }
-    requires other { length (named second.now) ≤ 134217728 }
+    requires own { length (named first.now) ≤ MAX_FILE_BYTES }
+    requires other { length (named second.now) ≤ MAX_FILE_BYTES }
     ensures { MatchOption result (names_left first.now second.now passed.old ≡ [])
         (λ name. names_left first.now second.now passed.old ≡ name.now ∷ names_left first.now second.now passed.new) }
 {
@@ -74,8 +74,8 @@ fn put_name(
     name: &[u8],
     text: &mut Counted,
 ) -> Result<(), Memory>
-    requires own { NamesFit 134217728 first.now }
-    requires other { NamesFit 134217728 second.now }
+    requires own { NamesFit MAX_FILE_BYTES first.now }
+    requires other { NamesFit MAX_FILE_BYTES second.now }
     requires short { IsShort name.now }
     requires lengths { LONGEST < text.now.length → lengths.now.lengths.items ≡ new_lengths second.now }
     ensures { OnOk result (Puts text.old text.new (ended (line_text (Document (document_entry first.now second.now name.now))))) }
@@ -96,8 +96,8 @@ pub fn put_documents(
     second: &MapText,
     text: &mut Counted,
 ) -> Result<(), Memory>
-    requires own { NamesFit 134217728 first.now }
-    requires other { NamesFit 134217728 second.now }
+    requires own { NamesFit MAX_FILE_BYTES first.now }
+    requires other { NamesFit MAX_FILE_BYTES second.now }
     ensures { OnOk result (PutsLines text.old text.new (documents_say first.now second.now)) }
 {
     let mut lengths = NameLengths::new(alloc);

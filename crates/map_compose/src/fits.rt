@@ -17,7 +17,7 @@ fn link_fits(map: &MapText) -> bool
 
 /// Whether the names of a line, and the number of lines before it, are those of a map text.
 fn line_fits(index: u32, old: &[u8], new: &[u8]) -> bool
-    ensures { IsTrue result → (index < 134217728) × IsShort old.now × IsShort new.now }
+    ensures { IsTrue result → (index < MAX_FILE_BYTES) × IsShort old.now × IsShort new.now }
 {
     index < MAX_FILE_BYTES as u32 && old.len() <= MAX_FILE_BYTES && new.len() <= MAX_FILE_BYTES
 }
@@ -25,7 +25,7 @@ fn line_fits(index: u32, old: &[u8], new: &[u8]) -> bool
 /// Whether the names of a map are no more and no longer than the bytes of a map text. They are, of
 /// each map that a text has.
 pub fn names_fit(map: &MapText) -> bool
-    ensures { IsTrue result → NamesFit 134217728 map.now }
+    ensures { IsTrue result → NamesFit MAX_FILE_BYTES map.now }
 {
     if !link_fits(map) {
         return false;

@@ -7,7 +7,7 @@ ghost use Rattle.map_compose.specs.Fits.{IsShort, NamesFit};
 ghost use Rattle.map_compose.specs.Spelled.{spelled_length as length_of, new_lengths, AreLengthsOf};
 
 use crate::spelled::spelled_length;
-use ppdb_base::Memory;
+use ppdb_base::{MAX_FILE_BYTES, Memory};
 use ppdb_maps::MapText;
 use ppdb_maps_text::Counted;
 use std::alloc::Global;
@@ -22,7 +22,7 @@ pub struct NameLengths {
 /// Adds the lengths of the NEWs of all `document` lines of a map.
 fn push_lengths(map: &MapText, lengths: &mut Vec<u64>) -> Result<(), Memory>
     requires none { lengths.now.items ≡ [] }
-    requires fit { NamesFit 134217728 map.now }
+    requires fit { NamesFit MAX_FILE_BYTES map.now }
     ensures { OnOk result (lengths.new.items ≡ new_lengths map.now) }
 {
     let mut index = 0;
@@ -66,7 +66,7 @@ impl NameLengths {
     /// Counts the names of a map, once the text is too long to be kept.
     pub fn count(&mut self, map: &MapText, text: &Counted) -> Result<(), Memory>
         requires are { AreLengthsOf self.now map.now }
-        requires fit { NamesFit 134217728 map.now }
+        requires fit { NamesFit MAX_FILE_BYTES map.now }
         ensures are { OnOk result (AreLengthsOf self.new map.now) }
         ensures past { OnOk result (LONGEST < text.now.length → self.new.lengths.items ≡ new_lengths map.now) }
     {
@@ -80,7 +80,7 @@ impl NameLengths {
     /// How many bytes the spelling of the name has that a name gets by the map whose names are counted.
     pub fn of_moved(&self, map: &MapText, name: &[u8]) -> u64
         requires are { self.now.lengths.items ≡ new_lengths map.now }
-        requires fit { NamesFit 134217728 map.now }
+        requires fit { NamesFit MAX_FILE_BYTES map.now }
         requires short { IsShort name.now }
         ensures length { result ≡ length_of (moved_name map.now name.now) }
         ensures few { result ≤ 536870912 }

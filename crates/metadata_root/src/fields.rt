@@ -3,7 +3,7 @@ ghost use Rattle.ppdb_base.specs.Place.{at_byte};
 ghost use Rattle.metadata_root.specs.Fields.{number_at};
 
 use byteorder::{ByteOrder, LittleEndian};
-use ppdb_base::{Code, Fault, Place};
+use ppdb_base::{Code, Fault, MAX_FILE_BYTES, Place};
 
 /// The fault at a byte of a part that has no tables.
 pub fn fault_at(part: u8, code: Code, byte: u32) -> Fault
@@ -31,7 +31,7 @@ pub fn root_fault(code: Code, byte: usize) -> Fault
 
 /// Where the field of `len` bytes at `at` ends.
 pub fn field_end(bytes: &[u8], at: usize, len: usize) -> Result<usize, Fault>
-    requires size { length bytes.now ≤ 134217728 }
+    requires size { length bytes.now ≤ MAX_FILE_BYTES }
     requires inside { at ≤ length bytes.now }
     requires len { len < 2 ^ 32 }
     ensures end { IfOk result (λ end. (end ≡ at + len) × (end ≤ length bytes.now)) }

@@ -6,7 +6,7 @@ ghost use Rattle.metadata_root.specs.Reading.{IsNameFault, IsGoodName, listed, I
 
 use crate::fields::{field_end, root_fault, u32_at};
 use crate::kind::StreamKind;
-use ppdb_base::{Code, Fault};
+use ppdb_base::{Code, Fault, MAX_FILE_BYTES};
 
 /// The most bytes that a name has, its zero among them.
 const NAME_MAX: usize = 33;
@@ -130,7 +130,7 @@ fn text_at(bytes: &[u8], at: usize) -> Option<&[u8]>
 
 /// The name that begins at a place, and where its field ends.
 fn read_name(bytes: &[u8], at: usize) -> Result<(&[u8], usize), Fault>
-    requires size { length bytes.now ≤ 134217728 }
+    requires size { length bytes.now ≤ MAX_FILE_BYTES }
     requires inside { at ≤ length bytes.now }
     ensures name { IfOk result (λ found. found.0.now ≡ name_at bytes.now at) }
     ensures end { IfOk result (λ found. (found.1 ≡ at + name_len bytes.now at) × (found.1 ≤ length bytes.now)) }
@@ -162,7 +162,7 @@ fn first_outside(before: Option<u32>, extent: Extent, header: u32, len: usize) -
 
 /// Reads the header at a place into the listing, and says where it ends.
 pub fn read_header(bytes: &[u8], at: usize, listing: &mut Listing) -> Result<usize, Fault>
-    requires size { length bytes.now ≤ 134217728 }
+    requires size { length bytes.now ≤ MAX_FILE_BYTES }
     requires inside { at ≤ length bytes.now }
     ensures end { IfOk result (λ end. (end ≡ at + 8 + name_len bytes.now (at + 8)) × (end ≤ length bytes.now)) }
     ensures read { OnOk result (ReadsHeader bytes.now at listing.old listing.new) }

@@ -10,7 +10,7 @@ use crate::fields::{fault_at, field_end, root_fault, u16_at, u32_at};
 use crate::header::{Extent, Listing, read_header};
 use crate::kind::StreamKind;
 use crate::stream::Stream;
-use ppdb_base::{Code, Fault};
+use ppdb_base::{Code, Fault, MAX_FILE_BYTES};
 use std::marker::Model;
 
 /// The streams that the root of a debug file lists.
@@ -38,7 +38,7 @@ impl<'a> Root<'a> {
     /// The stream's bytes.
     pub fn stream(&self, kind: StreamKind) -> Option<&'a [u8]>
         ensures stream { option_copied result ≡ option_map (λ s. s.bytes) (stream_of self.now kind) }
-        ensures short { IfSome result (λ s. length s.now ≤ 134217728) }
+        ensures short { IfSome result (λ s. length s.now ≤ MAX_FILE_BYTES) }
     {
         self.get(kind).map(|stream| stream.bytes)
     }
@@ -52,7 +52,7 @@ impl<'a> Root<'a> {
 
     fn get(&self, kind: StreamKind) -> Option<Stream<'a>>
         ensures stream { option_map seen_stream result ≡ stream_of self.now kind }
-        ensures short { IfSome result (λ s. length s.bytes.now ≤ 134217728) }
+        ensures short { IfSome result (λ s. length s.bytes.now ≤ MAX_FILE_BYTES) }
     {
         match kind {
             StreamKind::Pdb => self.pdb,
@@ -67,7 +67,7 @@ impl<'a> Root<'a> {
 
 /// The slice of the file that a header names.
 fn slice_at<'a>(bytes: &'a [u8], extent: Option<Extent>) -> Option<Stream<'a>>
-    requires size { length bytes.now ≤ 134217728 }
+    requires size { length bytes.now ≤ MAX_FILE_BYTES }
     requires inside { ForSome extent (λ e. e.offset + e.size ≤ length bytes.now) }
     ensures { option_map seen_stream result ≡ option_map (slice_of bytes.now) extent }
 {
@@ -95,7 +95,7 @@ fn begins_with(bytes: &[u8], text: &[u8]) -> bool
 
 /// Reads the fields before the stream headers.
 fn read_prefix(bytes: &[u8]) -> Result<Prefix, Fault>
-    requires { length bytes.now ≤ 134217728 }
+    requires { length bytes.now ≤ MAX_FILE_BYTES }
     ensures prefix { IfOk result (λ prefix. IsPrefix bytes.now prefix.headers prefix.count) }
     ensures first { IfErr result (IsFirst (RootFaults bytes.now)) }
 {
@@ -120,7 +120,7 @@ fn read_prefix(bytes: &[u8]) -> Result<Prefix, Fault>
 
 /// Reads the stream headers, and judges the root.
 fn read_headers(bytes: &[u8], prefix: Prefix) -> Result<Listing, Fault>
-    requires size { length bytes.now ≤ 134217728 }
+    requires size { length bytes.now ≤ MAX_FILE_BYTES }
     requires prefix { IsPrefix bytes.now prefix.headers prefix.count }
     ensures listing { IfOk result (IsListing bytes.now (stream_count bytes.now)) }
     ensures accepted { OnOk result (IsAccepted (RootFaults bytes.now)) }
@@ -152,7 +152,7 @@ fn judge_streams(bytes: &[u8], listing: &Listing) -> Result<(), Fault>
 
 /// Reads the root and its stream headers.
 pub fn read_root<'a>(bytes: &'a [u8]) -> Result<Root<'a>, Fault>
-    requires { length bytes.now ≤ 134217728 }
+    requires { length bytes.now ≤ MAX_FILE_BYTES }
     // Where nothing is bad, the streams are those slices of the file.
     ensures accepted { OnOk result (IsAccepted (ContainerFaults bytes.now)) }
     ensures streams { IfOk result (AreStreamsOf bytes.now) }

@@ -1,5 +1,6 @@
 -- The file of a draft (Portable PDB v1.0, "#Pdb stream" and "#~ stream").
 use Rattle.std.specs.Prelude.{◌≡◌, ◌≤◌, All, ℕ, List, [], ◌∷◌, ◌++◌, length, take, flat_map, replicate}
+use Rattle.ppdb_values.specs.Names.{MAX_FILE_BYTES}
 use Rattle.ppdb_tables.specs.RawTables.{RawTables}
 use Rattle.ppdb_values.specs.{RawFile.RawFile, Types.IsGuid}
 use Rattle.ppdb_build_heaps.specs.Items.{as_text, as_blob}
@@ -55,4 +56,4 @@ pub record CanBeLaid (entry : ℕ) (counts : List ℕ) (draft : Draft) : Type 0 
   pub entry_fits : entry ≤ 0xffffff
   pub guids : All IsGuid draft.guids
   pub fit : AllRowsFit (sizes_of counts (heap_lens_of draft)) draft.rows
-  pub size : (id : List ℕ) → length id ≡ 20 → length (file_bytes (file_from id entry counts draft)) ≤ 134217728
+  pub size : (id : List ℕ) → length id ≡ 20 → length (file_bytes (file_from id entry counts draft)) ≤ MAX_FILE_BYTES

@@ -7,21 +7,15 @@ ghost use Rattle.ppdb_base.specs.declared.limits.Limit.TheVariants as limits;
 ghost use Rattle.ppdb_build_canon.specs.Limits.{above, first_met};
 ghost use Rattle.ppdb_build_bytes.specs.Drafts.{file_from};
 
-use ppdb_base::Limit;
+use ppdb_base::{Limit, MAX_FILE_BYTES, MAX_SPAN};
 use ppdb_build_draft::Drafting;
 use ppdb_build_layout::file_len;
 
-/// The most bytes of a file.
-const MOST_BYTES: u64 = 134217728;
-
-/// The most bytes of all texts and blobs that are referred to.
-const MOST_SPAN: u64 = 268435456;
-
 /// The limit on a file of so many bytes.
 fn size_limit(bytes: u64) -> Option<Limit>
-    ensures { (exact : ℕ) → bytes ≡ told exact → result ≡ above 134217728 limits.FileSize exact }
+    ensures { (exact : ℕ) → bytes ≡ told exact → result ≡ above MAX_FILE_BYTES limits.FileSize exact }
 {
-    if bytes > MOST_BYTES {
+    if bytes > MAX_FILE_BYTES as u64 {
         Some(Limit::FileSize { bytes })
     } else {
         None
@@ -30,9 +24,9 @@ fn size_limit(bytes: u64) -> Option<Limit>
 
 /// The limit on so many bytes of texts and blobs.
 fn span_limit(total: u64) -> Option<Limit>
-    ensures { (exact : ℕ) → total ≡ told exact → result ≡ above 268435456 limits.SpanTotal exact }
+    ensures { (exact : ℕ) → total ≡ told exact → result ≡ above MAX_SPAN limits.SpanTotal exact }
 {
-    if total > MOST_SPAN {
+    if total > MAX_SPAN {
         Some(Limit::SpanTotal { total })
     } else {
         None
@@ -50,7 +44,7 @@ pub fn draft_len(counts: &[u32; 64], draft: &Drafting) -> u64
 /// L5 and L6, from the length of the file and of all texts and blobs that are referred to.
 pub fn late_limit(bytes: u64, span: u64) -> Option<Limit>
     ensures { (len total : ℕ) → bytes ≡ told len → span ≡ told total
-        → result ≡ first_met (above 134217728 limits.FileSize len ∷ above 268435456 limits.SpanTotal total ∷ []) }
+        → result ≡ first_met (above MAX_FILE_BYTES limits.FileSize len ∷ above MAX_SPAN limits.SpanTotal total ∷ []) }
 {
     size_limit(bytes).or(span_limit(span))
 }

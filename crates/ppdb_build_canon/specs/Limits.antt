@@ -1,5 +1,5 @@
 -- What is too large to be written.
-use Rattle.ppdb_values.specs.Names.{option_or, large_steps, first_of, last_of, Limit, TableRows, ListPastEnd, PointOffset, LineStep, FileSize, SpanTotal, told}
+use Rattle.ppdb_values.specs.Names.{option_or, large_steps, first_of, last_of, Limit, TableRows, ListPastEnd, PointOffset, LineStep, FileSize, SpanTotal, MAX_FILE_BYTES, MAX_SPAN, told}
 use Rattle.std.specs.Prelude.{◌≡◌, ◌<◌, ◌≤◌, All, ℕ, ◌+◌, ◌==◌, ◌&&◌, Bool, false, slice_index, List, [], ◌∷◌, length, sum_by, nat_lt, nat_le, find, option_map, Option, Some, None, if◌then◌else◌}
 use Rattle.std.specs.Prelude.{filter_map, Contains}
 use Rattle.ppdb_values.specs.{declared.file.{FileValue.FileValue, MethodValue.MethodValue}, declared.scope.ScopeValue.ScopeValue}
@@ -52,7 +52,7 @@ first_limit value =
     first_met (first_of (filter_map (too_many_rows value) tables)
     ∷ list_past_end value 0x33 (λ scope. length scope.variables) ∷ list_past_end value 0x34 (λ scope. length scope.constants)
     ∷ first_of (filter_map large_offset value.methods) ∷ first_of (filter_map large_step_of value.methods)
-    ∷ above 134217728 FileSize (length (file_bytes (canonical value value.id))) ∷ above 268435456 SpanTotal (span value) ∷ [])
+    ∷ above MAX_FILE_BYTES FileSize (length (file_bytes (canonical value value.id))) ∷ above MAX_SPAN SpanTotal (span value) ∷ [])
 
 -- ---- values that meet none
 
@@ -64,8 +64,8 @@ pub record IsWithinLimits (value : FileValue) : Type 0 where
   pub constants : sum_by (λ scope. length scope.constants) value.scopes ≡ 65535 → owns_none (λ scope. length scope.constants) (last_of value.scopes) ≡ false
   pub offsets : All (λ method. All (λ point. point.offset < 0x20000000) method.points) value.methods
   pub steps : All (λ method. large_steps [] method.points ≡ []) value.methods
-  pub size : length (file_bytes (canonical value value.id)) ≤ 134217728
-  pub total : span value ≤ 268435456
+  pub size : length (file_bytes (canonical value value.id)) ≤ MAX_FILE_BYTES
+  pub total : span value ≤ MAX_SPAN
 
 abbrev pub ValuesWithoutLimits : Type 0
 ValuesWithoutLimits = (value : FileValue) → first_limit value ≡ None → IsWithinLimits value

@@ -1,5 +1,5 @@
 -- Which files can be laid out, and what is promised of one that is: read again, it is the same file.
-use Rattle.ppdb_values.specs.Names.{IsAccepted, Streams, AreStreamsOf, ContainerFaults, Column, Sizes, Fit, PdbFaults, head_in, widths_of, document_columns, method_columns, scope_columns}
+use Rattle.ppdb_values.specs.Names.{MAX_FILE_BYTES, IsAccepted, Streams, AreStreamsOf, ContainerFaults, Column, Sizes, Fit, PdbFaults, head_in, widths_of, document_columns, method_columns, scope_columns}
 use Rattle.ppdb_values.specs.Names.{variable_columns, constant_columns, import_columns, machine_columns, custom_columns, count, HasShape, TablesFaults}
 use Rattle.std.specs.Prelude.{◌≡◌, ℕ, ◌+◌, ◌<◌, ◌≤◌, ◌⊎◌, List, length, All, Some, None}
 use Rattle.ppdb_values.specs.RawFile.{RawFile, raw_in}
@@ -33,7 +33,7 @@ pub record CanBeLaidOut (raw : RawFile) : Type 0 where
   -- MethodDebugInformation has no rows, or as many as MethodDef
   pub methods : (count raw.tables 0x31 ≡ 0) ⊎ (count raw.tables 0x31 ≡ count raw.tables 0x06)
   pub cells : AllRowsFit (sizes_of raw.tables.counts (heaps_of raw.tables)) (rows_of raw.tables)
-  pub size : length (file_bytes raw) ≤ 134217728
+  pub size : length (file_bytes raw) ≤ MAX_FILE_BYTES
 
 -- ---- what is read
 

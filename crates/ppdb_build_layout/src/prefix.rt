@@ -12,7 +12,7 @@ use crate::pdb::{pdb_len, put_pdb};
 use crate::root::put_root;
 use crate::rows::{HeapLens, Rows};
 use crate::stream::{put_tables, tables_len};
-use ppdb_base::{Bytes, Memory};
+use ppdb_base::{Bytes, MAX_FILE_BYTES, Memory};
 
 /// How many bytes a file of these counts, rows and heaps has; one of 2 ^ 64 bytes or more is reported as the greatest number below.
 pub fn file_len(counts: &[u32; 64], rows: &Rows, heaps: HeapLens) -> u64
@@ -46,7 +46,7 @@ pub fn put_prefix(
 ) -> Result<(), Memory>
     requires entry { entry ≤ 0xffffff }
     requires fit { AllRowsFit (sizes_of counts.now heaps) rows.now }
-    requires size { length (prefix_bytes id.now entry counts.now rows.now heaps) + heaps.texts + heaps.guids + heaps.blobs ≤ 134217728 }
+    requires size { length (prefix_bytes id.now entry counts.now rows.now heaps) + heaps.texts + heaps.guids + heaps.blobs ≤ MAX_FILE_BYTES }
     ensures ok { OnOk result (into.new ≡ into.old ++ prefix_bytes id.now entry counts.now rows.now heaps) }
     ensures err { OnErr result (BeginsWith into.old into.new) }
 {

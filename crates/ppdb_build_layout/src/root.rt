@@ -6,15 +6,15 @@ ghost use Rattle.ppdb_build_layout.specs.Bytes.{root_prefix, headers, stream_hea
 
 use crate::numbers::put_u32;
 use crate::rows::HeapLens;
-use ppdb_base::{Bytes, Memory};
+use ppdb_base::{Bytes, MAX_FILE_BYTES, Memory};
 
 /// Signature, version 1.1, reserved, the version text with its length, flags, and the count of the streams.
 const PREFIX: [u8; 32] = *b"BSJB\x01\0\x01\0\0\0\0\0\x0c\0\0\0PDB v1.0\0\0\0\0\0\0\x05\0";
 
 /// Appends the header of a stream: its place, its length, and its name with the zeros after it.
 fn put_header(at: u64, len: u64, name: &[u8], into: &mut Bytes) -> Result<(), Memory>
-    requires place { at ≤ 134217728 }
-    requires small { len ≤ 134217728 }
+    requires place { at ≤ MAX_FILE_BYTES }
+    requires small { len ≤ MAX_FILE_BYTES }
     ensures ok { OnOk result (into.new ≡ into.old ++ (little_bytes 4 at ++ little_bytes 4 len ++ name.now)) }
     ensures err { OnErr result (BeginsWith into.old into.new) }
 {

@@ -1,6 +1,6 @@
 -- Which limits a file that is read cannot pass (ECMA-335 II.24.2.6: below 65536 rows a table is indexed by two bytes; docs/FORMAT.md, 9).
 use Rattle.std.specs.Prelude.{◌≡◌, ◌<◌, ◌^◌, ℕ, All, List, [], ◌∷◌, length, Option, None}
-use Rattle.ppdb_base.specs.declared.limits.Limit.{Limit, TheVariants.{FileSize, SpanTotal}}
+use Rattle.ppdb_base.specs.declared.limits.{Limit.{Limit, TheVariants.{FileSize, SpanTotal}}, TheConstants.{MAX_FILE_BYTES, MAX_SPAN}}
 use Rattle.ppdb_build_layout.specs.Bytes.{file_bytes}
 use Rattle.ppdb_values.specs.{declared.file.FileValue.FileValue, RawFile.RawFile, Rules.KeepsRules, Value.value_of}
 use Rattle.ppdb_verify.specs.Files.{IsRawOf}
@@ -19,7 +19,7 @@ FilesPassNoListLimit = (file : List ℕ) (raw : RawFile) → All (λ b. b < 2 ^ 
 -- the first that is met of the limits on bytes: L5 and L6
 abbrev pub late_limit : FileValue → Option Limit
 late_limit value =
-    first_met (above 134217728 FileSize (length (file_bytes (canonical value value.id))) ∷ above 268435456 SpanTotal (span value) ∷ [])
+    first_met (above MAX_FILE_BYTES FileSize (length (file_bytes (canonical value value.id))) ∷ above MAX_SPAN SpanTotal (span value) ∷ [])
 
 -- The value of a valid file meets none of L1 to L4.
 abbrev pub ValidFilesMeetLateLimits : Type 0

@@ -13,6 +13,7 @@ use crate::reading::{said, version_of};
 use crate::refusal::{MapError, Refusal};
 use crate::rule::Rule;
 use crate::words::first_line;
+use ppdb_base::MAX_FILE_BYTES;
 use std::alloc::Global;
 
 /// A refusal, at its line.
@@ -47,7 +48,7 @@ fn first_said(alloc: Global, version: u8, text: &[u8]) -> (Result<Line, Refusal>
 
 /// Reads the lines after the first.
 fn read_lines(alloc: Global, version: u8, text: &[u8]) -> Result<Draft, MapError>
-    requires short { length text.now ≤ 134217728 }
+    requires short { length text.now ≤ MAX_FILE_BYTES }
     requires known { 1 ≤ version }
     ensures read { IfOk result (ReadWhole version (lines text.now)) }
     ensures refused { IfErr result (RefusedIn version (lines text.now)) }
@@ -69,7 +70,7 @@ fn read_lines(alloc: Global, version: u8, text: &[u8]) -> Result<Draft, MapError
 
 /// The map that a text has, or its first line that breaks a rule. It reads the text once.
 pub fn read_map(alloc: Global, text: &[u8]) -> Result<MapText, MapError>
-    requires { length text.now ≤ 134217728 }
+    requires { length text.now ≤ MAX_FILE_BYTES }
     ensures read { IfOk result (IsMapOf text.now) }
     ensures refused { IfErr result (RefusedAs text.now) }
 {

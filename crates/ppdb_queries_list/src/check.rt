@@ -6,10 +6,11 @@ ghost use Rattle.ppdb_queries_list.specs.declared.line.MethodOffset.{MethodOffse
 
 use crate::cut::first_line;
 use crate::line::read_line;
+use ppdb_base::MAX_FILE_BYTES;
 
 /// Whether a text is a list; else its first line that a list cannot have, counted from 1. It keeps nothing of the lines.
 pub fn check_list(list: &[u8]) -> Result<(), u32>
-    requires { length list.now ≤ 134217728 }
+    requires { length list.now ≤ MAX_FILE_BYTES }
     ensures listed { OnOk result ((asked : List MethodOffset) × Lists (lines list.now) asked) }
     ensures other { IfErr result (IsFirstOther (lines list.now)) }
 {

@@ -1,5 +1,5 @@
 -- What a file that is written says, by what its inputs said.
-use Rattle.ppdb_values.specs.Names.{kind_of, Unknown, IsAccepted}
+use Rattle.ppdb_values.specs.Names.{kind_of, Unknown, IsAccepted, MAX_FILE_BYTES}
 use Rattle.std.specs.Prelude.{◌≡◌, ◌≢◌, ◌≤◌, ℕ, List, [], ◌∷◌, None, Ok, length, map}
 use Rattle.ppdb_maps.specs.Text.{IsMapOf}
 use Rattle.ppdb_values.specs.{declared.file.FileValue.FileValue, RawFile.RawFile, Rules.KeepsRules, Types.HasTypes, Value.value_of}
@@ -49,7 +49,7 @@ pub record IsWrittenOf (marks : List (List ℕ)) (inputs : List ReadInput) (valu
 
 -- A file of at most 128 MiB that breaks no rule, and a map that a text has, are a valid input.
 abbrev pub ReadInputsAreValid : Type 0
-ReadInputsAreValid = (file text : List ℕ) (input : ReadInput) → length file ≤ 134217728 → IsAccepted (FileFaults file) → IsRawOf file input.raw
+ReadInputsAreValid = (file text : List ℕ) (input : ReadInput) → length file ≤ MAX_FILE_BYTES → IsAccepted (FileFaults file) → IsRawOf file input.raw
     → IsMapOf text input.map → IsValidInput input
 
 -- What valid inputs are joined to has no record of an unknown kind.

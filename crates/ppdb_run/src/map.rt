@@ -6,7 +6,7 @@ ghost use Rattle.ppdb_run_stops.specs.Causes.{StopsInside, StopsReading};
 ghost use Rattle.ppdb_run.specs.Stops.{Gives};
 
 use crate::input::read_input;
-use ppdb_base::{Bytes, Folder};
+use ppdb_base::{Bytes, Folder, MAX_FILE_BYTES};
 use ppdb_maps::{MapError, MapText, read_map};
 use ppdb_run_stops::Stop;
 use std::alloc::Global;
@@ -34,7 +34,7 @@ pub fn read_map_file<'a, F: Folder>(
 
 /// The map that a text has. The text is given up.
 pub fn map_of<'a>(alloc: Global, name: &'a str, text: Bytes) -> Result<MapText, Stop<'a>>
-    requires { length text ≤ 134217728 }
+    requires { length text ≤ MAX_FILE_BYTES }
     ensures told { Gives (λ read. read) result (map_in name.now text) }
     ensures causes { StopsInside result }
 {

@@ -13,7 +13,7 @@ ghost use Rattle.ppdb_run.specs.Sampled.{remapped_sample};
 
 use crate::sample_laws::fitting_maps_do_not_clash;
 use custom_info::Marks;
-use ppdb_base::{Bytes, Memory, MergeError, Steps};
+use ppdb_base::{Bytes, MAX_FILE_BYTES, Memory, MergeError, Steps};
 use ppdb_build_sample::samples_fit;
 use ppdb_maps::sample_map;
 use ppdb_merge::Merger;
@@ -29,7 +29,7 @@ fn accepted<'a, K: Ledger>(
     file: &'a [u8],
     checks: &mut Steps<K>,
 ) -> Result<Verified<'a>, Memory>
-    requires short { length file.now ≤ 134217728 }
+    requires short { length file.now ≤ MAX_FILE_BYTES }
     requires accepted { IsAccepted (FileFaults file.now) }
     ensures { IfOk result (λ verified. IsRawOf file.now (raw_file verified)) }
 {
@@ -80,7 +80,7 @@ fn merged<K: Ledger, L: Ledger>(
     steps: &mut Steps<L>,
 ) -> Result<Merger, Memory>
     requires few { methods ≤ 100000 }
-    requires short { length file ≤ 134217728 }
+    requires short { length file ≤ MAX_FILE_BYTES }
     requires accepted { IsAccepted (FileFaults file) }
     requires says { (raw : RawFile) → IsRawOf file raw → value_of raw ≡ sample methods }
     ensures { IfOk result (λ merger. HoldsSample methods merger.traces) }
@@ -112,7 +112,7 @@ pub(crate) fn remapped_value<K: Ledger, L: Ledger>(
     steps: &mut Steps<L>,
 ) -> Result<FileValue, Memory>
     requires few { methods ≤ 100000 }
-    requires short { length file ≤ 134217728 }
+    requires short { length file ≤ MAX_FILE_BYTES }
     requires accepted { IsAccepted (FileFaults file) }
     requires says { (raw : RawFile) → IsRawOf file raw → value_of raw ≡ sample methods }
     ensures value { IfOk result (λ value. value ≡ remapped_sample methods) }

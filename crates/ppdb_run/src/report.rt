@@ -11,7 +11,7 @@ ghost use Rattle.ppdb_values_sound_laws.specs.Sound.{IsSound};
 ghost use Rattle.ppdb_run.specs.Sampled.{limit_of_sample, remapped_sample, report_of, sample_file};
 
 use crate::remapped::remapped_value;
-use ppdb_base::{Bytes, Steps};
+use ppdb_base::{Bytes, MAX_FILE_BYTES, Steps};
 use ppdb_build::{BuildError, write_file};
 use ppdb_build_canon::{
     IdChoice, canonical_files_forget_ids, ids_stand_after_the_root, values_without_limits_are_small,
@@ -39,7 +39,7 @@ fn sample_file(alloc: Global, methods: u32) -> Result<Bytes, BuildError>
     ensures written { IfOk result (λ file. file ≡ sample_file methods) }
     ensures within { OnOk result (first_limit (sample methods) ≡ None) }
     ensures limit { IfErr result (IsLimit (limit_of_sample methods)) }
-    ensures short { IfOk result (λ file. length file ≤ 134217728) }
+    ensures short { IfOk result (λ file. length file ≤ MAX_FILE_BYTES) }
     ensures accepted { IfOk result (λ file. IsAccepted (FileFaults file)) }
     ensures says { IfOk result (λ file. (raw : RawFile) → IsRawOf file raw → value_of raw ≡ sample methods) }
 {

@@ -1,6 +1,7 @@
 -- The tables of a Portable PDB file as they are stored: the rows of each table as lists of numbers, and the heaps that they
 -- point into (Portable PDB v1.0, "Metadata Tables"; ECMA-335 II.22, II.24.2).
 use Rattle.std.specs.{Prelude.{◌≡◌, ℕ, zero, suc, ◌≤◌, List, Option, None, length, slice_get, slice_index}, List.enumerate_from}
+use Rattle.ppdb_base.specs.declared.limits.TheConstants.{MAX_FILE_BYTES}
 use Rattle.ppdb_tables.specs.declared.rows.{DocumentRow.DocumentRow, MethodDebugRow.MethodDebugRow, ScopeRow.ScopeRow, VariableRow.VariableRow, ConstantRow.ConstantRow, ImportRow.ImportRow}
 use Rattle.ppdb_tables.specs.declared.rows.{MachineRow.MachineRow, CustomRow.CustomRow}
 
@@ -38,9 +39,9 @@ row_at rows (suc index) = slice_get rows index
 pub record HasShape (raw : RawTables) : Type 0 where
   pub entries : length raw.counts ≡ 64
   pub small : (table : ℕ) → count raw table ≤ 16777215
-  pub texts : length raw.texts ≤ 134217728
-  pub guids : length raw.guids ≤ 134217728
-  pub blobs : length raw.blobs ≤ 134217728
+  pub texts : length raw.texts ≤ MAX_FILE_BYTES
+  pub guids : length raw.guids ≤ MAX_FILE_BYTES
+  pub blobs : length raw.blobs ≤ MAX_FILE_BYTES
   pub documents : length raw.documents ≡ count raw 0x30
   pub methods : length raw.methods ≡ count raw 0x31
   pub scopes : length raw.scopes ≡ count raw 0x32

@@ -5,12 +5,12 @@ ghost use Rattle.ppdb_tables.specs.Tables.{BoundFaults, rows_start};
 ghost use Rattle.ppdb_tables.specs.Bounds.{IsRowFault, StandsAt};
 
 use crate::header::TABLES;
-use ppdb_base::{Code, Fault};
+use ppdb_base::{Code, Fault, MAX_FILE_BYTES};
 use row_layout::Sizes;
 
 /// Where so many rows of `len` bytes end that begin at `at`.
 fn rows_end(bytes: &[u8], at: usize, rows: u32, len: usize) -> Result<usize, Fault>
-    requires size { length bytes.now ≤ 134217728 }
+    requires size { length bytes.now ≤ MAX_FILE_BYTES }
     requires inside { at ≤ length bytes.now }
     requires some { 0 < len }
     ensures end { IfOk result (λ end. (end ≡ at + rows * len) × (end ≤ length bytes.now)) }
@@ -30,7 +30,7 @@ pub fn place_tables(
     sizes: &Sizes,
     lens: &[usize; 8],
 ) -> Result<[usize; 8], Fault>
-    requires size { length bytes.now ≤ 134217728 }
+    requires size { length bytes.now ≤ MAX_FILE_BYTES }
     requires start { start ≡ rows_start bytes.now }
     requires inside { start ≤ length bytes.now }
     requires lens { lens.now ≡ map (row_len sizes.now) debug_tables }

@@ -2,6 +2,7 @@ ghost use Rattle.std.specs.Prelude.{◌≡◌, ◌+◌, ◌-◌, ◌*◌, ◌^�
 ghost use Rattle.row_layout.specs.Rows.{cell_in};
 ghost use Rattle.ppdb_tables.specs.Layouts.{row_in};
 
+use ppdb_base::MAX_FILE_BYTES;
 use row_layout::RowLayout;
 
 /// The rows of one table, where they stand in the file.
@@ -18,7 +19,7 @@ impl<'a, const N: usize> Table<'a, N> {
 
     /// The table of so many rows that begins at a place of a stream.
     pub fn at(stream: &'a [u8], place: usize, count: u32, layout: &RowLayout<N>) -> Table<'a, N>
-        requires size { length stream.now ≤ 134217728 }
+        requires size { length stream.now ≤ MAX_FILE_BYTES }
         requires inside { place + count * sum layout.now ≤ length stream.now }
         ensures { IsTableAt stream.now place count layout.now result }
     {

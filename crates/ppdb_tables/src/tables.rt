@@ -6,7 +6,7 @@ use crate::rows::{
     VariableRow,
 };
 use crate::table::Table;
-use ppdb_base::Steps;
+use ppdb_base::{MAX_FILE_BYTES, Steps};
 use ppdb_heaps::{Blobs, Guids, Strings};
 use row_layout::Sizes;
 use std::sync::ledger::Ledger;
@@ -26,7 +26,7 @@ pub struct Tables<'a> {
     pub(crate) imports: Table<'a, 2>,
     pub(crate) machines: Table<'a, 2>,
     pub(crate) customs: Table<'a, 3>,
-    ghost short_heaps: { (length (strings_of strings) ≤ 134217728) × (length (guids_of guids) ≤ 134217728) × (length (blobs_of blobs) ≤ 134217728) },
+    ghost short_heaps: { (length (strings_of strings) ≤ MAX_FILE_BYTES) × (length (guids_of guids) ≤ MAX_FILE_BYTES) × (length (blobs_of blobs) ≤ MAX_FILE_BYTES) },
     ghost entries: { length sizes.rows ≡ 64 },
     ghost small: { (table : ℕ) → slice_index sizes.rows table ≤ 16777215 },
     ghost document_count: { documents.count ≡ slice_index sizes.rows 0x30 },

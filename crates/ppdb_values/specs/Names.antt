@@ -6,7 +6,7 @@ pub use Rattle.std.specs.Str.Lines.{lines}
 pub use Rattle.ppdb_base.specs.{Causes.{Rose, counted}, Files.{Contents, Files, Longer, Missing, reading}, First.{IsAccepted, IsFirst, Then}}
 pub use Rattle.ppdb_base.specs.{Offsets.{Kept, Offsets, Rise, every, gone, is_kept_between, lined, moved, old_size}, Place.{at_byte, cell}, Told.told, Written.{AppendsPrefix, appended}}
 pub use Rattle.ppdb_base.specs.{declared.code.Code.{Code, TheVariants.ScopeCrossing}, declared.fault.{BlobFault.BlobFault, Fault.Fault, Place.Place}, declared.limits.Limit.Limit}
-pub use Rattle.ppdb_base.specs.declared.limits.{Limit.TheVariants.{FileSize, LineStep, ListPastEnd, PointOffset, SpanTotal, TableRows}, TheConstants.MAX_FILE_BYTES}
+pub use Rattle.ppdb_base.specs.declared.limits.{Limit.TheVariants.{FileSize, LineStep, ListPastEnd, PointOffset, SpanTotal, TableRows}, TheConstants.{MAX_FILE_BYTES, MAX_SPAN}}
 pub use Rattle.ppdb_base.specs.{declared.link_error.LinkError.{LinkError, TheVariants.{NotJson, Shape}}, declared.merge_error.MergeError.MergeError, declared.offsets.Run.Run}
 pub use Rattle.cli_ints.specs.Shortest.{short_unsigned}
 pub use Rattle.row_layout.specs.{Rows.{Fit, row_bytes}, declared.column.{Column.Column, Sizes.Sizes}}

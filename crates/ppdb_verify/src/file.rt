@@ -8,7 +8,7 @@ ghost use Rattle.ppdb_verify.specs.Views.{raw_file};
 use crate::judge::judge_all;
 use crate::verified::Verified;
 use metadata_root::read_root;
-use ppdb_base::Steps;
+use ppdb_base::{MAX_FILE_BYTES, Steps};
 use ppdb_tables::{read_head, read_tables};
 use ppdb_verify_rules::VerifyError;
 use std::alloc::Global;
@@ -24,7 +24,7 @@ pub fn verify<'a, L: Ledger>(
     bytes: &'a [u8],
     steps: &mut Steps<L>,
 ) -> Result<Verified<'a>, VerifyError>
-    requires { length bytes.now ≤ 134217728 }
+    requires { length bytes.now ≤ MAX_FILE_BYTES }
     ensures accepted { OnOk result (IsAccepted (FileFaults bytes.now)) }
     ensures file { IfOk result (λ file. IsRawOf bytes.now (raw_file file)) }
     ensures first { IfErr result (FaultIs (IsFirst (FileFaults bytes.now))) }

@@ -5,7 +5,7 @@ use crate::heaps::{heaps_of, lens_of};
 use crate::rows::{are_same, counts_of, rows_of};
 use crate::stop::Stop;
 use metadata_root::read_root;
-use ppdb_base::{Bytes, Memory, Steps};
+use ppdb_base::{Bytes, MAX_FILE_BYTES, Memory, Steps};
 use ppdb_build_layout::{HeapLens, Rows, all_rows_fit, file_len, put_prefix};
 use ppdb_tables::{PdbHead, Tables, read_head, read_tables};
 use std::alloc::Global;
@@ -21,7 +21,7 @@ fn prefix(
     heaps: HeapLens,
 ) -> Result<Bytes, Memory> {
     let mut bytes = Bytes::new(alloc);
-    let fits = all_rows_fit(counts, rows, heaps) && file_len(counts, rows, heaps) <= 134217728;
+    let fits = all_rows_fit(counts, rows, heaps) && file_len(counts, rows, heaps) <= MAX_FILE_BYTES as u64;
     if fits && entry <= 0xffffff {
         put_prefix(&id, entry, counts, rows, heaps, &mut bytes)?;
     }
@@ -75,7 +75,7 @@ pub fn is_read_again<L: Ledger>(
     file: &[u8],
     steps: &mut Steps<L>,
 ) -> Result<bool, Stop>
-    requires { length file.now ≤ 134217728 }
+    requires { length file.now ≤ MAX_FILE_BYTES }
 {
     let root = read_root(file)?;
     let head = read_head(&root)?;

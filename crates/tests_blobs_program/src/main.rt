@@ -22,7 +22,7 @@ use again::is_read_again;
 use counts::{Counts, put_counts};
 use file::read_file;
 use metadata_root::read_root;
-use ppdb_base::{Bytes, CounterPermit, Fault, Sink, Steps};
+use ppdb_base::{Bytes, CounterPermit, Fault, MAX_FILE_BYTES, Sink, Steps};
 use ppdb_tables::{Tables, read_head, read_tables};
 use std::alloc::Global;
 use std::io::Write;
@@ -72,7 +72,7 @@ fn check(rt: &HostRuntime, text: &mut Text) -> Result<(), Stop> {
 
 /// The tables of a file.
 fn tables_of(bytes: &[u8]) -> Result<Tables<'_>, Fault>
-    requires { length bytes.now ≤ 134217728 }
+    requires { length bytes.now ≤ MAX_FILE_BYTES }
 {
     let root = read_root(bytes)?;
     let head = read_head(&root)?;
@@ -86,7 +86,7 @@ fn put_counted<L: Ledger>(
     text: &mut Text,
     rows: Blank,
 ) -> Result<(), Stop>
-    requires short { length file.now ≤ 134217728 }
+    requires short { length file.now ≤ MAX_FILE_BYTES }
     requires ledger { (rows.name ≡ L.name) × (rows.parts ≡ L.parts) × (0 < L.parts) }
 {
     let mut steps = Steps::<L>::new(CounterPermit::new(rt), rows);

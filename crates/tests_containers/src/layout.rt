@@ -1,5 +1,5 @@
 // Files that are laid out.
-use ppdb_base::{Bytes, List, Memory};
+use ppdb_base::{Bytes, List, MAX_FILE_BYTES, Memory};
 use ppdb_build_layout::{HeapLens, Rows, all_rows_fit, file_len, put_prefix};
 use ppdb_tables::{DocumentRow, MachineRow, MethodDebugRow, ScopeRow, VariableRow};
 use std::alloc::Global;
@@ -60,7 +60,7 @@ fn prefix(
     heaps: HeapLens,
 ) -> Result<Bytes, Memory> {
     let mut bytes = Bytes::new(alloc);
-    let fits = all_rows_fit(counts, rows, heaps) && file_len(counts, rows, heaps) <= 134217728;
+    let fits = all_rows_fit(counts, rows, heaps) && file_len(counts, rows, heaps) <= MAX_FILE_BYTES as u64;
     if fits && entry <= 0xffffff {
         put_prefix(&[0; 20], entry, counts, rows, heaps, &mut bytes)?;
     }

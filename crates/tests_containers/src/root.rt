@@ -2,7 +2,7 @@
 ghost use Rattle.std.specs.Prelude.{◌≤◌, length};
 
 use metadata_root::{Root, StreamKind, read_root};
-use ppdb_base::{Code, Fault, Place};
+use ppdb_base::{Code, Fault, MAX_FILE_BYTES, Place};
 use std::alloc::Global;
 use std::process::Abort;
 use std::test::Fail;
@@ -22,7 +22,7 @@ fn fault(code: Code, part: u8, byte: u32) -> Fault {
 }
 
 fn refused(bytes: &[u8]) -> Option<Fault>
-    requires { length bytes.now ≤ 134217728 }
+    requires { length bytes.now ≤ MAX_FILE_BYTES }
 {
     read_root(bytes).err()
 }
