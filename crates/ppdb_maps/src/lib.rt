@@ -36,3 +36,4 @@ pub use method_map::MethodMap;
 pub use read::read_map;
 pub use refusal::MapError;
 pub use sample::sample_map;
+pub use words::{cut_at, first_line};

@@ -3,14 +3,14 @@ ghost use Rattle.std.specs.Prelude.{◌≡◌, ◌==◌, position, MatchOption};
 ghost use Rattle.std.specs.Str.Lines.{strip_carriage_return};
 ghost use Rattle.ppdb_maps.specs.Cuts.{IsCut, IsUncut, IsLineOf, AreWordsOf};
 
-/// Where the first `mark` stands.
+/// Where the first `mark` is.
 fn place_of(bytes: &[u8], mark: u8) -> Option<usize>
     ensures { result ≡ position (λ b. b == mark) bytes.now }
 {
     bytes.iter().position(|byte| *byte == mark)
 }
 
-/// What stands before the first `mark`, and what stands after it.
+/// What is before the first `mark`, and what is after it.
 pub fn cut_at(bytes: &[u8], mark: u8) -> (&[u8], Option<&[u8]>)
     ensures { MatchOption result.1 (IsUncut mark bytes.now result.0.now) (λ rest. IsCut mark bytes.now result.0.now rest.now) }
 {
@@ -30,7 +30,7 @@ fn without_cr(line: &[u8]) -> &[u8]
     }
 }
 
-/// The first line, without its end, and what stands after it.
+/// The first line, without its end, and what is after it.
 pub fn first_line(text: &[u8]) -> (&[u8], &[u8])
     ensures { IsLineOf text.now result.0.now result.1.now }
 {

@@ -4,9 +4,9 @@ ghost use Rattle.std.specs.Str.Lines.{lines};
 ghost use Rattle.ppdb_queries_list.specs.Lists.{IsFirstOther, Lists};
 ghost use Rattle.ppdb_queries_list.specs.declared.line.MethodOffset.{MethodOffset};
 
-use crate::cut::first_line;
 use crate::line::read_line;
 use ppdb_base::MAX_FILE_BYTES;
+use ppdb_maps::first_line;
 
 /// Whether a text is a list; else its first line that a list cannot have, counted from 1. It keeps nothing of the lines.
 pub fn check_list(list: &[u8]) -> Result<(), u32>

@@ -2,14 +2,13 @@
 #![tactic(auto)]
 
 mod check;
-mod cut;
 mod decimal;
 mod laws;
 mod line;
 mod word;
 
 pub use check::check_list;
-pub use cut::first_line;
 pub use decimal::number;
 pub use laws::lists_are_one;
 pub use line::{MethodOffset, Said, read_line};
+pub use ppdb_maps::first_line;

@@ -5,8 +5,8 @@ ghost use Rattle.ppdb_queries_list.specs.Lists.{Asks, IsListed};
 ghost use Rattle.ppdb_queries_list.specs.Said.{IsSaid, AreWords};
 ghost use Rattle.ppdb_queries_list.specs.declared.line.MethodOffset.{MethodOffset as At};
 
-use crate::cut::cut_at;
 use crate::word::{method_of, offset_of};
+use ppdb_maps::cut_at;
 
 /// An offset of a method.
 #[derive(Clone, Copy, Debug, PartialEq, Eq)]
