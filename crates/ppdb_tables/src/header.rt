@@ -70,7 +70,7 @@ fn read_valid(bytes: &[u8], methods: u32) -> Result<u64, Fault>
 fn differ_from_methods(table: usize, count: u32, methods: u32) -> bool
     ensures { IsTrue result ↔ (table ≡ 0x31) × (count ≢ 0) × (count ≢ methods) }
 {
-    table == METHOD_DEBUG && count != 0 && count != methods
+    table == METHOD_DEBUG as usize && count != 0 && count != methods
 }
 
 /// The rows of a table, where `#~` has so many.
