@@ -1,4 +1,5 @@
 ghost use Rattle.std.specs.Prelude.{◌≡◌, ◌+◌, ◌*◌, ◌<◌, ◌≤◌, ℕ, Some, length, slice_index};
+ghost use Rattle.ppdb_base.specs.declared.limits.TheConstants.{MAX_FILE_BYTES};
 ghost use Rattle.ppdb_heaps.specs.Views.{strings_of, blobs_of, guids_of};
 
 use crate::rows::{
@@ -6,7 +7,7 @@ use crate::rows::{
     VariableRow,
 };
 use crate::table::Table;
-use ppdb_base::{MAX_FILE_BYTES, Steps};
+use ppdb_base::Steps;
 use ppdb_heaps::{Blobs, Guids, Strings};
 use row_layout::Sizes;
 use std::sync::ledger::Ledger;
