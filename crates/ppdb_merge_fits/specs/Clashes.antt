@@ -2,10 +2,10 @@
 -- methods, and what else is removed, is not judged.
 use Rattle.ppdb_values.specs.Names.{list_any, kind_of, Kind, Unknown, MergeError, KindUnknown, numbered, row_at, Parent}
 use Rattle.std.specs.Prelude.{ℕ, ◌&&◌, ◌||◌, ◌==◌, not, Bool, true, false, cond, List, [], ◌∷◌, ◌++◌, Option, Some, None, map, option_to_list, slice_get, flat_map}
-use Rattle.ppdb_maps.specs.Map.{Map, is_dropped}
+use Rattle.ppdb_maps.specs.Map.{Map, is_dropped, is_gone_row}
 use Rattle.ppdb_values.specs.{RawFile.RawFile, Value.value_of, declared.file.FileValue.FileValue, declared.scope.{ScopeValue.ScopeValue, ConstantValue.ConstantValue}}
 use Rattle.ppdb_values.specs.{declared.custom.CustomValue.CustomValue}
-use Rattle.ppdb_merge_items.specs.NamedRows.{is_gone_row, goes_constant}
+use Rattle.ppdb_merge_items.specs.NamedRows.{goes_constant}
 use Rattle.ppdb_merge_fits.specs.{Documents.documents_twice, Offsets.{beyond, lost}, Rows.{unmapped, images_twice}, Slots.{slots_unmapped, slots_twice}}
 
 -- ---- rows at dropped methods
