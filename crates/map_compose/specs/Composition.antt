@@ -3,7 +3,8 @@ use Rattle.std.specs.Prelude.{◌≡◌, ℕ, ◌≤◌, ◌↔◌, ◌⊎◌, �
 use Rattle.ppdb_base.specs.{declared.offsets.Run.Run, Offsets.{lined, Rise, Kept, kept_runs, old_size, moved}}
 use Rattle.ppdb_maps.specs.Map.{Map, MethodLine, count_of, row_within, row_image, is_dropped, has_slots, method_line, slot_image, offsets_in, signature_line}
 use Rattle.ppdb_maps.specs.Map.{document_line, moved_name}
-use Rattle.ppdb_maps.specs.{Readable.IsReadable, Says.sizes_of}
+use Rattle.ppdb_maps.specs.{Readable.IsReadable, Says.sizes_of, Text.IsMapOf}
+use Rattle.ppdb_maps_text.specs.MapTexts.{map_text}
 use Rattle.map_compose.specs.Composed.{composed, composed_count, composed_image, composed_row, drops_one, has_image, signature_then, composed_link}
 use Rattle.map_compose.specs.{Laws.{Apart, MovesOn}, Runs.{met, longest}, Sizes.SizesAgree}
 
@@ -41,6 +42,13 @@ pub record IsComposition (f s c : Map) : Type 0 where
       → (method_line c method ≡ None) × (has_slots c method ≡ false) × (signature_line c method ≡ None)
   -- the runs of a line are the longest
   pub apart : (method : ℕ) (line : MethodLine) → method_line c method ≡ Some line → Apart line.runs
+
+-- the canonical text of the map of two maps, which the text has
+pub record IsTextOfBoth (f s : Map) (text : List ℕ) : Type 0 where
+  pub both : Map
+  pub composes : IsComposition f s both
+  pub has : IsMapOf text both
+  pub spells : text ≡ map_text both
 
 -- the map of two readable maps is their composition
 abbrev pub ComposedComposes : Type 0
