@@ -6,7 +6,7 @@ use Rattle.ppdb_maps.specs.Map.{Map, is_dropped, is_gone_row}
 use Rattle.ppdb_values.specs.{RawFile.RawFile, Value.value_of, declared.file.FileValue.FileValue, declared.scope.{ScopeValue.ScopeValue, ConstantValue.ConstantValue}}
 use Rattle.ppdb_values.specs.{declared.custom.CustomValue.CustomValue}
 use Rattle.ppdb_merge_items.specs.NamedRows.{goes_constant}
-use Rattle.ppdb_merge_fits.specs.{Documents.documents_twice, Offsets.{beyond, lost}, Rows.{unmapped, images_twice}, Slots.{slots_unmapped, slots_twice}}
+use Rattle.ppdb_merge_fits.specs.{Documents.documents_twice, Offsets.{beyond, lost}, Rows.{unmapped, imaged_rows, rows_twice}, Slots.{slots_unmapped, slots_twice, variable_slots}}
 
 -- ---- rows at dropped methods
 
@@ -69,10 +69,10 @@ clashes marks first m raw =
     ++ (beyond m (value_of raw)
     ++ (lost m (value_of raw)
     ++ (unmapped first m raw
-    ++ (images_twice first m raw
+    ++ (rows_twice m (imaged_rows first m raw)
     ++ (slots_unmapped m (value_of raw)
-    ++ (slots_twice m (value_of raw)
-    ++ documents_twice m (value_of raw)))))))
+    ++ (slots_twice m (variable_slots (value_of raw))
+    ++ documents_twice m (value_of raw).documents))))))
 
 -- What is reported of a file that a map does not fit. The entry point counts in the first of several files.
 unfoldable pub first_clash : List (List ℕ) → Bool → Map → RawFile → Option MergeError

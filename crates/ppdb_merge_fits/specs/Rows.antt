@@ -49,6 +49,3 @@ image_twice a b = ImageTwice a.table a.row b.row a.image
 
 abbrev pub rows_twice : Map → List Imaged → List MergeError
 rows_twice m rows = twice (λ (i : Imaged). i.table) (λ i. i.row) image_key image_twice (unshared m rows)
-
-abbrev pub images_twice : Bool → Map → RawFile → List MergeError
-images_twice first m raw = rows_twice m (imaged_rows first m raw)

@@ -10,10 +10,6 @@ is_same group number a b = nat_eq (group a) (group b) && nat_eq (number a) (numb
 abbrev pub each_once : {A : Type 0} → (A → ℕ) → (A → ℕ) → List A → List A
 each_once group number items = dedup (is_same group number) (in_order group (in_order number items))
 
--- items by their groups, in a group by their numbers, and of one number by their images
-abbrev pub by_all : {A : Type 0} → (A → ℕ) → (A → ℕ) → (A → ℕ) → List A → List A
-by_all group number image items = in_order group (in_order number (in_order image items))
-
 -- what is reported of each two items that stand side by side
 abbrev pub beside_from : {A B : Type 0} → (A → A → List B) → A → List A → List B
 beside_from told x [] = []
