@@ -6,6 +6,20 @@ use Rattle.map_compose.specs.Composition.{IsTextOfBoth}
 use Rattle.map_compose.proofs.Readable.{composed_is_readable, text_of_both}
 use Rattle.map_compose.proofs.compose.compose_maps.Goals as goal
 
+pub returns-then-bytes-clause-refused : goal.returns-then-bytes-clause-refused
+returns-then-bytes-clause-refused c =
+    let counts = c.in_ok-text.ensures in
+    let long = c.if-bytes.true in
+    (
+      c.in_default.ensures,
+      (
+        map_text (composed c.args.first.now c.args.second.now),
+        text_of_both c.args.first.now c.args.second.now c.keeps.ensures c.keeps-2.ensures c.in_default.ensures,
+        c.len-bytes.ensures ∙ counts.length,
+      ),
+      omega (arith, long),
+    )
+
 pub returns-clause-read : goal.returns-clause-read
 returns-clause-read c =
     let counts = c.in_ok-text.ensures in
