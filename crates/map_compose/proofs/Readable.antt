@@ -27,9 +27,10 @@ use Rattle.map_compose.specs.Composed.{has_image, second_line, composed_runs, si
 use Rattle.map_compose.specs.Composed.{slot_entries, slotted_methods, composed, signature_then, signature_entry, signed, named}
 use Rattle.map_compose.specs.Names.{name_cmp, names_ascending}
 use Rattle.std.specs.List.Sorted.{IsStrictlySortedBy}
-use Rattle.map_compose.specs.Composition.{ComposedIsReadable}
+use Rattle.map_compose.specs.Composition.{ComposedIsReadable, IsTextOfBoth}
 use Rattle.map_compose.specs.Sizes.{SizesAgree}
-use Rattle.ppdb_maps_text.specs.MapTexts.{olds_of}
+use Rattle.ppdb_maps_text.specs.MapTexts.{map_text, olds_of}
+use Rattle.ppdb_maps_text.proofs.Reading.{texts_are_read}
 use Rattle.ppdb_maps_text.proofs.Found.{either, given, has}
 use Rattle.ppdb_maps_text.proofs.OneLine.{OneLine, by_row, by_cross, by_gone, one_line, methods_stay}
 use Rattle.ppdb_maps_text.proofs.Starting.{olds_have, olds_up, all_has, line_counted}
@@ -779,3 +780,12 @@ module _ (f s : Map) (f_readable : IsReadable f) (s_readable : IsReadable s) whe
 
 pub composed_is_readable : ComposedIsReadable
 composed_is_readable = λ f s f_readable s_readable agree. readable f s f_readable s_readable agree
+
+-- its text is that of both
+pub text_of_both : (f s : Map) → IsReadable f → IsReadable s → SizesAgree f s → IsTextOfBoth f s (map_text (composed f s))
+text_of_both f s f_readable s_readable agree = record {
+  both = composed f s;
+  composes = composed_composes f s f_readable s_readable;
+  has = texts_are_read (composed f s) (composed_is_readable f s f_readable s_readable agree);
+  spells = refl;
+}

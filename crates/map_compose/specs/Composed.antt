@@ -88,7 +88,7 @@ drops_one f s method = is_dropped f method || of_image false (is_dropped s) (row
 
 -- the method is there after both
 abbrev pub has_image : Map → Map → ℕ → Bool
-has_image f s method = is_some (composed_row f s 0x06 method)
+has_image f s method = is_some (option_and_then (row_within s 0x06) (row_within f 0x06 method))
 
 -- ---- offsets
 

@@ -1,10 +1,12 @@
 -- The equations by which a map is the composition of two, and when the map of two maps is readable.
 use Rattle.std.specs.Prelude.{◌≡◌, ℕ, ◌≤◌, ◌↔◌, ◌⊎◌, ◌||◌, true, false, List, Option, Some, None, is_some, option_and_then}
+use Rattle.std.specs.Option.{option_or}
 use Rattle.ppdb_base.specs.{declared.offsets.Run.Run, Offsets.{lined, Rise, Kept, kept_runs, old_size, moved}}
 use Rattle.ppdb_maps.specs.Map.{Map, MethodLine, count_of, row_within, row_image, is_dropped, has_slots, method_line, slot_image, offsets_in, signature_line}
 use Rattle.ppdb_maps.specs.Map.{document_line, moved_name}
-use Rattle.ppdb_maps.specs.{Readable.IsReadable, Says.sizes_of}
-use Rattle.map_compose.specs.Composed.{composed, composed_count, composed_image, composed_row, drops_one, has_image, signature_then, composed_link}
+use Rattle.ppdb_maps.specs.{Readable.IsReadable, Says.sizes_of, Text.IsMapOf}
+use Rattle.ppdb_maps_text.specs.MapTexts.{map_text}
+use Rattle.map_compose.specs.Composed.{composed, has_image, image_then, of_image, own_assembly, signature_then}
 use Rattle.map_compose.specs.{Laws.{Apart, MovesOn}, Runs.{met, longest}, Sizes.SizesAgree}
 
 -- the method becomes `image` by the first map, and is there after both
@@ -19,11 +21,13 @@ sizes_then (Some first) None = Some first
 sizes_then (Some first) (Some second) = Some (first.0, second.1)
 
 pub record IsComposition (f s c : Map) : Type 0 where
-  pub counts : (table : ℕ) → count_of c table ≡ composed_count f s table
+  -- the rows of a table are those that the second map says, else those of the first
+  pub counts : (table : ℕ) → count_of c table ≡ option_or (count_of s table) (count_of f table)
   -- the image of a row, of whichever table, is what the second map makes of what the first makes of it
-  pub rows : (table old : ℕ) → row_image c table old ≡ composed_image f s table old
-  pub methods : (method : ℕ) → row_within c 0x06 method ≡ composed_row f s 0x06 method
-  pub drops : (method : ℕ) → is_dropped c method ≡ drops_one f s method
+  pub rows : (table old : ℕ) → row_image c table old ≡ own_assembly table (image_then s (row_image f table old))
+  pub methods : (method : ℕ) → row_within c 0x06 method ≡ option_and_then (row_within s 0x06) (row_within f 0x06 method)
+  -- a method is dropped by the first map, or its image by the second
+  pub drops : (method : ℕ) → is_dropped c method ≡ (is_dropped f method || of_image false (is_dropped s) (row_within f 0x06 method))
   pub slots : (method image old : ℕ) → Follows f s method image → slot_image c method old ≡ option_and_then (slot_image s image) (slot_image f method old)
   pub sizes : (method image : ℕ) → Follows f s method image
       → sizes_of (offsets_in c method) ≡ sizes_then (sizes_of (offsets_in f method)) (sizes_of (offsets_in s image))
@@ -34,13 +38,21 @@ pub record IsComposition (f s c : Map) : Type 0 where
   pub names : (name : List ℕ) → moved_name c name ≡ moved_name s (moved_name f name)
   -- a name has a `document` line exactly where one of the maps has one
   pub named : (name : List ℕ) → is_some (document_line c name) ≡ (is_some (document_line f name) || is_some (document_line s name))
-  pub link : c.link ≡ composed_link f s
+  -- the value of Source Link records is the second map's, else the first's
+  pub link : c.link ≡ option_or s.link f.link
   pub shares : c.shares ≡ (f.shares || s.shares)
   -- a method that is not there after both has no `method` line, no `slots` line and no `signature` line
   pub without_image : (method : ℕ) → has_image f s method ≡ false
       → (method_line c method ≡ None) × (has_slots c method ≡ false) × (signature_line c method ≡ None)
   -- the runs of a line are the longest
   pub apart : (method : ℕ) (line : MethodLine) → method_line c method ≡ Some line → Apart line.runs
+
+-- the canonical text of the map of two maps, which the text has
+pub record IsTextOfBoth (f s : Map) (text : List ℕ) : Type 0 where
+  pub both : Map
+  pub composes : IsComposition f s both
+  pub has : IsMapOf text both
+  pub spells : text ≡ map_text both
 
 -- the map of two readable maps is their composition
 abbrev pub ComposedComposes : Type 0

@@ -1,8 +1,8 @@
 -- Worked maps, composed, and the canonical texts of what they come to.
-use Rattle.std.specs.Prelude.{◌≡◌, ℕ, true, false, List, [], ◌∷◌, None, Some, codes}
+use Rattle.std.specs.Prelude.{◌≡◌, ℕ, true, List, [], ◌∷◌, Some, codes}
 use Rattle.ppdb_base.specs.declared.offsets.Run.{Run}
 use Rattle.ppdb_maps.specs.declared.entries.{Count.Count, RowLine.RowLine, CrossLine.CrossLine, GoneLine.GoneLine, SlotImage.SlotImage, SignatureImage.SignatureImage, NameLine.NameLine}
-use Rattle.ppdb_maps.specs.Map.{Map, MethodLine, map_of}
+use Rattle.ppdb_maps.specs.Map.{Map, MethodLine, no_lines}
 use Rattle.ppdb_maps_text.specs.MapTexts.{map_text}
 use Rattle.map_compose.specs.{Composed.composed, Sizes.SizesDiffer}
 
@@ -32,9 +32,6 @@ cross table old to new = record { table = table; old = old; to = to; new = new }
 
 abbrev pub gone : ℕ → ℕ → GoneLine
 gone table old = record { table = table; old = old }
-
-abbrev pub no_lines : Map
-no_lines = map_of [] [] [] [] [] [] [] [] [] [] None false
 
 -- the two maps come to the map of this text
 abbrev pub ComesTo : Map → Map → List ℕ → Type 0

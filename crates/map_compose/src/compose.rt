@@ -3,6 +3,7 @@ ghost use Rattle.std.specs.Prelude.{◌≡◌, ◌≤◌, length, IfOk, IfErr};
 ghost use Rattle.ppdb_maps_text.specs.MapTexts.{map_text};
 ghost use Rattle.ppdb_maps.specs.Text.{IsMapOf};
 ghost use Rattle.map_compose.specs.Composed.{composed};
+ghost use Rattle.map_compose.specs.Composition.{IsTextOfBoth};
 ghost use Rattle.map_compose.specs.Fits.{NamesFit};
 ghost use Rattle.map_compose.specs.Refused.{Counts, RefusesFor};
 ghost use Rattle.map_compose.specs.Sizes.{SizesAgree};
@@ -53,6 +54,7 @@ fn counted_map(alloc: Global, first: &MapText, second: &MapText) -> Result<Count
 pub fn compose_maps(alloc: Global, first: &MapText, second: &MapText) -> Result<Bytes, ComposeError>
     ensures text { IfOk result (λ text. text ≡ map_text (composed first.now second.now)) }
     ensures read { IfOk result (λ text. IsMapOf text (composed first.now second.now)) }
+    ensures both { IfOk result (IsTextOfBoth first.now second.now) }
     ensures agree { IfOk result (λ _. SizesAgree first.now second.now) }
     ensures short { IfOk result (λ text. length text ≤ MAX_FILE_BYTES) }
     ensures refused { IfErr result (RefusesFor first.now second.now) }

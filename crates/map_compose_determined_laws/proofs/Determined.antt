@@ -10,12 +10,14 @@ use Rattle.ppdb_maps.specs.Map.{slot_image, offsets_in}
 use Rattle.ppdb_maps.specs.Map.{signature_line, document_line}
 use Rattle.ppdb_maps.specs.Readable.{IsReadable}
 use Rattle.ppdb_maps.specs.Says.{sizes_of}
+use Rattle.ppdb_maps.proofs.Readable.{maps_are_readable}
+use Rattle.ppdb_maps_text.specs.MapTexts.{map_text}
 use Rattle.map_compose.specs.Composed.{composed, has_image, cross_lined, gone_lined}
 use Rattle.map_compose.specs.Composition.{Follows, IsComposition, ComposedComposes, ComposedIsReadable}
 use Rattle.map_compose.specs.Laws.{MoveAlike}
 use Rattle.map_compose.proofs.Imaging.{within, within_is}
 use Rattle.map_compose.proofs.Rising.{one_longest}
-use Rattle.map_compose_determined_laws.specs.Determined.{CompositionsAreOne, ComposedIsTheOnlyOne}
+use Rattle.map_compose_determined_laws.specs.Determined.{CompositionsAreOne, ComposedIsTheOnlyOne, TextsOfBothAreOne}
 use Rattle.map_compose_determined_laws.proofs.Lines.{no_sizes, own_line, row_by, row_line_is, cross_line_is, gone_line_is, slot_line_is, slots_are_told}
 use Rattle.map_compose_determined_laws.proofs.Lists.{one_map}
 
@@ -188,6 +190,12 @@ compositions_are_one f s c d readable also one other =
       link = one.link ∙ sym other.link;
       shares = one.shares ∙ sym other.shares;
     })
+
+pub texts_of_both_are_one : TextsOfBothAreOne
+texts_of_both_are_one f s text other one two =
+    let same : one.both ≡ two.both = compositions_are_one f s one.both two.both
+        (maps_are_readable text one.both one.has) (maps_are_readable other two.both two.has) one.composes two.composes in
+    one.spells ∙ (ap map_text same ∙ sym two.spells)
 
 pub composed_is_the_only_one : ComposedComposes → ComposedIsReadable → ComposedIsTheOnlyOne
 composed_is_the_only_one composes is_readable f s c first second agree readable one =

@@ -1,11 +1,15 @@
 -- Two maps have one map of both (docs/FORMAT.md, "Two maps made into one").
-use Rattle.std.specs.Prelude.{◌≡◌}
+use Rattle.std.specs.Prelude.{◌≡◌, ℕ, List}
 use Rattle.ppdb_maps.specs.{Map.Map, Readable.IsReadable}
-use Rattle.map_compose.specs.{Composed.composed, Composition.IsComposition, Sizes.SizesAgree}
+use Rattle.map_compose.specs.{Composed.composed, Composition.{IsComposition, IsTextOfBoth}, Sizes.SizesAgree}
 
 -- the equations of a composition have one solution among the maps that a text has
 abbrev pub CompositionsAreOne : Type 0
 CompositionsAreOne = (f s c d : Map) → IsReadable c → IsReadable d → IsComposition f s c → IsComposition f s d → c ≡ d
+
+-- the map of two maps has one text
+abbrev pub TextsOfBothAreOne : Type 0
+TextsOfBothAreOne = (f s : Map) (text other : List ℕ) → IsTextOfBoth f s text → IsTextOfBoth f s other → text ≡ other
 
 -- each readable composition of two maps is the map that is made of both
 abbrev pub ComposedIsTheOnlyOne : Type 0

@@ -3,4 +3,4 @@
 
 mod laws;
 
-pub use laws::{composed_is_the_only_one, compositions_are_one};
+pub use laws::{composed_is_the_only_one, compositions_are_one, texts_of_both_are_one};

@@ -10,7 +10,7 @@ use Rattle.type_blobs.specs.Types.{IsToken}
 use Rattle.custom_info.specs.Kinds.{kind_of}
 use Rattle.custom_info.specs.declared.kinds.Kind.{Kind}
 use Rattle.custom_info.specs.declared.kinds.Kind.TheVariants as kinds
-use Rattle.ppdb_maps.specs.Map.{Map, is_dropped}
+use Rattle.ppdb_maps.specs.Map.{Map, is_dropped, is_gone_row}
 use Rattle.ppdb_values.specs.Rules.{StandsOn}
 use Rattle.ppdb_values.specs.declared.annotation.Annotation.{Annotation}
 use Rattle.ppdb_values.specs.declared.custom.CustomBody.{CustomBody}
@@ -32,7 +32,7 @@ use Rattle.ppdb_merge_items.specs.declared.file.AnnotatedScope.{AnnotatedScope}
 use Rattle.ppdb_merge_items.specs.declared.file.AnnotatedFile.{AnnotatedFile}
 use Rattle.ppdb_merge_items.specs.Annotated.{items_of, with_item}
 use Rattle.ppdb_merge_items.specs.Each.{Each}
-use Rattle.ppdb_merge_items.specs.NamedRows.{Named, in_token, in_body, in_constant, in_import, in_steps, is_gone_row, is_gone_type, leaves_types, live_body, live_constant}
+use Rattle.ppdb_merge_items.specs.NamedRows.{Named, in_token, in_body, in_constant, in_import, in_steps, is_gone_type, leaves_types, live_body, live_constant}
 use Rattle.ppdb_merge_items.specs.NamedRows.{live_constants, live_custom, live_import, live_imports, with_live_body}
 use Rattle.ppdb_merge_items.specs.SoundParts.{SoundMoved}
 use Rattle.ppdb_merge_items.specs.Unannotated.{value_of_annotated}

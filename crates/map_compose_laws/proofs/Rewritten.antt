@@ -1,7 +1,7 @@
 -- Which rows a file names that is joined from one: those that the one names.
 use Rattle.std.proofs.Common.{◌≡◌, ℕ, ◌++◌, ◌&&◌, ◌||◌, not, true, false, [], ◌∷◌, map, refl, sym, ◌∙◌, ap, subst}
 use Rattle.std.specs.Prelude.{nat_eq}
-use Rattle.ppdb_maps.specs.Map.{Map, is_dropped, row_image}
+use Rattle.ppdb_maps.specs.Map.{Map, is_dropped, row_image, is_gone_row, leaves_table}
 use Rattle.ppdb_values.specs.declared.custom.CustomBody.{CustomBody}
 use Rattle.ppdb_values.specs.declared.custom.CustomBody.TheVariants.{Async, Hoisted, TypeDocuments, Unread}
 use Rattle.ppdb_values.specs.declared.custom.CustomValue.{CustomValue}
@@ -14,7 +14,7 @@ use Rattle.ppdb_merge_items.specs.declared.file.AnnotatedScope.{AnnotatedScope}
 use Rattle.ppdb_merge_items.specs.declared.file.AnnotatedFile.{AnnotatedFile}
 use Rattle.ppdb_merge_items.specs.Each.{Each}
 use Rattle.ppdb_merge_items.specs.NamedRows.{Named, names, names_some, in_constant, in_import, in_steps, live_machine, live_custom, live_signature}
-use Rattle.ppdb_merge_items.specs.NamedRows.{is_gone_row, is_type_documents, leaves_table, live_constants, live_imports}
+use Rattle.ppdb_merge_items.specs.NamedRows.{is_type_documents, live_constants, live_imports}
 use Rattle.ppdb_merge_items.specs.Annotated.{with_item}
 use Rattle.ppdb_merge_items.proofs.Lists.{Each-append, Each-map, Each-weaker}
 use Rattle.ppdb_merge_items.proofs.Orders.{in_order_each}

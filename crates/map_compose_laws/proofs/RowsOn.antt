@@ -12,6 +12,7 @@ use Rattle.ppdb_maps.specs.declared.image.RowImage.{RowImage}
 use Rattle.ppdb_maps.specs.declared.image.RowImage.TheVariants.{Row, Gone, Missing}
 use Rattle.ppdb_maps.specs.Forms.{Crosses}
 use Rattle.ppdb_maps.specs.Map.{Map, row_image, row_within, row_line, cross_line, has_gone_line, told_image, line_image, count_of, is_dropped, is_gone}
+use Rattle.ppdb_maps.specs.Map.{is_gone_row, is_in_table}
 use Rattle.ppdb_maps.specs.Readable.{IsReadable, IsRowOf, IsCrossOf, IsGoneOf}
 use Rattle.type_blobs.specs.declared.types.TypeToken.{TypeToken}
 use Rattle.type_blobs.specs.declared.types.Modifier.{Modifier}
@@ -23,7 +24,7 @@ use Rattle.ppdb_values.specs.declared.import.ImportValue.{ImportValue}
 use Rattle.ppdb_values.specs.declared.import.ImportValue.TheVariants.{Namespace, AssemblyNamespace, Target, Xml, Alias, AssemblyAlias, NamespaceAlias}
 use Rattle.ppdb_values.specs.declared.import.ImportValue.TheVariants.{AssemblyNamespaceAlias, TargetAlias}
 use Rattle.ppdb_merge_items.specs.Annotated.{with_item}
-use Rattle.ppdb_merge_items.specs.NamedRows.{is_gone_row, is_gone_type, is_in_table, names_gone_class, goes_constant, live_body, with_live_body, live_constant}
+use Rattle.ppdb_merge_items.specs.NamedRows.{is_gone_type, names_gone_class, goes_constant, live_body, with_live_body, live_constant}
 use Rattle.ppdb_merge_items.specs.NamedRows.{live_constants, live_import, live_imports}
 use Rattle.ppdb_merge_moved.specs.Moved.{table_in, row_in, moved_token, moved_modifier, moved_constant_body, moved_constant, of_assembly, moved_import}
 use Rattle.ppdb_merge_moved.proofs.ImageRows.{IsCrossed, image_cases}

@@ -8,7 +8,7 @@ use Rattle.type_blobs.specs.declared.types.Modifier.{Modifier}
 use Rattle.ppdb_maps.specs.declared.entries.CrossLine.{CrossLine}
 use Rattle.ppdb_maps.specs.declared.entries.GoneLine.{GoneLine}
 use Rattle.ppdb_maps.specs.declared.image.RowImage.{RowImage, TheVariants.{Row, Missing}}
-use Rattle.ppdb_maps.specs.Map.{Map, cross_line, count_of, is_dropped, is_gone, line_image, row_line, told_image}
+use Rattle.ppdb_maps.specs.Map.{Map, cross_line, count_of, is_dropped, is_gone, line_image, row_line, told_image, is_gone_row}
 use Rattle.ppdb_values.specs.declared.scope.ConstantBody.{ConstantBody, TheVariants.{Primitive, Enumerated, General, Object}}
 use Rattle.ppdb_values.specs.declared.scope.ConstantValue.{ConstantValue}
 use Rattle.ppdb_values.specs.Constants.{constant_of as constant_of_row}
@@ -16,7 +16,7 @@ use Rattle.ppdb_verify.specs.Views.{raw_file}
 use Rattle.ppdb_values_reading.specs.declared.scopes.ListRange.{ListRange}
 use Rattle.ppdb_values_reading.specs.Lent.{constants_of}
 use Rattle.ppdb_values_reading.specs.Scopes.{IsWithin, items_in}
-use Rattle.ppdb_merge_items.specs.NamedRows.{goes_constant, is_gone_row, is_gone_type, names_gone_class, with_live_body}
+use Rattle.ppdb_merge_items.specs.NamedRows.{goes_constant, is_gone_type, names_gone_class, with_live_body}
 use Rattle.ppdb_merge_moved.specs.Moved.{moved_constant}
 use Rattle.ppdb_merge_parts.specs.Flat.{constant_image}
 use Rattle.ppdb_merge_rows.specs.declared.inputs.RowInput.{RowInput}

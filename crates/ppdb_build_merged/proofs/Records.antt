@@ -7,7 +7,7 @@ use Rattle.std.specs.Option.{option_and_then, option_map, option_to_list}
 use Rattle.std.proofs.lemmas.Bool.{le-ltb, lt-ltb, ne_eqb}
 use Rattle.std.proofs.lemmas.List.{length-map, length-take, map-append, take_more}
 use Rattle.std.proofs.lemmas.List.Sums.{sum_by-cons}
-use Rattle.ppdb_maps.specs.Map.{Map, is_dropped, row_image}
+use Rattle.ppdb_maps.specs.Map.{Map, is_dropped, row_image, is_gone_row, leaves_table}
 use Rattle.ppdb_maps.specs.Readable.{IsReadable}
 use Rattle.ppdb_tables.specs.RawTables.{row_at}
 use Rattle.ppdb_tables.specs.declared.parent.Parent.{Parent}
@@ -19,7 +19,7 @@ use Rattle.ppdb_values_sound_laws.specs.Customs.{SoundCustoms}
 use Rattle.ppdb_values_sound_laws.specs.Named.{HasRow}
 use Rattle.ppdb_values_sound_laws.specs.Sound.{IsSound}
 use Rattle.ppdb_merge_items.specs.Each.{Each}
-use Rattle.ppdb_merge_items.specs.NamedRows.{is_gone_row, is_type_documents, leaves_table, live_custom}
+use Rattle.ppdb_merge_items.specs.NamedRows.{is_type_documents, live_custom}
 use Rattle.ppdb_merge_items.proofs.Lists.{Each-unmap, Each-weaker}
 use Rattle.ppdb_merge_items.proofs.Mapped.{map_map_both, row_map}
 use Rattle.ppdb_merge_joined.specs.Joined.{row_in, with_documents}

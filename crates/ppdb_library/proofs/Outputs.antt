@@ -57,7 +57,7 @@ map_not_done files name refusal (inr (first, read, e)) =
 
 composed_not_done : (f s : Map) (refusal : Outcome) → composed_text f s (Err refusal) → IsNotDone refusal
 composed_not_done f s refusal (inl (method, first, second, differs, e)) = λ is. let status = ap (λ (o : Outcome). o.status) e in absurd cc
-composed_not_done f s refusal (inr (agree, long, e)) = λ is. let status = ap (λ (o : Outcome). o.status) e in absurd cc
+composed_not_done f s refusal (inr (agree, (text, both, long, e))) = λ is. let status = ap (λ (o : Outcome). o.status) e in absurd cc
 
 composed_output : (first second output : List ℕ) (files : Files) (due : Outcome) → IsOutcome (Some (Compose first second output)) files due → due.status ≡ Done
     → HasOutput (Some output) due.writes

@@ -15,60 +15,45 @@ pub record IsHead (line : List ℕ) (version : ℕ) : Type 0 where
   pub to : version ≤ 4
   pub spelled : line ≡ codes "ppdbmap " ++ (48 + version) ∷ []
 
+-- a form's first word, the number of words of its lines with that one, and the version from which on texts have it
+pub record Shape : Type 0 where
+  pub name : List ℕ
+  pub words : ℕ
+  pub since : ℕ
+
+abbrev pub shape : Form → Shape
+shape TableRows = record { name = codes "rows"; words = 3; since = 1 }
+shape RowMove = record { name = codes "row"; words = 4; since = 1 }
+shape MethodSizes = record { name = codes "method"; words = 4; since = 1 }
+shape OffsetRun = record { name = codes "run"; words = 4; since = 1 }
+shape MethodDrop = record { name = codes "drop"; words = 2; since = 2 }
+shape MethodSlots = record { name = codes "slots"; words = 2; since = 3 }
+shape SlotMove = record { name = codes "slot"; words = 4; since = 3 }
+shape MethodSignature = record { name = codes "signature"; words = 3; since = 4 }
+shape DocumentRename = record { name = codes "document"; words = 3; since = 4 }
+shape LinkValue = record { name = codes "link"; words = 2; since = 4 }
+shape CrossMove = record { name = codes "row"; words = 5; since = 4 }
+shape RowGone = record { name = codes "gone"; words = 3; since = 4 }
+shape Sharing = record { name = codes "shares"; words = 1; since = 4 }
+
 -- the first word of a form
 abbrev pub name_of : Form → List ℕ
-name_of TableRows = codes "rows"
-name_of RowMove = codes "row"
-name_of MethodSizes = codes "method"
-name_of OffsetRun = codes "run"
-name_of MethodDrop = codes "drop"
-name_of MethodSlots = codes "slots"
-name_of SlotMove = codes "slot"
-name_of MethodSignature = codes "signature"
-name_of DocumentRename = codes "document"
-name_of LinkValue = codes "link"
-name_of CrossMove = codes "row"
-name_of RowGone = codes "gone"
-name_of Sharing = codes "shares"
+name_of form = (shape form).name
 
--- the number of words of a line of this form, the first one among them
+-- the number of words of a line of a form, the first one among them
 abbrev pub words_in : Form → ℕ
-words_in TableRows = 3
-words_in RowMove = 4
-words_in MethodSizes = 4
-words_in OffsetRun = 4
-words_in MethodDrop = 2
-words_in MethodSlots = 2
-words_in SlotMove = 4
-words_in MethodSignature = 3
-words_in DocumentRename = 3
-words_in LinkValue = 2
-words_in CrossMove = 5
-words_in RowGone = 3
-words_in Sharing = 1
+words_in form = (shape form).words
 
--- the version from which on texts have it
+-- the version from which on texts have a form
 abbrev pub since : Form → ℕ
-since TableRows = 1
-since RowMove = 1
-since MethodSizes = 1
-since OffsetRun = 1
-since MethodDrop = 2
-since MethodSlots = 3
-since SlotMove = 3
-since MethodSignature = 4
-since DocumentRename = 4
-since LinkValue = 4
-since CrossMove = 4
-since RowGone = 4
-since Sharing = 4
+since form = (shape form).since
 
 -- the words are those of a form of the version, whatever its values
 pub record HasForm (version : ℕ) (words : List (List ℕ)) (form : Form) : Type 0 where
   pub values : List (List ℕ)
-  pub named : words ≡ name_of form ∷ values
-  pub counted : length words ≡ words_in form
-  pub there : since form ≤ version
+  pub named : words ≡ (shape form).name ∷ values
+  pub counted : length words ≡ (shape form).words
+  pub there : (shape form).since ≤ version
 
 -- a decimal number without sign and leading zeros, from least to most
 pub record IsNumber (word : List ℕ) (least most n : ℕ) : Type 0 where

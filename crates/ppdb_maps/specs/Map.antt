@@ -1,5 +1,6 @@
 -- What a map says: one entry for each of its lines that says something, and the questions that are asked of it.
-use Rattle.std.specs.{Prelude.{ℕ, ◌&&◌, Bool, true, false, cond, nat_eq, bytes_eq, List, Option, Some, None, unwrap_or, filter, map, find, option_map}, List.list_any, List.Sorted.IsStrictlySortedBy}
+use Rattle.std.specs.Prelude.{ℕ, ◌&&◌, not, Bool, true, false, cond, nat_eq, bytes_eq, List, [], Option, Some, None, unwrap_or, filter, map, find, option_map}
+use Rattle.std.specs.{List.list_any, List.Sorted.IsStrictlySortedBy}
 use Rattle.std.specs.{Ordering.{nat_cmp, ordering_then}, Cmp.Lexicographic.slice_cmp, declared.cmp.Ordering.Ordering}
 use Rattle.ppdb_base.specs.{declared.offsets.Run.Run, Offsets.{Offsets, every, gone, lined}}
 use Rattle.ppdb_maps.specs.declared.entries.{Count.Count, RowLine.RowLine, CrossLine.CrossLine, GoneLine.GoneLine, SlotImage.SlotImage, SignatureImage.SignatureImage, NameLine.NameLine}
@@ -43,6 +44,23 @@ map_of counts rows crossed gone_lines methods drops slotted slots signatures doc
   documents = documents;
   link = link;
   shares = shares;
+}
+
+-- the map without lines
+abbrev pub no_lines : Map
+no_lines = record {
+  counts = [];
+  rows = [];
+  crossed = [];
+  gone = [];
+  methods = [];
+  drops = [];
+  slotted = [];
+  slots = [];
+  signatures = [];
+  documents = [];
+  link = None;
+  shares = false;
 }
 
 -- by the first number, and by the second where the first are equal
@@ -133,6 +151,19 @@ row_image said table old =
 abbrev pub is_gone : RowImage → Bool
 is_gone Gone = true
 is_gone image = false
+
+abbrev pub is_gone_row : Map → ℕ → ℕ → Bool
+is_gone_row said table row = is_gone (row_image said table row)
+
+-- the image is a row of this table
+abbrev pub is_in_table : ℕ → RowImage → Bool
+is_in_table table (Row other row) = nat_eq other table
+is_in_table table image = false
+
+-- the image is a row of another table than this
+abbrev pub leaves_table : ℕ → RowImage → Bool
+leaves_table table (Row other row) = not (nat_eq other table)
+leaves_table table image = false
 
 -- the row of the same table that a row becomes, where 0 is no row: 0 of 0, and 0 where there is none
 abbrev pub moved_row : Map → ℕ → ℕ → ℕ

@@ -1,8 +1,8 @@
 -- The map of the sample file of n methods (docs/FORMAT.md, "Sample"): the methods change places, and of the 16 bytes of each those at
 -- the offsets 4 to 7 go, six bytes stand in their place, and two more at the end.
-use Rattle.std.specs.{Prelude.{ℕ, ◌+◌, ◌-◌, false, List, [], ◌∷◌, None, map}, List.range_with_len}
+use Rattle.std.specs.{Prelude.{ℕ, ◌+◌, ◌-◌, List, [], ◌∷◌, map}, List.range_with_len}
 use Rattle.ppdb_base.specs.declared.offsets.Run.{Run}
-use Rattle.ppdb_maps.specs.{Map.{Map, MethodLine}, declared.entries.RowLine.RowLine}
+use Rattle.ppdb_maps.specs.{Map.{Map, MethodLine, no_lines}, declared.entries.RowLine.RowLine}
 
 -- the method i of n becomes the method n + 1 - i
 abbrev pub sample_row : ℕ → ℕ → RowLine
@@ -16,17 +16,8 @@ abbrev pub sample_method : ℕ → MethodLine
 sample_method i = record { method = i; old_size = 16; new_size = 20; runs = sample_runs }
 
 abbrev pub sample_map_of : ℕ → Map
-sample_map_of n = record {
+sample_map_of n = record no_lines {
   counts = record { table = 0x06; rows = n } ∷ [];
   rows = map (sample_row n) (range_with_len 1 n);
-  crossed = [];
-  gone = [];
   methods = map sample_method (range_with_len 1 n);
-  drops = [];
-  slotted = [];
-  slots = [];
-  signatures = [];
-  documents = [];
-  link = None;
-  shares = false;
 }

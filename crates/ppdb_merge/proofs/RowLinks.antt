@@ -4,13 +4,13 @@ use Rattle.std.specs.Prelude.{bytes_eq, nat_lt, slice_get}
 use Rattle.std.specs.List.{filter_map, list_any, cons_option}
 use Rattle.ppdb_base.specs.declared.merge_error.MergeError.TheVariants.{LinkDiffers}
 use Rattle.custom_info.specs.Kinds.{source_link}
-use Rattle.ppdb_maps.specs.Map.{Map, moved_row}
+use Rattle.ppdb_maps.specs.Map.{Map, moved_row, is_gone_row}
 use Rattle.ppdb_tables.specs.RawTables.{numbered}
 use Rattle.ppdb_values.specs.Parts.{is_at}
 use Rattle.ppdb_values.specs.RawFile.{RawFile}
 use Rattle.ppdb_values.specs.Value.{value_of}
 use Rattle.ppdb_values.specs.declared.custom.CustomValue.{CustomValue}
-use Rattle.ppdb_merge_items.specs.NamedRows.{is_gone_row, live_custom}
+use Rattle.ppdb_merge_items.specs.NamedRows.{live_custom}
 use Rattle.ppdb_merge_moved.specs.Moved.{linked, moved_body, moved_custom, moved_parent}
 use Rattle.ppdb_merge.specs.declared.trace.Trace.{Trace}
 use Rattle.ppdb_merge.specs.Indexes.{link_row}

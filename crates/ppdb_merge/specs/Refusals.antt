@@ -2,10 +2,10 @@
 use Rattle.ppdb_values.specs.Names.{MergeError, MethodTaken, DocumentConflict, LinkDiffers, list_any, numbered, source_link}
 use Rattle.std.specs.Prelude.{ℕ, ◌&&◌, not, Bool, true, false, cond, nat_eq, bytes_eq, List, [], ◌∷◌, ◌++◌, Option, Some, None, Result, Ok, Err, slice_get, filter, find, flat_map, map, option_map}
 use Rattle.std.specs.Prelude.{filter_map, option_and_then, option_to_list}
-use Rattle.ppdb_maps.specs.Map.{Map, moved_row}
+use Rattle.ppdb_maps.specs.Map.{Map, moved_row, is_gone_row}
 use Rattle.ppdb_values.specs.{declared.file.{DocumentValue.DocumentValue, FileValue.FileValue}, declared.custom.{CustomBody.{CustomBody, TheVariants.Unread}, CustomValue.CustomValue}, Parts.is_at}
 use Rattle.ppdb_values.specs.{RawFile.RawFile, Value.value_of}
-use Rattle.ppdb_merge_items.specs.{NamedRows.is_gone_row, Sorted.in_order, declared.file.AnnotatedFile.AnnotatedFile}
+use Rattle.ppdb_merge_items.specs.{Sorted.in_order, declared.file.AnnotatedFile.AnnotatedFile}
 use Rattle.ppdb_merge_moved.specs.Moved.{is_link, moved_document}
 use Rattle.ppdb_merge_names.specs.declared.imaged.Imaged.{Imaged}
 use Rattle.ppdb_merge_joined.specs.Joined.{joined_documents}

@@ -2,13 +2,13 @@
 use Rattle.std.specs.Prelude.{◌≡◌, ℕ, List, [], ◌∷◌, ◌++◌, Some, None, Ok, Err, codes}
 use Rattle.ppdb_base.specs.declared.merge_error.MergeError.TheVariants.{MethodTaken, DocumentConflict, LinkDiffers, RowsDiffer, ImageRange}
 use Rattle.custom_info.specs.Kinds.{source_link}
-use Rattle.ppdb_maps.specs.Map.{Map}
+use Rattle.ppdb_maps.specs.Map.{Map, no_lines}
 use Rattle.ppdb_values.specs.{declared.file.{DocumentValue.DocumentValue, FileValue.FileValue}, WorkedSmall.{empty_value, zeros}}
 use Rattle.ppdb_values.specs.declared.custom.{CustomBody.TheVariants.Unread, CustomValue.CustomValue}
 use Rattle.ppdb_merge_items.specs.{Unannotated.value_of_annotated, Worked.{bare, empty_annotated}}
 use Rattle.ppdb_merge_names.specs.declared.imaged.Imaged.{Imaged}
 use Rattle.ppdb_merge_joined.specs.Joined.{joined}
-use Rattle.ppdb_merge_fits.specs.Worked.{named, names, no_lines}
+use Rattle.ppdb_merge_fits.specs.Worked.{named, names}
 use Rattle.ppdb_merge.specs.{declared.trace.Trace.Trace, Refusals.clashes_before, Together.joined_of}
 
 -- ---- what is kept of two inputs

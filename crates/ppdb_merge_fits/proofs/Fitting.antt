@@ -13,7 +13,7 @@ use Rattle.custom_info.specs.declared.slots.Slot.{Slot}
 use Rattle.custom_info.specs.declared.slots.Slot.TheVariants.{Empty, Held}
 use Rattle.custom_info.specs.declared.stepping.AsyncStep.{AsyncStep}
 use Rattle.custom_info.specs.Kinds.{kind_of}
-use Rattle.ppdb_maps.specs.Map.{Map, offsets_in, line_offsets, method_line, is_dropped}
+use Rattle.ppdb_maps.specs.Map.{Map, offsets_in, line_offsets, method_line, is_dropped, is_gone_row}
 use Rattle.ppdb_maps.specs.Readable.{IsReadable}
 use Rattle.ppdb_maps.specs.Says.{sizes_of}
 use Rattle.sequence_points.specs.declared.point.Point.{Point}
@@ -27,7 +27,7 @@ use Rattle.ppdb_values.specs.declared.file.FileValue.{FileValue}
 use Rattle.ppdb_values.specs.declared.file.MethodValue.{MethodValue}
 use Rattle.ppdb_values.specs.declared.scope.ScopeValue.{ScopeValue}
 use Rattle.ppdb_merge_items.specs.Each.{Each}
-use Rattle.ppdb_merge_items.specs.NamedRows.{is_gone_row, is_type_documents, live_custom}
+use Rattle.ppdb_merge_items.specs.NamedRows.{is_type_documents, live_custom}
 use Rattle.ppdb_merge_items.specs.Annotated.{annotated_file, annotated_scope}
 use Rattle.ppdb_merge_items.specs.SoundParts.{SoundAnnotatedScope}
 use Rattle.ppdb_merge_items.specs.declared.file.AnnotatedScope.{AnnotatedScope}

@@ -25,7 +25,7 @@ use Rattle.ppdb_merge_moved.specs.Moved.{table_in, row_in}
 use Rattle.ppdb_merge_moved.proofs.Elements.{in_each, each_made}
 use Rattle.ppdb_merge_fits.specs.declared.used.MethodSlot.{MethodSlot}
 use Rattle.ppdb_merge_fits.specs.declared.used.UsedSlot.{UsedSlot}
-use Rattle.ppdb_merge_fits.specs.Rows.{imaged, imaged_to, if_unmapped, image_key, image_twice, images_twice, is_row, unmapped, unshared}
+use Rattle.ppdb_merge_fits.specs.Rows.{imaged, imaged_to, if_unmapped, image_key, image_twice, is_row, unmapped, unshared, imaged_rows, rows_twice}
 use Rattle.ppdb_merge_fits.specs.Slots.{scope_slots, variable_slots, if_slot_unmapped, slots_unmapped, used, slot_twice, slots_twice}
 use Rattle.ppdb_merge_fits.specs.Twice.{each_once}
 use Rattle.ppdb_merge_fits.proofs.Apart.{apart, OneNumber}
@@ -135,7 +135,7 @@ all_apart m rs each =
     (of_image m Far r to image all ri free))))
     rs (each_made_option (imaged m) Far rs each))
 
-pub rows_apart : (first : Bool) (m : Map) (raw : RawFile) → images_twice first m raw ≡ []
+pub rows_apart : (first : Bool) (m : Map) (raw : RawFile) → rows_twice m (imaged_rows first m raw) ≡ []
     → Each (λ a. Each (AreApart m a) (map named_by (references first m raw))) (map named_by (references first m raw))
 rows_apart first m raw none =
     let rows = filter_map (imaged m) (references first m raw) in
@@ -215,7 +215,7 @@ module _ (m : Map) (value : FileValue) where
   abbrev all : List UsedSlot
   all = filter_map (used m) (variable_slots value)
 
-  pairs : slots_twice m value ≡ [] → Each (λ a. Each (OneSlot a) all) all
+  pairs : slots_twice m (variable_slots value) ≡ [] → Each (λ a. Each (OneSlot a) all) all
   pairs none =
       let Any = λ (u : UsedSlot). Unit {0} in
       let once = each_once (λ (u : UsedSlot). u.method) (λ u. u.slot) all in
@@ -225,7 +225,7 @@ module _ (m : Map) (value : FileValue) where
       (λ P each. Each-weaker P (λ u. Any u → P u) (λ u p any. p) once each)
       (each_making (used m) (OwnSlot m) (own_slot m) (variable_slots value)) none)
 
-  pub slots_apart : slots_twice m value ≡ [] → SlotsAreApart m (annotated_file value).scopes
+  pub slots_apart : slots_twice m (variable_slots value) ≡ [] → SlotsAreApart m (annotated_file value).scopes
   slots_apart none s t v w image in_s in_t live same in_v in_w vi wi =
       let gone_not : is_dropped m s.method ≡ false = live_is (is_dropped m s.method) live in
       let here : Each (OneSlot (record { method = s.method; slot = v.item.slot; image = image })) all =

@@ -57,8 +57,8 @@ module _ (m : Map) (none : m.slotted ≡ []) where
       one false (Some n) own rest = let same : n ≡ x.slot = cc in
           All-cons Keeps (record { method = x.method; slot = x.slot; image = n }) (filter_map (used m) xs) same rest
 
-  pub nothing_of_slots : (value : FileValue) → slots_unmapped m value ++ slots_twice m value ≡ []
+  pub nothing_of_slots : (value : FileValue) → slots_unmapped m value ++ slots_twice m (variable_slots value) ≡ []
   nothing_of_slots value =
-      ap (λ (l : List MergeError). l ++ slots_twice m value) (unmapped_none 1 (variable_slots value))
+      ap (λ (l : List MergeError). l ++ slots_twice m (variable_slots value)) (unmapped_none 1 (variable_slots value))
       ∙ none_twice_once (λ (u : UsedSlot). u.method) (λ u. u.slot) (λ u. u.image) slot_twice (filter_map (used m) (variable_slots value))
       (used_keep (variable_slots value))

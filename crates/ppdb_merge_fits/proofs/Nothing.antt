@@ -28,8 +28,8 @@ use Rattle.ppdb_merge_fits.specs.Clashes.{first_clash, clashes, unknown_kinds, i
 use Rattle.ppdb_merge_fits.specs.Documents.{documents_twice}
 use Rattle.ppdb_merge_fits.specs.Laws.{NothingClashes}
 use Rattle.ppdb_merge_fits.specs.Offsets.{beyond, lost, points_beyond, scope_beyond, custom_beyond}
-use Rattle.ppdb_merge_fits.specs.Rows.{unmapped, images_twice}
-use Rattle.ppdb_merge_fits.specs.Slots.{slots_unmapped, slots_twice}
+use Rattle.ppdb_merge_fits.specs.Rows.{unmapped, imaged_rows, rows_twice}
+use Rattle.ppdb_merge_fits.specs.Slots.{slots_unmapped, slots_twice, variable_slots}
 use Rattle.ppdb_merge_fits.proofs.OneName.{names_differ}
 use Rattle.ppdb_merge_fits.proofs.First.{nil_parts, no_first}
 use Rattle.ppdb_merge_fits.proofs.Fitting.{flat_none, fails, points_fit, ranges_fit, hoisted_fits, async_fit}
@@ -67,9 +67,9 @@ nothing_clashes codes owned marks first m raw keeps ready none =
     let b = nil_parts (beyond m value) _ a.1 in
     let c = nil_parts (lost m value) _ b.1 in
     let d = nil_parts (unmapped first m raw) _ c.1 in
-    let e = nil_parts (images_twice first m raw) _ d.1 in
+    let e = nil_parts (rows_twice m (imaged_rows first m raw)) _ d.1 in
     let f = nil_parts (slots_unmapped m value) _ e.1 in
-    let g = nil_parts (slots_twice m value) (documents_twice m value) f.1 in
+    let g = nil_parts (slots_twice m (variable_slots value)) (documents_twice m value.documents) f.1 in
     let points = nil_parts (flat_map (points_beyond m) value.methods) _ b.0 in
     let ranges = nil_parts (flat_map (scope_beyond m) value.scopes) (flat_map (custom_beyond m) value.customs) points.1 in
     let named = all-named owned first m raw keeps in

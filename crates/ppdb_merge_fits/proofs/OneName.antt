@@ -14,7 +14,7 @@ use Rattle.ppdb_values.specs.declared.file.DocumentValue.{DocumentValue}
 use Rattle.ppdb_merge_items.specs.Each.{Each, Pairs}
 use Rattle.ppdb_merge_items.proofs.Lists.{Each-weaker, Pairs-weaker, pairs_row}
 use Rattle.ppdb_merge_fits.specs.declared.documents.Names.{Names}
-use Rattle.ppdb_merge_fits.specs.Documents.{if_one_name, name_twice, names_twice}
+use Rattle.ppdb_merge_fits.specs.Documents.{if_one_name, name_twice, documents_twice}
 use Rattle.ppdb_merge_fits.specs.Names.{row_of}
 use Rattle.ppdb_merge_fits.proofs.Apart.{each_both}
 use Rattle.ppdb_merge_fits.proofs.First.{row_is, inside, take_next}
@@ -130,7 +130,7 @@ module _ (m : Map) where
   )
 
   -- the map gives the documents different names
-  pub names_differ : (documents : List DocumentValue) → names_twice m documents ≡ [] → Pairs Differ documents
+  pub names_differ : (documents : List DocumentValue) → documents_twice m documents ≡ [] → Pairs Differ documents
   names_differ documents none =
       all_differ 1 documents (Each-weaker (λ s. name_twice m documents s ≡ []) (λ s. Each (Silent s) (numbered documents))
       (λ s quiet. flat_none (if_one_name m s) (numbered documents) quiet) (numbered documents)
@@ -169,7 +169,7 @@ module _ (m : Map) where
         (λ s here rest. (here, rest)) (enumerate_from (n + 1) ds) (silent_heads n (n + 1) d ds pairs.0) (all_silent (n + 1) ds pairs.1),
   )
 
-  none_twice : (documents : List DocumentValue) → Pairs Differ documents → names_twice m documents ≡ []
+  none_twice : (documents : List DocumentValue) → Pairs Differ documents → documents_twice m documents ≡ []
   none_twice documents pairs =
       flat_quiet (name_twice m documents) (numbered documents)
       (Each-weaker (λ s. Each (Silent s) (numbered documents)) (λ s. name_twice m documents s ≡ [])
@@ -177,7 +177,7 @@ module _ (m : Map) where
 
   -- where the map has no `document` line, documents whose names differ get names that differ
   pub none_without_lines : (documents : List DocumentValue) → m.documents ≡ [] → EachPair (λ (a b : DocumentValue). a.name ≢ b.name) documents
-      → names_twice m documents ≡ []
+      → documents_twice m documents ≡ []
   none_without_lines documents none apart =
       none_twice documents (Pairs-weaker (λ (a b : DocumentValue). a.name ≢ b.name) Differ
       (λ a b differs same. differs (sym (itself a.name) ∙ same ∙ itself b.name)) documents

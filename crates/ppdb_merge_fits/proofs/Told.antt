@@ -9,8 +9,8 @@ use Rattle.ppdb_merge_fits.specs.Clashes.{unknown_kinds, clashes, first_clash}
 use Rattle.ppdb_merge_fits.specs.Documents.{documents_twice}
 use Rattle.ppdb_merge_fits.specs.FirstOf.{IsTold}
 use Rattle.ppdb_merge_fits.specs.Offsets.{beyond, lost}
-use Rattle.ppdb_merge_fits.specs.Rows.{unmapped, images_twice}
-use Rattle.ppdb_merge_fits.specs.Slots.{slots_unmapped, slots_twice}
+use Rattle.ppdb_merge_fits.specs.Rows.{unmapped, imaged_rows, rows_twice}
+use Rattle.ppdb_merge_fits.specs.Slots.{slots_unmapped, slots_twice, variable_slots}
 use Rattle.ppdb_merge_fits.proofs.First.{append_is, first_prefix}
 
 pub then_fine : (xs ys : List MergeError) (e : MergeError) → xs ≡ [] → IsTold ys e → IsTold (xs ++ ys) e
@@ -28,20 +28,20 @@ module _ (marks : List (List ℕ)) (first : Bool) (m : Map) (raw : RawFile) wher
   of_offsets = unknown_kinds marks m (value_of raw) ++ (beyond m (value_of raw) ++ lost m (value_of raw))
 
   abbrev of_rows : List MergeError
-  of_rows = unmapped first m raw ++ images_twice first m raw
+  of_rows = unmapped first m raw ++ rows_twice m (imaged_rows first m raw)
 
   abbrev of_slots : List MergeError
-  of_slots = slots_unmapped m (value_of raw) ++ slots_twice m (value_of raw)
+  of_slots = slots_unmapped m (value_of raw) ++ slots_twice m (variable_slots (value_of raw))
 
   abbrev all : List MergeError
-  all = of_offsets ++ (of_rows ++ (of_slots ++ documents_twice m (value_of raw)))
+  all = of_offsets ++ (of_rows ++ (of_slots ++ documents_twice m (value_of raw).documents))
 
   split : all ≡ clashes marks first m raw
   split =
       sym (append_is (unknown_kinds marks m (value_of raw)) _ _)
       ∙ ap (λ l. unknown_kinds marks m (value_of raw) ++ l) (sym (append_is (beyond m (value_of raw)) _ _)
       ∙ ap (λ l. beyond m (value_of raw) ++ (lost m (value_of raw) ++ l)) (sym (append_is (unmapped first m raw) _ _)
-      ∙ ap (λ l. unmapped first m raw ++ (images_twice first m raw ++ l)) (sym (append_is (slots_unmapped m (value_of raw)) _ _))))
+      ∙ ap (λ l. unmapped first m raw ++ (rows_twice m (imaged_rows first m raw) ++ l)) (sym (append_is (slots_unmapped m (value_of raw)) _ _))))
 
   told : (e : MergeError) → IsTold all e → (e ≡ Memory) ⊎ (first_clash marks first m raw ≡ Some e)
   unfolding first_clash
@@ -56,12 +56,12 @@ module _ (marks : List (List ℕ)) (first : Bool) (m : Map) (raw : RawFile) wher
   pub clash_of_slots : (e : MergeError) → of_offsets ≡ [] → of_rows ≡ [] → IsTold of_slots e → (e ≡ Memory) ⊎ (first_clash marks first m raw ≡ Some e)
   clash_of_slots e none also is = told e (then_fine of_offsets _ e none (then_fine of_rows _ e also (refused of_slots _ e is)))
 
-  pub clash_of_documents : (e : MergeError) → of_offsets ≡ [] → of_rows ≡ [] → of_slots ≡ [] → IsTold (documents_twice m (value_of raw)) e
+  pub clash_of_documents : (e : MergeError) → of_offsets ≡ [] → of_rows ≡ [] → of_slots ≡ [] → IsTold (documents_twice m (value_of raw).documents) e
       → (e ≡ Memory) ⊎ (first_clash marks first m raw ≡ Some e)
   clash_of_documents e none also further is =
       told e (then_fine of_offsets _ e none (then_fine of_rows _ e also (then_fine of_slots _ e further is)))
 
-  pub no_clash : of_offsets ≡ [] → of_rows ≡ [] → of_slots ≡ [] → documents_twice m (value_of raw) ≡ [] → first_clash marks first m raw ≡ None
+  pub no_clash : of_offsets ≡ [] → of_rows ≡ [] → of_slots ≡ [] → documents_twice m (value_of raw).documents ≡ [] → first_clash marks first m raw ≡ None
   unfolding first_clash
   no_clash none also further last =
       ap (λ l. slice_get l 0) (sym split ∙ both_fine of_offsets _ none (both_fine of_rows _ also (both_fine of_slots _ further last)))

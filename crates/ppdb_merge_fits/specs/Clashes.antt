@@ -2,11 +2,11 @@
 -- methods, and what else is removed, is not judged.
 use Rattle.ppdb_values.specs.Names.{list_any, kind_of, Kind, Unknown, MergeError, KindUnknown, numbered, row_at, Parent}
 use Rattle.std.specs.Prelude.{ℕ, ◌&&◌, ◌||◌, ◌==◌, not, Bool, true, false, cond, List, [], ◌∷◌, ◌++◌, Option, Some, None, map, option_to_list, slice_get, flat_map}
-use Rattle.ppdb_maps.specs.Map.{Map, is_dropped}
+use Rattle.ppdb_maps.specs.Map.{Map, is_dropped, is_gone_row}
 use Rattle.ppdb_values.specs.{RawFile.RawFile, Value.value_of, declared.file.FileValue.FileValue, declared.scope.{ScopeValue.ScopeValue, ConstantValue.ConstantValue}}
 use Rattle.ppdb_values.specs.{declared.custom.CustomValue.CustomValue}
-use Rattle.ppdb_merge_items.specs.NamedRows.{is_gone_row, goes_constant}
-use Rattle.ppdb_merge_fits.specs.{Documents.documents_twice, Offsets.{beyond, lost}, Rows.{unmapped, images_twice}, Slots.{slots_unmapped, slots_twice}}
+use Rattle.ppdb_merge_items.specs.NamedRows.{goes_constant}
+use Rattle.ppdb_merge_fits.specs.{Documents.documents_twice, Offsets.{beyond, lost}, Rows.{unmapped, imaged_rows, rows_twice}, Slots.{slots_unmapped, slots_twice, variable_slots}}
 
 -- ---- rows at dropped methods
 
@@ -49,7 +49,9 @@ is_unknown kind = false
 
 -- a row whose custom records are removed: one at a dropped method, one that is gone, and that of a constant that is removed
 abbrev pub is_at_gone : Map → FileValue → Parent → Bool
-is_at_gone m value parent = is_at_dropped m value parent || (is_gone_row m parent.table parent.row || is_at_gone_constant m value parent)
+is_at_gone m value parent =
+    list_any (is_dropped m) (option_to_list (method_at value parent)) || (is_gone_row m parent.table parent.row
+    || parent.table == 0x34 && list_any (goes_constant m) (option_to_list (row_at (all_constants value) parent.row)))
 
 abbrev pub has_unknown_kind : List (List ℕ) → Map → FileValue → CustomValue → Bool
 has_unknown_kind marks m value c = is_unknown (kind_of marks c.kind) && not (is_at_gone m value c.parent)
@@ -69,10 +71,10 @@ clashes marks first m raw =
     ++ (beyond m (value_of raw)
     ++ (lost m (value_of raw)
     ++ (unmapped first m raw
-    ++ (images_twice first m raw
+    ++ (rows_twice m (imaged_rows first m raw)
     ++ (slots_unmapped m (value_of raw)
-    ++ (slots_twice m (value_of raw)
-    ++ documents_twice m (value_of raw)))))))
+    ++ (slots_twice m (variable_slots (value_of raw))
+    ++ documents_twice m (value_of raw).documents))))))
 
 -- What is reported of a file that a map does not fit. The entry point counts in the first of several files.
 unfoldable pub first_clash : List (List ℕ) → Bool → Map → RawFile → Option MergeError

@@ -2,7 +2,7 @@
 use Rattle.ppdb_values.specs.Names.{MergeError, DocumentTwice, numbered}
 use Rattle.std.specs.Prelude.{ℕ, ◌&&◌, Bool, cond, nat_lt, bytes_eq, List, [], ◌∷◌, flat_map}
 use Rattle.ppdb_maps.specs.Map.{Map, moved_name}
-use Rattle.ppdb_values.specs.declared.file.{DocumentValue.DocumentValue, FileValue.FileValue}
+use Rattle.ppdb_values.specs.declared.file.DocumentValue.{DocumentValue}
 
 -- a document and one that stands before it get one name
 abbrev pub get_one_name : Map → ℕ × DocumentValue → ℕ × DocumentValue → Bool
@@ -16,8 +16,5 @@ abbrev pub name_twice : Map → List DocumentValue → ℕ × DocumentValue → 
 name_twice m documents second = flat_map (if_one_name m second) (numbered documents)
 
 -- two documents get one name: by the second one's row, and then by the first one's
-abbrev pub names_twice : Map → List DocumentValue → List MergeError
-names_twice m documents = flat_map (name_twice m documents) (numbered documents)
-
-abbrev pub documents_twice : Map → FileValue → List MergeError
-documents_twice m value = names_twice m value.documents
+abbrev pub documents_twice : Map → List DocumentValue → List MergeError
+documents_twice m documents = flat_map (name_twice m documents) (numbered documents)

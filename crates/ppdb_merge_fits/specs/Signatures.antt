@@ -4,7 +4,8 @@ use Rattle.std.specs.Prelude.{ℕ, Bool, cond, nat_eq, List, [], ◌∷◌, ◌+
 use Rattle.ppdb_maps.specs.Map.{Map, signature_line}
 use Rattle.ppdb_values.specs.{RawFile.RawFile, Value.value_of, declared.file.{FileValue.FileValue, MethodValue.MethodValue}}
 use Rattle.ppdb_merge_names.specs.declared.imaged.Imaged.{Imaged}
-use Rattle.ppdb_merge_fits.specs.{Rows.{image_key, imaged_rows}, Twice.by_all}
+use Rattle.ppdb_merge_items.specs.Sorted.{in_order}
+use Rattle.ppdb_merge_fits.specs.Rows.{image_key, imaged_rows}
 
 -- a local signature that the output has: the image of the stored one, which is 0 where there is none (ECMA-335 II.22.36)
 abbrev pub given : ℕ → ℕ → Option Imaged
@@ -20,8 +21,8 @@ given_signatures m value = filter_map (given_signature m) value.methods
 -- rows that are in order by table and row, and further ones: by table, row and image
 abbrev pub with_given : List Imaged → List Imaged → List Imaged
 with_given rows [] = rows
-with_given rows (i ∷ is) = by_all (λ (i : Imaged). i.table) (λ i. i.row) image_key (rows ++ i ∷ is)
+with_given rows (i ∷ is) = in_order (λ (i : Imaged). i.table) (in_order (λ i. i.row) (in_order image_key (rows ++ i ∷ is)))
 
 -- The rows that a file names with their images, each once, and the local signatures of `signature` lines, by table, row and image.
 abbrev pub all_images : Bool → Map → RawFile → List Imaged
-all_images first m raw = with_given (imaged_rows first m raw) (given_signatures m (value_of raw))
+all_images first m raw = with_given (imaged_rows first m raw) (filter_map (given_signature m) (value_of raw).methods)

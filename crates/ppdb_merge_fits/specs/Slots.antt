@@ -21,21 +21,17 @@ if_slot_unmapped m x =
 abbrev pub slots_unmapped : Map → FileValue → List MergeError
 slots_unmapped m value = flat_map (if_slot_unmapped m) (numbered (variable_slots value))
 
--- the slots that variables of methods use, but for dropped methods, with their images, each once, by method and slot
+-- a slot that a variable uses, with its image, but for dropped methods
 abbrev pub used : Map → MethodSlot → Option UsedSlot
 used m x =
     cond (is_dropped m x.method) None
     (option_map (λ image. record { method = x.method; slot = x.slot; image = image }) (slot_image m x.method x.slot))
 
-abbrev pub used_slots : Map → List MethodSlot → List UsedSlot
-used_slots m slots = each_once (λ (u : UsedSlot). u.method) (λ u. u.slot) (filter_map (used m) slots)
-
--- M11 of two slots with one image
+-- M11 of two slots with one image; each slot that is used counts once, by method and slot
 abbrev pub slot_twice : UsedSlot → UsedSlot → MergeError
 slot_twice a b = SlotTwice a.method a.slot b.slot a.image
 
-abbrev pub twice_of : Map → List MethodSlot → List MergeError
-twice_of m slots = twice (λ (u : UsedSlot). u.method) (λ u. u.slot) (λ u. u.image) slot_twice (used_slots m slots)
-
-abbrev pub slots_twice : Map → FileValue → List MergeError
-slots_twice m value = twice_of m (variable_slots value)
+abbrev pub slots_twice : Map → List MethodSlot → List MergeError
+slots_twice m slots =
+    twice (λ (u : UsedSlot). u.method) (λ u. u.slot) (λ u. u.image) (λ a b. SlotTwice a.method a.slot b.slot a.image)
+    (each_once (λ (u : UsedSlot). u.method) (λ u. u.slot) (filter_map (used m) slots))

@@ -1,8 +1,8 @@
 -- Worked maps of small files, and what is reported of each.
-use Rattle.std.specs.Prelude.{◌≡◌, ℕ, ◌+◌, ◌-◌, false, true, List, [], ◌∷◌, ◌++◌, Option, Some, None, map, codes}
+use Rattle.std.specs.Prelude.{◌≡◌, ℕ, ◌+◌, ◌-◌, true, List, [], ◌∷◌, ◌++◌, Option, Some, None, map, codes}
 use Rattle.ppdb_base.specs.{Place.at_byte, declared.merge_error.MergeError.TheVariants.{KindUnknown, OffsetBeyond, AsyncLost, Unmapped, ImageTwice, SlotUnmapped, SlotTwice, DocumentTwice}}
 use Rattle.custom_info.specs.{Kinds.{in_file_order, async_stepping, hoisted_scopes}, declared.slots.Slot.TheVariants.{Empty, Held}}
-use Rattle.ppdb_maps.specs.{Map.{Map, MethodLine}, declared.entries.NameLine.NameLine}
+use Rattle.ppdb_maps.specs.{Map.{Map, MethodLine, no_lines}, declared.entries.NameLine.NameLine}
 use Rattle.ppdb_values.specs.{RawFile.RawFile, WorkedSmall.{empty_file, empty_value, small_file, zeros}, declared.file.FileValue.FileValue, declared.custom.CustomBody.CustomBody}
 use Rattle.ppdb_values.specs.declared.scope.{ConstantValue.ConstantValue, ConstantBody.TheVariants.General}
 use Rattle.ppdb_values.specs.declared.custom.{CustomBody.TheVariants.{Async, Hoisted, Unread}, CustomValue.CustomValue}
@@ -11,22 +11,6 @@ use Rattle.ppdb_merge_names.specs.declared.imaged.Imaged.{Imaged}
 use Rattle.ppdb_merge_fits.specs.{Clashes.{unknown_kinds, first_clash}, Documents.documents_twice, Offsets.{beyond, lost}, Rows.{imaged_rows, rows_twice}}
 
 -- ---- maps
-
-abbrev pub no_lines : Map
-no_lines = record {
-  counts = [];
-  rows = [];
-  crossed = [];
-  gone = [];
-  methods = [];
-  drops = [];
-  slotted = [];
-  slots = [];
-  signatures = [];
-  documents = [];
-  link = None;
-  shares = false;
-}
 
 -- `method 1 SIZE SIZE / run 0 0 LENGTH`
 abbrev pub prefix_kept : ℕ → ℕ → MethodLine

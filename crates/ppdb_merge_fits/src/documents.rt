@@ -2,7 +2,7 @@
 ghost use Rattle.std.specs.Prelude.{◌≡◌, ℕ, List, None, Some, IfOk, OnOk, cond, bytes_eq, slice_get};
 ghost use Rattle.ppdb_values.specs.Value.{value_of};
 ghost use Rattle.ppdb_verify.specs.Views.{raw_file};
-ghost use Rattle.ppdb_merge_fits.specs.Documents.{documents_twice, names_twice};
+ghost use Rattle.ppdb_merge_fits.specs.Documents.{documents_twice, documents_twice};
 ghost use Rattle.ppdb_merge_fits.specs.Names.{row_of};
 
 use ppdb_base::{Bytes, Memory, MergeError, Steps};
@@ -57,7 +57,7 @@ fn first_name_twice<L: Ledger>(
     map: &MapText,
     steps: &mut Steps<L>,
 ) -> Result<Option<MergeError>, Memory>
-    ensures { IfOk result (λ told. told ≡ slice_get (names_twice map.now (value_of (raw_file file.now)).documents) 0) }
+    ensures { IfOk result (λ told. told ≡ slice_get (documents_twice map.now (value_of (raw_file file.now)).documents) 0) }
 {
     file.keeps();
     let count = count(file, DOCUMENT);
@@ -84,7 +84,7 @@ pub(crate) fn first_document_twice<L: Ledger>(
     map: &MapText,
     steps: &mut Steps<L>,
 ) -> Result<Option<MergeError>, Memory>
-    ensures { IfOk result (λ told. told ≡ slice_get (documents_twice map.now (value_of (raw_file file.now))) 0) }
+    ensures { IfOk result (λ told. told ≡ slice_get (documents_twice map.now (value_of (raw_file file.now)).documents) 0) }
 {
     file.keeps();
     if map.document_line(0).is_none() {

@@ -11,9 +11,9 @@ ghost use Rattle.ppdb_merge_fits.specs.Clashes.{unknown_kinds, first_clash};
 ghost use Rattle.ppdb_merge_fits.specs.Documents.{documents_twice};
 ghost use Rattle.ppdb_merge_fits.specs.FirstOf.{IsFirstOf};
 ghost use Rattle.ppdb_merge_fits.specs.Offsets.{beyond, lost};
-ghost use Rattle.ppdb_merge_fits.specs.Rows.{imaged, imaged_rows, unmapped, images_twice, rows_twice, unshared, Stays};
+ghost use Rattle.ppdb_merge_fits.specs.Rows.{imaged, imaged_rows, unmapped, rows_twice, unshared, Stays};
 ghost use Rattle.ppdb_merge_fits.specs.Signatures.{all_images};
-ghost use Rattle.ppdb_merge_fits.specs.Slots.{slots_unmapped, slots_twice};
+ghost use Rattle.ppdb_merge_fits.specs.Slots.{slots_unmapped, slots_twice, variable_slots};
 
 use crate::beyond::{first_beyond, first_lost};
 use crate::documents::first_document_twice;
@@ -137,7 +137,7 @@ fn judge_rows<L: Ledger>(
     steps: &mut Steps<L>,
 ) -> Result<List<Imaged>, MergeError>
     ensures rows { IfOk result (λ rows. rows ≡ imaged_rows first map.now (raw_file file.now)) }
-    ensures told { IsFirstOf (unmapped first map.now (raw_file file.now) ++ images_twice first map.now (raw_file file.now)) result }
+    ensures told { IsFirstOf (unmapped first map.now (raw_file file.now) ++ rows_twice map.now (imaged_rows first map.now (raw_file file.now))) result }
 {
     let mut rows = placed_images(alloc, file, map, first, steps)?;
     leave_once(&mut rows)?;
@@ -152,7 +152,7 @@ fn judge_slots<L: Ledger>(
     map: &MapText,
     steps: &mut Steps<L>,
 ) -> Result<(), MergeError>
-    ensures { IsFirstOf (slots_unmapped map.now (value_of (raw_file file.now)) ++ slots_twice map.now (value_of (raw_file file.now))) result }
+    ensures { IsFirstOf (slots_unmapped map.now (value_of (raw_file file.now)) ++ slots_twice map.now (variable_slots (value_of (raw_file file.now)))) result }
 {
     refuse(first_of_slots(alloc, file, map, steps)?)
 }
@@ -164,7 +164,7 @@ fn judge_documents<L: Ledger>(
     map: &MapText,
     steps: &mut Steps<L>,
 ) -> Result<(), MergeError>
-    ensures { IsFirstOf (documents_twice map.now (value_of (raw_file file.now))) result }
+    ensures { IsFirstOf (documents_twice map.now (value_of (raw_file file.now)).documents) result }
 {
     refuse(first_document_twice(alloc, file, map, steps)?)
 }

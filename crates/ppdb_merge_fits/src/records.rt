@@ -8,9 +8,10 @@ ghost use Rattle.ppdb_values.specs.declared.custom.CustomBody.TheVariants.{Async
 ghost use Rattle.ppdb_values.specs.declared.custom.CustomValue.{CustomValue};
 ghost use Rattle.ppdb_values_reading.specs.Lent.{custom_shown};
 ghost use Rattle.ppdb_verify.specs.Views.{raw_file};
-ghost use Rattle.ppdb_merge_items.specs.NamedRows.{leaves_table, leaves_types, live_custom};
+ghost use Rattle.ppdb_merge_items.specs.NamedRows.{leaves_types, live_custom};
 ghost use Rattle.ppdb_merge_fits.specs.Offsets.{step_offsets, handler_offsets, async_offsets, slot_beyond};
 ghost use Rattle.ppdb_merge_fits.specs.Walks.{record_told};
+ghost use Rattle.ppdb_maps.specs.Map.{leaves_table};
 
 use crate::offsets::{AsksOffset, Below, Kept, end_beyond};
 use custom_info::{AsyncCursor, AsyncStep, Slot, SlotCursor};

@@ -5,7 +5,7 @@ ghost use Rattle.ppdb_tables.specs.RawTables.{numbered};
 ghost use Rattle.ppdb_values.specs.Value.{value_of};
 ghost use Rattle.ppdb_values_reading.specs.Scopes.{HasLists, scope_with};
 ghost use Rattle.ppdb_verify.specs.Views.{raw_file};
-ghost use Rattle.ppdb_merge_fits.specs.Slots.{scope_slots, variable_slots, if_slot_unmapped, slots_unmapped, used, twice_of, slots_twice};
+ghost use Rattle.ppdb_merge_fits.specs.Slots.{scope_slots, variable_slots, if_slot_unmapped, slots_unmapped, used, slots_twice};
 
 use crate::twice::{all_keep_numbers, first_twice, leave_once};
 use crate::used::{MethodSlot, UsedSlot};
@@ -127,7 +127,7 @@ fn first_slot_twice(
     map: &MapText,
     slots: &[MethodSlot],
 ) -> Result<Option<MergeError>, Memory>
-    ensures { IfOk result (λ told. told ≡ slice_get (twice_of map.now slots.now) 0) }
+    ensures { IfOk result (λ told. told ≡ slice_get (slots_twice map.now slots.now) 0) }
 {
     let mut all = used_slots(alloc, map, slots)?;
     if all_keep_numbers(all.as_slice()) {
@@ -144,7 +144,8 @@ pub(crate) fn first_of_slots<L: Ledger>(
     map: &MapText,
     steps: &mut Steps<L>,
 ) -> Result<Option<MergeError>, Memory>
-    ensures { IfOk result (λ told. told ≡ slice_get (slots_unmapped map.now (value_of (raw_file file.now)) ++ slots_twice map.now (value_of (raw_file file.now))) 0) }
+    ensures { IfOk result (λ told. told ≡ slice_get (slots_unmapped map.now (value_of (raw_file file.now))
+        ++ slots_twice map.now (variable_slots (value_of (raw_file file.now)))) 0) }
 {
     file.keeps();
     if map.slots_line(0).is_none() {

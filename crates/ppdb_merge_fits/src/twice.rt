@@ -1,7 +1,7 @@
 // Items of a group that have one image.
 ghost use Rattle.std.specs.Prelude.{◌≡◌, ◌↔◌, All, IfOk, OnOk, IsTrue, slice_get};
 ghost use Rattle.ppdb_merge_items.specs.Sorted.{in_order};
-ghost use Rattle.ppdb_merge_fits.specs.Twice.{beside, by_all, each_once, have_one_image, if_one_image, is_same, twice};
+ghost use Rattle.ppdb_merge_fits.specs.Twice.{beside, each_once, have_one_image, if_one_image, is_same, twice};
 
 use crate::used::UsedSlot;
 use ppdb_base::{Memory, MergeError};
@@ -127,7 +127,7 @@ fn by_group<T: HasImage>(items: &mut Vec<T>) -> Result<(), Memory>
 
 /// Sets items in order by their groups, in a group by their numbers, and of one number by their images.
 pub(crate) fn by_all<T: HasImage>(all: &mut Vec<T>) -> Result<(), Memory>
-    ensures { OnOk result (all.new.items ≡ by_all T.group_of T.number_of T.image_of all.old.items) }
+    ensures { OnOk result (all.new.items ≡ in_order T.group_of (in_order T.number_of (in_order T.image_of all.old.items))) }
 {
     by_image(all)?;
     by_number(all)?;

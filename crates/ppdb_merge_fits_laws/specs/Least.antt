@@ -3,7 +3,7 @@ use Rattle.std.specs.Prelude.{◌≡◌, ◌↔◌, ℕ, ◌<◌, ◌⊎◌, Boo
 use Rattle.ppdb_maps.specs.Map.{Map}
 use Rattle.ppdb_values.specs.{RawFile.RawFile, declared.file.FileValue.FileValue}
 use Rattle.ppdb_merge_names.specs.{declared.imaged.Imaged.Imaged, References.references}
-use Rattle.ppdb_merge_fits.specs.{Rows.{imaged, image_key, image_twice, images_twice, unshared}, Slots.{used, variable_slots, slot_twice, slots_twice}}
+use Rattle.ppdb_merge_fits.specs.{Rows.{imaged, image_key, image_twice, unshared, imaged_rows, rows_twice}, Slots.{used, variable_slots, slot_twice, slots_twice}}
 
 -- Two items of one group have one image, and the number of the first is less.
 pub record HaveOneImage {A : Type 0} (group number image : A → ℕ) (a b : A) : Type 0 where
@@ -38,7 +38,7 @@ pub record TellsLeast {A B : Type 0} (group number image : A → ℕ) (told : A 
 abbrev pub LeastRowsAreTold : Type 0
 LeastRowsAreTold = (first : Bool) (m : Map) (raw : RawFile)
     → TellsLeast (λ (i : Imaged). i.table) (λ i. i.row) image_key image_twice (unshared m (filter_map (imaged m) (references first m raw)))
-    (images_twice first m raw)
+    (rows_twice m (imaged_rows first m raw))
 
 -- what a function may make
 abbrev pub Made : {X Y : Type 0} → (X → Option Y) → Type 0
@@ -47,4 +47,5 @@ Made {X} {Y} make = Y
 -- M11: the slots that variables of methods use, but for dropped methods, and that have an image.
 abbrev pub LeastSlotsAreTold : Type 0
 LeastSlotsAreTold = (m : Map) (value : FileValue)
-    → TellsLeast (λ (u : Made (used m)). u.method) (λ u. u.slot) (λ u. u.image) slot_twice (filter_map (used m) (variable_slots value)) (slots_twice m value)
+    → TellsLeast (λ (u : Made (used m)). u.method) (λ u. u.slot) (λ u. u.image) slot_twice (filter_map (used m) (variable_slots value))
+    (slots_twice m (variable_slots value))

@@ -2,7 +2,7 @@
 -- that stand in what is removed (docs/FORMAT.md, "Dropped methods" and "What else is removed").
 use Rattle.ppdb_values.specs.Names.{list_any, TypeToken, Modifier, AsyncStep, MachineRow}
 use Rattle.std.specs.Prelude.{ℕ, ◌&&◌, ◌||◌, not, Bool, true, false, cond, nat_eq, is_some, List, [], ◌∷◌, ◌++◌, map, filter, flat_map}
-use Rattle.ppdb_maps.specs.{Map.{Map, is_dropped, signature_line, row_image, is_gone}, declared.image.RowImage.{RowImage, TheVariants.Row}}
+use Rattle.ppdb_maps.specs.Map.{Map, is_dropped, is_gone_row, is_in_table, leaves_table, row_image, signature_line}
 use Rattle.ppdb_values.specs.{declared.file.MethodValue.MethodValue, declared.scope.{ConstantValue.ConstantValue, ConstantBody.{ConstantBody, TheVariants.{Primitive, Enumerated, General}}}}
 use Rattle.ppdb_values.specs.declared.import.{ImportScopeValue.ImportScopeValue, ImportValue.ImportValue}
 use Rattle.ppdb_values.specs.{declared.import.ImportValue.TheVariants.{AssemblyNamespace, Target, AssemblyAlias, AssemblyNamespaceAlias, TargetAlias}, declared.custom.CustomBody.CustomBody}
@@ -50,21 +50,8 @@ is_type_documents body = false
 
 -- ---- what is removed
 
-abbrev pub is_gone_row : Map → ℕ → ℕ → Bool
-is_gone_row m table row = is_gone (row_image m table row)
-
 abbrev pub is_gone_type : Map → TypeToken → Bool
 is_gone_type m token = is_gone_row m token.table token.row
-
--- the image is a row of this table
-abbrev pub is_in_table : ℕ → RowImage → Bool
-is_in_table table (Row other row) = nat_eq other table
-is_in_table table image = false
-
--- the image is a row of another table than this
-abbrev pub leaves_table : ℕ → RowImage → Bool
-leaves_table table (Row other row) = not (nat_eq other table)
-leaves_table table image = false
 
 abbrev pub live_method : Map → MethodValue → Bool
 live_method m method = not (is_dropped m method.method)

@@ -1,13 +1,13 @@
 -- Where what joined files say comes from: of each method from one input, and on any other row from all that have records on it.
 use Rattle.std.specs.Prelude.{◌≡◌, ℕ, ◌<◌, ◌⊎◌, List, [], ◌∷◌, Some, Contains, map, filter, flat_map}
 use Rattle.ppdb_tables.specs.RawTables.{row_at}
-use Rattle.ppdb_maps.specs.Map.{moved_row}
+use Rattle.ppdb_maps.specs.Map.{moved_row, row_within}
 use Rattle.ppdb_values.specs.{declared.file.{DocumentValue.DocumentValue, FileValue.FileValue}, declared.custom.CustomValue.CustomValue, declared.annotation.Custom.Custom}
 use Rattle.ppdb_values.specs.{Meaning.{annotated_on, without_parent}, Parts.is_at}
 use Rattle.ppdb_merge_items.specs.{Each.Each, Annotated.annotated_file}
 use Rattle.ppdb_merge_joined.specs.{Joinable.methods_of, Joined.{firsts, customs_named, joined_rows, row_in, renumbered_custom}, Same.{fresh, same_custom}}
-use Rattle.ppdb_merge_moved.specs.{Laws.IsImageOfNamed, Moved.moved_document}
-use Rattle.ppdb_merge_meaning_laws.specs.Kept.{MovedBy, Input, InputsFit, in_turn, moved_input, joined_inputs}
+use Rattle.ppdb_merge_moved.specs.{Moved.moved_document}
+use Rattle.ppdb_merge_meaning_laws.specs.Kept.{MovedBy, Input, InputsFit, NamesMethod, in_turn, moved_input, joined_inputs}
 
 -- P of one item, and of no other
 abbrev pub OfOne : {A : Type 0} → (A → Type 0) → List A → Type 0
@@ -16,7 +16,7 @@ OfOne P (x ∷ xs) = (P x × Each (λ other. ¬ (P other)) xs) ⊎ (¬ (P x) × 
 
 -- the row is the image of a method that the input names
 abbrev pub IsImageFrom : ℕ → Input → Type 0
-IsImageFrom row input = IsImageOfNamed input.0 input.1.map (annotated_file input.1.value) row
+IsImageFrom row input = (method : ℕ) × NamesMethod input method × (row_within input.1.map 0x06 method ≡ Some row)
 
 -- the entry point that the first input's has become, and 0 for none where there is no input
 abbrev pub entry_of : List MovedBy → ℕ

@@ -11,7 +11,7 @@ use Rattle.custom_info.specs.Kinds.{kind_of}
 use Rattle.custom_info.specs.declared.kinds.Kind.{Kind}
 use Rattle.custom_info.specs.declared.kinds.Kind.TheVariants as kinds
 use Rattle.custom_info.specs.declared.stepping.AsyncStep.{AsyncStep}
-use Rattle.ppdb_maps.specs.Map.{Map, is_dropped, signature_line}
+use Rattle.ppdb_maps.specs.Map.{Map, is_dropped, signature_line, is_gone_row}
 use Rattle.ppdb_tables.specs.declared.rows.MachineRow.{MachineRow}
 use Rattle.ppdb_values.specs.declared.custom.CustomBody.{CustomBody}
 use Rattle.ppdb_values.specs.declared.custom.CustomBody.TheVariants.{Async, Hoisted, TypeDocuments, Unread}
@@ -35,7 +35,7 @@ use Rattle.ppdb_merge_items.specs.declared.file.AnnotatedFile.{AnnotatedFile}
 use Rattle.ppdb_merge_items.specs.Each.{Each}
 use Rattle.ppdb_merge_items.specs.NamedRows.{Named, names, names_some, in_token, in_body, in_constant, in_import, in_steps, in_entry, all_named}
 use Rattle.ppdb_merge_items.specs.NamedRows.{live_file, live_method, live_scope, live_machine, live_custom, live_signature, with_live_signature}
-use Rattle.ppdb_merge_items.specs.NamedRows.{is_gone_row, live_constants, live_import, live_imports, with_live_constants, with_live_imports}
+use Rattle.ppdb_merge_items.specs.NamedRows.{live_constants, live_import, live_imports, with_live_constants, with_live_imports}
 use Rattle.ppdb_merge_items.specs.Annotated.{items_of, with_item}
 use Rattle.ppdb_merge_items.specs.Unannotated.{value_of_annotated}
 use Rattle.ppdb_merge_items.proofs.Lists.{Each-append, Each-filter, Each-map, Each-weaker, each_row}

@@ -21,7 +21,7 @@ use Rattle.custom_info.specs.declared.slots.Range.{Range}
 use Rattle.custom_info.specs.declared.slots.Slot.{Slot}
 use Rattle.custom_info.specs.declared.slots.Slot.TheVariants.{Empty, Held}
 use Rattle.custom_info.specs.declared.stepping.AsyncStep.{AsyncStep}
-use Rattle.ppdb_maps.specs.Map.{Map, MethodLine, row_image, row_within, moved_row, offsets_in, is_dropped, line_offsets, method_line}
+use Rattle.ppdb_maps.specs.Map.{Map, MethodLine, row_image, row_within, moved_row, offsets_in, is_dropped, line_offsets, method_line, is_in_table}
 use Rattle.ppdb_maps.specs.declared.entries.CrossLine.{CrossLine}
 use Rattle.ppdb_maps.specs.declared.image.RowImage.TheVariants.{Row}
 use Rattle.ppdb_maps.specs.Forms.{Crosses, IsTypeTable}
@@ -42,7 +42,7 @@ use Rattle.ppdb_values_sound_laws.specs.Imports.{SoundImport}
 use Rattle.ppdb_values_sound_laws.specs.Named.{count, HasRow, HasType, type_limits}
 use Rattle.ppdb_values_sound_laws.specs.Scopes.{SoundConstant, stored_body}
 use Rattle.ppdb_merge_items.specs.Each.{Each, Pairs}
-use Rattle.ppdb_merge_items.specs.NamedRows.{names, in_token, in_body, in_constant, in_import, in_steps, is_gone_type, is_in_table}
+use Rattle.ppdb_merge_items.specs.NamedRows.{names, in_token, in_body, in_constant, in_import, in_steps, is_gone_type}
 use Rattle.ppdb_merge_items.specs.NamedRows.{live_body, live_constant, live_constants, with_live_body}
 use Rattle.ppdb_merge_items.specs.Annotated.{items_of, with_item}
 use Rattle.ppdb_merge_items.proofs.Lists.{Each-filter, Each-map, Each-unmap, Pairs-map, Pairs-unmap}

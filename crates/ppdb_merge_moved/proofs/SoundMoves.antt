@@ -14,7 +14,7 @@ use Rattle.ppdb_maps.specs.declared.entries.CrossLine.{CrossLine}
 use Rattle.ppdb_maps.specs.declared.image.RowImage.{RowImage}
 use Rattle.ppdb_maps.specs.declared.image.RowImage.TheVariants.{Row}
 use Rattle.ppdb_maps.specs.Forms.{Crosses, IsTypeTable}
-use Rattle.ppdb_maps.specs.Map.{Map, row_image, row_within, moved_row, offsets_in, is_dropped, line_offsets, method_line}
+use Rattle.ppdb_maps.specs.Map.{Map, row_image, row_within, moved_row, offsets_in, is_dropped, line_offsets, method_line, is_gone_row, leaves_table}
 use Rattle.ppdb_maps.specs.Readable.{IsReadable}
 use Rattle.ppdb_tables.specs.declared.rows.MachineRow.{MachineRow}
 use Rattle.row_layout.specs.Columns.{parent_tables}
@@ -46,7 +46,7 @@ use Rattle.ppdb_merge_items.specs.declared.file.AnnotatedScope.{AnnotatedScope}
 use Rattle.ppdb_merge_items.specs.declared.file.AnnotatedFile.{AnnotatedFile}
 use Rattle.ppdb_merge_items.specs.Each.{Each, Pairs}
 use Rattle.ppdb_merge_items.specs.NamedRows.{names, names_some, named_rows, live_machine, live_custom, live_scope, live_signature, in_constant, in_import, in_steps}
-use Rattle.ppdb_merge_items.specs.NamedRows.{is_gone_row, is_type_documents, leaves_table, live_constant, live_constants, live_import, live_imports, with_live_body}
+use Rattle.ppdb_merge_items.specs.NamedRows.{is_type_documents, live_constant, live_constants, live_import, live_imports, with_live_body}
 use Rattle.ppdb_merge_items.specs.SoundParts.{SoundMoved, SoundNote, SoundAnnotatedScope}
 use Rattle.ppdb_merge_items.specs.Unannotated.{value_of_annotated}
 use Rattle.ppdb_merge_items.specs.Annotated.{items_of, with_item}

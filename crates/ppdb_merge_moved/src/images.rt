@@ -1,7 +1,6 @@
 // What the image of a row says.
 ghost use Rattle.std.specs.Prelude.{◌≡◌};
-ghost use Rattle.ppdb_maps.specs.Map.{is_gone, row_image};
-ghost use Rattle.ppdb_merge_items.specs.NamedRows.{is_gone_row, is_in_table, leaves_table};
+ghost use Rattle.ppdb_maps.specs.Map.{is_gone, row_image, is_gone_row, is_in_table, leaves_table};
 ghost use Rattle.ppdb_merge_moved.specs.Moved.{moved_token, row_in, table_in};
 
 use ppdb_maps::{MapText, RowImage};

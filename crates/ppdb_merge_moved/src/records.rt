@@ -1,8 +1,8 @@
 // Custom records, moved in their places.
 ghost use Rattle.std.specs.Prelude.{◌≡◌, ◌&&◌, cond, option_map, Some, None};
 ghost use Rattle.ppdb_base.specs.Offsets.{moved};
-ghost use Rattle.ppdb_maps.specs.Map.{offsets_in, row_image};
-ghost use Rattle.ppdb_merge_items.specs.NamedRows.{is_type_documents, leaves_table, live_custom};
+ghost use Rattle.ppdb_maps.specs.Map.{offsets_in, row_image, leaves_table};
+ghost use Rattle.ppdb_merge_items.specs.NamedRows.{is_type_documents, live_custom};
 
 use crate::images::{is_gone, leaves_table, row_in, table_in};
 use crate::moves::{InMethod, Moves, Stays, move_all};

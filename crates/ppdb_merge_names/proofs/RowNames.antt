@@ -6,7 +6,7 @@ use Rattle.ppdb_base.specs.Place.{at_byte, cell}
 use Rattle.custom_info.specs.Kinds.{kind_of}
 use Rattle.custom_info.specs.declared.kinds.Kind.{Kind}
 use Rattle.custom_info.specs.declared.kinds.Kind.TheVariants.{Async}
-use Rattle.ppdb_maps.specs.Map.{Map, is_dropped, signature_line, row_image}
+use Rattle.ppdb_maps.specs.Map.{Map, is_dropped, signature_line, row_image, is_gone_row, leaves_table}
 use Rattle.ppdb_tables.specs.declared.parent.Parent.{Parent}
 use Rattle.ppdb_tables.specs.declared.rows.MethodDebugRow.{MethodDebugRow}
 use Rattle.ppdb_tables.specs.declared.rows.ScopeRow.{ScopeRow}
@@ -22,7 +22,7 @@ use Rattle.ppdb_values.specs.RawFile.{RawFile}
 use Rattle.ppdb_values.specs.Rows.{ValuesAreRows, method_in}
 use Rattle.ppdb_values.specs.Value.{value_of}
 use Rattle.ppdb_merge_names.specs.References.{Reference, names, names_some, of_entry, of_signature, of_points, of_method, of_scope, of_machine, methods_in}
-use Rattle.ppdb_merge_names.specs.References.{is_gone_row, leaves_table, is_type_documents, is_live_parent, leaves_types, is_live_record, of_parent, of_custom}
+use Rattle.ppdb_merge_names.specs.References.{is_type_documents, is_live_parent, leaves_types, is_live_record, of_parent, of_custom}
 
 abbrev if_kept : Bool → List Reference → List Reference
 if_kept dropped rs = cond dropped [] rs

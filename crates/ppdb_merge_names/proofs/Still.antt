@@ -10,7 +10,7 @@ use Rattle.blob_grammar.specs.Places.{placed_of}
 use Rattle.blob_grammar.specs.Grammar.{Value, number}
 use Rattle.blob_grammar.specs.Reader.{prefix_of}
 use Rattle.custom_info.specs.AsyncStepping.{async_stepping}
-use Rattle.ppdb_maps.specs.Map.{Map, is_dropped, signature_line, row_image, told_image, has_gone_line, row_line, cross_line, count_of, is_gone}
+use Rattle.ppdb_maps.specs.Map.{Map, is_dropped, signature_line, row_image, told_image, has_gone_line, row_line, cross_line, count_of, is_gone, is_gone_row}
 use Rattle.ppdb_maps.specs.Readable.{IsReadable, IsGoneOf}
 use Rattle.ppdb_maps.specs.declared.entries.CrossLine.{CrossLine}
 use Rattle.ppdb_maps.specs.declared.entries.GoneLine.{GoneLine}
@@ -31,7 +31,7 @@ use Rattle.ppdb_values.specs.Imports.{heap_of}
 use Rattle.ppdb_values.specs.RawFile.{RawFile, blob, type_limits}
 use Rattle.type_blobs_rows.specs.declared.row.PlacedRow.{PlacedRow}
 use Rattle.type_blobs_rows.specs.Rows.{constant_types, import_rows, method_behind, resume_method, resume_methods}
-use Rattle.ppdb_merge_names.specs.References.{names, names_some, inside, is_gone_row, is_live, takes_constant, live_types, of_entry, of_signature}
+use Rattle.ppdb_merge_names.specs.References.{names, names_some, inside, is_live, takes_constant, live_types, of_entry, of_signature}
 use Rattle.ppdb_merge_names.specs.References.{of_points, of_method, of_scope, is_dropped_constant, of_constant, of_import, of_machine, methods_in}
 use Rattle.ppdb_merge_names.specs.References.{of_parent, leaves_types, of_custom, of_methods, of_others, references}
 use Rattle.ppdb_merge_names.proofs.Going.{IsStill}

@@ -2,14 +2,14 @@
 use Rattle.std.proofs.Common.{◌≡◌, ℕ, ◌&&◌, ◌||◌, Bool, true, false, cond, List, [], ◌∷◌, ◌++◌, Option, Some, None, slice_get, refl, ap, ◌∙◌, filter}
 use Rattle.std.specs.Prelude.{is_some, not, nat_eq}
 use Rattle.std.specs.List.{list_any}
-use Rattle.ppdb_maps.specs.Map.{Map, count_of, cross_line, has_gone_line, is_dropped, is_gone, row_line, told_image}
+use Rattle.ppdb_maps.specs.Map.{Map, count_of, cross_line, has_gone_line, is_dropped, is_gone, row_line, told_image, is_gone_row}
 use Rattle.ppdb_maps.specs.declared.entries.CrossLine.{CrossLine}
 use Rattle.ppdb_maps.specs.declared.entries.GoneLine.{GoneLine}
 use Rattle.ppdb_maps.specs.declared.image.RowImage.{RowImage}
 use Rattle.ppdb_maps.specs.declared.image.RowImage.TheVariants.{Missing, Row}
 use Rattle.type_blobs_rows.specs.declared.row.PlacedRow.{PlacedRow}
 use Rattle.type_blobs_rows.specs.Walk.{first_of, rest_of}
-use Rattle.ppdb_merge_names.specs.References.{Reference, inside, is_enumeration, is_gone_row, is_live, takes_constant, live_types}
+use Rattle.ppdb_merge_names.specs.References.{Reference, inside, is_enumeration, is_live, takes_constant, live_types}
 
 pub first_is : (rows : List PlacedRow) (row : PlacedRow) → first_of rows ≡ Some row → rows ≡ row ∷ rest_of rows
 first_is [] row e = absurd cc

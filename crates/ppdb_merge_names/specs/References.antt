@@ -6,7 +6,7 @@ use Rattle.ppdb_values.specs.Names.{CustomRow, RawTables, count, numbered, row_a
 use Rattle.std.specs.Prelude.{map, filter, ℕ, ◌&&◌, ◌||◌, not, Bool, true, false, cond, nat_eq, nat_lt, is_some, List, [], ◌∷◌, ◌++◌, Option, Some, None, flat_map}
 use Rattle.std.specs.Prelude.{option_and_then}
 use Rattle.custom_info.specs.declared.kinds.Kind.TheVariants.{TypeDocuments}
-use Rattle.ppdb_maps.specs.{Map.{Map, is_dropped, signature_line, row_image, is_gone}, declared.image.RowImage.{RowImage, TheVariants.Row}}
+use Rattle.ppdb_maps.specs.Map.{Map, is_dropped, is_gone_row, is_in_table, leaves_table, row_image, signature_line}
 use Rattle.ppdb_values.specs.{declared.file.MethodValue.MethodValue, RawFile.{RawFile, blob, type_limits}, Documents.method_of, Imports.heap_of}
 use Rattle.ppdb_values.specs.{Customs.{parent_of, kind_in}, Value.owner_of}
 use Rattle.type_blobs_rows.specs.declared.row.{PlacedRow.PlacedRow, Role.{Role, TheVariants.{Enumeration, AliasedAssembly}}}
@@ -30,19 +30,6 @@ abbrev pub inside : ℕ → ℕ → ℕ → List PlacedRow → List Reference
 inside table row column rows = map (λ (x : PlacedRow). names (record (cell table row column) { byte = x.byte }) x.table x.row) rows
 
 -- ---- what is removed
-
-abbrev pub is_gone_row : Map → ℕ → ℕ → Bool
-is_gone_row m table row = is_gone (row_image m table row)
-
--- the image is a row of this table
-abbrev pub is_in_table : ℕ → RowImage → Bool
-is_in_table table (Row other row) = nat_eq other table
-is_in_table table image = false
-
--- the image is a row of another table than this
-abbrev pub leaves_table : ℕ → RowImage → Bool
-leaves_table table (Row other row) = not (nat_eq other table)
-leaves_table table image = false
 
 abbrev pub is_enumeration : Role → Bool
 is_enumeration Enumeration = true

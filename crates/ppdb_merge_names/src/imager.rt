@@ -1,8 +1,8 @@
 // The images that were found so far.
 ghost use Rattle.std.specs.Prelude.{◌≡◌, ◌||◌, ◌∷◌, [], is_some, slice_get};
-ghost use Rattle.ppdb_maps.specs.Map.{is_dropped, row_image, signature_line};
+ghost use Rattle.ppdb_maps.specs.Map.{is_dropped, row_image, signature_line, is_gone_row, leaves_table};
 ghost use Rattle.ppdb_merge_names.specs.Imaging.{Goes};
-ghost use Rattle.ppdb_merge_names.specs.References.{is_gone_row, is_live, leaves_table, names, names_some, takes_constant};
+ghost use Rattle.ppdb_merge_names.specs.References.{is_live, names, names_some, takes_constant};
 
 use crate::imaged::{Imaged, ReferenceError};
 use ppdb_base::{List, Place};

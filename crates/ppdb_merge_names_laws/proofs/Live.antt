@@ -3,7 +3,7 @@ use Rattle.std.proofs.Common.{◌≡◌, Bool, true, false, ◌&&◌, ◌||◌, 
 use Rattle.std.specs.List.{flat_map, list_any}
 use Rattle.std.proofs.lemmas.List.{map-append}
 use Rattle.std.proofs.lemmas.List.Elements.{filter-append}
-use Rattle.ppdb_maps.specs.Map.{Map, row_image}
+use Rattle.ppdb_maps.specs.Map.{Map, row_image, is_gone_row, is_in_table}
 use Rattle.type_blobs.specs.declared.types.Modifier.{Modifier}
 use Rattle.type_blobs_rows.specs.declared.row.PlacedRow.{PlacedRow}
 use Rattle.type_blobs_rows.specs.declared.row.Role.{Role}
@@ -13,7 +13,7 @@ use Rattle.ppdb_values.specs.declared.scope.ConstantBody.TheVariants.{Enumerated
 use Rattle.ppdb_values.specs.declared.import.ImportValue.{ImportValue}
 use Rattle.ppdb_values.specs.declared.import.ImportValue.TheVariants.{AssemblyNamespace, Target, AssemblyAlias, AssemblyNamespaceAlias, TargetAlias}
 use Rattle.ppdb_merge_names.specs.References.{is_enumeration, is_aliased, is_live, takes_constant, live_types}
-use Rattle.ppdb_merge_items.specs.NamedRows.{Named, names, in_token, in_body, in_import, is_gone_row, is_gone_type, is_in_table, names_gone_class}
+use Rattle.ppdb_merge_items.specs.NamedRows.{Named, names, in_token, in_body, in_import, is_gone_type, names_gone_class}
 use Rattle.ppdb_merge_items.specs.NamedRows.{live_body, live_import}
 use Rattle.ppdb_merge_names_laws.proofs.FieldWalks.{row_named}
 

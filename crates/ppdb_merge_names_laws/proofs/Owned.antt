@@ -15,7 +15,7 @@ use Rattle.type_blobs.specs.Imports.{imports as import_grammar}
 use Rattle.type_blobs.specs.Constants.{constants, body_of}
 use Rattle.type_blobs_rows.specs.Rows.{constant_types, import_rows}
 use Rattle.custom_info.specs.AsyncStepping.{async_stepping, Entry, catch_handler, await_step}
-use Rattle.ppdb_maps.specs.Map.{Map, is_dropped, row_image}
+use Rattle.ppdb_maps.specs.Map.{Map, is_dropped, row_image, is_gone_row, leaves_table}
 use Rattle.ppdb_tables.specs.declared.rows.ScopeRow.{ScopeRow}
 use Rattle.ppdb_tables.specs.declared.rows.ConstantRow.{ConstantRow}
 use Rattle.ppdb_tables.specs.declared.rows.ImportRow.{ImportRow}
@@ -41,7 +41,7 @@ use Rattle.ppdb_merge_names.specs.Lists.{of_list, of_scope_constants}
 use Rattle.ppdb_merge_names.proofs.ConstantLists.{all-scopes, get_numbered, get_take, get_drop, scope_in}
 use Rattle.ppdb_merge_items.specs.declared.file.AnnotatedScope.{AnnotatedScope}
 use Rattle.ppdb_merge_items.specs.Annotated.{annotated_file, with_item}
-use Rattle.ppdb_merge_items.specs.NamedRows.{Named, names, in_constant, in_import, in_steps, is_gone_row, leaves_table, live_scope, live_machine, live_custom}
+use Rattle.ppdb_merge_items.specs.NamedRows.{Named, names, in_constant, in_import, in_steps, live_scope, live_machine, live_custom}
 use Rattle.ppdb_merge_items.specs.NamedRows.{is_type_documents as is_documents_body, live_constant, with_live_body, live_constants, with_live_constants, live_imports}
 use Rattle.ppdb_merge_items.specs.NamedRows.{with_live_imports}
 use Rattle.ppdb_merge_names_laws.proofs.FieldWalks.{row_named}

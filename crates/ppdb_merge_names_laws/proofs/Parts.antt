@@ -5,7 +5,7 @@ use Rattle.std.specs.Option.{option_map}
 use Rattle.std.proofs.lemmas.List.Concat.{flat_map_single}
 use Rattle.ppdb_base.specs.declared.fault.Place.{Place}
 use Rattle.ppdb_base.specs.Place.{at_byte, cell}
-use Rattle.ppdb_maps.specs.Map.{Map, is_dropped, signature_line}
+use Rattle.ppdb_maps.specs.Map.{Map, is_dropped, signature_line, is_gone_row}
 use Rattle.ppdb_tables.specs.declared.rows.MethodDebugRow.{MethodDebugRow}
 use Rattle.ppdb_tables.specs.declared.rows.ScopeRow.{ScopeRow}
 use Rattle.ppdb_tables.specs.RawTables.{RawTables, numbered}
@@ -17,7 +17,7 @@ use Rattle.type_blobs_rows.specs.declared.row.PlacedRow.{PlacedRow}
 use Rattle.ppdb_merge_names.specs.References.{names as names_at, names_some as some_at, inside, of_entry, of_signature, of_points, of_method, of_scope}
 use Rattle.ppdb_merge_items.specs.declared.file.AnnotatedScope.{AnnotatedScope}
 use Rattle.ppdb_merge_items.specs.Annotated.{annotated_file, annotated_scope}
-use Rattle.ppdb_merge_items.specs.NamedRows.{Named, names, names_some, in_entry, live_file, is_gone_row, live_method, live_scope, live_signature, with_live_signature}
+use Rattle.ppdb_merge_items.specs.NamedRows.{Named, names, names_some, in_entry, live_file, live_method, live_scope, live_signature, with_live_signature}
 use Rattle.ppdb_merge_items.specs.NamedRows.{with_live_constants}
 use Rattle.ppdb_merge_names_laws.proofs.FieldWalks.{row_named}
 use Rattle.ppdb_merge_names_laws.proofs.Listed.{unplaced, unplaced-flat, flat_map-made, named-mapped, named-filtered, numbered-made, map-twice}

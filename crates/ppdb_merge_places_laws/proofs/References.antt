@@ -7,7 +7,7 @@ use Rattle.custom_info.specs.Kinds.{kind_of}
 use Rattle.custom_info.specs.declared.kinds.Kind.{Kind}
 use Rattle.custom_info.specs.declared.kinds.Kind.TheVariants.{Async}
 use Rattle.type_blobs_rows.specs.Rows.{constant_types, import_rows}
-use Rattle.ppdb_maps.specs.Map.{Map, is_dropped, signature_line}
+use Rattle.ppdb_maps.specs.Map.{Map, is_dropped, signature_line, is_gone_row}
 use Rattle.ppdb_tables.specs.declared.rows.MethodDebugRow.{MethodDebugRow}
 use Rattle.ppdb_tables.specs.declared.rows.ScopeRow.{ScopeRow}
 use Rattle.ppdb_tables.specs.declared.rows.ConstantRow.{ConstantRow}
@@ -24,7 +24,7 @@ use Rattle.ppdb_merge_items.specs.Each.{Each, Pairs}
 use Rattle.ppdb_merge_items.proofs.Lists.{Each-weaker}
 use Rattle.ppdb_merge_names.specs.References.{Reference, names, of_entry, of_points, of_method, of_scope, types_of, of_constant}
 use Rattle.ppdb_merge_names.specs.References.{is_dropped_constant, of_import, of_machine, methods_in, methods_of, of_parent, is_live_record, of_custom}
-use Rattle.ppdb_merge_names.specs.References.{is_gone_row, is_live, live_types}
+use Rattle.ppdb_merge_names.specs.References.{is_live, live_types}
 use Rattle.ppdb_merge_names.specs.References.{of_methods, of_others, references}
 use Rattle.ppdb_merge_fits.proofs.First.{append_is}
 use Rattle.ppdb_merge_places_laws.specs.References.{reference_numbers, ReferencesRise}

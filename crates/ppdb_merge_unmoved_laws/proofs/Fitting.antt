@@ -27,8 +27,9 @@ use Rattle.ppdb_merge_items.proofs.Lists.{Each-weaker, each_of}
 use Rattle.ppdb_merge_joined.specs.Joined.{joined}
 use Rattle.ppdb_merge_joined.specs.Laws.{OneFileStays}
 use Rattle.ppdb_merge_moved.specs.Fits.{AreWithin, EndsWithin, Fits, HasSlot, IsImaged, IsKept, KeepsAsync, KeepsStep}
-use Rattle.ppdb_merge_unmoved_laws.specs.NoLines.{no_lines, SoundFilesStay}
+use Rattle.ppdb_merge_unmoved_laws.specs.NoLines.{SoundFilesStay}
 use Rattle.ppdb_merge_unmoved_laws.proofs.Staying.{image_row, IsSmallBody, small_body, small_points, file_same}
+use Rattle.ppdb_maps.specs.Map.{no_lines}
 
 readable : IsReadable no_lines
 unfolding IsStrictlySortedBy

@@ -20,7 +20,7 @@ use Rattle.sequence_points.specs.MovedPoints.{moved_points, first_offset}
 use Rattle.type_blobs.specs.declared.types.TypeToken.{TypeToken}
 use Rattle.type_blobs.specs.declared.types.Modifier.{Modifier}
 use Rattle.ppdb_maps.specs.declared.image.RowImage.TheVariants.{Row, Missing}
-use Rattle.ppdb_maps.specs.Map.{is_gone, row_image, row_within, moved_row}
+use Rattle.ppdb_maps.specs.Map.{is_gone, row_image, row_within, moved_row, is_gone_row, leaves_table, no_lines}
 use Rattle.ppdb_tables.specs.declared.rows.MachineRow.{MachineRow}
 use Rattle.ppdb_values.specs.declared.custom.CustomBody.{CustomBody}
 use Rattle.ppdb_values.specs.declared.custom.CustomBody.TheVariants.{Async, Hoisted, TypeDocuments, Unread}
@@ -40,7 +40,7 @@ use Rattle.ppdb_values_sound_laws.specs.Named.{count}
 use Rattle.ppdb_merge_items.specs.declared.file.AnnotatedScope.{AnnotatedScope}
 use Rattle.ppdb_merge_items.specs.declared.file.AnnotatedFile.{AnnotatedFile}
 use Rattle.ppdb_merge_items.specs.Each.{Each, Pairs}
-use Rattle.ppdb_merge_items.specs.NamedRows.{is_gone_row, is_gone_type, is_type_documents, leaves_table, leaves_types, live_body, live_constant, live_constants}
+use Rattle.ppdb_merge_items.specs.NamedRows.{is_gone_type, is_type_documents, leaves_types, live_body, live_constant, live_constants}
 use Rattle.ppdb_merge_items.specs.NamedRows.{live_custom, live_import, names_gone_class, with_live_body}
 use Rattle.ppdb_merge_items.specs.SoundParts.{SoundIn, SoundAnnotatedScope}
 use Rattle.ppdb_merge_items.proofs.Lists.{Each-weaker, each_of}
@@ -52,7 +52,6 @@ use Rattle.ppdb_merge_moved.specs.Moved.{moved_import_scope, moved_machine, move
 use Rattle.ppdb_merge_moved.specs.Moved.{moved_token, moved_variable, scope_image, with_points, is_link, linked, moved_document, moved_parent, moved_record}
 use Rattle.ppdb_merge_moved.specs.Moved.{row_in, table_in}
 use Rattle.ppdb_merge_moved.proofs.RisingPoints.{itself_moved}
-use Rattle.ppdb_merge_unmoved_laws.specs.NoLines.{no_lines}
 
 -- ---- rows and offsets
 

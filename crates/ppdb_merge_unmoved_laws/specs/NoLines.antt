@@ -1,25 +1,9 @@
 -- Files and the map without lines (docs/FORMAT.md, "Map texts").
-use Rattle.std.specs.Prelude.{◌≡◌, false, [], ◌∷◌, None}
-use Rattle.ppdb_maps.specs.Map.{Map}
+use Rattle.std.specs.Prelude.{◌≡◌, [], ◌∷◌}
+use Rattle.ppdb_maps.specs.Map.{no_lines}
 use Rattle.ppdb_values.specs.declared.file.FileValue.{FileValue}
 use Rattle.ppdb_values_sound_laws.specs.Sound.{IsSound}
 use Rattle.ppdb_merge_meaning_laws.specs.Kept.{MovedBy, InputsFit, joined_inputs}
-
-abbrev pub no_lines : Map
-no_lines = record {
-  counts = [];
-  rows = [];
-  crossed = [];
-  gone = [];
-  methods = [];
-  drops = [];
-  slotted = [];
-  slots = [];
-  signatures = [];
-  documents = [];
-  link = None;
-  shares = false;
-}
 
 abbrev pub left_alone : FileValue → MovedBy
 left_alone value = record { value = value; map = no_lines }

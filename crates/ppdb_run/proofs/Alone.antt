@@ -11,7 +11,7 @@ use Rattle.custom_info.specs.declared.kinds.Kind.TheVariants.{Unknown}
 use Rattle.ppdb_merge_names_laws.specs.Laws.{ReferencesAreNamed, named_by}
 use Rattle.ppdb_base.specs.declared.merge_error.MergeError.{MergeError}
 use Rattle.ppdb_base.specs.declared.merge_error.MergeError.TheVariants.{Memory}
-use Rattle.ppdb_maps.specs.Map.{Map, row_image}
+use Rattle.ppdb_maps.specs.Map.{Map, row_image, is_gone_row}
 use Rattle.ppdb_maps.specs.declared.image.RowImage.TheVariants.{Row}
 use Rattle.ppdb_maps.specs.Readable.{IsReadable}
 use Rattle.ppdb_maps.specs.Sample.{sample_map_of}
@@ -24,7 +24,7 @@ use Rattle.ppdb_values.specs.Value.{value_of}
 use Rattle.ppdb_values.specs.declared.custom.CustomValue.{CustomValue}
 use Rattle.ppdb_values.specs.declared.file.FileValue.{FileValue}
 use Rattle.ppdb_merge_items.specs.Each.{Each}
-use Rattle.ppdb_merge_items.specs.NamedRows.{Named, is_gone_row, named_rows}
+use Rattle.ppdb_merge_items.specs.NamedRows.{Named, named_rows}
 use Rattle.ppdb_merge_items.specs.Annotated.{annotated_file}
 use Rattle.ppdb_merge_items.specs.Sorted.{in_order}
 use Rattle.ppdb_merge_items.specs.Unannotated.{value_of_annotated}

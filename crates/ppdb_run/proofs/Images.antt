@@ -9,9 +9,8 @@ use Rattle.ppdb_maps.specs.declared.entries.CrossLine.{CrossLine}
 use Rattle.ppdb_maps.specs.declared.image.RowImage.{RowImage}
 use Rattle.ppdb_maps.specs.declared.image.RowImage.TheVariants.{Row, Missing}
 use Rattle.ppdb_maps.specs.Forms.{Crosses, IsTypeTable}
-use Rattle.ppdb_maps.specs.Map.{Map, count_of, cross_line, has_gone_line, is_dropped, is_gone, line_image, row_image, row_line, told_image}
+use Rattle.ppdb_maps.specs.Map.{Map, count_of, cross_line, has_gone_line, is_dropped, is_gone, line_image, row_image, row_line, told_image, is_gone_row}
 use Rattle.ppdb_maps.specs.Readable.{IsReadable, IsCount, IsCrossOf}
-use Rattle.ppdb_merge_items.specs.NamedRows.{is_gone_row}
 
 -- ---- tables that no map counts
 

@@ -5,7 +5,10 @@ use Rattle.std.proofs.lemmas.Bool.{cases_lt}
 use Rattle.ppdb_base.specs.Files.{Files, Reading, Missing, Longer, Contents, reading}
 use Rattle.ppdb_base.specs.declared.limits.TheConstants.{MAX_FILE_BYTES}
 use Rattle.map_compose.specs.Composed.{composed}
+use Rattle.map_compose.specs.Composition.{IsTextOfBoth}
 use Rattle.map_compose.proofs.Differing.{sizes_are_judged}
+use Rattle.map_compose.proofs.Readable.{text_of_both}
+use Rattle.map_compose_determined_laws.proofs.Determined.{texts_of_both_are_one}
 use Rattle.ppdb_maps_text.specs.MapTexts.{map_text}
 use Rattle.ppdb_maps_text.proofs.Judged.{texts_are_judged}
 use Rattle.ppdb_maps.specs.Map.{Map}
@@ -34,22 +37,24 @@ one_text name text (Err a) (Err b) h k =
 pub one_map : (files : Files) (name : List ℕ) → GivesOne (λ x y. x ≡ y) (map_at files name)
 one_map files name = one_then (file_at files name) (map_in name) (one_given (input_of name (reading files name MAX_FILE_BYTES))) (one_text name)
 
-within : (f s : Map) (text : List ℕ) → text ≡ map_text (composed f s) → length text ≤ MAX_FILE_BYTES → MAX_FILE_BYTES < length (map_text (composed f s)) → ⊥
-within f s text is short long = let same : length text ≡ length (map_text (composed f s)) = ap length is in omega (arith, short, long, same)
+within : (f s : Map) (text other : List ℕ) → IsTextOfBoth f s text → IsTextOfBoth f s other → length text ≤ MAX_FILE_BYTES → MAX_FILE_BYTES < length other → ⊥
+within f s text other is also short long =
+    let same : length text ≡ length other = ap length (texts_of_both_are_one f s text other is also) in omega (arith, short, long, same)
 
 -- the sizes agree or do not, and the text is too long or is not
 one_text_of : (f s : Map) → GivesOne (λ x y. x ≡ y) (composed_text f s)
-one_text_of f s (Ok x) (Ok y) h k = h.1 ∙ sym k.1
+one_text_of f s (Ok x) (Ok y) h k = texts_of_both_are_one f s x y h.1 k.1
 one_text_of f s (Ok x) (Err b) h (inl k) = sizes_are_judged.apart f s k.0 k.1 k.2 h.0 k.3
-one_text_of f s (Ok x) (Err b) h (inr k) = within f s x h.1 h.2 k.1
+one_text_of f s (Ok x) (Err b) h (inr k) = within f s x k.1.0 h.1 k.1.1 h.2 k.1.2
 one_text_of f s (Err a) (Ok y) (inl h) k = sizes_are_judged.apart f s h.0 h.1 h.2 k.0 h.3
-one_text_of f s (Err a) (Ok y) (inr h) k = within f s y k.1 k.2 h.1
+one_text_of f s (Err a) (Ok y) (inr h) k = within f s y h.1.0 k.1 h.1.1 k.2 h.1.2
 one_text_of f s (Err a) (Err b) (inl h) (inl k) =
     let one = sizes_are_judged.one f s h.0 h.1 h.2 k.0 k.1 k.2 h.3 k.3 in
     h.4 ∙ (ap (λ m. sizes_differ m h.1 h.2) one.0 ∙ (ap (λ n. sizes_differ k.0 n h.2) one.1 ∙ ap (sizes_differ k.0 k.1) one.2)) ∙ sym k.4
 one_text_of f s (Err a) (Err b) (inl h) (inr k) = absurd (sizes_are_judged.apart f s h.0 h.1 h.2 k.0 h.3)
 one_text_of f s (Err a) (Err b) (inr h) (inl k) = absurd (sizes_are_judged.apart f s k.0 k.1 k.2 h.0 k.3)
-one_text_of f s (Err a) (Err b) (inr h) (inr k) = h.2 ∙ sym k.2
+one_text_of f s (Err a) (Err b) (inr h) (inr k) =
+    h.1.3 ∙ (ap (λ text. map_limited (length text)) (texts_of_both_are_one f s h.1.0 k.1.0 h.1.1 k.1.1) ∙ sym k.1.3)
 
 pub one_composed : (first second output : List ℕ) (files : Files) (r t : Result Outcome Outcome) → steps_of (Compose first second output) files r
     → steps_of (Compose first second output) files t → r ≡ t
@@ -74,12 +79,13 @@ map_given name files given refuses = by_reading (reading files name MAX_FILE_BYT
         (λ n kind invalid. refuses (no_map name n kind) (inl (text, read, (n, kind, invalid, refl))))
 
 -- two maps have a text, or are refused
-text_given : (f s : Map) → IsReadable f → ((text : List ℕ) → composed_text f s (Ok text) → ⊥)
+text_given : (f s : Map) → IsReadable f → IsReadable s → ((text : List ℕ) → composed_text f s (Ok text) → ⊥)
     → ((refusal : Outcome) → composed_text f s (Err refusal) → ⊥) → ⊥
-text_given f s readable given refuses = elim (sizes_are_judged.judged f s readable) [
+text_given f s readable also given refuses = elim (sizes_are_judged.judged f s readable) [
   | inl agree ↦ elim (cases_lt MAX_FILE_BYTES (length (map_text (composed f s)))) [
-    | inl long ↦ refuses (map_limited (length (map_text (composed f s)))) (inr (agree, long, refl))
-    | inr short ↦ given (map_text (composed f s)) (agree, refl, short)
+    | inl long ↦ refuses (map_limited (length (map_text (composed f s))))
+        (inr (agree, (map_text (composed f s), text_of_both f s readable also agree, long, refl)))
+    | inr short ↦ given (map_text (composed f s)) (agree, text_of_both f s readable also agree, short)
   ]
   | inr differ ↦ refuses (sizes_differ differ.method differ.first differ.second) (inl (differ.method, differ.first, differ.second, differ.is, refl))
 ]
@@ -89,7 +95,7 @@ pub some_composed : (first second output : List ℕ) (files : Files)
 some_composed first second output files none =
     map_given first files
     (λ f one readable. map_given second files
-    (λ s other _. text_given f s readable
+    (λ s other also. text_given f s readable also
     (λ text is. none (written output text) (inl (inl (f, one, inl (s, other, inl (text, is, refl))))))
     (λ refusal is. none refusal (inr (inl (f, one, inl (s, other, inr (refusal, is, refl)))))))
     (λ refusal is. none refusal (inr (inl (f, one, inr (refusal, is, refl))))))

@@ -61,7 +61,7 @@ module _ (m : Map) where
         (enumerate_from (n + 1) ds) pairs.0 (all_silent (n + 1) ds pairs.1),
   )
 
-  pub documents_silent : (value : FileValue) → Pairs (NamesDiffer m) (annotated_file value).documents → documents_twice m value ≡ []
+  pub documents_silent : (value : FileValue) → Pairs (NamesDiffer m) (annotated_file value).documents → documents_twice m value.documents ≡ []
   documents_silent value pairs =
       flat_nil (name_twice m value.documents) rows
       (Each-weaker (λ second. Each (IsSilent second) rows) (λ second. name_twice m value.documents second ≡ [])

@@ -28,7 +28,7 @@ use Rattle.ppdb_merge_joined.proofs.Each.{Each-flat}
 use Rattle.ppdb_merge_moved.specs.Fits.{may_share, IsImaged, AreApart, HasSlot, SlotsAreApart}
 use Rattle.ppdb_merge_moved.proofs.Elements.{each_in}
 use Rattle.ppdb_merge_moved.proofs.Lists.{Each-filter_map}
-use Rattle.ppdb_merge_fits.specs.Rows.{image_key, imaged, imaged_to, if_unmapped, image_twice, images_twice, is_row, unmapped, unshared}
+use Rattle.ppdb_merge_fits.specs.Rows.{image_key, imaged, imaged_to, if_unmapped, image_twice, is_row, unmapped, unshared, imaged_rows, rows_twice}
 use Rattle.ppdb_merge_fits.specs.Slots.{scope_slots, variable_slots, if_slot_unmapped, slots_unmapped, used, slot_twice, slots_twice}
 use Rattle.ppdb_merge_fits.specs.Twice.{beside, beside_from, each_once, is_same, if_one_image, twice}
 use Rattle.ppdb_merge_fits.proofs.Apart.{OneNumber}
@@ -153,7 +153,7 @@ one_row m ready r s i j apart is js =
     apart i.to i.image tables unshared a.0 (b.0 ∙ ap (λ t. Row t j.image) (sym same.0) ∙ ap (Row i.to) (sym same.1))))
 
 pub rows_apart_silent : (first : Bool) (m : Map) → IsReadable m → (raw : RawFile)
-    → Each (λ a. Each (AreApart m a) (map named_by (references first m raw))) (map named_by (references first m raw)) → images_twice first m raw ≡ []
+    → Each (λ a. Each (AreApart m a) (map named_by (references first m raw))) (map named_by (references first m raw)) → rows_twice m (imaged_rows first m raw) ≡ []
 rows_apart_silent first m ready raw each =
     two_by_two_silent (λ (i : Imaged). i.table) (λ i. i.row) image_key image_twice (unshared m once_all)
     (Each-filter (λ i. Each (IsOneRow m i) once_all) (λ i. Each (OneRow i) (unshared m once_all)) (λ i. not (may_share m i.table))
@@ -292,7 +292,7 @@ module _ (m : Map) (value : FileValue) where
       subst (λ z. OneSlot z w) a.2 (subst (λ z. OneSlot (with_slot_image x u.image) z) b.2
       (λ methods images. apart a.0 methods u.image a.1 (b.1 ∙ ap Some (sym images))))
 
-  pub slots_apart_silent : SlotsAreApart m scopes → slots_twice m value ≡ []
+  pub slots_apart_silent : SlotsAreApart m scopes → slots_twice m (variable_slots value) ≡ []
   slots_apart_silent apart =
       twice_silent (λ (u : UsedSlot). u.method) (λ u. u.slot) (λ u. u.image) slot_twice all
       (Each-filter_map (used m) (λ x. Each (SlotsApart x) (variable_slots value)) (λ u. Each (OneSlot u) all)

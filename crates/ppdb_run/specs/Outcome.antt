@@ -10,8 +10,7 @@ use Rattle.ppdb_run_stops.specs.Refusals.{Outcome, prints, usage, absent, too_lo
 use Rattle.ppdb_run_words.specs.{Task.file_of, Words.{Question, Id, Verify, Show, Query, Links, Breaks, Options, Input, Task, Ask, Lookup, Rebuild, Compose, Merge, Sample}}
 use Rattle.ppdb_merge_fits.specs.Clashes.{is_unknown}
 use Rattle.ppdb_merge.specs.{declared.trace.Trace.Trace, Refusals.added, Together.joined_of}
-use Rattle.map_compose.specs.{Composed.composed, Sizes.{SizesAgree, IsFirstDiffering}}
-use Rattle.ppdb_maps_text.specs.MapTexts.{map_text}
+use Rattle.map_compose.specs.{Composition.IsTextOfBoth, Sizes.{SizesAgree, IsFirstDiffering}}
 use Rattle.ppdb_maps.specs.{Map.Map, Text.{IsMapOf, Refused}}
 use Rattle.source_link.specs.declared.pair.Pair.{Pair}
 use Rattle.ppdb_show_sources.specs.{Links.{file_links, link_text}, Breaks.break_text}
@@ -189,10 +188,10 @@ all_joined inputs (Err error) = Err (unfit (file_of inputs (input_in error)) err
 
 -- the text of the map of two maps; else the least method whose sizes differ, or the length of a text that is longer than any map's
 abbrev pub composed_text : Map → Map → Step (List ℕ)
-composed_text f s (Ok text) = SizesAgree f s × (text ≡ map_text (composed f s)) × (length text ≤ MAX_FILE_BYTES)
+composed_text f s (Ok text) = SizesAgree f s × IsTextOfBoth f s text × (length text ≤ MAX_FILE_BYTES)
 composed_text f s (Err refusal) =
     ((method first second : ℕ) × IsFirstDiffering f s method first second × (refusal ≡ sizes_differ method first second))
-    ⊎ (SizesAgree f s × (MAX_FILE_BYTES < length (map_text (composed f s))) × (refusal ≡ map_limited (length (map_text (composed f s)))))
+    ⊎ (SizesAgree f s × ((text : List ℕ) × IsTextOfBoth f s text × (MAX_FILE_BYTES < length text) × (refusal ≡ map_limited (length text))))
 
 -- ---- the sample
 

@@ -2,7 +2,7 @@ use Rattle.std.proofs.Common.{◌∙◌, ap, slice_get}
 use Rattle.std.proofs.lemmas.Result.{err_from_is_err_and}
 use Rattle.ppdb_verify.specs.Views.{raw_file}
 use Rattle.ppdb_merge_names.specs.declared.imaged.Imaged.{Imaged}
-use Rattle.ppdb_merge_fits.specs.Rows.{rows_twice, unmapped, images_twice}
+use Rattle.ppdb_merge_fits.specs.Rows.{rows_twice, unmapped, imaged_rows}
 use Rattle.ppdb_merge_fits.specs.Twice.{each_once}
 use Rattle.ppdb_merge_fits.proofs.Told.{then_fine, refused, both_fine}
 use Rattle.ppdb_merge_fits.proofs.judging.judge_rows.Goals as goal
@@ -11,16 +11,16 @@ pub returns-in_err-rows-clause-told : goal.returns-in_err-rows-clause-told
 returns-in_err-rows-clause-told g c =
     let p = err_from_is_err_and c.from_residual.result c.from_residual.ensures.1 in
     rw (p.1, p.2) (refused (unmapped c.args.first c.args.map.now (raw_file c.args.file.now))
-    (images_twice c.args.first c.args.map.now (raw_file c.args.file.now))
+    (rows_twice c.args.map.now (imaged_rows c.args.first c.args.map.now (raw_file c.args.file.now)))
     c.in_err-rows.field-0.0 c.in_err-rows.ensures.told)
 
 pub returns-in_err-refuse-clause-told : goal.returns-in_err-refuse-clause-told
 returns-in_err-refuse-clause-told g c =
     let p = err_from_is_err_and c.from_residual-in_err-refuse.result c.from_residual-in_err-refuse.ensures.1 in
     rw (p.1, p.2) (then_fine (unmapped c.args.first c.args.map.now (raw_file c.args.file.now))
-    (images_twice c.args.first c.args.map.now (raw_file c.args.file.now))
+    (rows_twice c.args.map.now (imaged_rows c.args.first c.args.map.now (raw_file c.args.file.now)))
     c.in_err-refuse.field-0.0 c.in_ok-rows.ensures.told
-    (c.in_err-refuse.ensures (images_twice c.args.first c.args.map.now (raw_file c.args.file.now)) (c.in_ok-first_image_twice.ensures
+    (c.in_err-refuse.ensures (rows_twice c.args.map.now (imaged_rows c.args.first c.args.map.now (raw_file c.args.file.now))) (c.in_ok-first_image_twice.ensures
     ∙ ap (λ l. slice_get (rows_twice c.args.map.now l) 0) (c.as_slice.ensures.value
     ∙ c.in_ok-leave_once.ensures ∙ ap (each_once (λ (i : Imaged). i.table) (λ i. i.row)) c.in_ok-rows.ensures.rows))))
 
@@ -30,8 +30,8 @@ returns-clause-rows g c =
 
 pub returns-clause-told : goal.returns-clause-told
 returns-clause-told g c =
-    both_fine (unmapped c.args.first c.args.map.now (raw_file c.args.file.now)) (images_twice c.args.first c.args.map.now (raw_file c.args.file.now))
+    both_fine (unmapped c.args.first c.args.map.now (raw_file c.args.file.now)) (rows_twice c.args.map.now (imaged_rows c.args.first c.args.map.now (raw_file c.args.file.now)))
     c.in_ok-rows.ensures.told
-    (c.in_ok-refuse.ensures (images_twice c.args.first c.args.map.now (raw_file c.args.file.now)) (c.in_ok-first_image_twice.ensures
+    (c.in_ok-refuse.ensures (rows_twice c.args.map.now (imaged_rows c.args.first c.args.map.now (raw_file c.args.file.now))) (c.in_ok-first_image_twice.ensures
     ∙ ap (λ l. slice_get (rows_twice c.args.map.now l) 0) (c.as_slice.ensures.value
     ∙ c.in_ok-leave_once.ensures ∙ ap (each_once (λ (i : Imaged). i.table) (λ i. i.row)) c.in_ok-rows.ensures.rows)))

@@ -3,7 +3,7 @@ use Rattle.ppdb_tables.specs.RawTables.{numbered}
 use Rattle.ppdb_values.specs.Value.{value_of}
 use Rattle.ppdb_verify.specs.Views.{raw_file}
 use Rattle.ppdb_merge_fits.specs.declared.used.MethodSlot.{MethodSlot}
-use Rattle.ppdb_merge_fits.specs.Slots.{if_slot_unmapped, slots_twice, slots_unmapped, twice_of}
+use Rattle.ppdb_merge_fits.specs.Slots.{if_slot_unmapped, slots_twice, slots_unmapped, variable_slots}
 use Rattle.ppdb_merge_fits.proofs.Counted.{few_slots}
 use Rattle.ppdb_merge_fits.proofs.First.{first_back, first_prefix}
 use Rattle.ppdb_merge_fits.proofs.NoSlots.{no_line, nothing_of_slots}
@@ -25,7 +25,7 @@ returns-in-Some g c =
     let value = value_of (raw_file c.args.file.now) in
     let unmapped = c.first_unmapped.ensures
     ∙ ap (λ (l : List MethodSlot). slice_get (flat_map (if_slot_unmapped m) (numbered l)) 0) (c.as_slice.ensures ∙ c.in_ok-slots.ensures) in
-    sym (first_prefix (slots_unmapped m value) (slots_twice m value) c.in-Some.error (sym unmapped ∙ c.in-Some.is))
+    sym (first_prefix (slots_unmapped m value) (slots_twice m (variable_slots value)) c.in-Some.error (sym unmapped ∙ c.in-Some.is))
 
 pub returns : goal.returns
 returns g c =
@@ -34,6 +34,6 @@ returns g c =
     let unmapped = c.first_unmapped.ensures
     ∙ ap (λ (l : List MethodSlot). slice_get (flat_map (if_slot_unmapped m) (numbered l)) 0) (c.as_slice.ensures ∙ c.in_ok-slots.ensures) in
     subst (λ n. IfOk c.first_slot_twice.result (λ told. told ≡ n))
-    (ap (λ (l : List MethodSlot). slice_get (twice_of m l) 0) (c.as_slice-2.ensures ∙ c.in_ok-slots.ensures)
-    ∙ sym (first_back (slots_unmapped m value) (slots_twice m value) (sym unmapped ∙ c.in_default.is)))
+    (ap (λ (l : List MethodSlot). slice_get (slots_twice m l) 0) (c.as_slice-2.ensures ∙ c.in_ok-slots.ensures)
+    ∙ sym (first_back (slots_unmapped m value) (slots_twice m (variable_slots value)) (sym unmapped ∙ c.in_default.is)))
     c.first_slot_twice.ensures
