@@ -6,7 +6,7 @@ use Rattle.ppdb_maps.specs.Map.{Map, MethodLine, count_of, row_within, row_image
 use Rattle.ppdb_maps.specs.Map.{document_line, moved_name}
 use Rattle.ppdb_maps.specs.{Readable.IsReadable, Says.sizes_of, Text.IsMapOf}
 use Rattle.ppdb_maps_text.specs.MapTexts.{map_text}
-use Rattle.map_compose.specs.Composed.{composed, has_image, image_then, of_image, own_assembly, signature_then}
+use Rattle.map_compose.specs.Composed.{composed, drops_one, has_image, image_then, own_assembly, signature_then}
 use Rattle.map_compose.specs.{Laws.{Apart, MovesOn}, Runs.{met, longest}, Sizes.SizesAgree}
 
 -- the method becomes `image` by the first map, and is there after both
@@ -26,8 +26,7 @@ pub record IsComposition (f s c : Map) : Type 0 where
   -- the image of a row, of whichever table, is what the second map makes of what the first makes of it
   pub rows : (table old : ℕ) → row_image c table old ≡ own_assembly table (image_then s (row_image f table old))
   pub methods : (method : ℕ) → row_within c 0x06 method ≡ option_and_then (row_within s 0x06) (row_within f 0x06 method)
-  -- a method is dropped by the first map, or its image by the second
-  pub drops : (method : ℕ) → is_dropped c method ≡ (is_dropped f method || of_image false (is_dropped s) (row_within f 0x06 method))
+  pub drops : (method : ℕ) → is_dropped c method ≡ drops_one f s method
   pub slots : (method image old : ℕ) → Follows f s method image → slot_image c method old ≡ option_and_then (slot_image s image) (slot_image f method old)
   pub sizes : (method image : ℕ) → Follows f s method image
       → sizes_of (offsets_in c method) ≡ sizes_then (sizes_of (offsets_in f method)) (sizes_of (offsets_in s image))

@@ -31,17 +31,17 @@ number n = octets (short_unsigned n)
 abbrev pub type : TypeToken → Piece
 type target = number (number_of target)
 
--- an import: its kind, and its fields, of which texts are the indexes of blobs, and types are their numbers
+-- an import: its kind, and its fields, of which texts are the indexes of blobs
 abbrev pub import_pieces : ImportValue → List Piece
 import_pieces (Namespace namespace) = number 1 ∷ index namespace ∷ []
 import_pieces (AssemblyNamespace assembly namespace) = number 2 ∷ number assembly ∷ index namespace ∷ []
-import_pieces (Target target) = number 3 ∷ number (number_of target) ∷ []
+import_pieces (Target target) = number 3 ∷ type target ∷ []
 import_pieces (Xml alias namespace) = number 4 ∷ index alias ∷ index namespace ∷ []
 import_pieces (Alias alias) = number 5 ∷ index alias ∷ []
 import_pieces (AssemblyAlias alias assembly) = number 6 ∷ index alias ∷ number assembly ∷ []
 import_pieces (NamespaceAlias alias namespace) = number 7 ∷ index alias ∷ index namespace ∷ []
 import_pieces (AssemblyNamespaceAlias alias assembly namespace) = number 8 ∷ index alias ∷ number assembly ∷ index namespace ∷ []
-import_pieces (TargetAlias alias target) = number 9 ∷ index alias ∷ number (number_of target) ∷ []
+import_pieces (TargetAlias alias target) = number 9 ∷ index alias ∷ type target ∷ []
 
 -- ---- blobs
 
@@ -72,7 +72,7 @@ abbrev pub constant_blob : ConstantValue → List Piece
 constant_blob constant = plain (signature_of constant)
 
 abbrev pub import_blob : ImportScopeValue → List Piece
-import_blob scope = flat_map import_pieces scope.imports
+import_blob scope = imports_pieces scope.imports
 
 abbrev pub custom_blob : CustomValue → List Piece
 custom_blob custom = plain (body_spelling custom.value)

@@ -10,9 +10,8 @@ use Rattle.ppdb_build_layout.specs.declared.rows.{Rows.Rows, HeapLens.HeapLens}
 abbrev pub padding : ℕ → ℕ
 padding len = (4 - len % 4) % 4
 
--- bytes, and zeros up to a multiple of four (II.24.2.2)
 abbrev pub padded : List ℕ → List ℕ
-padded bytes = bytes ++ replicate ((4 - length bytes % 4) % 4) 0
+padded bytes = bytes ++ replicate (padding (length bytes)) 0
 
 -- ---- tables that have rows: a bit for each, and a row count for each (II.24.2.6)
 

@@ -1,10 +1,10 @@
 -- The canonical text of a map (docs/FORMAT.md, "Map texts"): what its lines say, in their order, and how each is spelled.
-use Rattle.std.specs.{Prelude.{ℕ, ◌+◌, ◌/◌, ◌%◌, ◌||◌, Bool, true, false, cond, nat_eq, List, [], ◌∷◌, ◌++◌, Option, Some, None, is_some, codes, map, filter, decimal, flat_map}, Char.digit_char}
+use Rattle.std.specs.{Prelude.{ℕ, ◌+◌, ◌/◌, ◌%◌, ◌||◌, Bool, true, false, cond, nat_eq, List, [], ◌∷◌, ◌++◌, Option, Some, None, is_some, codes, map, decimal, flat_map}, Char.digit_char}
 use Rattle.ppdb_base.specs.Escaped.{escaped}
 use Rattle.ppdb_maps.specs.declared.entries.{Count.Count, RowLine.RowLine, CrossLine.CrossLine, GoneLine.GoneLine, SlotImage.SlotImage, SignatureImage.SignatureImage}
 use Rattle.ppdb_maps.specs.declared.line.Line.{Line, TheVariants.{Silent, Rows, Row, Cross, Gone, Method, Kept, Dropped, Slots, Slot, Signature, Document, Link, Shares}}
 use Rattle.ppdb_maps.specs.declared.image.RowImage.{RowImage, TheVariants.{Row as Becomes, Gone as Vanishes, Missing}}
-use Rattle.ppdb_maps.specs.Map.{Map, MethodLine, line_image}
+use Rattle.ppdb_maps.specs.Map.{Map, MethodLine, line_image, rows_of, crossed_of, gone_of, slots_of}
 use Rattle.ppdb_maps_text.specs.Ascending.{ascending}
 
 -- a word, and words after it, apart by one space
@@ -41,9 +41,8 @@ image_says table old Missing = []
 -- the rows of a table that have a line, in ascending order
 abbrev pub olds_of : Map → ℕ → List ℕ
 olds_of m table =
-    ascending (map (λ (r : RowLine). r.old) (filter (λ r. nat_eq r.table table) m.rows)
-    ++ (map (λ (r : CrossLine). r.old) (filter (λ r. nat_eq r.table table) m.crossed)
-    ++ map (λ (r : GoneLine). r.old) (filter (λ r. nat_eq r.table table) m.gone)))
+    ascending (map (λ (r : RowLine). r.old) (rows_of m table)
+    ++ (map (λ (r : CrossLine). r.old) (crossed_of m table) ++ map (λ (r : GoneLine). r.old) (gone_of m table)))
 
 -- what the lines of an entry say
 abbrev pub slot_says : SlotImage → Line
@@ -59,7 +58,7 @@ count_says m count =
 
 -- a method's images of slots
 abbrev pub slots_say : Map → ℕ → List Line
-slots_say m method = Slots method ∷ map slot_says (filter (λ s. nat_eq s.method method) m.slots)
+slots_say m method = Slots method ∷ map slot_says (slots_of m method)
 
 -- a method's sizes, and its runs
 abbrev pub method_says : MethodLine → List Line
@@ -106,6 +105,5 @@ head_text version = codes "ppdbmap " ++ (48 + version) ∷ []
 abbrev pub ended : List ℕ → List ℕ
 ended line = line ++ 10 ∷ []
 
--- line 1 has the version, of which 48 is the digit 0
 abbrev pub map_text : Map → List ℕ
-map_text m = flat_map ended ((codes "ppdbmap " ++ (48 + version_of m) ∷ []) ∷ map line_text (map_says m))
+map_text m = flat_map ended (head_text (version_of m) ∷ map line_text (map_says m))

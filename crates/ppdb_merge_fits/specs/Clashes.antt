@@ -49,9 +49,7 @@ is_unknown kind = false
 
 -- a row whose custom records are removed: one at a dropped method, one that is gone, and that of a constant that is removed
 abbrev pub is_at_gone : Map → FileValue → Parent → Bool
-is_at_gone m value parent =
-    list_any (is_dropped m) (option_to_list (method_at value parent)) || (is_gone_row m parent.table parent.row
-    || parent.table == 0x34 && list_any (goes_constant m) (option_to_list (row_at (all_constants value) parent.row)))
+is_at_gone m value parent = is_at_dropped m value parent || (is_gone_row m parent.table parent.row || is_at_gone_constant m value parent)
 
 abbrev pub has_unknown_kind : List (List ℕ) → Map → FileValue → CustomValue → Bool
 has_unknown_kind marks m value c = is_unknown (kind_of marks c.kind) && not (is_at_gone m value c.parent)

@@ -23,11 +23,9 @@ step_offsets method step = offset_in method step.pause ∷ offset_in step.method
 abbrev pub handler_offsets : ℕ → Option ℕ → List MethodOffset
 handler_offsets method handler = map (offset_in method) (option_to_list handler)
 
--- in the order of their bytes: the handler, and of each step where it pauses in the method of the record and resumes in its own
+-- in the order of their bytes
 abbrev pub async_offsets : ℕ → CustomBody → List MethodOffset
-async_offsets method (Async handler steps) =
-    map (offset_in method) (option_to_list handler)
-    ++ flat_map (λ (step : AsyncStep). offset_in method step.pause ∷ offset_in step.method step.resume ∷ []) steps
+async_offsets method (Async handler steps) = handler_offsets method handler ++ flat_map (step_offsets method) steps
 async_offsets method body = []
 
 -- ---- what lies beyond the old size of a method that has a line
@@ -66,7 +64,7 @@ custom_beyond m c = cond (live_custom m c) (body_beyond m c.parent.row c.value) 
 abbrev pub beyond : Map → FileValue → List MergeError
 beyond m value =
     flat_map (points_beyond m) value.methods
-    ++ (flat_map (λ (s : ScopeValue). end_beyond m s.method s.range) value.scopes
+    ++ (flat_map (scope_beyond m) value.scopes
     ++ flat_map (custom_beyond m) value.customs)
 
 -- ---- offsets of async records that are not kept
@@ -75,7 +73,7 @@ abbrev pub is_kept : Map → ℕ → ℕ → Bool
 is_kept m method offset = is_kept_between (offsets_in m method) offset (offset + 1)
 
 abbrev pub if_lost : Map → MethodOffset → List MergeError
-if_lost m x = cond (is_kept_between (offsets_in m x.method) x.offset (x.offset + 1)) [] (AsyncLost x.method x.offset ∷ [])
+if_lost m x = cond (is_kept m x.method x.offset) [] (AsyncLost x.method x.offset ∷ [])
 
 abbrev pub custom_lost : Map → CustomValue → List MergeError
 custom_lost m c = cond (live_custom m c) (flat_map (if_lost m) (async_offsets c.parent.row c.value)) []

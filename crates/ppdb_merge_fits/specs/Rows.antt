@@ -47,8 +47,5 @@ unshared m rows = filter (λ i. not (may_share m i.table)) rows
 abbrev pub image_twice : Imaged → Imaged → MergeError
 image_twice a b = ImageTwice a.table a.row b.row a.image
 
--- M2 of the rows of each table, but for the tables whose rows may have an image in common
 abbrev pub rows_twice : Map → List Imaged → List MergeError
-rows_twice m rows =
-    twice (λ (i : Imaged). i.table) (λ i. i.row) image_key (λ a b. ImageTwice a.table a.row b.row a.image)
-    (filter (λ i. not (may_share m i.table)) rows)
+rows_twice m rows = twice (λ (i : Imaged). i.table) (λ i. i.row) image_key image_twice (unshared m rows)

@@ -25,4 +25,4 @@ with_given rows (i ∷ is) = in_order (λ (i : Imaged). i.table) (in_order (λ i
 
 -- The rows that a file names with their images, each once, and the local signatures of `signature` lines, by table, row and image.
 abbrev pub all_images : Bool → Map → RawFile → List Imaged
-all_images first m raw = with_given (imaged_rows first m raw) (filter_map (given_signature m) (value_of raw).methods)
+all_images first m raw = with_given (imaged_rows first m raw) (given_signatures m (value_of raw))

@@ -33,5 +33,5 @@ slot_twice a b = SlotTwice a.method a.slot b.slot a.image
 
 abbrev pub slots_twice : Map → List MethodSlot → List MergeError
 slots_twice m slots =
-    twice (λ (u : UsedSlot). u.method) (λ u. u.slot) (λ u. u.image) (λ a b. SlotTwice a.method a.slot b.slot a.image)
+    twice (λ (u : UsedSlot). u.method) (λ u. u.slot) (λ u. u.image) slot_twice
     (each_once (λ (u : UsedSlot). u.method) (λ u. u.slot) (filter_map (used m) slots))

@@ -8,8 +8,7 @@ is_same group number a b = nat_eq (group a) (group b) && nat_eq (number a) (numb
 
 -- items by their groups, and in a group by their numbers, each once
 abbrev pub each_once : {A : Type 0} → (A → ℕ) → (A → ℕ) → List A → List A
-each_once group number items =
-    dedup (λ a b. nat_eq (group a) (group b) && nat_eq (number a) (number b)) (in_order group (in_order number items))
+each_once group number items = dedup (is_same group number) (in_order group (in_order number items))
 
 -- what is reported of each two items that stand side by side
 abbrev pub beside_from : {A B : Type 0} → (A → A → List B) → A → List A → List B
@@ -24,10 +23,9 @@ beside told (x ∷ xs) = beside_from told x xs
 abbrev pub have_one_image : {A : Type 0} → (A → ℕ) → (A → ℕ) → (A → ℕ) → A → A → Bool
 have_one_image group number image a b = nat_eq (group a) (group b) && (nat_eq (image a) (image b) && not (nat_eq (number a) (number b)))
 
--- what is reported of two items of one group that differ and have one image
+-- what is reported of two such items
 abbrev pub if_one_image : {A B : Type 0} → (A → ℕ) → (A → ℕ) → (A → ℕ) → (A → A → B) → A → A → List B
-if_one_image group number image told a b =
-    cond (nat_eq (group a) (group b) && (nat_eq (image a) (image b) && not (nat_eq (number a) (number b)))) (told a b ∷ []) []
+if_one_image group number image told a b = cond (have_one_image group number image a b) (told a b ∷ []) []
 
 -- Items in the order of their groups and, in a group, of their images: two with one image stand side by side, the first two first.
 abbrev pub twice : {A B : Type 0} → (A → ℕ) → (A → ℕ) → (A → ℕ) → (A → A → B) → List A → List B

@@ -1,7 +1,7 @@
 -- A file moved by a map (docs/FORMAT.md, "Moving"): what each of its parts becomes, and which parts are removed.
 use Rattle.ppdb_values.specs.Names.{Offsets, moved, Point, TypeToken, Modifier, Range, Slot, Empty, Held, AsyncStep, MachineRow, moved_points, source_link, Parent}
 use Rattle.std.specs.Prelude.{ℕ, ◌+◌, ◌&&◌, ◌||◌, not, Bool, cond, nat_lt, bytes_eq, List, [], ◌∷◌, Option, Some, None, unwrap_or, map, filter_map, option_map}
-use Rattle.ppdb_maps.specs.Map.{Map, row_image, moved_row, moved_signature, moved_name, offsets_in, slot_image, is_dropped, count_of, is_in_table}
+use Rattle.ppdb_maps.specs.Map.{Map, row_image, moved_row, moved_signature, moved_name, offsets_in, slot_image, is_dropped, output_count, is_in_table}
 use Rattle.ppdb_maps.specs.declared.image.RowImage.{RowImage, TheVariants.Row}
 use Rattle.ppdb_values.specs.declared.file.{DocumentValue.DocumentValue, MethodValue.MethodValue}
 use Rattle.ppdb_values.specs.declared.scope.{VariableValue.VariableValue, ConstantValue.ConstantValue, ConstantBody.ConstantBody}
@@ -150,10 +150,9 @@ moved_custom m c = moved_record m (linked m c)
 
 -- ---- the file
 
--- the row counts of the tables from a table on: those that the map says, else those that the file has
 abbrev pub moved_counts : Map → ℕ → List ℕ → List ℕ
 moved_counts m table [] = []
-moved_counts m table (n ∷ ns) = unwrap_or (count_of m table) n ∷ moved_counts m (table + 1) ns
+moved_counts m table (n ∷ ns) = output_count m table n ∷ moved_counts m (table + 1) ns
 
 abbrev pub moved_file : Map → AnnotatedFile → AnnotatedFile
 moved_file m file = record {
