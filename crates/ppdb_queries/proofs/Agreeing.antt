@@ -1,6 +1,6 @@
 -- What is made of the rows of a table, and the rows themselves.
 use Rattle.std.proofs.Common.{◌≡◌, ℕ, zero, suc, ◌+◌, List, [], ◌∷◌, ◌++◌, map, refl, sym, ap, ◌∙◌, Bool, true, false, cond}
-use Rattle.std.specs.Prelude.{Option, Some, None, slice_get, is_some, ◌==◌, ◌&&◌}
+use Rattle.std.specs.Prelude.{Option, Some, None, slice_get, is_some, unwrap_or, ◌==◌, ◌&&◌}
 use Rattle.std.specs.List.{filter, filter_map, flat_map, enumerate_from, cons_option}
 use Rattle.std.specs.Option.{option_map}
 use Rattle.custom_info.specs.declared.slots.Slot.{Slot}
@@ -18,7 +18,7 @@ use Rattle.ppdb_values.specs.RawFile.{RawFile}
 use Rattle.ppdb_values.specs.Value.{value_of, scope_of, range_of}
 use Rattle.ppdb_values.proofs.Mapped.{scopes_are_rows, chain_is_rows}
 use Rattle.ppdb_queries.specs.Chains.{link_of, links_from}
-use Rattle.ppdb_queries.specs.Hoisted.{hoisted_at, hoisted_at_slot, hoisted_in, records_on, slots_from, slots_of, slots_by}
+use Rattle.ppdb_queries.specs.Hoisted.{hoisted_at, hoisted_at_slot, hoisted_in, records_on, slots_from, slots_of}
 use Rattle.ppdb_queries.specs.Laws.{hoisted_records, at_position, of_scope, of_view, of_import, of_link}
 use Rattle.ppdb_queries.specs.Runs.{customs_at}
 use Rattle.ppdb_queries.specs.Scopes.{scope_view, scopes_at}
@@ -87,7 +87,7 @@ only_next raw x row rows (Some slots) e more =
     ∙ sym (ap (λ (b : Bool). hoisted_in raw x (cond b (row ∷ kept raw rows) (kept raw rows))) flag)
 only_next raw x row rows None e more =
     let flag : is_some (slots_in (custom_of raw row.1).value) ≡ false = ap is_some e in
-    ap (λ (slots : List Slot). slots_from x row.0 0 slots ++ hoisted_in raw x rows) (ap slots_by e)
+    ap (λ (slots : List Slot). slots_from x row.0 0 slots ++ hoisted_in raw x rows) (ap (λ (o : Option (List Slot)). unwrap_or o []) e)
     ∙ more ∙ sym (ap (λ (b : Bool). hoisted_in raw x (cond b (row ∷ kept raw rows) (kept raw rows))) flag)
 
 only_hoisted : (raw : RawTables) (x : ℕ) (rows : List (ℕ × CustomRow)) → hoisted_in raw x rows ≡ hoisted_in raw x (kept raw rows)
@@ -135,7 +135,7 @@ position_next : (raw : RawTables) (x position : ℕ) (row : ℕ × CustomRow) (r
     → by_position x position (lists_in raw (row ∷ rows)) ≡ by_row raw x position (kept raw (row ∷ rows))
 position_next raw x position row rows (Some slots) e more =
     let flag : is_some (slots_in (custom_of raw row.1).value) ≡ true = ap is_some e in
-    let owned : slots_of raw row.1 ≡ slots = ap slots_by e in
+    let owned : slots_of raw row.1 ≡ slots = ap (λ (o : Option (List Slot)). unwrap_or o []) e in
     ap (λ (o : Option (List Slot)). by_position x position (cons_option o (lists_in raw rows))) e
     ∙ ap (λ (first : List SlotMeaning). first ++ by_position x (position + 1) (lists_in raw rows)) (positions_in x position row.0 0 slots)
     ∙ ap (λ (s : List Slot). map (at_position position) (slots_from x row.0 0 s) ++ by_position x (position + 1) (lists_in raw rows)) (sym owned)

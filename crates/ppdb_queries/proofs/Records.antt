@@ -1,11 +1,12 @@
 -- The slots of a record, by its kind.
 use Rattle.std.proofs.Common.{◌≡◌, ℕ, List, [], ◌∷◌, refl, ap, sym, ◌∙◌, Bool, true, false}
-use Rattle.std.specs.Prelude.{None, if◌then◌else◌}
+use Rattle.std.specs.Prelude.{Option, None, unwrap_or, if◌then◌else◌}
 use Rattle.std.specs.Str.{bytes_eq}
 use Rattle.std.proofs.lemmas.Slice.Eq.{bytes_eq-Decides}
 use Rattle.blob_grammar.specs.Reader as reader
 use Rattle.blob_grammar.proofs.Readers.{read_from-reads}
 use Rattle.custom_info.specs.declared.kinds.Kind.{Kind}
+use Rattle.custom_info.specs.declared.slots.Slot.{Slot}
 use Rattle.custom_info.specs.declared.kinds.Kind.TheVariants.{Async, Hoisted, TypeDocuments, Free, Unknown}
 use Rattle.custom_info.specs.Kinds.{kind_of, hoisted_scopes as hoisted_guid}
 use Rattle.custom_info.specs.AsyncStepping.{Entry, catch_handler, await_step}
@@ -16,7 +17,7 @@ use Rattle.ppdb_values.specs.Customs.{custom_body, async_body, kind_in}
 use Rattle.ppdb_values.specs.Parts.{slots_in}
 use Rattle.ppdb_values.specs.RawFile.{blob, records_of}
 use Rattle.ppdb_values.specs.Rules.{IsWhole}
-use Rattle.ppdb_queries.specs.Hoisted.{slots_by, slots_of}
+use Rattle.ppdb_queries.specs.Hoisted.{slots_of}
 
 -- ---- kinds
 
@@ -43,8 +44,8 @@ async_has_none [] = refl
 async_has_none (catch_handler handler ∷ entries) = refl
 async_has_none (await_step step ∷ entries) = refl
 
-other_has_none : (raw : RawTables) (kind : Kind) (content : List ℕ) → (kind ≡ Hoisted → ⊥) → slots_by (slots_in (custom_body raw kind content)) ≡ []
-other_has_none raw Async content other = ap slots_by (async_has_none _)
+other_has_none : (raw : RawTables) (kind : Kind) (content : List ℕ) → (kind ≡ Hoisted → ⊥) → unwrap_or (slots_in (custom_body raw kind content)) [] ≡ []
+other_has_none raw Async content other = ap (λ (o : Option (List Slot)). unwrap_or o []) (async_has_none _)
 other_has_none raw Hoisted content other = absurd (other refl)
 other_has_none raw TypeDocuments content other = refl
 other_has_none raw Free content other = refl
@@ -65,7 +66,7 @@ hoisted_kind raw row found there same = is_hoisted (kind_in raw row) (ap (λ (g 
 pub slots_are : (raw : RawTables) (row : CustomRow) (found : List ℕ) → found ≡ kind_in raw row → bytes_eq found hoisted_guid ≡ true
     → slots_of raw row ≡ records_of hoisted_scopes (blob raw row.value)
 slots_are raw row found there same =
-    ap (λ (kind : Kind). slots_by (slots_in (custom_body raw kind (blob raw row.value)))) (hoisted_kind raw row found there same)
+    ap (λ (kind : Kind). unwrap_or (slots_in (custom_body raw kind (blob raw row.value))) []) (hoisted_kind raw row found there same)
 
 -- no bytes are no slots
 pub nothing_whole : IsWhole hoisted_scopes []

@@ -1,7 +1,7 @@
 -- Hoisted locals that hold an offset, as rows (Portable PDB v1.0, "CustomDebugInformation Table", "State Machine Hoisted Local
 -- Scopes").
 use Rattle.ppdb_values.specs.Names.{enumerate_from, Range, Slot, Empty, Held, CustomRow, RawTables, numbered}
-use Rattle.std.specs.Prelude.{ℕ, ◌-◌, List, [], ◌++◌, slice_range, if◌then◌else◌, Option, Some, None, filter_map, flat_map, option_map}
+use Rattle.std.specs.Prelude.{ℕ, ◌-◌, List, [], ◌++◌, slice_range, if◌then◌else◌, Option, Some, None, filter_map, flat_map, option_map, unwrap_or}
 use Rattle.ppdb_values.specs.{Customs.custom_of, Parts.{slots_in, holds}}
 use Rattle.ppdb_queries.specs.{Cursors.Walk, Runs.customs_at, declared.hoisted.Hoisted.Hoisted}
 
@@ -19,12 +19,8 @@ abbrev pub slots_from : ℕ → ℕ → ℕ → List Slot → List Hoisted
 slots_from x row first slots = filter_map (hoisted_at_slot x row) (enumerate_from first slots)
 
 -- the slots of a record; one of another kind has none
-abbrev pub slots_by : Option (List Slot) → List Slot
-slots_by (Some slots) = slots
-slots_by None = []
-
 abbrev pub slots_of : RawTables → CustomRow → List Slot
-slots_of raw row = slots_by (slots_in (custom_of raw row).value)
+slots_of raw row = unwrap_or (slots_in (custom_of raw row).value) []
 
 abbrev pub hoisted_in : RawTables → ℕ → List (ℕ × CustomRow) → List Hoisted
 hoisted_in raw x rows = flat_map (λ row. slots_from x row.0 0 (slots_of raw row.1)) rows

@@ -2,19 +2,16 @@
 use Rattle.std.specs.Prelude.{map, ℕ, ◌≡◌, ◌-◌, ◌<◌, ◌≤◌, ◌==◌, ◌&&◌, List, [], ◌∷◌, length, slice_range, Option, Some, None, filter}
 use Rattle.ppdb_tables.specs.{declared.rows.ScopeRow.ScopeRow, RawTables.{RawTables, numbered}}
 use Rattle.ppdb_values.specs.{Owners.list_end, Parts.holds, Value.range_of}
-use Rattle.ppdb_queries.specs.{declared.run.Run.Run, declared.scopes.ScopeView.ScopeView, Cursors.Walk}
+use Rattle.ppdb_queries.specs.{declared.scopes.ScopeView.ScopeView, Cursors.Walk}
 
--- the items of a scope: from its list number up to that of the next row, or to the table's end
-abbrev pub list_run : (ScopeRow → ℕ) → List ScopeRow → ℕ → ℕ × ScopeRow → Run
-list_run list scopes items scope = record { first = list scope.1; end = list_end list scopes scope.0 items }
-
+-- a scope with its items: from its list number up to that of the next row, or to the table's end
 abbrev pub scope_view : RawTables → ℕ × ScopeRow → ScopeView
 scope_view raw scope = record {
   row = scope.0;
   import = scope.1.import;
   range = range_of scope.1;
-  variables = list_run (λ s. s.variables) raw.scopes (length raw.variables) scope;
-  constants = list_run (λ s. s.constants) raw.scopes (length raw.constants) scope;
+  variables = record { first = scope.1.variables; end = list_end (λ s. s.variables) raw.scopes scope.0 (length raw.variables) };
+  constants = record { first = scope.1.constants; end = list_end (λ s. s.constants) raw.scopes scope.0 (length raw.constants) };
 }
 
 -- the scopes of a method that hold an offset, by row

@@ -1,7 +1,8 @@
 -- The keys of an object that was read ascend, each once, and so those of its pairs differ.
 use Rattle.std.proofs.Common.{◌≡◌, ℕ, zero, suc, ◌∙◌, Bool, true, false, cond, List, [], ◌∷◌}
 use Rattle.std.proofs.Common.{map, refl, sym, ap, subst, arith, Option, Some, None, Ok}
-use Rattle.std.specs.Prelude.{Contains, ◌&&◌, codes}
+use Rattle.std.specs.Prelude.{Contains, ◌&&◌, codes, ok_or}
+use Rattle.ppdb_base.specs.declared.link_error.LinkError.TheVariants.{Shape}
 use Rattle.std.specs.Cmp.Lexicographic.{slice_cmp}
 use Rattle.std.specs.List.{AllByRecursion}
 use Rattle.std.specs.List.Sorted.{IsPermutation, IsStrictlySortedBy}
@@ -19,7 +20,7 @@ use Rattle.serde_json.specs.Find.{get_member, as_str}
 use Rattle.serde_json.specs.Read.{read, of_json, of_items, of_members, number_of, max_depth}
 use Rattle.source_link.specs.declared.pair.Pair.{Pair}
 use Rattle.source_link.specs.Pairs.{is_key, fits_key, pair_of}
-use Rattle.source_link.specs.Record.{data_in, pair_in, pairs_in, documents_in, pairs_of, shaped, judged, links_of}
+use Rattle.source_link.specs.Record.{pair_in, pairs_in, documents_in, pairs_of, judged, links_of}
 use Rattle.source_link.specs.Laws.{KeysDiffer}
 
 some_of : {A B : Type 0} (f : A → Option B) (o : Option A) (b : B) → option_and_then f o ≡ Some b → (a : A) × (o ≡ Some a) × (f a ≡ Some b)
@@ -198,7 +199,7 @@ value_ascends (number n) pairs keyed e = absurd (cc)
 value_ascends (string s) pairs keyed e = absurd (cc)
 value_ascends (array ds) pairs keyed e = absurd (cc)
 
-shaped_some : (o : Option (List Pair)) (pairs : List Pair) → shaped o ≡ Ok pairs → o ≡ Some pairs
+shaped_some : (o : Option (List Pair)) (pairs : List Pair) → ok_or o Shape ≡ Ok pairs → o ≡ Some pairs
 shaped_some None pairs e = absurd (cc)
 shaped_some (Some ps) pairs e = cc
 
@@ -210,7 +211,7 @@ judged_ascends (Some d) pairs keyed e = value_ascends d pairs (keyed d refl) (sh
 pub links_ascend : (bytes : List ℕ) (pairs : List Pair) → links_of bytes ≡ Ok pairs
     → IsStrictlySortedBy (slice_cmp nat_cmp) (map (λ (pair : Pair). pair.key) pairs)
 unfolding keys_of
-links_ascend bytes pairs e = judged_ascends (data_in bytes) pairs (λ d is. utf8 (is_utf8 bytes) d is) e
+links_ascend bytes pairs e = judged_ascends (cond (is_utf8 bytes) (read bytes) None) pairs (λ d is. utf8 (is_utf8 bytes) d is) e
   where
     utf8 : (b : Bool) (d : Data) → cond b (read bytes) None ≡ Some d → Keyed d
     utf8 true d is = keyed_read bytes d is

@@ -1,7 +1,7 @@
 -- The members of an object that was read, and what a record says by them.
 use Rattle.std.proofs.Common.{◌≡◌, ℕ, ◌∙◌, Bool, true, false, cond, List, refl, sym}
 use Rattle.std.proofs.Common.{ap, Option, Some, None, Result, Ok, Err, String, Global, BTreeMap, string_bytes}
-use Rattle.std.specs.Prelude.{IsUtf8, IfOk, codes}
+use Rattle.std.specs.Prelude.{IsUtf8, IfOk, codes, ok_or}
 use Rattle.std.specs.BTreeMap.{is_at}
 use Rattle.std.specs.Cmp.Lexicographic.{slice_cmp}
 use Rattle.std.specs.Map.{lookup}
@@ -16,9 +16,9 @@ use Rattle.serde_json.specs.View.{view, members_view}
 use Rattle.serde_json.specs.declared.value.Value.{Value}
 use Rattle.serde_json.proofs.Views.{view-lookup}
 use Rattle.ppdb_base.specs.declared.link_error.LinkError.{LinkError}
-use Rattle.ppdb_base.specs.declared.link_error.LinkError.TheVariants.{NotJson}
+use Rattle.ppdb_base.specs.declared.link_error.LinkError.TheVariants.{NotJson, Shape}
 use Rattle.source_link.specs.declared.pair.Pair.{Pair}
-use Rattle.source_link.specs.Record.{pairs_in, documents_in, pairs_of, shaped, judged, links_of}
+use Rattle.source_link.specs.Record.{pairs_in, documents_in, pairs_of, judged, links_of}
 
 -- what an object says is said by its member `documents`
 pub documents_said : (value : Value) (members : BTreeMap (String Global) Value) (found : Option Value)
@@ -52,7 +52,7 @@ pub text_said : (bytes text : List ℕ) (d : Option Data) → text ≡ bytes →
 text_said bytes text d same utf8 is =
     ap (λ b. judged (cond b (read bytes) None)) (is_utf8-from_IsUtf8 bytes utf8) ∙ ap (λ t. judged (read t)) (sym same) ∙ ap judged is
 
-pub ok_said : (r : Result (List Pair) LinkError) (o : Option (List Pair)) (said : Result (List Pair) LinkError) → said ≡ shaped o
+pub ok_said : (r : Result (List Pair) LinkError) (o : Option (List Pair)) (said : Result (List Pair) LinkError) → said ≡ ok_or o Shape
     → IfOk r (λ pairs. o ≡ Some pairs) → IfOk r (λ pairs. said ≡ Ok pairs)
-ok_said (Ok pairs) o said is h = is ∙ ap shaped h
+ok_said (Ok pairs) o said is h = is ∙ ap (λ (o : Option (List Pair)). ok_or o Shape) h
 ok_said (Err e) o said is h = tt

@@ -1,12 +1,8 @@
 -- The pairs that a Source Link record says, or why it says none (this project's rules, docs/FORMAT.md, "Blobs"; RFC 8259).
-use Rattle.std.specs.{Prelude.{◌≡◌, ℕ, ◌⊎◌, cond, List, [], ◌∷◌, Option, Some, None, Result, Ok, Err, IfErr, codes, option_map, option_and_then}, Str.is_utf8}
+use Rattle.std.specs.{Prelude.{◌≡◌, ℕ, ◌⊎◌, cond, List, [], ◌∷◌, Option, Some, None, Result, Err, IfErr, codes, ok_or, option_map, option_and_then}, Str.is_utf8}
 use Rattle.serde_json.specs.{Data.{Data, Members, no_members, member}, Read.read, Find.{get_member, as_object, as_str}}
 use Rattle.ppdb_base.specs.declared.link_error.LinkError.{LinkError, TheVariants.{NotJson, Shape, Memory}}
 use Rattle.source_link.specs.{declared.pair.Pair.Pair, Pairs.pair_of}
-
--- what the bytes are as JSON, in UTF-8
-abbrev pub data_in : List ℕ → Option Data
-data_in bytes = cond (is_utf8 bytes) (read bytes) None
 
 -- a member of `documents`: its key and a text
 abbrev pub pair_in : List ℕ → Data → Option Pair
@@ -25,17 +21,13 @@ documents_in (Some d) = option_and_then pairs_in (as_object d)
 abbrev pub pairs_of : Data → Option (List Pair)
 pairs_of d = option_and_then (λ members. documents_in (get_member (codes "documents") members)) (as_object d)
 
-abbrev pub shaped : Option (List Pair) → Result (List Pair) LinkError
-shaped None = Err Shape
-shaped (Some pairs) = Ok pairs
-
 abbrev pub judged : Option Data → Result (List Pair) LinkError
 judged None = Err NotJson
-judged (Some d) = shaped (pairs_of d)
+judged (Some d) = ok_or (pairs_of d) Shape
 
--- the pairs that the bytes of a record say, or why they say none
+-- the pairs that the bytes of a record, as JSON in UTF-8, say, or why they say none
 abbrev pub links_of : List ℕ → Result (List Pair) LinkError
-links_of bytes = judged (data_in bytes)
+links_of bytes = judged (cond (is_utf8 bytes) (read bytes) None)
 
 -- an answer that is a refusal has its cause; that there is no memory says nothing
 abbrev pub IsRefusedBy : {X : Type 0} → Result X LinkError → Result (List Pair) LinkError → Type 0

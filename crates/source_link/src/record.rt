@@ -1,8 +1,9 @@
 // The pairs that the JSON text of a record says.
-ghost use Rattle.std.specs.Prelude.{◌≡◌, Ok, Some, IfOk, option_map};
+ghost use Rattle.std.specs.Prelude.{◌≡◌, Ok, Some, IfOk, ok_or, option_map};
+ghost use Rattle.ppdb_base.specs.declared.link_error.LinkError.TheVariants.{Shape};
 ghost use Rattle.serde_json.specs.Find.{as_object};
 ghost use Rattle.serde_json.specs.View.{view, members_view};
-ghost use Rattle.source_link.specs.Record.{IsRefusedBy, links_of, pairs_in as the_pairs, pairs_of as pairs_said, shaped};
+ghost use Rattle.source_link.specs.Record.{IsRefusedBy, links_of, pairs_in as the_pairs, pairs_of as pairs_said};
 
 use crate::pair::{Pair, pair_of};
 use ppdb_base::{LinkError, List};
@@ -12,7 +13,7 @@ use std::alloc::Global;
 /// The pairs of the members of `documents`.
 fn pairs_in(alloc: Global, documents: Map<String, Value>) -> Result<List<Pair>, LinkError>
     ensures pairs { IfOk result (λ pairs. the_pairs (members_view documents.entries) ≡ Some pairs) }
-    ensures refused { IsRefusedBy result (shaped (the_pairs (members_view documents.entries))) }
+    ensures refused { IsRefusedBy result (ok_or (the_pairs (members_view documents.entries)) Shape) }
 {
     let mut pairs = List::with_capacity(alloc, documents.len())?;
     for (key, value) in documents {
@@ -40,7 +41,7 @@ fn members_of(value: Value) -> Option<Map<String, Value>>
 /// The pairs of a value; no member but `documents` is looked at.
 fn pairs_of(alloc: Global, value: Value) -> Result<List<Pair>, LinkError>
     ensures pairs { IfOk result (λ pairs. pairs_said (view value) ≡ Some pairs) }
-    ensures refused { IsRefusedBy result (shaped (pairs_said (view value))) }
+    ensures refused { IsRefusedBy result (ok_or (pairs_said (view value)) Shape) }
 {
     let Some(mut members) = members_of(value) else {
         return Err(LinkError::Shape);

@@ -1,9 +1,10 @@
 use Rattle.std.proofs.Common.{◌≡◌, ◌∙◌, Some, Option, List, ap, inr, subst, sym}
-use Rattle.std.specs.Prelude.{IfOk}
+use Rattle.std.specs.Prelude.{IfOk, ok_or}
 use Rattle.std.specs.Option.{option_map}
 use Rattle.serde_json.specs.View.{view, members_view}
+use Rattle.ppdb_base.specs.declared.link_error.LinkError.TheVariants.{Shape}
 use Rattle.source_link.specs.declared.pair.Pair.{Pair}
-use Rattle.source_link.specs.Record.{IsRefusedBy, documents_in, pairs_in, pairs_of, shaped}
+use Rattle.source_link.specs.Record.{IsRefusedBy, documents_in, pairs_in, pairs_of}
 use Rattle.source_link.proofs.Objects.{documents_said, documents_object, documents_none}
 use Rattle.source_link.proofs.record.pairs_of.Goals as goal
 
@@ -14,7 +15,7 @@ returns-in_default-remove-clause-pairs c =
 
 pub returns-in_default-members_of-clause-refused : goal.returns-in_default-members_of-clause-refused
 returns-in_default-members_of-clause-refused c =
-    inr (ap shaped (documents_said c.args.value c.in-Some.members c.remove.result c.in-Some.ensures c.remove.ensures.value
+    inr (ap (λ (o : Option (List Pair)). ok_or o Shape) (documents_said c.args.value c.in-Some.members c.remove.result c.in-Some.ensures c.remove.ensures.value
     ∙ ap (λ o. documents_in (option_map view o)) c.in-Some-remove.is ∙ documents_none c.in-Some-remove.documents c.in_default-members_of.ensures))
 
 pub returns-clause-pairs : goal.returns-clause-pairs
@@ -31,4 +32,4 @@ returns-clause-refused c =
     documents_said c.args.value c.in-Some.members c.remove.result c.in-Some.ensures c.remove.ensures.value
     ∙ ap (λ o. documents_in (option_map view o)) c.in-Some-remove.is
     ∙ documents_object c.in-Some-remove.documents c.in-Some-members_of.documents c.in-Some-members_of.ensures in
-    subst (λ (o : Option (List Pair)). IsRefusedBy c.pairs_in.result (shaped o)) (sym said) c.pairs_in.ensures.refused
+    subst (λ (o : Option (List Pair)). IsRefusedBy c.pairs_in.result (ok_or o Shape)) (sym said) c.pairs_in.ensures.refused
