@@ -151,13 +151,14 @@ fn is_same<T: HasImage>(a: &T, b: &T) -> bool
     a.group() == b.group() && a.number() == b.number()
 }
 
-/// Sets items in order by their groups, and in a group by their numbers, and leaves each once.
+/// Sets items in order by their groups, and in a group by their numbers, and leaves each once. The memory of those that go is given up.
 pub(crate) fn leave_once<T: HasImage>(items: &mut Vec<T>) -> Result<(), Memory>
     ensures { OnOk result (items.new.items ≡ each_once T.group_of T.number_of items.old.items) }
 {
     by_number(items)?;
     by_group(items)?;
     items.dedup_by(|a, b| is_same(a, b));
+    items.shrink_to_fit();
     Ok(())
 }
 

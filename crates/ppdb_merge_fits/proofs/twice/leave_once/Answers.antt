@@ -7,7 +7,8 @@ use Rattle.ppdb_merge_fits.proofs.twice.leave_once.Goals as goal
 
 pub returns : goal.returns
 returns g c =
-    dedup_same _ (is_same g.T.HasImage.group_of g.T.HasImage.number_of) _ (λ x y b f' x' y' k. search rules) _ _
+    c.shrink_to_fit.ensures.items
+    ∙ dedup_same _ (is_same g.T.HasImage.group_of g.T.HasImage.number_of) _ (λ x y b f' x' y' k. search rules) _ _
     c.dedup_by.ensures.filtered
     ∙ ap (dedup (is_same g.T.HasImage.group_of g.T.HasImage.number_of))
     (c.in_ok-by_group.ensures ∙ ap (in_order g.T.HasImage.group_of) c.in_ok-by_number.ensures)
