@@ -2,6 +2,7 @@
 use Rattle.std.proofs.Common.{◌≡◌, ◌≢◌, ℕ, suc, ◌+◌, ◌<◌, ◌≤◌, Bool, true, List, [], ◌∷◌, ◌++◌, Option, Some, None, map, length, take}
 use Rattle.std.proofs.Common.{refl, sym, ◌∙◌, ap, subst, arith}
 use Rattle.std.specs.Prelude.{slice_get, Result, Ok, Err, IfOk}
+use Rattle.std.specs.Option.{option_or}
 use Rattle.ppdb_base.specs.declared.merge_error.MergeError.{MergeError}
 use Rattle.ppdb_base.specs.declared.list.Memory.{Memory}
 use Rattle.ppdb_maps.specs.Map.{Map}
@@ -41,8 +42,8 @@ use Rattle.ppdb_merge.specs.declared.index.Index.{Index}
 use Rattle.ppdb_merge.specs.declared.trace.Trace.{Trace}
 use Rattle.ppdb_merge.specs.Indexes.{Indexes}
 use Rattle.ppdb_merge.specs.Kept.{AreInputs}
-use Rattle.ppdb_merge.specs.Merged.{trace_of, moved_files, is_first}
-use Rattle.ppdb_merge.specs.Refusals.{methods_taken, documents_differ, links_differ, clashes_before, or_first, refusal_of, added, with_trace}
+use Rattle.ppdb_merge.specs.Merged.{trace_of, moved_files, is_first, unless}
+use Rattle.ppdb_merge.specs.Refusals.{methods_taken, documents_differ, links_differ, clashes_before, refusal_of, added}
 use Rattle.ppdb_merge_joined.specs.Small.{AreFew, HasFewRows}
 use Rattle.ppdb_merge.specs.Sound.{SoundTrace, SoundTraces, AreMethodsApart, HasEntry, documents_in}
 use Rattle.ppdb_merge.specs.Together.{misfit_of}
@@ -70,7 +71,7 @@ pub none_before : (marks : List (List ℕ)) (traces : List Trace) (m : Map) (raw
 none_before marks traces m raw is = empty_of _ (by (first_clash marks (is_first traces) m raw) is)
   where
     by : (o : Option MergeError)
-        → or_first o (clashes_before traces m (trace_of (is_first traces) m raw).rows (value_of raw)) ≡ None
+        → option_or o (slice_get (clashes_before traces m (trace_of (is_first traces) m raw).rows (value_of raw)) 0) ≡ None
         → slice_get (clashes_before traces m (trace_of (is_first traces) m raw).rows (value_of raw)) 0 ≡ None
     by None e = e
     by (Some told) e = absurd cc
@@ -79,12 +80,12 @@ pub refused_by : (marks : List (List ℕ)) (traces : List Trace) (m : Map) (raw 
     → first_clash marks (is_first traces) m raw ≡ None
     → o ≡ slice_get (clashes_before traces m (trace_of (is_first traces) m raw).rows (value_of raw)) 0 → refusal_of marks traces m raw ≡ o
 refused_by marks traces m raw o none is =
-    ap (λ first. or_first first (clashes_before traces m (trace_of (is_first traces) m raw).rows (value_of raw))) none ∙ sym is
+    ap (λ (first : Option MergeError). option_or first (slice_get (clashes_before traces m (trace_of (is_first traces) m raw).rows (value_of raw)) 0)) none ∙ sym is
 
 pub refused_first : (marks : List (List ℕ)) (traces : List Trace) (m : Map) (raw : RawFile) (e : MergeError)
     → first_clash marks (is_first traces) m raw ≡ Some e → refusal_of marks traces m raw ≡ Some e
 refused_first marks traces m raw e is =
-    ap (λ first. or_first first (clashes_before traces m (trace_of (is_first traces) m raw).rows (value_of raw))) is
+    ap (λ (first : Option MergeError). option_or first (slice_get (clashes_before traces m (trace_of (is_first traces) m raw).rows (value_of raw)) 0)) is
 
 -- a moved file has few documents
 pub few_moved : (m : Map) (raw : RawFile) → HasShape raw.tables → length (moved_file m (annotated_file (value_of raw))).documents < 0x20000000
@@ -205,7 +206,7 @@ is_sound traces m raw moved annotated rows is from same sound =
 pub added_as : (marks : List (List ℕ)) (traces : List Trace) (m : Map) (raw : RawFile) (t : Trace) → t ≡ trace_of (is_first traces) m raw
     → refusal_of marks traces m raw ≡ None → added marks traces m raw ≡ Ok (traces ++ t ∷ [])
 added_as marks traces m raw t is none =
-    ap (with_trace traces (trace_of (is_first traces) m raw)) none ∙ ap (λ x. Ok (traces ++ x ∷ [])) (sym is)
+    ap (λ (o : Option MergeError). unless o (Ok (traces ++ trace_of (is_first traces) m raw ∷ []))) none ∙ ap (λ x. Ok (traces ++ x ∷ [])) (sym is)
 
 -- the inputs with one more, of which the index holds all but the last
 pub grown : (traces new : List Trace) (t : Trace) (index : Index) → new ≡ traces ++ t ∷ [] → Indexes traces index → SoundTraces (traces ++ t ∷ [])

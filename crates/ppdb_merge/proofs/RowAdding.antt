@@ -1,5 +1,5 @@
 -- The inputs of a merger of rows with a further one, and what they come to.
-use Rattle.std.proofs.Common.{◌≡◌, ◌≢◌, ℕ, zero, suc, ◌+◌, ◌<◌, ◌≤◌, List, [], ◌∷◌, ◌++◌, Some, None, length, map, take, refl, sym, ◌∙◌, ap, subst, arith}
+use Rattle.std.proofs.Common.{◌≡◌, ◌≢◌, ℕ, zero, suc, ◌+◌, ◌<◌, ◌≤◌, List, [], ◌∷◌, ◌++◌, Option, Some, None, length, map, take, refl, sym, ◌∙◌, ap, subst, arith}
 use Rattle.std.proofs.Common.{◌⊎◌, inl, inr}
 use Rattle.std.specs.Prelude.{Result, Ok, Err, IfErr, nat_eq}
 use Rattle.std.proofs.lemmas.List.{length-map, take_all}
@@ -32,10 +32,10 @@ use Rattle.ppdb_merge.specs.declared.trace.Trace.{Trace}
 use Rattle.ppdb_merge.specs.Inputs.{AreFitting, ReadInput, traces_of}
 use Rattle.ppdb_merge.specs.Inputs as read
 use Rattle.ppdb_merge.specs.Kept.{AreInputs}
-use Rattle.ppdb_merge.specs.Merged.{trace_of, is_first, moved_files}
+use Rattle.ppdb_merge.specs.Merged.{trace_of, is_first, moved_files, unless}
 use Rattle.ppdb_merge.specs.Refusals.{added, refusal_of}
 use Rattle.ppdb_merge.specs.Rows.{AreKept, IndexesRows, IsIndexOf, read_input, read_inputs, row_trace, row_traces, traces_in}
-use Rattle.ppdb_merge.specs.Together.{joined_of, misfit_of, value_unless}
+use Rattle.ppdb_merge.specs.Together.{joined_of, misfit_of}
 use Rattle.ppdb_merge.proofs.Adding.{added_as, joined_sound, refused_first}
 use Rattle.ppdb_merge.proofs.RowIndexing.{many_traces}
 use Rattle.ppdb_merge.proofs.Turns.{are_inputs_of, one_fits, traces_more}
@@ -157,4 +157,4 @@ module _ (sounds : (raw : RawFile) → KeepsRules raw → IsSound (value_of raw)
 
   pub rows_joined : (inputs : List RowInput) → AreFitting marks (read_inputs inputs) → misfit_of (traces_in inputs) ≡ None
       → joined_of (traces_in inputs) ≡ Ok (joined_inputs (moved_inputs inputs))
-  rows_joined inputs fit none = ap (value_unless (traces_in inputs)) none ∙ ap Ok (joined_is inputs fit)
+  rows_joined inputs fit none = ap (λ (o : Option MergeError). unless o (Ok (value_of_annotated (joined (moved_files (traces_in inputs)))))) none ∙ ap Ok (joined_is inputs fit)

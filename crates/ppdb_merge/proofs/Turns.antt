@@ -1,7 +1,8 @@
 -- Inputs that were added one after the other are inputs that fit.
 use Rattle.std.proofs.Common.{◌≡◌, ◌≢◌, ℕ, suc, ◌+◌, ◌<◌, ◌≤◌, ◌&&◌, Bool, true, false, cond, List, [], ◌∷◌, ◌++◌, Option, Some, None, map, length}
 use Rattle.std.proofs.Common.{refl, sym, ◌∙◌, ap, subst, arith, append_assoc, append-nil}
-use Rattle.std.specs.Prelude.{Ok, Contains, nat_eq}
+use Rattle.std.specs.Prelude.{Ok, Contains, nat_eq, slice_get}
+use Rattle.std.specs.Option.{option_or}
 use Rattle.std.proofs.lemmas.Bool.{ne_eqb}
 use Rattle.std.proofs.lemmas.List.{length-append}
 use Rattle.ppdb_base.specs.declared.merge_error.MergeError.{MergeError}
@@ -29,8 +30,8 @@ use Rattle.ppdb_merge_fits.specs.Rows.{imaged_rows}
 use Rattle.ppdb_merge.specs.declared.trace.Trace.{Trace}
 use Rattle.ppdb_merge.specs.Inputs.{ReadInput, IsValidInput, AreAdded, Turn, IsFitting, AreFitting, moved_by, turns, trace_by, traces_of}
 use Rattle.ppdb_merge.specs.Kept.{AreInputs}
-use Rattle.ppdb_merge.specs.Merged.{trace_of, is_first}
-use Rattle.ppdb_merge.specs.Refusals.{added, clashes_before, methods_in, or_first, refusal_of, with_trace}
+use Rattle.ppdb_merge.specs.Merged.{trace_of, is_first, unless}
+use Rattle.ppdb_merge.specs.Refusals.{added, clashes_before, methods_in, refusal_of}
 use Rattle.ppdb_merge.specs.Sound.{SoundTraces, AreMethodsApart}
 use Rattle.ppdb_merge.proofs.Adding.{added_sound}
 use Rattle.ppdb_merge.proofs.Counted.{can_be_joined}
@@ -81,7 +82,7 @@ not_refused : (marks : List (List ℕ)) (traces : List Trace) (input : ReadInput
 not_refused marks traces input is = by (first_clash marks (is_first traces) input.map input.raw) is
   where
     by : (o : Option MergeError)
-        → or_first o (clashes_before traces input.map (trace_of (is_first traces) input.map input.raw).rows (value_of input.raw)) ≡ None → o ≡ None
+        → option_or o (slice_get (clashes_before traces input.map (trace_of (is_first traces) input.map input.raw).rows (value_of input.raw)) 0) ≡ None → o ≡ None
     by None e = refl
     by (Some told) e = absurd cc
 
@@ -95,7 +96,7 @@ is_added : (marks : List (List ℕ)) (traces : List Trace) (input : ReadInput) (
 is_added marks traces input more e = by (refusal_of marks traces input.map input.raw) refl e
   where
     by : (o : Option MergeError) → refusal_of marks traces input.map input.raw ≡ o
-        → with_trace traces (trace_of (is_first traces) input.map input.raw) o ≡ Ok more → IsAdded marks traces input more
+        → unless o (Ok (traces ++ trace_of (is_first traces) input.map input.raw ∷ [])) ≡ Ok more → IsAdded marks traces input more
     by None none e = record { fits = none; is = sym cc }
     by (Some told) some e = absurd cc
 

@@ -1,5 +1,5 @@
 -- What is kept of the inputs of a merge.
-use Rattle.std.specs.Prelude.{ℕ, Bool, nat_eq, List, length, map}
+use Rattle.std.specs.Prelude.{ℕ, Bool, nat_eq, List, length, map, Option, Some, None, Result, Err}
 use Rattle.ppdb_maps.specs.Map.{Map}
 use Rattle.ppdb_merge_items.specs.{declared.file.AnnotatedFile.AnnotatedFile, Annotated.annotated_file}
 use Rattle.ppdb_values.specs.{RawFile.RawFile, Value.value_of}
@@ -19,6 +19,11 @@ trace_of first m raw = record { moved = moved_file m (annotated_file (value_of r
 -- what the inputs became
 abbrev pub moved_files : List Trace → List AnnotatedFile
 moved_files traces = map (λ (t : Trace). t.moved) traces
+
+-- a result, unless there is a refusal before it
+abbrev pub unless : {A E : Type 0} → Option E → Result A E → Result A E
+unless (Some refusal) result = Err refusal
+unless None result = result
 
 -- an input after these is the first
 abbrev pub is_first : List Trace → Bool

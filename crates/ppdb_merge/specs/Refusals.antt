@@ -1,7 +1,7 @@
 -- Why an input is not joined to those before it (docs/FORMAT.md, "Fitting").
 use Rattle.ppdb_values.specs.Names.{MergeError, MethodTaken, DocumentConflict, LinkDiffers, list_any, numbered, source_link}
-use Rattle.std.specs.Prelude.{ℕ, ◌&&◌, not, Bool, true, false, cond, nat_eq, bytes_eq, List, [], ◌∷◌, ◌++◌, Option, Some, None, Result, Ok, Err, slice_get, filter, find, flat_map, map, option_map}
-use Rattle.std.specs.Prelude.{filter_map, option_and_then, option_to_list}
+use Rattle.std.specs.Prelude.{ℕ, ◌&&◌, not, Bool, true, false, cond, nat_eq, bytes_eq, List, [], ◌∷◌, ◌++◌, Option, Some, None, Result, Ok, slice_get, filter, find, flat_map, map, option_map}
+use Rattle.std.specs.{Prelude.{filter_map, option_and_then, option_to_list}, Option.option_or}
 use Rattle.ppdb_maps.specs.Map.{Map, moved_row, is_gone_row}
 use Rattle.ppdb_values.specs.{declared.file.{DocumentValue.DocumentValue, FileValue.FileValue}, declared.custom.{CustomBody.{CustomBody, TheVariants.Unread}, CustomValue.CustomValue}, Parts.is_at}
 use Rattle.ppdb_values.specs.{RawFile.RawFile, Value.value_of}
@@ -10,7 +10,7 @@ use Rattle.ppdb_merge_moved.specs.Moved.{is_link, moved_document}
 use Rattle.ppdb_merge_names.specs.declared.imaged.Imaged.{Imaged}
 use Rattle.ppdb_merge_joined.specs.Joined.{joined_documents}
 use Rattle.ppdb_merge_fits.specs.{Clashes.first_clash, Signatures.all_images}
-use Rattle.ppdb_merge.specs.{declared.trace.Trace.Trace, Merged.{trace_of, moved_files, is_first}}
+use Rattle.ppdb_merge.specs.{declared.trace.Trace.Trace, Merged.{trace_of, moved_files, is_first, unless}}
 
 -- ---- M3: a method's image is that of a method of an earlier input
 
@@ -88,21 +88,12 @@ abbrev pub clashes_before : List Trace → Map → List Imaged → FileValue →
 clashes_before traces m rows value =
     methods_taken traces rows ++ (documents_differ traces m value.documents ++ links_differ traces m value.customs)
 
--- the one, and the head of a list where there is none
-abbrev pub or_first : Option MergeError → List MergeError → Option MergeError
-or_first (Some e) others = Some e
-or_first None others = slice_get others 0
-
 -- What is reported of an input: why its map does not fit it, or else why it does not fit the inputs before it.
 abbrev pub refusal_of : List (List ℕ) → List Trace → Map → RawFile → Option MergeError
 refusal_of marks traces m raw =
-    or_first (first_clash marks (is_first traces) m raw)
-    (clashes_before traces m (all_images (is_first traces) m raw) (value_of raw))
-
-abbrev pub with_trace : List Trace → Trace → Option MergeError → Result (List Trace) MergeError
-with_trace traces t (Some e) = Err e
-with_trace traces t None = Ok (traces ++ t ∷ [])
+    option_or (first_clash marks (is_first traces) m raw)
+    (slice_get (clashes_before traces m (all_images (is_first traces) m raw) (value_of raw)) 0)
 
 -- The inputs with a further one, or what is reported of it.
 abbrev pub added : List (List ℕ) → List Trace → Map → RawFile → Result (List Trace) MergeError
-added marks traces m raw = with_trace traces (trace_of (is_first traces) m raw) (refusal_of marks traces m raw)
+added marks traces m raw = unless (refusal_of marks traces m raw) (Ok (traces ++ trace_of (is_first traces) m raw ∷ []))

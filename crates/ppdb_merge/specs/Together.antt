@@ -1,11 +1,11 @@
 -- What the inputs of a merge come to together, and why they do not (docs/FORMAT.md, "Joining").
 use Rattle.ppdb_values.specs.Names.{enumerate_from, range_with_len, MergeError, RowsDiffer, ImageRange, numbered}
-use Rattle.std.specs.Prelude.{ℕ, cond, nat_eq, nat_lt, List, [], ◌∷◌, ◌++◌, Option, Some, None, Result, Ok, Err, slice_get, slice_index, flat_map, filter_map}
+use Rattle.std.specs.Prelude.{ℕ, cond, nat_eq, nat_lt, List, [], ◌∷◌, ◌++◌, Option, Some, None, Result, Ok, slice_get, slice_index, flat_map, filter_map}
 use Rattle.ppdb_values.specs.declared.file.FileValue.{FileValue}
 use Rattle.ppdb_merge_items.specs.Unannotated.{value_of_annotated}
 use Rattle.ppdb_merge_names.specs.declared.imaged.Imaged.{Imaged}
 use Rattle.ppdb_merge_joined.specs.Joined.{joined}
-use Rattle.ppdb_merge.specs.{declared.trace.Trace.Trace, Merged.moved_files}
+use Rattle.ppdb_merge.specs.{declared.trace.Trace.Trace, Merged.{moved_files, unless}}
 
 -- the rows of a table in the output, as the input has it
 abbrev pub count_in : Trace → ℕ → ℕ
@@ -39,10 +39,6 @@ images_above traces = flat_map (λ (t : ℕ × Trace). filter_map (above t) t.1.
 abbrev pub misfit_of : List Trace → Option MergeError
 misfit_of traces = slice_get (rows_differ traces ++ images_above traces) 0
 
-abbrev pub value_unless : List Trace → Option MergeError → Result FileValue MergeError
-value_unless traces (Some e) = Err e
-value_unless traces None = Ok (value_of_annotated (joined (moved_files traces)))
-
 -- The value that inputs are joined to, or what is reported of them.
 abbrev pub joined_of : List Trace → Result FileValue MergeError
-joined_of traces = value_unless traces (misfit_of traces)
+joined_of traces = unless (misfit_of traces) (Ok (value_of_annotated (joined (moved_files traces))))

@@ -3,7 +3,7 @@ use Rattle.std.proofs.Common.{◌≡◌, ◌≢◌, ℕ, ◌≤◌, ◌++◌, �
 use Rattle.std.proofs.Common.{subst, inl, inr, slice_get, slice_index, ◌⊎◌}
 use Rattle.std.specs.Prelude.{nat_lt, not}
 use Rattle.std.specs.List.{filter_map, cons_option, enumerate_from, range_with_len}
-use Rattle.std.specs.Option.{option_to_list}
+use Rattle.std.specs.Option.{option_or, option_to_list}
 use Rattle.std.proofs.lemmas.Bool.{le-ltb}
 use Rattle.std.proofs.lemmas.Option.{none-some}
 use Rattle.custom_info.specs.Kinds.{kind_of}
@@ -38,10 +38,10 @@ use Rattle.ppdb_merge_fits.specs.Laws.{NoClash}
 use Rattle.ppdb_merge_fits.specs.Rows.{imaged, imaged_rows}
 use Rattle.ppdb_merge_fits.specs.Signatures.{given_signature, given_signatures, with_given, all_images}
 use Rattle.ppdb_merge.specs.declared.trace.Trace.{Trace}
-use Rattle.ppdb_merge.specs.Merged.{Merged, trace_of, moved_files}
-use Rattle.ppdb_merge.specs.Refusals.{added, refusal_of, taken, moved_conflict, clashes_before, or_first, with_trace, claims, methods_in, documents_differ}
+use Rattle.ppdb_merge.specs.Merged.{Merged, trace_of, moved_files, unless}
+use Rattle.ppdb_merge.specs.Refusals.{added, refusal_of, taken, moved_conflict, clashes_before, claims, methods_in, documents_differ}
 use Rattle.ppdb_merge.specs.Refusals.{link_differs, links_differ}
-use Rattle.ppdb_merge.specs.Together.{above, count_in, differs, images_above, joined_of, misfit_of, rows_differ, value_unless}
+use Rattle.ppdb_merge.specs.Together.{above, count_in, differs, images_above, joined_of, misfit_of, rows_differ}
 use Rattle.ppdb_merge_meaning_laws.specs.Kept.{moved_input}
 use Rattle.ppdb_build_sample.specs.Laws.{SampleFits, sample_input}
 use Rattle.ppdb_build_sample.specs.Sample.{sample}
@@ -86,7 +86,7 @@ nothing_before m rows value =
 -- an input that nothing is reported of alone is not refused as the first
 not_refused : (marks : List (List ℕ)) (m : Map) (raw : RawFile) → first_clash marks true m raw ≡ None → refusal_of marks [] m raw ≡ None
 not_refused marks m raw none =
-    ap (λ o. or_first o (clashes_before [] m (all_images true m raw) (value_of raw))) none
+    ap (λ (o : Option MergeError). option_or o (slice_get (clashes_before [] m (all_images true m raw) (value_of raw)) 0)) none
     ∙ ap (λ l. slice_get l 0) (nothing_before m (all_images true m raw) (value_of raw))
 
 module _ (n : ℕ) (raw : RawFile) (fits : SampleFits n) (says : value_of raw ≡ sample n) (keeps : KeepsRules raw) where
@@ -162,7 +162,7 @@ module _ (n : ℕ) (raw : RawFile) (fits : SampleFits n) (says : value_of raw �
   pub holds_sample : (marks : List (List ℕ)) (traces : List Trace) → FittingMapsDoNotClash → IsReadable m → ReferencesAreNamed
       → added marks [] m raw ≡ Ok traces → HoldsSample n traces
   holds_sample marks traces silent ready named is =
-      let e : added marks [] m raw ≡ Ok (trace ∷ []) = ap (with_trace [] trace) (sample_not_refused marks silent ready) in
+      let e : added marks [] m raw ≡ Ok (trace ∷ []) = ap (λ (o : Option MergeError). unless o (Ok ([] ++ trace ∷ []))) (sample_not_refused marks silent ready) in
       let same : traces ≡ trace ∷ [] = cc in
       rw same (record { moved = ap (λ file. file ∷ []) moved_is; fits = no_misfit named })
 
@@ -192,7 +192,8 @@ finishes n traces e holds (inr told) = absurd (none-some e (sym holds.fits ∙ t
 
 pub is_remapped : (n : ℕ) (traces : List Trace) (value : FileValue) → HoldsSample n traces → joined_of traces ≡ Ok value → value ≡ remapped_sample n
 is_remapped n traces value holds is =
-    let e : joined_of traces ≡ Ok (value_of_annotated (joined (moved_files traces))) = ap (value_unless traces) holds.fits in
+    let e : joined_of traces ≡ Ok (value_of_annotated (joined (moved_files traces))) =
+        ap (λ (o : Option MergeError). unless o (Ok (value_of_annotated (joined (moved_files traces))))) holds.fits in
     let same : value ≡ value_of_annotated (joined (moved_files traces)) = cc in
     same ∙ ap (λ files. value_of_annotated (joined files)) holds.moved
 

@@ -7,7 +7,7 @@ use Rattle.ppdb_base.specs.Written.{appended}
 use Rattle.ppdb_run_stops.specs.declared.status.Status.{Status}
 use Rattle.ppdb_run_stops.specs.declared.status.Status.TheVariants as statuses
 use Rattle.ppdb_run_stops.specs.declared.stop.Stop.{Stop}
-use Rattle.ppdb_run.specs.Ends.{OnOutcome, HasOutcome, HadFault, IsUnread, IsUnwritten, LeavesFiles, TellsUnread, TellsUnwritten, UnlessWritten}
+use Rattle.ppdb_run.specs.Ends.{OnOutcome, HasOutcome, IsUnread, IsUnwritten, LeavesFiles, TellsUnread, TellsUnwritten, UnlessWritten}
 use Rattle.ppdb_run_stops.specs.Lines.{read_fault_line, write_fault_line}
 use Rattle.ppdb_run_stops.specs.Refusals.{Outcome}
 use Rattle.ppdb_run.specs.Outcome.{IsOutcome}
@@ -132,7 +132,7 @@ module _ (cause : Cause) (status : Status) (faults faults' : ℕ) (mid new : Opt
       (comes : ComesFrom cause M R W files (Rose reads reads') (Rose writes writes') (Rose before faults)) where
     ended : (cause : Cause) → ComesFrom cause M R W files (Rose reads reads') (Rose writes writes') (Rose before faults) → (due : Outcome)
         → IfSome (refusal_of cause) (λ refusal. due ≡ refusal) → status ≡ status_of cause → faults ≤ faults'
-        → (status ≡ due.status) ⊎ (status ≡ statuses.Memory) ⊎ HadFault reads reads' writes writes' before faults'
+        → (status ≡ due.status) ⊎ (status ≡ statuses.Memory) ⊎ Rose reads reads' ⊎ Rose writes writes' ⊎ Rose before faults'
     ended (Refusal outcome) comes due e s l = inl (s ∙ sym (ap (λ (o : Outcome). o.status) e))
     ended (Unread name) comes due e s l = inr (inr (inl comes.1))
     ended (Unwritten name) comes due e s l = inr (inr (inr (inl comes.1)))
@@ -140,7 +140,7 @@ module _ (cause : Cause) (status : Status) (faults faults' : ℕ) (mid new : Opt
     ended OutOfMemory comes due e s l = inr (inl s)
 
     complete : (due : Outcome) → IfSome (refusal_of cause) (λ refusal. due ≡ refusal)
-        → (status ≡ due.status) ⊎ (status ≡ statuses.Memory) ⊎ HadFault reads reads' writes writes' before faults'
+        → (status ≡ due.status) ⊎ (status ≡ statuses.Memory) ⊎ Rose reads reads' ⊎ Rose writes writes' ⊎ Rose before faults'
     complete due e = elim tells [
       | Told s w l ↦ ended cause comes due e s l
       | Failed s r w ↦ inr (inr (inr (inr (rose_before before faults faults' from r))))
@@ -248,7 +248,7 @@ module _ (cause : Cause) (status : Status) (faults faults' : ℕ) (mid new : Opt
 
     pub stopped_complete : (M : Type 0) (R W : List ℕ → Type 0) (told : Option Files) (reads reads' writes writes' before : ℕ) → before ≤ faults
         → ComesFrom cause M R W told (Rose reads reads') (Rose writes writes') (Rose before faults)
-        → OnOutcome words files (λ due. (status ≡ due.status) ⊎ (status ≡ statuses.Memory) ⊎ HadFault reads reads' writes writes' before faults')
+        → OnOutcome words files (λ due. (status ≡ due.status) ⊎ (status ≡ statuses.Memory) ⊎ Rose reads reads' ⊎ Rose writes writes' ⊎ Rose before faults')
     stopped_complete M R W told reads reads' writes writes' before from comes asked asks all seen due h =
         complete M R W told reads reads' writes writes' before from comes due (settles asked asks all seen due h)
 

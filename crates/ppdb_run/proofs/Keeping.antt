@@ -25,8 +25,8 @@ use Rattle.ppdb_merge_fits.specs.Laws.{NothingClashes}
 use Rattle.ppdb_merge.specs.declared.trace.Trace.{Trace}
 use Rattle.ppdb_merge.specs.Inputs.{IsFitting, ReadInput, moved_by, trace_by, traces_of, turns}
 use Rattle.ppdb_merge.specs.Laws.{AddedInputsFit}
-use Rattle.ppdb_merge.specs.Merged.{moved_files}
-use Rattle.ppdb_merge.specs.Together.{joined_of, misfit_of, value_unless}
+use Rattle.ppdb_merge.specs.Merged.{moved_files, unless}
+use Rattle.ppdb_merge.specs.Together.{joined_of, misfit_of}
 use Rattle.ppdb_merge.proofs.Adding.{joined_sound}
 use Rattle.ppdb_merge.proofs.Turns.{all_fit}
 use Rattle.ppdb_run.specs.MeaningLaws.{AreJoinedTo, HasKnownKinds, InputsAreWritten, JoinedFilesKeepInputs, JoinedKindsAreKnown, KeepsInputs}
@@ -38,7 +38,7 @@ use Rattle.ppdb_run.proofs.MovedKinds.{moved_known}
 pub value_is : (traces : List Trace) (value : FileValue) → joined_of traces ≡ Ok value → value_of_annotated (joined (moved_files traces)) ≡ value
 value_is traces value e = by (misfit_of traces) e
   where
-    by : (o : Option MergeError) → value_unless traces o ≡ Ok value → value_of_annotated (joined (moved_files traces)) ≡ value
+    by : (o : Option MergeError) → unless o (Ok (value_of_annotated (joined (moved_files traces)))) ≡ Ok value → value_of_annotated (joined (moved_files traces)) ≡ value
     by None e = cc
     by (Some told) e = absurd cc
 
@@ -99,7 +99,7 @@ kinds_known sounds annotated named clashes marks inputs value are =
 fits_together : (traces : List Trace) (value : FileValue) → joined_of traces ≡ Ok value → misfit_of traces ≡ None
 fits_together traces value e = by (misfit_of traces) e
   where
-    by : (o : Option MergeError) → value_unless traces o ≡ Ok value → o ≡ None
+    by : (o : Option MergeError) → unless o (Ok (value_of_annotated (joined (moved_files traces)))) ≡ Ok value → o ≡ None
     by None e = refl
     by (Some told) e = absurd cc
 

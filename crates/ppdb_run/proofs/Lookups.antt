@@ -18,12 +18,12 @@ use Rattle.ppdb_verify.specs.Files.{FileFaults, IsRawOf}
 use Rattle.ppdb_run_stops.specs.declared.stop.Stop.{Stop}
 use Rattle.ppdb_run.specs.Ends.{ComesToRead, IsUnreadOf, IsWithinRows, OnLookup, OnTask}
 use Rattle.ppdb_run_stops.specs.Refusals.{Outcome, absent, prints}
-use Rattle.ppdb_run.specs.Outcome.{Step, ◌>>=◌, IsEnd, IsOutcome, done, file_at, form_of, gives, input_of, judged, listed, looked_up}
+use Rattle.ppdb_run.specs.Outcome.{Step, ◌>>=◌, IsOutcome, done, file_at, form_of, gives, input_of, judged, listed, looked_up}
 use Rattle.ppdb_run.specs.Outcome.{steps_of}
 use Rattle.ppdb_run_stops.specs.Refusals.{too_long, unlisted}
 use Rattle.ppdb_run_stops.specs.declared.status.Status.TheVariants as statuses
 use Rattle.ppdb_run_stops.specs.Causes.{cause_of, refusal_of, stop_of, OnCut}
-use Rattle.ppdb_run.specs.Stops.{Delivers, Finds, Gives, Leaves, Settles}
+use Rattle.ppdb_run.specs.Stops.{Delivers, Finds, Gives, IsEnd, Leaves, Settles}
 use Rattle.ppdb_run_words.specs.Words.{Lookup}
 use Rattle.ppdb_run.proofs.Kept.{first_unread, leaves, one_more}
 use Rattle.ppdb_run.proofs.Merges.{on_told, stop_over, next_over}

@@ -12,8 +12,8 @@ use Rattle.ppdb_base.specs.declared.merge_error.MergeError.TheVariants as merge_
 use Rattle.ppdb_maps.specs.Map.{Map}
 use Rattle.ppdb_maps.specs.Text.{IsMapOf}
 use Rattle.ppdb_merge.specs.declared.trace.Trace.{Trace}
-use Rattle.ppdb_merge.specs.Merged.{is_first, trace_of}
-use Rattle.ppdb_merge.specs.Refusals.{added, refusal_of, with_trace}
+use Rattle.ppdb_merge.specs.Merged.{is_first, trace_of, unless}
+use Rattle.ppdb_merge.specs.Refusals.{added, refusal_of}
 use Rattle.ppdb_values.specs.RawFile.{RawFile}
 use Rattle.ppdb_verify.specs.Files.{FileFaults, IsRawOf}
 use Rattle.ppdb_run_stops.specs.declared.stop.Stop.{Stop}
@@ -185,7 +185,7 @@ module _ (marks : List (List ℕ)) (traces more : List Trace) (input : Input) (b
       pub one_added : added marks traces m raw ≡ Ok more → refusal_of marks traces m raw ≡ None → length more ≡ length traces + 1
       one_added e none =
           let whole : Ok (traces ++ trace_of (is_first traces) m raw ∷ []) ≡ Ok more =
-          sym (ap (with_trace traces (trace_of (is_first traces) m raw)) none) ∙ e in
+          sym (ap (λ (o : Option MergeError). unless o (Ok (traces ++ trace_of (is_first traces) m raw ∷ []))) none) ∙ e in
           let same : traces ++ trace_of (is_first traces) m raw ∷ [] ≡ more = cc in
           sym (ap length same) ∙ longer traces (trace_of (is_first traces) m raw)
         where
@@ -204,7 +204,7 @@ module _ (marks : List (List ℕ)) (traces more : List Trace) (input : Input) (b
           whole : (error ≡ merge_errors.Memory) ⊎ (refusal_of marks traces m raw ≡ Some error)
               → (error ≡ merge_errors.Memory) ⊎ (added marks traces m raw ≡ Err error)
           whole (inl memory) = inl memory
-          whole (inr is) = inr (ap (with_trace traces (trace_of (is_first traces) m raw)) is)
+          whole (inr is) = inr (ap (λ (o : Option MergeError). unless o (Ok (traces ++ trace_of (is_first traces) m raw ∷ []))) is)
 
 module _ (files : Option Files) (marks : List (List ℕ)) (traces more : List Trace) (input : Input) where
   abbrev behind_file : Files → List ℕ → Step (List Trace)

@@ -1,15 +1,18 @@
 -- What is known of inputs that are joined and written.
 use Rattle.std.proofs.Common.{ℕ, Bool, ◌≡◌, ◌⊎◌, inl, inr, List, [], sym, ◌∙◌, ap, subst}
-use Rattle.std.specs.Prelude.{Option, Some, None, option_map, Result, Ok, Err, IfOk, IfSome}
+use Rattle.std.specs.Prelude.{Option, Some, None, option_map, Result, Ok, Err, IfOk, IfSome, if◌then◌else◌}
 use Rattle.ppdb_base.specs.Files.{Files}
 use Rattle.ppdb_base.specs.First.{IsAccepted}
 use Rattle.ppdb_base.specs.declared.merge_error.MergeError.{MergeError}
 use Rattle.ppdb_base.specs.declared.merge_error.MergeError.TheVariants as merge_errors
 use Rattle.ppdb_build_canon.specs.Canon.{canon, chosen_id, with_id}
 use Rattle.ppdb_build_canon.specs.Limits.{first_limit}
-use Rattle.ppdb_build_canon.specs.declared.choice.IdChoice.{IdChoice}
+use Rattle.ppdb_build_canon.specs.declared.choice.IdChoice.{IdChoice, TheVariants.{Hash, Keep}}
 use Rattle.ppdb_merge.specs.declared.trace.Trace.{Trace}
-use Rattle.ppdb_merge.specs.Together.{joined_of, misfit_of, value_unless}
+use Rattle.ppdb_merge.specs.Merged.{moved_files, unless}
+use Rattle.ppdb_merge.specs.Together.{joined_of, misfit_of}
+use Rattle.ppdb_merge_items.specs.Unannotated.{value_of_annotated}
+use Rattle.ppdb_merge_joined.specs.Joined.{joined}
 use Rattle.ppdb_values.specs.declared.file.FileValue.{FileValue}
 use Rattle.ppdb_values.specs.RawFile.{RawFile}
 use Rattle.ppdb_verify.specs.Files.{FileFaults, IsRawOf}
@@ -19,7 +22,7 @@ use Rattle.ppdb_run.specs.Ends.{RebuildsWhereKnown}
 use Rattle.ppdb_run.specs.Joined.{GivesIfSome, IsJoinedFile, joined_steps}
 use Rattle.ppdb_run.specs.MeaningLaws.{SaysButForId}
 use Rattle.ppdb_run_stops.specs.Refusals.{Outcome, limited, unfit}
-use Rattle.ppdb_run.specs.Outcome.{Step, ◌>>=◌, all_joined, choice_of, gives, in_limits, input_in, steps_of, unknown_kind, unless}
+use Rattle.ppdb_run.specs.Outcome.{Step, ◌>>=◌, all_joined, gives, in_limits, input_in, steps_of, unknown_kind}
 use Rattle.ppdb_run_words.specs.Task.{file_of}
 use Rattle.ppdb_run.specs.Outcome.{with_inputs, written}
 use Rattle.ppdb_run_stops.specs.Causes.{cause_of, refusal_of as told_by}
@@ -86,7 +89,8 @@ pub together_told : (inputs : List Input) (output : List ℕ) (options : Options
 together_told inputs output options traces stop name error h named is =
     not_joined inputs output options traces stop
     (joined_given inputs stop error (joined_of traces)
-    (subst (λ n. IfSome (told_by (cause_of stop)) (λ o. (o ≡ unfit n error) × (error ≡ merge_errors.Memory → ⊥))) named h) (inr (ap (value_unless traces) (sym is))))
+    (subst (λ n. IfSome (told_by (cause_of stop)) (λ o. (o ≡ unfit n error) × (error ≡ merge_errors.Memory → ⊥))) named h)
+    (inr (ap (λ (o : Option MergeError). unless o (Ok (value_of_annotated (joined (moved_files traces))))) (sym is))))
 
 -- bytes that say the value, where there are some
 pub value_joined : (keep : Bool) (traces : List Trace) (value : FileValue) (result : Result (List ℕ) Stop) → joined_of traces ≡ Ok value
@@ -97,21 +101,21 @@ value_joined keep traces value (Err stop) is says again = tt
 value_joined keep traces value (Ok bytes) is says again = record { value = value; joined = is; says = says; again = again }
 
 -- where its kinds are known, the canonical file of a value is rebuilt to itself
-pub rebuilds_where_known : (options : Options) (output : List ℕ) (value : FileValue) (bytes : List ℕ) → bytes ≡ canon value (choice_of options.keep_id)
-    → IsAccepted (FileFaults bytes) → Says bytes (with_id value (chosen_id value (choice_of options.keep_id)))
-    → ((again : RawFile) → IsRawOf bytes again → IsSameAgain value (choice_of options.keep_id) again) → RebuildsWhereKnown options (output, bytes)
+pub rebuilds_where_known : (options : Options) (output : List ℕ) (value : FileValue) (bytes : List ℕ) → bytes ≡ canon value (if options.keep_id then Keep else Hash)
+    → IsAccepted (FileFaults bytes) → Says bytes (with_id value (chosen_id value (if options.keep_id then Keep else Hash)))
+    → ((again : RawFile) → IsRawOf bytes again → IsSameAgain value (if options.keep_id then Keep else Hash) again) → RebuildsWhereKnown options (output, bytes)
 rebuilds_where_known options output value bytes is accepted says same known =
     rebuilds options value bytes (sym (ap (unknown_kind options.marks) says.value_is) ∙ known says.raw says.is_raw) is accepted says same
 
 -- ---- a file that is written where the rows tell it
 
 pub some_told : (output : List ℕ) (options : Options) (value : FileValue) (file : Option (List ℕ))
-    → IfSome file (λ bytes. bytes ≡ canon value (choice_of options.keep_id)) → IfSome file (λ _. first_limit value ≡ None)
+    → IfSome file (λ bytes. bytes ≡ canon value (if options.keep_id then Keep else Hash)) → IfSome file (λ _. first_limit value ≡ None)
     → GivesIfSome (written output) (Ok file) (gives (in_limits output options value))
 some_told output options value None is within = tt
 some_told output options value (Some bytes) is within =
     ap (λ b. Ok (written output b)) is
-    ∙ sym (ap (λ o. unless (option_map limited o) (Ok (written output (canon value (choice_of options.keep_id))))) within)
+    ∙ sym (ap (λ o. unless (option_map limited o) (Ok (written output (canon value (if options.keep_id then Keep else Hash))))) within)
 
 pub some_says : (value : FileValue) (choice : IdChoice) (file : Option (List ℕ))
     → IfSome file (λ bytes. (again : RawFile) → IsRawOf bytes again → IsSameAgain value choice again) → IfSome file (λ bytes. SaysButForId bytes value)
@@ -119,9 +123,9 @@ some_says value choice None same = tt
 some_says value choice (Some bytes) same = λ raw is. (_, (same raw is).value_is)
 
 pub some_again : (options : Options) (output : List ℕ) (value : FileValue) (file : Option (List ℕ))
-    → IfSome file (λ bytes. bytes ≡ canon value (choice_of options.keep_id)) → IfSome file (λ bytes. IsAccepted (FileFaults bytes))
-    → IfSome file (λ bytes. Says bytes (with_id value (chosen_id value (choice_of options.keep_id))))
-    → IfSome file (λ bytes. (again : RawFile) → IsRawOf bytes again → IsSameAgain value (choice_of options.keep_id) again)
+    → IfSome file (λ bytes. bytes ≡ canon value (if options.keep_id then Keep else Hash)) → IfSome file (λ bytes. IsAccepted (FileFaults bytes))
+    → IfSome file (λ bytes. Says bytes (with_id value (chosen_id value (if options.keep_id then Keep else Hash))))
+    → IfSome file (λ bytes. (again : RawFile) → IsRawOf bytes again → IsSameAgain value (if options.keep_id then Keep else Hash) again)
     → IfSome file (λ bytes. RebuildsWhereKnown options (output, bytes))
 some_again options output value None is accepted says same = tt
 some_again options output value (Some bytes) is accepted says same = rebuilds_where_known options output value bytes is accepted says same

@@ -1,9 +1,11 @@
 -- What is known of a file that is rebuilt.
 use Rattle.std.proofs.Common.{ℕ, ◌≡◌, inl, List, sym, ◌∙◌, ap}
-use Rattle.std.specs.Prelude.{Option, Some, None, option_map, Result, Ok, Err, IfSome}
+use Rattle.std.specs.Prelude.{Option, Some, None, option_map, Result, Ok, Err, IfSome, if◌then◌else◌}
 use Rattle.ppdb_base.specs.Files.{Files}
 use Rattle.ppdb_base.specs.First.{IsAccepted}
 use Rattle.ppdb_build_canon.specs.Canon.{canon, chosen_id, with_id}
+use Rattle.ppdb_build_canon.specs.declared.choice.IdChoice.TheVariants.{Hash, Keep}
+use Rattle.ppdb_merge.specs.Merged.{unless}
 use Rattle.ppdb_build_canon.specs.Limits.{first_limit}
 use Rattle.ppdb_values.specs.declared.file.FileValue.{FileValue}
 use Rattle.ppdb_values.specs.RawFile.{RawFile}
@@ -12,7 +14,7 @@ use Rattle.ppdb_verify.specs.Files.{FileFaults, IsRawOf}
 use Rattle.ppdb_build_written_laws.specs.Written.{Says, IsSameAgain}
 use Rattle.ppdb_run_stops.specs.declared.stop.Stop.{Stop}
 use Rattle.ppdb_run.specs.Ends.{RebuildsToItself}
-use Rattle.ppdb_run.specs.Outcome.{choice_of, gives, input_of, rebuilt, steps_of, unknown_kind, unless, verified, written}
+use Rattle.ppdb_run.specs.Outcome.{gives, input_of, rebuilt, steps_of, unknown_kind, verified, written}
 use Rattle.ppdb_run_stops.specs.Refusals.{limited, unfit}
 use Rattle.ppdb_run.specs.Stops.{Gives}
 use Rattle.ppdb_run_words.specs.Words.{Options, Task, Rebuild}
@@ -52,24 +54,24 @@ unknown_as : (marks : List (List ℕ)) (value other : FileValue) (id : List ℕ)
 unknown_as marks value other id e none = ap (unknown_kind marks) e ∙ none
 
 pub rebuilds : (options : Options) (value : FileValue) (bytes : List ℕ) → unknown_kind options.marks value ≡ None
-    → bytes ≡ canon value (choice_of options.keep_id)
-    → IsAccepted (FileFaults bytes) → Says bytes (with_id value (chosen_id value (choice_of options.keep_id)))
-    → ((again : RawFile) → IsRawOf bytes again → IsSameAgain value (choice_of options.keep_id) again) → RebuildsToItself options bytes
+    → bytes ≡ canon value (if options.keep_id then Keep else Hash)
+    → IsAccepted (FileFaults bytes) → Says bytes (with_id value (chosen_id value (if options.keep_id then Keep else Hash)))
+    → ((again : RawFile) → IsRawOf bytes again → IsSameAgain value (if options.keep_id then Keep else Hash) again) → RebuildsToItself options bytes
 rebuilds options value bytes none is accepted says same files name other read =
     inl (inl (says.raw, inl (bytes, sym (ap (input_of name) read), (accepted, says.is_raw)), sym whole))
   where
-    again : IsSameAgain value (choice_of options.keep_id) says.raw
+    again : IsSameAgain value (if options.keep_id then Keep else Hash) says.raw
     again = same says.raw says.is_raw
 
     unknown : unknown_kind options.marks (value_of says.raw) ≡ None
-    unknown = unknown_as options.marks value (value_of says.raw) (chosen_id value (choice_of options.keep_id)) says.value_is none
+    unknown = unknown_as options.marks value (value_of says.raw) (chosen_id value (if options.keep_id then Keep else Hash)) says.value_is none
 
-    bytes_are : canon (value_of says.raw) (choice_of options.keep_id) ≡ bytes
+    bytes_are : canon (value_of says.raw) (if options.keep_id then Keep else Hash) ≡ bytes
     bytes_are = again.file ∙ sym is
 
     whole : rebuilt name other options (value_of says.raw) ≡ Ok (written other bytes)
     whole =
         ap (λ error. unless (option_map (unfit name) error)
-        (unless (option_map limited (first_limit (value_of says.raw))) (Ok (written other (canon (value_of says.raw) (choice_of options.keep_id)))))) unknown
-        ∙ (ap (λ limit. unless (option_map limited limit) (Ok (written other (canon (value_of says.raw) (choice_of options.keep_id))))) again.limit
+        (unless (option_map limited (first_limit (value_of says.raw))) (Ok (written other (canon (value_of says.raw) (if options.keep_id then Keep else Hash)))))) unknown
+        ∙ (ap (λ limit. unless (option_map limited limit) (Ok (written other (canon (value_of says.raw) (if options.keep_id then Keep else Hash))))) again.limit
         ∙ ap (λ file. Ok (written other file)) bytes_are)

@@ -10,7 +10,7 @@ use Rattle.ppdb_build_canon.specs.Limits.{ValuesWithoutLimits, first_limit}
 use Rattle.ppdb_build_canon.specs.declared.choice.IdChoice.TheVariants.{Hash, Keep}
 use Rattle.ppdb_values.specs.declared.file.FileValue.{FileValue}
 use Rattle.ppdb_build_sample.specs.Sample.{sample}
-use Rattle.ppdb_run.specs.Sampled.{limit_of_sample, remapped_file, remapped_sample, report_of, sample_file}
+use Rattle.ppdb_run.specs.Sampled.{limit_of_sample, remapped_sample, report_of}
 use Rattle.ppdb_run.proofs.Identity.{behind_root, identity_is, same_length}
 
 -- ---- limits
@@ -49,11 +49,11 @@ module _ (forget : CanonicalFilesForgetIds) (stands : IdsStandAfterTheRoot) (val
 
 -- ---- the report
 
-pub report_is : (n bytes remapped_bytes : ℕ) (id : List ℕ) → bytes ≡ length (sample_file n) → remapped_bytes ≡ length (remapped_file n)
+pub report_is : (n bytes remapped_bytes : ℕ) (id : List ℕ) → bytes ≡ length (canon (sample n) Keep) → remapped_bytes ≡ length (canon (remapped_sample n) Hash)
     → id ≡ chosen_id (remapped_sample n) Hash
     → record { bytes = bytes; remapped_bytes = remapped_bytes; remapped_id = id } ≡ report_of n
 unfolding report_of
 report_is n bytes remapped_bytes id b r i =
     ap (λ k. record { bytes = k; remapped_bytes = remapped_bytes; remapped_id = id }) b
-    ∙ ap (λ k. record { bytes = length (sample_file n); remapped_bytes = k; remapped_id = id }) r
-    ∙ ap (λ k. record { bytes = length (sample_file n); remapped_bytes = length (remapped_file n); remapped_id = k }) i
+    ∙ ap (λ k. record { bytes = length (canon (sample n) Keep); remapped_bytes = k; remapped_id = id }) r
+    ∙ ap (λ k. record { bytes = length (canon (sample n) Keep); remapped_bytes = length (canon (remapped_sample n) Hash); remapped_id = k }) i

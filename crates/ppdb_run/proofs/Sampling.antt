@@ -7,7 +7,8 @@ use Rattle.ppdb_run.specs.Sampled.{limit_of_sample}
 use Rattle.ppdb_run_stops.specs.declared.stop.Stop.{Stop}
 use Rattle.ppdb_run.specs.Ends.{Asks, IsValid, OnAsked, OnDue, OnOutcome, WritesAgain, WritesValid}
 use Rattle.ppdb_run_stops.specs.Refusals.{Outcome, limited}
-use Rattle.ppdb_run.specs.Outcome.{IsOutcome, done, outcome_of, sampled, unless}
+use Rattle.ppdb_run.specs.Outcome.{IsOutcome, done, outcome_of, sampled}
+use Rattle.ppdb_merge.specs.Merged.{unless}
 use Rattle.ppdb_run_stops.specs.Causes.{cause_of, refusal_of}
 use Rattle.ppdb_run.specs.Stops.{Finds, FindsOutcome, Leaves, Settles}
 use Rattle.ppdb_run_words.specs.Words.{Task, Sample, Words}

@@ -17,7 +17,7 @@ use Rattle.ppdb_values.specs.RawFile.{raw_in, RawFile}
 use Rattle.ppdb_verify.specs.Files.{FileFaults}
 use Rattle.ppdb_values.specs.Value.{value_of}
 use Rattle.ppdb_run_stops.specs.Refusals.{Outcome, absent, too_long, refused, usage}
-use Rattle.ppdb_run.specs.Outcome.{◌>>=◌, IsOutcome, HasDue, gives, input_of, answer_of, rebuilt}
+use Rattle.ppdb_run.specs.Outcome.{◌>>=◌, IsOutcome, gives, input_of, answer_of, rebuilt}
 use Rattle.ppdb_run.specs.Outcome.{outcome_of, sampled, steps_of, verified}
 use Rattle.ppdb_maps_text.proofs.Judged.{texts_are_judged}
 use Rattle.ppdb_verify.specs.Files.{IsRawOf}
@@ -164,7 +164,7 @@ ends : (task : Task) (files : Files) (r : Result Outcome Outcome) → steps_of t
 ends task files (Ok answer) h = inl h
 ends task files (Err refusal) h = inr h
 
-pub has_due : (asked : Option Task) (files : Files) → HasDue asked files
+pub has_due : (asked : Option Task) (files : Files) → ((due : Outcome) → IsOutcome asked files due → ⊥) → ⊥
 has_due None files none = none usage refl
 has_due (Some (Ask question file)) files none =
     over_file (answer_of question file) file files (IsOutcome (Some (Ask question file)) files) (ends (Ask question file) files) none

@@ -1,6 +1,6 @@
 -- How a run ends: what its status, its text and the files afterwards have to do with the outcome of its words.
-use Rattle.ppdb_values.specs.Names.{Rose, counted, MAX_FILE_BYTES, Files, Contents, reading, IsAccepted, appended, AppendsPrefix, lines, count}
-use Rattle.std.specs.Prelude.{ℕ, ◌≡◌, ◌<◌, ◌≤◌, ◌+◌, ◌-◌, ◌*◌, ◌⊎◌, List, [], ◌∷◌, length, Option, Some, None, Ok, IfSome, slice_get}
+use Rattle.ppdb_values.specs.Names.{counted, MAX_FILE_BYTES, Files, Contents, reading, IsAccepted, appended, AppendsPrefix, lines, count}
+use Rattle.std.specs.Prelude.{ℕ, ◌≡◌, ◌<◌, ◌≤◌, ◌+◌, ◌-◌, ◌*◌, ◌⊎◌, List, [], ◌∷◌, length, Option, Some, None, Ok, IfSome, option_and_then, slice_get}
 use Rattle.ppdb_run_stops.specs.{declared.status.Status.{Status, TheVariants.{Done, WriteFault, Memory}}, Lines.{read_fault_line, write_fault_line}, Refusals.Outcome, Status.UnlessFault}
 use Rattle.ppdb_merge.specs.declared.trace.Trace.{Trace}
 use Rattle.ppdb_run_words.specs.Words.{Question, Id, Verify, Query, Links, Breaks, Options, Task, Ask, Lookup, Rebuild, Compose, Merge, Sample, Input, Words, NoTask, read_files, written_file}
@@ -110,14 +110,9 @@ UnlessWritten WriteFault P = Unit {0}
 UnlessWritten Memory P = Unit {0}
 UnlessWritten status P = P
 
--- what is asked for writes no file
-abbrev pub WritesNoFile : Option Task → Type 0
-WritesNoFile None = Unit {0}
-WritesNoFile (Some task) = written_file task ≡ None
-
 -- where the words have no file written, the files are as before
 abbrev pub KeepsFiles : List (List ℕ) → Option Files → Option Files → Type 0
-KeepsFiles words old new = (asked : Option Task) → Asks words asked → WritesNoFile asked → new ≡ old
+KeepsFiles words old new = (asked : Option Task) → Asks words asked → option_and_then written_file asked ≡ None → new ≡ old
 
 -- the text that was put is the line of the file that could not be read
 pub record TellsUnread (words : List (List ℕ)) (files : Option Files) (before after : ℕ) (old new : Option (List ℕ)) : Type 0 where
@@ -144,10 +139,6 @@ pub record PutsPrefix (words : List (List ℕ)) (files : Option Files) (due : Ou
   pub text : List ℕ
   pub is_due : IsDue words files due before after ReadFailed WriteFailed text
   pub written : AppendsPrefix old new text
-
--- a count of faults rose: of the reads, of the writes or of the sink
-abbrev pub HadFault : ℕ → ℕ → ℕ → ℕ → ℕ → ℕ → Type 0
-HadFault reads reads_after writes writes_after puts puts_after = Rose reads reads_after ⊎ Rose writes writes_after ⊎ Rose puts puts_after
 
 -- ---- a file that is written
 
@@ -179,15 +170,10 @@ WritesAgain asked due = Unit {0}
 
 -- ---- the rows that are read beside those that the verifier reads
 
--- the verifier reads all that the answer needs
-abbrev pub ReadsNoRows : Question → Type 0
-ReadsNoRows (Id json) = Unit {0}
-ReadsNoRows Verify = Unit {0}
-ReadsNoRows question = ⊥
-
 -- the verifier reads all that the task needs
 abbrev pub NeedsNoRows : Task → Type 0
-NeedsNoRows (Ask question file) = ReadsNoRows question
+NeedsNoRows (Ask (Id json) file) = Unit {0}
+NeedsNoRows (Ask Verify file) = Unit {0}
 NeedsNoRows (Compose first second output) = Unit {0}
 NeedsNoRows task = ⊥
 

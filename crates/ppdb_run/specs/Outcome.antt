@@ -10,12 +10,13 @@ use Rattle.ppdb_run_stops.specs.Refusals.{Outcome, prints, usage, absent, too_lo
 use Rattle.ppdb_run_words.specs.{Task.file_of, Words.{Question, Id, Verify, Show, Query, Links, Breaks, Options, Input, Task, Ask, Lookup, Rebuild, Compose, Merge, Sample}}
 use Rattle.ppdb_merge_fits.specs.Clashes.{is_unknown}
 use Rattle.ppdb_merge.specs.{declared.trace.Trace.Trace, Refusals.added, Together.joined_of}
+pub use Rattle.ppdb_merge.specs.Merged.{unless}
 use Rattle.map_compose.specs.{Composition.IsTextOfBoth, Sizes.{SizesAgree, IsFirstDiffering}}
 use Rattle.ppdb_maps.specs.{Map.Map, Text.{IsMapOf, Refused}}
 use Rattle.source_link.specs.declared.pair.Pair.{Pair}
-use Rattle.ppdb_show_sources.specs.{Links.{file_links, link_text}, Breaks.break_text}
-use Rattle.break_lines.specs.Breaks.{document_named}
-use Rattle.ppdb_build_canon.specs.{declared.choice.IdChoice.{IdChoice, TheVariants.{Hash, Keep}}, Canon.canon, Limits.first_limit}
+use Rattle.ppdb_show_sources.specs.{Links.{file_links, link_text}, Breaks.text_of_breaks}
+use Rattle.break_lines.specs.Breaks.{breaks_in, document_named}
+use Rattle.ppdb_build_canon.specs.{declared.choice.IdChoice.TheVariants.{Hash, Keep}, Canon.canon, Limits.first_limit}
 use Rattle.ppdb_values.specs.{declared.file.FileValue.FileValue, Value.value_of, RawFile.RawFile}
 use Rattle.ppdb_verify.specs.Files.{FileFaults, IsRawOf}
 use Rattle.ppdb_run.specs.{Sampled.{limit_of_sample, report_of}, Sample.sample_text}
@@ -75,9 +76,6 @@ map_at files name = do
 abbrev pub form_of : Bool → Form
 form_of json = if json then Json else Text
 
-abbrev pub id_text : Form → RawFile → List ℕ
-id_text form raw = lines_as form (id_line raw.id ∷ entry_line raw.entry ∷ [])
-
 -- a text is the answer
 abbrev pub done : List ℕ → Result Outcome Outcome
 done text = Ok (prints statuses.Done text)
@@ -87,14 +85,14 @@ abbrev pub links_answer : Form → List ℕ → FileValue → Result (List Pair)
 links_answer form file value (Ok pairs) = done (link_text form value pairs)
 links_answer form file value (Err error) = Err (unlinked file error)
 
--- the breaks of a line, where there is such a document
+-- the breaks of a line, by method and IL offset, where there is such a document
 abbrev pub breaks_answer : Form → List ℕ → ℕ → FileValue → Option ℕ → Result Outcome Outcome
 breaks_answer form document line value None = Err (no_document document)
-breaks_answer form document line value (Some row) = done (break_text form value row line)
+breaks_answer form document line value (Some row) = done (text_of_breaks form (breaks_in value row line))
 
 -- what the answer to a question about a file is: a text, or why there is none
 abbrev pub answer_of : Question → List ℕ → RawFile → Result Outcome Outcome
-answer_of (Id json) file raw = done (id_text (form_of json) raw)
+answer_of (Id json) file raw = done (lines_as (form_of json) (id_line raw.id ∷ entry_line raw.entry ∷ []))
 answer_of Verify file raw = done (line (codes "accepted"))
 answer_of (Show json) file raw = done (show_text_of (form_of json) raw)
 answer_of (Query method offset json) file raw =
@@ -122,24 +120,15 @@ looked_up form name raw text = do
 abbrev pub written : List ℕ → List ℕ → Outcome
 written name bytes = record { status = statuses.Done; text = []; writes = Some (name, bytes) }
 
--- a result, unless there is a refusal before it
-abbrev pub unless : Option Outcome → Result Outcome Outcome → Result Outcome Outcome
-unless (Some refusal) result = Err refusal
-unless None result = result
-
 -- the first custom record whose kind is neither read nor passed on
 abbrev pub unknown_kind : List (List ℕ) → FileValue → Option MergeError
 unknown_kind marks value = option_map (λ custom. KindUnknown custom.0 custom.1.kind)
     (find (λ custom. is_unknown (kind_of marks custom.1.kind)) (numbered value.customs))
 
--- the identity of what is written
-abbrev pub choice_of : Bool → IdChoice
-choice_of keep_id = if keep_id then Keep else Hash
-
--- the canonical file of a value, where it meets no limit
+-- the canonical file of a value, with its identity or a hash for one, where it meets no limit
 abbrev pub in_limits : List ℕ → Options → FileValue → Result Outcome Outcome
 in_limits output options value =
-    unless (option_map limited (first_limit value)) (Ok (written output (canon value (choice_of options.keep_id))))
+    unless (option_map limited (first_limit value)) (Ok (written output (canon value (if options.keep_id then Keep else Hash))))
 
 -- the canonical file of what a file says, where it can be written
 abbrev pub rebuilt : List ℕ → List ℕ → Options → FileValue → Result Outcome Outcome
@@ -228,15 +217,7 @@ steps_of (Merge inputs output options) files = do
   gives (in_limits output options value)
 steps_of (Sample n) files = gives (sampled n)
 
--- an outcome that steps come to
-abbrev pub IsEnd : Step Outcome → Outcome → Type 0
-IsEnd steps due = steps (Ok due) ⊎ steps (Err due)
-
 -- the outcome of a task, or of words that are no task's
 abbrev pub IsOutcome : Option Task → Files → Outcome → Type 0
 IsOutcome None files due = due ≡ usage
-IsOutcome (Some task) files due = IsEnd (steps_of task files) due
-
--- what is asked for has an outcome over the files: it cannot be that none is one
-abbrev pub HasDue : Option Task → Files → Type 0
-HasDue asked files = ((due : Outcome) → IsOutcome asked files due → ⊥) → ⊥
+IsOutcome (Some task) files due = steps_of task files (Ok due) ⊎ steps_of task files (Err due)

@@ -1,5 +1,5 @@
 -- What the sample comes to (docs/FORMAT.md, "Sample"): its file, and the file of what its map makes of it.
-use Rattle.std.specs.{Prelude.{ℕ, List, [], ◌∷◌, length, Option}, Option.option_or}
+use Rattle.std.specs.{Prelude.{ℕ, [], ◌∷◌, length, Option}, Option.option_or}
 use Rattle.ppdb_base.specs.declared.limits.Limit.{Limit}
 use Rattle.ppdb_values.specs.declared.file.FileValue.{FileValue}
 use Rattle.ppdb_build_canon.specs.{declared.choice.IdChoice.TheVariants.{Hash, Keep}, Canon.{canon, chosen_id}, Limits.first_limit}
@@ -12,16 +12,10 @@ abbrev pub remapped_sample : ℕ → FileValue
 remapped_sample n = joined_inputs (sample_input n ∷ [])
 
 -- the sample is written with its zero identity, and what its map makes of it with the identity from its hash
-abbrev pub sample_file : ℕ → List ℕ
-sample_file n = canon (sample n) Keep
-
-abbrev pub remapped_file : ℕ → List ℕ
-remapped_file n = canon (remapped_sample n) Hash
-
 unfoldable pub report_of : ℕ → SampleReport
 report_of n = record {
-  bytes = length (sample_file n);
-  remapped_bytes = length (remapped_file n);
+  bytes = length (canon (sample n) Keep);
+  remapped_bytes = length (canon (remapped_sample n) Hash);
   remapped_id = chosen_id (remapped_sample n) Hash;
 }
 

@@ -3,7 +3,7 @@ use Rattle.std.specs.Prelude.{ℕ, List, [], Option, Some, Result, Ok, Err, IfEr
 use Rattle.ppdb_base.specs.{Causes.Rose, Files.Files, Written.{appended, AppendsPrefix}}
 use Rattle.ppdb_run_stops.specs.{declared.status.Status.Status, declared.stop.Stop.Stop, Refusals.Outcome, Causes.{Cause, Unwritten, OutOfMemory, cause_of, refusal_of, status_of, line_of, OnCut}}
 use Rattle.ppdb_run_words.specs.Words.{Task}
-use Rattle.ppdb_run.specs.{Ends.{OnSeen, OnTask, WritesAgain, WritesValid}, Means.WritesMeaning, Outcome.{Step, IsEnd, IsOutcome}, Writes.{WritesAll, WritesPrefix}}
+use Rattle.ppdb_run.specs.{Ends.{OnSeen, OnTask, WritesAgain, WritesValid}, Means.WritesMeaning, Outcome.{Step, IsOutcome}, Writes.{WritesAll, WritesPrefix}}
 use Rattle.ppdb_run_stops.specs.declared.status.Status.TheVariants as statuses
 
 -- the files where a command stopped that writes these bytes
@@ -50,6 +50,10 @@ pub record WritesOutcome {T : Type 0} (task : Task) (result : Result T Stop) (ol
   pub means : OnOk result (OnTask task old (WritesMeaning old (Some task)))
 
 -- steps were carried out, and come to an outcome: they were done, or stopped at it, and its text was put
+-- an outcome that steps come to
+abbrev pub IsEnd : Step Outcome → Outcome → Type 0
+IsEnd steps due = steps (Ok due) ⊎ steps (Err due)
+
 pub record Delivers {T : Type 0} (steps : Step Outcome) (result : Result T Stop) (old new : Option (List ℕ)) : Type 0 where
   pub due : Outcome
   pub is : IsEnd steps due

@@ -1,9 +1,10 @@
 // The answers to questions about one file: what is read and verified, and what is put.
-ghost use Rattle.std.specs.Prelude.{◌≡◌, ◌≤◌, Some, None, OnOk, IfErr, IfSome};
+ghost use Rattle.std.specs.Prelude.{◌≡◌, ◌≤◌, [], ◌∷◌, Some, None, OnOk, IfErr, IfSome};
 ghost use Rattle.ppdb_base.specs.Causes.{Rose};
 ghost use Rattle.ppdb_base.specs.Written.{appended, AppendsPrefix, PutsInto};
-ghost use Rattle.ppdb_run.specs.Ends.{OnTask, IsWithinRows, IsWithinBound, ReadsNoRows};
-ghost use Rattle.ppdb_run.specs.Outcome.{IsOutcome, answer_of, id_text, outcome_of};
+ghost use Rattle.ppdb_show_lines.specs.{Forms.lines_as, Heads.{id_line, entry_line}};
+ghost use Rattle.ppdb_run.specs.Ends.{OnTask, IsWithinRows, IsWithinBound, NeedsNoRows};
+ghost use Rattle.ppdb_run.specs.Outcome.{IsOutcome, answer_of, outcome_of};
 ghost use Rattle.ppdb_run_stops.specs.Causes.{cause_of, ComesFrom, no_file, OnCut, OnUntold, StopsPutting};
 ghost use Rattle.ppdb_run.specs.Stops.{Settles, Finds};
 ghost use Rattle.ppdb_run_words.specs.Task.{question_of};
@@ -78,7 +79,7 @@ fn put_answer<'a, O: Sink, L: Ledger>(
     ensures cut { IfErr result (λ stop. OnCut (cause_of stop)
         (AppendsPrefix (O.written out.old) (O.written out.new) (outcome_of (answer_of (question_of question.entry) name.now (raw_file file.now))).text)) }
     ensures later { O.faults out.old ≤ O.faults out.new }
-    ensures none { ReadsNoRows (question_of question.entry) → steps.new ≡ steps.old }
+    ensures none { NeedsNoRows (Ask (question_of question.entry) name.now) → steps.new ≡ steps.old }
     ensures bound { IsWithinBound (question_of question.entry) (raw_file file.now) steps.old steps.new }
 {
     let room = Cell::new(Vec::new(alloc));
@@ -109,7 +110,8 @@ fn put_answer<'a, O: Sink, L: Ledger>(
 
 /// Puts the two lines of `id`.
 fn put_id<O: Sink>(printer: Printer<'_>, out: &mut O, file: &Verified<'_>) -> Result<(), WriteError>
-    ensures { PutsInto O.written O.faults result out.old out.new (id_text printer.entry.form (raw_file file.now)) }
+    ensures { PutsInto O.written O.faults result out.old out.new
+        (lines_as printer.entry.form (id_line (raw_file file.now).id ∷ entry_line (raw_file file.now).entry ∷ [])) }
 {
     file.keeps();
     let head = file.head();

@@ -2,7 +2,7 @@
 ghost use Rattle.std.specs.Prelude.{◌≡◌, ◌≤◌, ◌⊎◌, None, OnOk, IfErr, IsErrOf};
 ghost use Rattle.ppdb_base.specs.Causes.{Rose};
 ghost use Rattle.ppdb_base.specs.Written.{appended, AppendsPrefix};
-ghost use Rattle.ppdb_run.specs.Ends.{OnOutcome, HasOutcome, IsWithinRows, LeavesFiles, KeepsFiles, HadFault, PutsPrefix, IsUnread, IsUnwritten};
+ghost use Rattle.ppdb_run.specs.Ends.{OnOutcome, HasOutcome, IsWithinRows, LeavesFiles, KeepsFiles, PutsPrefix, IsUnread, IsUnwritten};
 ghost use Rattle.ppdb_run.specs.Ends.{TellsUnread, TellsUnwritten, UnlessWritten};
 ghost use Rattle.ppdb_run.specs.Ends.{OnAsked, WritesValid, WritesAgain};
 ghost use Rattle.ppdb_run.specs.Means.{WritesMeaning};
@@ -38,8 +38,8 @@ pub fn run<F: Folder, O: Sink, K: Ledger, L: Ledger>(
     ensures status { OnOutcome (texts words.now) (F.files folder.old) (λ due. UnlessFault result (result ≡ due.status)) }
     ensures text { OnOutcome (texts words.now) (F.files folder.old) (λ due. UnlessFault result (O.written out.new ≡ appended (O.written out.old) due.text)) }
     ensures files { OnOutcome (texts words.now) (F.files folder.old) (λ due. LeavesFiles result due (F.files folder.old) (F.files folder.new)) }
-    ensures complete { OnOutcome (texts words.now) (F.files folder.old) (λ due. (result ≡ due.status) ⊎ (result ≡ Status.Memory) ⊎ HadFault (F.read_faults folder.old)
-        (F.read_faults folder.new) (F.write_faults folder.old) (F.write_faults folder.new) (O.faults out.old) (O.faults out.new)) }
+    ensures complete { OnOutcome (texts words.now) (F.files folder.old) (λ due. (result ≡ due.status) ⊎ (result ≡ Status.Memory) ⊎ Rose (F.read_faults folder.old)
+        (F.read_faults folder.new) ⊎ Rose (F.write_faults folder.old) (F.write_faults folder.new) ⊎ Rose (O.faults out.old) (O.faults out.new)) }
 
     // A failed read.
     ensures read_fault { result ≡ Status.ReadFault → Rose (F.read_faults folder.old) (F.read_faults folder.new) }

@@ -7,7 +7,7 @@ ghost use Rattle.ppdb_show_lines.specs.declared.form.Form.{Form};
 ghost use Rattle.ppdb_show_lines.specs.Lines.{json_of, text_of};
 ghost use Rattle.ppdb_values.specs.RawFile.{RawFile};
 ghost use Rattle.ppdb_run_stops.specs.Refusals.{Outcome};
-ghost use Rattle.ppdb_run.specs.Outcome.{IsOutcome, HasDue, answer_of, form_of, outcome_of};
+ghost use Rattle.ppdb_run.specs.Outcome.{IsOutcome, answer_of, form_of, outcome_of};
 ghost use Rattle.ppdb_run_words.specs.Words.{Task, Query};
 
 pub use ppdb_run_words::laws::one_task_at_most;
@@ -17,9 +17,10 @@ pub fn one_outcome_at_most()
     ensures { (asked : Option Task) (files : Files) (one other : Outcome) → IsOutcome asked files one → IsOutcome asked files other → one ≡ other }
 {}
 
-/// What is asked for has an outcome over all files, so that nothing that is said of each outcome is said of none.
+/// What is asked for has an outcome over all files, so that nothing that is said of each outcome is said of none: it cannot be
+/// that none is one.
 pub fn an_outcome_at_least()
-    ensures { (asked : Option Task) (files : Files) → HasDue asked files }
+    ensures { (asked : Option Task) (files : Files) → ((due : Outcome) → IsOutcome asked files due → ⊥) → ⊥ }
 {}
 
 /// What a lookup prints of a question is `at M O`, and after it what the query of the same file prints: its text, or that the file

@@ -1,10 +1,10 @@
 // The command `rebuild`: the canonical file of a file.
-ghost use Rattle.std.specs.Prelude.{◌≡◌, ◌≤◌, ℕ, List, Some, None, IfOk, IfErr, IfSome};
+ghost use Rattle.std.specs.Prelude.{◌≡◌, ◌≤◌, ℕ, List, Some, None, IfOk, IfErr, IfSome, if◌then◌else◌};
 ghost use Rattle.ppdb_base.specs.First.{IsAccepted};
 ghost use Rattle.ppdb_merge_fits.specs.Clashes.{is_unknown as neither_read_nor_free};
 ghost use Rattle.ppdb_run.specs.Ends.{RebuildsToItself};
 ghost use Rattle.ppdb_run.specs.Means.{ExactlyMeans};
-ghost use Rattle.ppdb_run.specs.Outcome.{choice_of, gives, rebuilt, steps_of, unknown_kind, written};
+ghost use Rattle.ppdb_run.specs.Outcome.{gives, rebuilt, steps_of, unknown_kind, written};
 ghost use Rattle.ppdb_run_stops.specs.Causes.{cause_of, OnKept, StopsInside, StopsReading, StopsWriting};
 ghost use Rattle.ppdb_run.specs.Stops.{Gives, WritesOutcome};
 ghost use Rattle.ppdb_run_words.specs.Task.{options_of};
@@ -125,7 +125,7 @@ fn file_bytes<'a, L: Ledger>(
 
 /// Which identity is written.
 pub fn choice(keep_id: bool) -> IdChoice
-    ensures { result ≡ choice_of keep_id }
+    ensures { result ≡ (if keep_id then IdChoice.Keep else IdChoice.Hash) }
 {
     if keep_id {
         IdChoice::Keep

@@ -2,13 +2,14 @@
 ghost use Rattle.std.specs.Prelude.{◌≡◌, ◌≤◌, None, OnOk, IfOk, IfErr, length, take, drop};
 ghost use Rattle.ppdb_base.specs.First.{IsAccepted};
 ghost use Rattle.ppdb_build.specs.Building.{IsLimit};
+ghost use Rattle.ppdb_build_canon.specs.Canon.{canon};
 ghost use Rattle.ppdb_build_canon.specs.Limits.{first_limit};
 ghost use Rattle.ppdb_values.specs.RawFile.{RawFile};
 ghost use Rattle.ppdb_values.specs.Value.{value_of};
 ghost use Rattle.ppdb_verify.specs.Files.{FileFaults, IsRawOf};
 ghost use Rattle.ppdb_build_sample.specs.Sample.{sample};
 ghost use Rattle.ppdb_values_sound_laws.specs.Sound.{IsSound};
-ghost use Rattle.ppdb_run.specs.Sampled.{limit_of_sample, remapped_sample, report_of, sample_file};
+ghost use Rattle.ppdb_run.specs.Sampled.{limit_of_sample, remapped_sample, report_of};
 
 use crate::remapped::remapped_value;
 use ppdb_base::{Bytes, MAX_FILE_BYTES, Steps};
@@ -36,7 +37,7 @@ pub struct SampleReport {
 /// The file of the sample, which is read as the sample.
 fn sample_file(alloc: Global, methods: u32) -> Result<Bytes, BuildError>
     requires { methods ≤ 100000 }
-    ensures written { IfOk result (λ file. file ≡ sample_file methods) }
+    ensures written { IfOk result (λ file. file ≡ canon (sample methods) IdChoice.Keep) }
     ensures within { OnOk result (first_limit (sample methods) ≡ None) }
     ensures limit { IfErr result (IsLimit (limit_of_sample methods)) }
     ensures short { IfOk result (λ file. length file ≤ MAX_FILE_BYTES) }
@@ -69,7 +70,7 @@ fn report(
     bytes: u32,
     value: &FileValue,
 ) -> Result<SampleReport, BuildError>
-    requires bytes { bytes ≡ length (sample_file methods) }
+    requires bytes { bytes ≡ length (canon (sample methods) IdChoice.Keep) }
     requires within { first_limit (sample methods) ≡ None }
     requires value { value.now ≡ remapped_sample methods }
     requires sound { IsSound value.now }

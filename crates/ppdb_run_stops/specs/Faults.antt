@@ -1,6 +1,6 @@
--- A fault of a file as it is printed: its code and its place.
+-- The place of a fault of a file as it is printed.
 use Rattle.std.specs.Prelude.{ℕ, List, [], ◌∷◌, ◌==◌, if◌then◌else◌, codes}
-use Rattle.ppdb_base.specs.{declared.fault.{Place.Place, Fault.Fault}, Place.number_of}
+use Rattle.ppdb_base.specs.declared.fault.Place.{Place}
 use Rattle.ppdb_show_lines.specs.Lines.{Content, Field, field, mark, number, table}
 
 -- words and what stands after them. These lines are printed as text alone, so their fields have no keys
@@ -21,14 +21,6 @@ cell_fields at =
     said (codes " table ") (table at.table) ∷ said (codes " row ") (number at.row) ∷ said (codes " column ") (number at.column)
     ∷ said (codes " byte ") (number at.byte) ∷ []
 
--- a byte of a part, as ` root byte 48`
-abbrev pub byte_fields : Place → List Field
-byte_fields at = mark (part_text at.part) ∷ said (codes " byte ") (number at.byte) ∷ []
-
--- the rows of the tables are the fifth part
+-- a cell, or a byte of a part, as ` root byte 48`; the rows of the tables are the fifth part
 abbrev pub place_fields : Place → List Field
-place_fields at = if at.part == 5 then cell_fields at else byte_fields at
-
--- a fault, as ` F3 root byte 48`
-abbrev pub fault_fields : Fault → List Field
-fault_fields fault = said (codes " F") (number (number_of fault.code)) ∷ place_fields fault.place
+place_fields at = if at.part == 5 then cell_fields at else mark (part_text at.part) ∷ said (codes " byte ") (number at.byte) ∷ []

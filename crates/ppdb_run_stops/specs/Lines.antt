@@ -1,18 +1,15 @@
 -- The lines that say why a run stopped.
-use Rattle.ppdb_values.specs.Names.{Fault, Limit, LinkError, MergeError, TableRows, ListPastEnd, PointOffset, LineStep, FileSize, SpanTotal, Unmapped, ImageTwice, MethodTaken, OffsetBeyond, AsyncLost}
+use Rattle.ppdb_values.specs.Names.{Limit, LinkError, MergeError, TableRows, ListPastEnd, PointOffset, LineStep, FileSize, SpanTotal, Unmapped, ImageTwice, MethodTaken, OffsetBeyond, AsyncLost}
 use Rattle.ppdb_values.specs.Names.{KindUnknown, DocumentConflict, RowsDiffer, ImageRange, SlotUnmapped, SlotTwice, DocumentTwice, LinkDiffers}
 use Rattle.std.specs.Prelude.{ℕ, List, [], ◌∷◌, ◌++◌, Some, codes}
 use Rattle.ppdb_base.specs.declared.merge_error.MergeError.TheVariants.{Memory}
 use Rattle.ppdb_show_lines.specs.{Lines.{Field, Line, mark, number, table, guid, text_of, name as named_bytes}, Pieces.{line, numbered, signed, tabled}}
-use Rattle.ppdb_run_stops.specs.Faults.{said, place_fields, fault_fields}
+use Rattle.ppdb_run_stops.specs.Faults.{said, place_fields}
 use Rattle.ppdb_base.specs.declared.link_error.LinkError.TheVariants as links
 
 -- words, a name and more about it
 abbrev pub about : List ℕ → List ℕ → List Field → Line
 about words name fields = record { word = words; fields = said (codes " ") (named_bytes name) ∷ fields }
-
-abbrev pub usage_line : Line
-usage_line = record { word = codes "usage"; fields = [] }
 
 -- ---- files
 
@@ -22,18 +19,7 @@ read_fault_line name = text_of (about (codes "read fault") name [])
 abbrev pub write_fault_line : List ℕ → List ℕ
 write_fault_line name = text_of (about (codes "write fault") name [])
 
-abbrev pub refused_line : List ℕ → Fault → Line
-refused_line name fault = about (codes "refused") name (fault_fields fault)
-
--- the first line of a list's text, by its number, that a list cannot have
-abbrev pub list_line : List ℕ → ℕ → Line
-list_line name n = about (codes "list") name (said (codes " line ") (number n) ∷ [])
-
--- ---- maps, and files that are rewritten by them
-
--- a line of a map's text, and the number of the rule that it breaks
-abbrev pub map_line : List ℕ → ℕ → ℕ → Line
-map_line name n kind = about (codes "map") name (said (codes " line ") (number n) ∷ said (codes " kind ") (number kind) ∷ [])
+-- ---- files that are rewritten by maps
 
 -- why an input is not joined, M1 to M13
 abbrev pub merge_fields : MergeError → List Field
@@ -60,9 +46,6 @@ merge_fields (DocumentTwice first second) = said (codes " M12 documents ") (numb
 merge_fields (LinkDiffers row) = said (codes " M13 row ") (number row) ∷ []
 merge_fields Memory = []
 
-abbrev pub unfit_line : List ℕ → MergeError → Line
-unfit_line name error = about (codes "unfit") name (merge_fields error)
-
 -- a limit of the format, L1 to L6
 abbrev pub limit_text : Limit → List ℕ
 limit_text (TableRows t rows) = tabled (codes "limit L1 table ") t ++ line (numbered (codes " rows ") rows)
@@ -72,19 +55,6 @@ limit_text (LineStep method step) = numbered (codes "limit L4 method ") method +
 limit_text (FileSize bytes) = line (numbered (codes "limit L5 bytes ") bytes)
 limit_text (SpanTotal total) = line (numbered (codes "limit L6 total ") total)
 
--- the text of a map has so many bytes
-abbrev pub map_limit_text : ℕ → List ℕ
-map_limit_text bytes = line (numbered (codes "limit map bytes ") bytes)
-
--- the sizes of a method after the first map and before the second
-abbrev pub sizes_line : ℕ → ℕ → ℕ → Line
-sizes_line method first second =
-    record {
-      word = codes "sizes differ";
-      fields = said (codes " method ") (number method) ∷ said (codes " ") (number first)
-          ∷ said (codes " ") (number second) ∷ [];
-    }
-
 -- ---- questions about a file
 
 -- why a Source Link record gives no addresses
@@ -92,6 +62,3 @@ abbrev pub link_fields : LinkError → List Field
 link_fields links.NotJson = mark (codes " not json") ∷ []
 link_fields links.Shape = mark (codes " shape") ∷ []
 link_fields links.Memory = []
-
-abbrev pub links_line : List ℕ → LinkError → Line
-links_line name error = about (codes "links") name (link_fields error)

@@ -1,9 +1,9 @@
 -- What a command comes to, and the lines that it may stop with.
-use Rattle.std.specs.Prelude.{ℕ, List, [], Option, None, codes}
-use Rattle.ppdb_base.specs.{declared.fault.Fault.Fault, declared.limits.Limit.Limit, declared.link_error.LinkError.LinkError, declared.merge_error.MergeError.MergeError}
+use Rattle.std.specs.Prelude.{ℕ, List, [], ◌∷◌, Option, None, codes}
+use Rattle.ppdb_base.specs.{Place.number_of, declared.fault.Fault.Fault, declared.limits.Limit.Limit, declared.link_error.LinkError.LinkError, declared.merge_error.MergeError.MergeError}
 use Rattle.ppdb_show.specs.Lookup.{no_method_line}
-use Rattle.ppdb_show_lines.specs.Lines.{Line, text_of}
-use Rattle.ppdb_run_stops.specs.{declared.status.Status.Status, Lines.{about, usage_line, refused_line, map_line, unfit_line, limit_text, map_limit_text, list_line, links_line, sizes_line}}
+use Rattle.ppdb_show_lines.specs.{Lines.{Line, line_with, number, text_of}, Pieces.{line, numbered}}
+use Rattle.ppdb_run_stops.specs.{declared.status.Status.Status, Faults.{said, place_fields}, Lines.{about, merge_fields, limit_text, link_fields}}
 use Rattle.ppdb_run_stops.specs.declared.status.Status.TheVariants as statuses
 
 pub record Outcome : Type 0 where
@@ -22,7 +22,7 @@ abbrev pub tells : Status → Line → Outcome
 tells status said = prints status (text_of said)
 
 abbrev pub usage : Outcome
-usage = tells statuses.Usage usage_line
+usage = tells statuses.Usage (line_with "usage" [])
 
 abbrev pub absent : List ℕ → Outcome
 absent name = tells statuses.Absent (about (codes "absent") name [])
@@ -30,32 +30,40 @@ absent name = tells statuses.Absent (about (codes "absent") name [])
 abbrev pub too_long : List ℕ → Outcome
 too_long name = tells statuses.TooLong (about (codes "too long") name [])
 
+-- a fault, as ` F3 root byte 48`
 abbrev pub refused : List ℕ → Fault → Outcome
-refused name fault = tells statuses.Refused (refused_line name fault)
+refused name fault =
+    tells statuses.Refused (about (codes "refused") name (said (codes " F") (number (number_of fault.code)) ∷ place_fields fault.place))
 
+-- a line of a map's text, and the number of the rule that it breaks
 abbrev pub no_map : List ℕ → ℕ → ℕ → Outcome
-no_map name n kind = tells statuses.Unfit (map_line name n kind)
+no_map name n kind =
+    tells statuses.Unfit (about (codes "map") name (said (codes " line ") (number n) ∷ said (codes " kind ") (number kind) ∷ []))
 
 abbrev pub unfit : List ℕ → MergeError → Outcome
-unfit name error = tells statuses.Unfit (unfit_line name error)
+unfit name error = tells statuses.Unfit (about (codes "unfit") name (merge_fields error))
 
 abbrev pub limited : Limit → Outcome
 limited limit = prints statuses.Limit (limit_text limit)
 
+-- the text of a map has so many bytes
 abbrev pub map_limited : ℕ → Outcome
-map_limited bytes = prints statuses.Limit (map_limit_text bytes)
+map_limited bytes = prints statuses.Limit (line (numbered (codes "limit map bytes ") bytes))
 
 abbrev pub no_method : ℕ → Outcome
 no_method method = tells statuses.NoMethod (no_method_line method)
 
 abbrev pub unlinked : List ℕ → LinkError → Outcome
-unlinked name error = tells statuses.Unlinked (links_line name error)
+unlinked name error = tells statuses.Unlinked (about (codes "links") name (link_fields error))
 
 abbrev pub no_document : List ℕ → Outcome
 no_document name = tells statuses.NoDocument (about (codes "no document") name [])
 
+-- the first line of a list's text, by its number, that a list cannot have
 abbrev pub unlisted : List ℕ → ℕ → Outcome
-unlisted name n = tells statuses.Unlisted (list_line name n)
+unlisted name n = tells statuses.Unlisted (about (codes "list") name (said (codes " line ") (number n) ∷ []))
 
+-- the sizes of a method after the first map and before the second
 abbrev pub sizes_differ : ℕ → ℕ → ℕ → Outcome
-sizes_differ method first second = tells statuses.Uncomposed (sizes_line method first second)
+sizes_differ method first second = tells statuses.Uncomposed
+    (line_with "sizes differ" (said (codes " method ") (number method) ∷ said (codes " ") (number first) ∷ said (codes " ") (number second) ∷ []))

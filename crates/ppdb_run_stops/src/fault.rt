@@ -1,8 +1,7 @@
 // The line of a file that breaks a rule, and where.
 ghost use Rattle.std.specs.Prelude.{◌≡◌};
-ghost use Rattle.ppdb_show_lines.specs.Lines.{text_of};
 ghost use Rattle.ppdb_run_stops.specs.Faults.{part_text};
-ghost use Rattle.ppdb_run_stops.specs.Lines.{refused_line};
+ghost use Rattle.ppdb_run_stops.specs.Refusals.{refused};
 ghost use Rattle.ppdb_base.specs.Written.{PutsInto};
 
 use ppdb_base::{Fault, Sink, WriteError};
@@ -15,7 +14,7 @@ pub const ROWS: u8 = 5;
 
 /// Puts the line of a file that is refused.
 pub fn put_refused<O: Sink>(out: &mut O, name: &str, fault: Fault) -> Result<(), WriteError>
-    ensures { PutsInto O.written O.faults result out.old out.new (text_of (refused_line name.now fault)) }
+    ensures { PutsInto O.written O.faults result out.old out.new (refused name.now fault).text }
 {
     let name = Field(" ", Key::None, Name(name.as_bytes()));
     let code = Field(" F", Key::None, Number(u32::from(fault.code.number())));

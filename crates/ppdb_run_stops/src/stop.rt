@@ -3,7 +3,8 @@ ghost use Rattle.std.specs.Prelude.{◌≡◌, []};
 ghost use Rattle.ppdb_show_lines.specs.Lines.{text_of};
 ghost use Rattle.ppdb_show.specs.Lookup.{no_method_line};
 ghost use Rattle.ppdb_run_stops.specs.declared.stop.Stop.TheVariants as stops;
-ghost use Rattle.ppdb_run_stops.specs.Lines.{about, links_line, list_line, map_line, sizes_line};
+ghost use Rattle.ppdb_run_stops.specs.Lines.{about};
+ghost use Rattle.ppdb_run_stops.specs.Refusals.{no_map, sizes_differ, unlinked, unlisted};
 ghost use Rattle.ppdb_run_stops.specs.Causes.{cause_of, line_of, status_of, stop_of};
 ghost use Rattle.ppdb_base.specs.Written.{PutsInto};
 
@@ -143,7 +144,7 @@ fn put_name<O: Sink>(out: &mut O, words: &str, name: &str) -> Result<(), WriteEr
 
 /// Puts the line of a map's text that has no reading.
 fn put_map<O: Sink>(out: &mut O, name: &str, line: u32, kind: u8) -> Result<(), WriteError>
-    ensures { PutsInto O.written O.faults result out.old out.new (text_of (map_line name.now line kind)) }
+    ensures { PutsInto O.written O.faults result out.old out.new (no_map name.now line kind).text }
 {
     let name = Field(" ", Key::None, Name(name.as_bytes()));
     let line = Field(" line ", Key::None, Number(line));
@@ -153,7 +154,7 @@ fn put_map<O: Sink>(out: &mut O, name: &str, line: u32, kind: u8) -> Result<(), 
 
 /// Puts the line of a list's text that a list cannot have.
 fn put_list<O: Sink>(out: &mut O, name: &str, line: u32) -> Result<(), WriteError>
-    ensures { PutsInto O.written O.faults result out.old out.new (text_of (list_line name.now line)) }
+    ensures { PutsInto O.written O.faults result out.old out.new (unlisted name.now line).text }
 {
     let name = Field(" ", Key::None, Name(name.as_bytes()));
     let line = Field(" line ", Key::None, Number(line));
@@ -169,7 +170,7 @@ fn put_no_method<O: Sink>(out: &mut O, method: u32) -> Result<(), WriteError>
 
 /// Puts the line of a Source Link record that gives no addresses.
 fn put_unlinked<O: Sink>(out: &mut O, name: &str, error: LinkError) -> Result<(), WriteError>
-    ensures { PutsInto O.written O.faults result out.old out.new (text_of (links_line name.now error)) }
+    ensures { PutsInto O.written O.faults result out.old out.new (unlinked name.now error).text }
 {
     let name = Field(" ", Key::None, Name(name.as_bytes()));
     match error {
@@ -181,7 +182,7 @@ fn put_unlinked<O: Sink>(out: &mut O, name: &str, error: LinkError) -> Result<()
 
 /// Puts the line of maps that do not fit one another.
 fn put_sizes<O: Sink>(out: &mut O, method: u32, first: u32, second: u32) -> Result<(), WriteError>
-    ensures { PutsInto O.written O.faults result out.old out.new (text_of (sizes_line method first second)) }
+    ensures { PutsInto O.written O.faults result out.old out.new (sizes_differ method first second).text }
 {
     let method = Field(" method ", Key::None, Number(method));
     let first = Field(" ", Key::None, Number(first));

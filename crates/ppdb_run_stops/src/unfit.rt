@@ -1,7 +1,6 @@
 // The lines of inputs that are not joined.
 ghost use Rattle.ppdb_base.specs.declared.merge_error.MergeError.TheVariants as merge_errors;
-ghost use Rattle.ppdb_show_lines.specs.Lines.{text_of};
-ghost use Rattle.ppdb_run_stops.specs.Lines.{unfit_line};
+ghost use Rattle.ppdb_run_stops.specs.Refusals.{unfit};
 ghost use Rattle.ppdb_base.specs.Written.{PutsInto};
 
 use crate::fault::{ROWS, part_name};
@@ -12,7 +11,7 @@ use ppdb_show_lines::{Key, put_text_line};
 
 /// Puts the line of an input that is not joined.
 pub fn put_unfit<O: Sink>(out: &mut O, file: &str, error: MergeError) -> Result<(), WriteError>
-    ensures { PutsInto O.written O.faults result out.old out.new (text_of (unfit_line file.now error)) }
+    ensures { PutsInto O.written O.faults result out.old out.new (unfit file.now error).text }
 {
     use MergeError as E;
 
@@ -76,7 +75,7 @@ fn put_unmapped<O: Sink>(
     row: u32,
     place: Place,
 ) -> Result<(), WriteError>
-    ensures { PutsInto O.written O.faults result out.old out.new (text_of (unfit_line file.now (merge_errors.Unmapped table row place))) }
+    ensures { PutsInto O.written O.faults result out.old out.new (unfit file.now (merge_errors.Unmapped table row place)).text }
 {
     let file = Field(" ", Key::None, Name(file.as_bytes()));
     let table = Field(" M1 table ", Key::None, Table(table));
@@ -115,7 +114,7 @@ fn put_image_twice<O: Sink>(
     second: u32,
     image: u32,
 ) -> Result<(), WriteError>
-    ensures { PutsInto O.written O.faults result out.old out.new (text_of (unfit_line file.now (merge_errors.ImageTwice table first second image))) }
+    ensures { PutsInto O.written O.faults result out.old out.new (unfit file.now (merge_errors.ImageTwice table first second image)).text }
 {
     let file = Field(" ", Key::None, Name(file.as_bytes()));
     let table = Field(" M2 table ", Key::None, Table(table));
@@ -134,7 +133,7 @@ fn put_method_taken<O: Sink>(
     second: u32,
     image: u32,
 ) -> Result<(), WriteError>
-    ensures { PutsInto O.written O.faults result out.old out.new (text_of (unfit_line file.now (merge_errors.MethodTaken input first second image))) }
+    ensures { PutsInto O.written O.faults result out.old out.new (unfit file.now (merge_errors.MethodTaken input first second image)).text }
 {
     let file = Field(" ", Key::None, Name(file.as_bytes()));
     let input = Field(" M3 input ", Key::None, Number(input));
@@ -152,7 +151,7 @@ fn put_offset_beyond<O: Sink>(
     offset: u32,
     size: u32,
 ) -> Result<(), WriteError>
-    ensures { PutsInto O.written O.faults result out.old out.new (text_of (unfit_line file.now (merge_errors.OffsetBeyond method offset size))) }
+    ensures { PutsInto O.written O.faults result out.old out.new (unfit file.now (merge_errors.OffsetBeyond method offset size)).text }
 {
     let file = Field(" ", Key::None, Name(file.as_bytes()));
     let method = Field(" M4 method ", Key::None, Number(method));
@@ -168,7 +167,7 @@ fn put_async_lost<O: Sink>(
     method: u32,
     offset: u32,
 ) -> Result<(), WriteError>
-    ensures { PutsInto O.written O.faults result out.old out.new (text_of (unfit_line file.now (merge_errors.AsyncLost method offset))) }
+    ensures { PutsInto O.written O.faults result out.old out.new (unfit file.now (merge_errors.AsyncLost method offset)).text }
 {
     let file = Field(" ", Key::None, Name(file.as_bytes()));
     let method = Field(" M5 method ", Key::None, Number(method));
@@ -183,7 +182,7 @@ fn put_kind_unknown<O: Sink>(
     row: u32,
     kind: [u8; 16],
 ) -> Result<(), WriteError>
-    ensures { PutsInto O.written O.faults result out.old out.new (text_of (unfit_line file.now (merge_errors.KindUnknown row kind))) }
+    ensures { PutsInto O.written O.faults result out.old out.new (unfit file.now (merge_errors.KindUnknown row kind)).text }
 {
     let file = Field(" ", Key::None, Name(file.as_bytes()));
     let row = Field(" M6 row ", Key::None, Number(row));
@@ -198,7 +197,7 @@ fn put_document_conflict<O: Sink>(
     row: u32,
     joined: u32,
 ) -> Result<(), WriteError>
-    ensures { PutsInto O.written O.faults result out.old out.new (text_of (unfit_line file.now (merge_errors.DocumentConflict row joined))) }
+    ensures { PutsInto O.written O.faults result out.old out.new (unfit file.now (merge_errors.DocumentConflict row joined)).text }
 {
     let file = Field(" ", Key::None, Name(file.as_bytes()));
     let row = Field(" M7 document ", Key::None, Number(row));
@@ -215,7 +214,7 @@ fn put_rows_differ<O: Sink>(
     first: u32,
     second: u32,
 ) -> Result<(), WriteError>
-    ensures { PutsInto O.written O.faults result out.old out.new (text_of (unfit_line file.now (merge_errors.RowsDiffer input table first second))) }
+    ensures { PutsInto O.written O.faults result out.old out.new (unfit file.now (merge_errors.RowsDiffer input table first second)).text }
 {
     let file = Field(" ", Key::None, Name(file.as_bytes()));
     let table = Field(" M8 table ", Key::None, Table(table));
@@ -234,7 +233,7 @@ fn put_image_range<O: Sink>(
     image: u32,
     rows: u32,
 ) -> Result<(), WriteError>
-    ensures { PutsInto O.written O.faults result out.old out.new (text_of (unfit_line file.now (merge_errors.ImageRange input table row image rows))) }
+    ensures { PutsInto O.written O.faults result out.old out.new (unfit file.now (merge_errors.ImageRange input table row image rows)).text }
 {
     let file = Field(" ", Key::None, Name(file.as_bytes()));
     let table = Field(" M9 table ", Key::None, Table(table));
@@ -251,7 +250,7 @@ fn put_slot_unmapped<O: Sink>(
     row: u32,
     slot: u16,
 ) -> Result<(), WriteError>
-    ensures { PutsInto O.written O.faults result out.old out.new (text_of (unfit_line file.now (merge_errors.SlotUnmapped row slot))) }
+    ensures { PutsInto O.written O.faults result out.old out.new (unfit file.now (merge_errors.SlotUnmapped row slot)).text }
 {
     let file = Field(" ", Key::None, Name(file.as_bytes()));
     let row = Field(" M10 variable ", Key::None, Number(row));
@@ -268,7 +267,7 @@ fn put_slot_twice<O: Sink>(
     second: u16,
     image: u16,
 ) -> Result<(), WriteError>
-    ensures { PutsInto O.written O.faults result out.old out.new (text_of (unfit_line file.now (merge_errors.SlotTwice method first second image))) }
+    ensures { PutsInto O.written O.faults result out.old out.new (unfit file.now (merge_errors.SlotTwice method first second image)).text }
 {
     let file = Field(" ", Key::None, Name(file.as_bytes()));
     let method = Field(" M11 method ", Key::None, Number(method));
@@ -285,7 +284,7 @@ fn put_document_twice<O: Sink>(
     first: u32,
     second: u32,
 ) -> Result<(), WriteError>
-    ensures { PutsInto O.written O.faults result out.old out.new (text_of (unfit_line file.now (merge_errors.DocumentTwice first second))) }
+    ensures { PutsInto O.written O.faults result out.old out.new (unfit file.now (merge_errors.DocumentTwice first second)).text }
 {
     let file = Field(" ", Key::None, Name(file.as_bytes()));
     let first = Field(" M12 documents ", Key::None, Number(first));
@@ -295,7 +294,7 @@ fn put_document_twice<O: Sink>(
 
 /// Puts M13: a Source Link record differs from that of an earlier input.
 fn put_link_differs<O: Sink>(out: &mut O, file: &str, row: u32) -> Result<(), WriteError>
-    ensures { PutsInto O.written O.faults result out.old out.new (text_of (unfit_line file.now (merge_errors.LinkDiffers row))) }
+    ensures { PutsInto O.written O.faults result out.old out.new (unfit file.now (merge_errors.LinkDiffers row)).text }
 {
     let file = Field(" ", Key::None, Name(file.as_bytes()));
     let row = Field(" M13 row ", Key::None, Number(row));

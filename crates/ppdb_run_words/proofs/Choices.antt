@@ -1,10 +1,10 @@
 -- The options of words, read from the left.
 use Rattle.std.proofs.Common.{ℕ, ◌≡◌, ◌⊎◌, inl, inr, List, [], ◌∷◌, ◌++◌, Bool, true, false, Option, Some, None, refl, sym, ◌∙◌, ap, subst}
-use Rattle.std.specs.Prelude.{codes, ◌||◌}
+use Rattle.std.specs.Prelude.{codes, ◌||◌, map, option_to_list}
 use Rattle.std.specs.Str.{bytes_eq}
 use Rattle.uuid.specs.Parts.{swap_fields}
 use Rattle.uuid.specs.Text.{parsed}
-use Rattle.ppdb_run_words.specs.Task.{IsBehindGuid, mark_of, marks_in}
+use Rattle.ppdb_run_words.specs.Task.{IsBehindGuid, marks_in}
 use Rattle.ppdb_run_words.specs.Words.{Options, AreOptions, no_option, keep_id, free}
 
 -- the marks of options are those of their words
@@ -13,7 +13,7 @@ marks_are _ _ no_option = refl
 marks_are _ _ (keep_id {words = []} {options = o} h) = marks_are [] o h
 marks_are _ _ (keep_id {words = next ∷ words} {options = o} h) = marks_are (next ∷ words) o h
 marks_are _ _ (free {words = words} {options = o} word guid e h) =
-    ap (λ marks. swap_fields guid ∷ marks) (marks_are words o h) ∙ sym (ap (λ g. mark_of g ++ marks_in words) e)
+    ap (λ marks. swap_fields guid ∷ marks) (marks_are words o h) ∙ sym (ap (λ g. map swap_fields (option_to_list g) ++ marks_in words) e)
 
 -- the first words of options are those of one option
 abbrev pub First : List (List ℕ) → Type 0
@@ -82,13 +82,13 @@ append_nothing [] = refl
 append_nothing (mark ∷ marks) = ap (λ rest. mark ∷ rest) (append_nothing marks)
 
 -- a word that is no GUID marks nothing
-pub no_mark : (guid : Option (List ℕ)) → ((bytes : List ℕ) → guid ≡ Some bytes → ⊥) → (marks : List (List ℕ)) → marks ≡ marks ++ mark_of guid
+pub no_mark : (guid : Option (List ℕ)) → ((bytes : List ℕ) → guid ≡ Some bytes → ⊥) → (marks : List (List ℕ)) → marks ≡ marks ++ map swap_fields (option_to_list guid)
 no_mark None none marks = sym (append_nothing marks)
 no_mark (Some bytes) none marks = absurd (none bytes refl)
 
 -- a word and what it is followed by
 pub marks_free : (words : List (List ℕ)) (next : List ℕ) (others : List (List ℕ)) → words ≡ codes "--free" ∷ next ∷ others
-    → marks_in words ≡ mark_of (parsed next) ++ marks_in others
+    → marks_in words ≡ map swap_fields (option_to_list (parsed next)) ++ marks_in others
 marks_free words next others e = ap marks_in e
 
 pub marks_other : (words : List (List ℕ)) (word : List ℕ) (others : List (List ℕ)) → bytes_eq word (codes "--free") ≡ false → words ≡ word ∷ others

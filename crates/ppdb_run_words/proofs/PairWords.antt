@@ -1,12 +1,12 @@
 -- Words that name files and maps, two by two, and options after them.
 use Rattle.std.proofs.Common.{ℕ, zero, suc, ◌≡◌, ◌≤◌, ◌<◌, ◌+◌, ◌-◌, ◌⊎◌, List, [], ◌∷◌, ◌++◌, length, take, drop, get_or, String, string_bytes, inl}
 use Rattle.std.proofs.Common.{inr, Bool, true, false, cond, refl, sym, ◌∙◌, ap, subst, arith}
-use Rattle.std.specs.Prelude.{◌&&◌, ◌==◌, IsTrue, OnErr, Result, Ok, Err, codes}
+use Rattle.std.specs.Prelude.{◌&&◌, ◌==◌, IsTrue, OnErr, Result, Ok, Err, codes, take_while}
 use Rattle.std.specs.declared.alloc.Global.{Global}
 use Rattle.std.proofs.lemmas.Bool.{eqb-true}
 use Rattle.std.proofs.lemmas.List.{drop-map, drop-drop, length-drop, take_all}
 use Rattle.std.specs.List.{list_all, prefix_len}
-use Rattle.ppdb_run_words.specs.Task.{NoPair, before_options, from_options, pairs_of, words_after_output}
+use Rattle.ppdb_run_words.specs.Task.{NoPair, pairs_of}
 use Rattle.ppdb_run_words.specs.Task.{file_of}
 use Rattle.ppdb_run_words.specs.Words.{Options, AreOptions, no_option, keep_id, free, Input, input_words, is_file_word, texts, NoTask, Words, IsMerge, IsRemap}
 use Rattle.ppdb_run_words.specs.Words.{Id, Verify, Show, Query, Links, Breaks, Ask, Lookup, Rebuild, Compose, Merge, Sample}
@@ -291,18 +291,20 @@ before_count (w ∷ prefix) back options files h =
 -- those before are the words before the options
 pub options_begin : (args : List (List ℕ)) (first : List ℕ) (words prefix back : List (List ℕ)) (options : Options) → args ≡ first ∷ words → words ≡ prefix ++ back
     → IsTrue (list_all is_file_word prefix) → AreOptions back options
-    → (prefix ≡ before_options (words_after_output (codes "merge" ∷ args))) × (back ≡ from_options (words_after_output (codes "merge" ∷ args)))
+    → (prefix ≡ take_while is_file_word (drop 2 (codes "merge" ∷ args)))
+    × (back ≡ drop (prefix_len is_file_word (drop 2 (codes "merge" ∷ args))) (drop 2 (codes "merge" ∷ args)))
 options_begin args first words prefix back options is split files h =
     let cut = taken prefix back in
     let count = before_count prefix back options files h in
-    let after : words_after_output (codes "merge" ∷ args) ≡ prefix ++ back = ap (λ w. words_after_output (codes "merge" ∷ w)) is ∙ split in (
-      sym (ap before_options after ∙ ap (λ n. take n (prefix ++ back)) count ∙ cut.0),
-      sym (ap from_options after ∙ ap (λ n. drop n (prefix ++ back)) count ∙ cut.1),
+    let after : drop 2 (codes "merge" ∷ args) ≡ prefix ++ back = ap (λ w. drop 2 (codes "merge" ∷ w)) is ∙ split in (
+      sym (ap (take_while is_file_word) after ∙ ap (λ n. take n (prefix ++ back)) count ∙ cut.0),
+      sym (ap (λ w. drop (prefix_len is_file_word w) w) after ∙ ap (λ n. drop n (prefix ++ back)) count ∙ cut.1),
     )
 
 pub options_pairs : (args : List (List ℕ)) (first : List ℕ) (rest : List (List ℕ)) (prefix back given : List (String Global)) (options : Options)
     → args ≡ first ∷ rest → rest ≡ texts prefix ++ texts back → IsTrue (list_all is_file_word (texts prefix)) → AreOptions (texts back) options → given ≡ back
-    → (texts prefix ≡ before_options (words_after_output (codes "merge" ∷ args))) × (texts given ≡ from_options (words_after_output (codes "merge" ∷ args)))
+    → (texts prefix ≡ take_while is_file_word (drop 2 (codes "merge" ∷ args)))
+    × (texts given ≡ drop (prefix_len is_file_word (drop 2 (codes "merge" ∷ args))) (drop 2 (codes "merge" ∷ args)))
 options_pairs args first rest prefix back given options is split files h same =
     let begin = options_begin args first rest (texts prefix) (texts back) options is split files h in (begin.0, ap texts same ∙ begin.1)
 

@@ -1,5 +1,6 @@
 -- A command as it is asked for.
-use Rattle.std.specs.{Prelude.{ℕ, ◌≡◌, ◌&&◌, Bool, false, List, [], ◌∷◌, ◌++◌, drop, Option, Some, None, option_map, codes, if◌then◌else◌, decimal, take_while, unwrap_or, bytes_eq}, List.prefix_len}
+use Rattle.std.specs.{Prelude.{ℕ, ◌≡◌, ◌&&◌, Bool, false, List, [], ◌∷◌, ◌++◌, drop, map, Some, option_map, option_to_list, codes, if◌then◌else◌, decimal, unwrap_or, bytes_eq}, List.prefix_len}
+use Rattle.std.specs.Prelude.{take_while}
 use Rattle.ppdb_tables.specs.RawTables.{row_at}
 use Rattle.uuid.specs.{Text.parsed, Parts.swap_fields}
 use Rattle.ppdb_run_words.specs.{declared.question.Question.Question as GivenQuestion, declared.options.Options.Options as Given, declared.inputs.{Inputs.Inputs, Pair.Pair}}
@@ -31,16 +32,12 @@ json_of (Breaks document line json) = json
 abbrev pub IsBehindGuid : List (List ℕ) → List (List ℕ) → Type 0
 IsBehindGuid words rest = (word guid : List ℕ) × (words ≡ word ∷ rest) × (parsed word ≡ Some guid)
 
--- the GUID of a word, as it lies in a file
-abbrev pub mark_of : Option (List ℕ) → List (List ℕ)
-mark_of (Some guid) = swap_fields guid ∷ []
-mark_of None = []
-
--- the GUIDs after each --free among the words of options
+-- the GUIDs after each --free among the words of options, as they lie in a file
 abbrev pub marks_in : List (List ℕ) → List (List ℕ)
 marks_in [] = []
 marks_in (word ∷ []) = []
-marks_in (word ∷ next ∷ words) = if bytes_eq word (codes "--free") then mark_of (parsed next) ++ marks_in words else marks_in (next ∷ words)
+marks_in (word ∷ next ∷ words) =
+    if bytes_eq word (codes "--free") then map swap_fields (option_to_list (parsed next)) ++ marks_in words else marks_in (next ∷ words)
 
 -- options without where their words lie in memory
 abbrev pub options_of : Given → Options
@@ -110,20 +107,10 @@ words_of (commands.Remap input map_file output options) = codes "remap" ∷ inpu
 words_of (commands.Merge output pairs options) = codes "merge" ∷ output.now ∷ (texts pairs.now ++ texts options.words.now)
 words_of (commands.Sample n) = codes "sample" ∷ decimal n ∷ []
 
--- the words of merge after OUT
-abbrev pub words_after_output : List (List ℕ) → List (List ℕ)
-words_after_output (name ∷ output ∷ words) = words
-words_after_output words = []
-
--- the words before the first option, which are all that can name files, and the words from there on
-abbrev pub before_options : List (List ℕ) → List (List ℕ)
-before_options words = take_while is_file_word words
-
-abbrev pub from_options : List (List ℕ) → List (List ℕ)
-from_options words = drop (prefix_len is_file_word words) words
-
--- the pairs of a merge are exactly the words between OUT and the first option, and the words of its options exactly those from there on
+-- of the words after `merge` and OUT, the pairs of a merge are exactly those before the first option, which are all that can name files,
+-- and the words of its options exactly those from there on
 abbrev pub PairsEndAtOptions : List (List ℕ) → Command → Type 0
 PairsEndAtOptions words (commands.Merge output pairs options) =
-    (texts pairs.now ≡ before_options (words_after_output words)) × (texts options.words.now ≡ from_options (words_after_output words))
+    (texts pairs.now ≡ take_while is_file_word (drop 2 words))
+    × (texts options.words.now ≡ drop (prefix_len is_file_word (drop 2 words)) (drop 2 words))
 PairsEndAtOptions words command = Unit {0}

@@ -1,7 +1,8 @@
 // The options of a command that writes a file.
-ghost use Rattle.std.specs.Prelude.{◌≡◌, ◌<◌, ℕ, List, [], ◌∷◌, ◌++◌, length, IfSome, IfNone, IfOk, OnOk, OnErr};
+ghost use Rattle.std.specs.Prelude.{◌≡◌, ◌<◌, ℕ, List, [], ◌∷◌, ◌++◌, length, map, option_to_list, IfSome, IfNone, IfOk, OnOk, OnErr};
 ghost use Rattle.uuid.specs.Text.{parsed};
-ghost use Rattle.ppdb_run_words.specs.Task.{IsBehindGuid, mark_of, marks_in, options_of};
+ghost use Rattle.ppdb_run_words.specs.Task.{IsBehindGuid, marks_in, options_of};
+ghost use Rattle.uuid.specs.Parts.{swap_fields};
 ghost use Rattle.ppdb_run_words.specs.Words.{Options as Choices, AreOptions, texts};
 
 use crate::words::Usage;
@@ -41,7 +42,7 @@ impl Options<'_> {
 
 /// Marks the GUID of a word, if it is one.
 fn add_mark(marks: &mut Marks, word: &str) -> Result<(), Memory>
-    ensures { OnOk result (marks.new ≡ marks.old ++ mark_of (parsed word.now)) }
+    ensures { OnOk result (marks.new ≡ marks.old ++ map swap_fields (option_to_list (parsed word.now))) }
 {
     match Uuid::parse_str(word) {
         Ok(guid) => marks.add(guid.to_bytes_le()),

@@ -6,7 +6,7 @@ use Rattle.ppdb_tables.specs.RawTables.{RawTables}
 use Rattle.ppdb_queries.specs.declared.scopes.ScopeView.{ScopeView}
 use Rattle.ppdb_queries.specs.Digits.{digits}
 use Rattle.ppdb_queries.specs.Scopes.{scopes_at, scope_count}
-use Rattle.ppdb_show.specs.Bound.{with_customs, all_with_customs, shown_of_scope, query_rows}
+use Rattle.ppdb_show.specs.Bound.{with_customs, shown_of_scope, query_rows}
 use Rattle.ppdb_show.specs.Query.{customs_on, variables_of, constants_of, imports_of}
 use Rattle.ppdb_show.specs.QueryWalk.{customs_reads, item_reads, items_reads, scope_reads, scopes_reads}
 use Rattle.ppdb_queries.proofs.Powers.{digits_most}
@@ -30,7 +30,7 @@ with_most d n =
     omega (arith, e, h)
 
 items_most : {X : Type 0} (raw : RawTables) (table : ℕ) (items : List (ℕ × X))
-    → items_reads raw table items ≤ (2 * digits (length raw.customs) + 2) * all_with_customs raw table items
+    → items_reads raw table items ≤ (2 * digits (length raw.customs) + 2) * sum_by (λ row. with_customs raw table row.0) items
 items_most {X} raw table items =
     sum_most (2 * digits (length raw.customs) + 2) (item_reads raw table) (λ item. with_customs raw table item.0)
     (λ item. with_most (digits (length raw.customs)) (length (customs_on raw table item.0))) items
@@ -39,9 +39,9 @@ scope_most : (raw : RawTables) (view : ScopeView) → scope_reads raw view ≤ (
 scope_most raw view =
     let k = 2 * digits (length raw.customs) + 2 in
     let w = with_customs raw 0x32 view.row in
-    let a = all_with_customs raw 0x33 (variables_of raw view) in
-    let b = all_with_customs raw 0x34 (constants_of raw view) in
-    let d = all_with_customs raw 0x35 (imports_of raw view) in
+    let a = sum_by (λ row. with_customs raw 0x33 row.0) (variables_of raw view) in
+    let b = sum_by (λ row. with_customs raw 0x34 row.0) (constants_of raw view) in
+    let d = sum_by (λ row. with_customs raw 0x35 row.0) (imports_of raw view) in
     let first = mul-add k w (a + (b + d)) in
     let second = mul-add k a (b + d) in
     let third = mul-add k b d in

@@ -17,9 +17,10 @@ use Rattle.ppdb_show_lines.specs.Forms.{lines_as}
 use Rattle.ppdb_show_lines.specs.Heads.{id_line, entry_line}
 use Rattle.ppdb_show_lines.specs.Uses.{use_line}
 use Rattle.ppdb_show.specs.Show.{lines_of_method, method_line, point_line, import_line, count_lines, count_lines_of, head_lines}
-use Rattle.ppdb_show.specs.Show.{row_lines, document_lines, method_lines, scope_lines, variable_lines, constant_lines, import_lines}
-use Rattle.ppdb_show.specs.Show.{machine_lines, custom_lines}
-use Rattle.ppdb_show.specs.ShowWalk.{between, lines_of_method_row, lines_of_import_row}
+use Rattle.ppdb_show.specs.Show.{row_lines}
+use Rattle.ppdb_show.specs.declared.show.rows.Rows.TheVariants.{Documents, Methods, Scopes, Imports, Machines, Customs}
+use Rattle.ppdb_show.specs.declared.show.owned.Owned.TheVariants.{Variables, Constants}
+use Rattle.ppdb_show.specs.ShowWalk.{between, lines_of_method_row, lines_of_import_row, lines_of_table, lines_of_items}
 
 range_first : (row end : ℕ) → row < end → range_with_len row (end - row) ≡ row ∷ range_with_len (row + 1) (end - (row + 1))
 range_first row end h = let e : end - row ≡ suc (end - (row + 1)) = omega arith in rw e refl
@@ -115,8 +116,9 @@ rows_in form a b c d e f g h =
     ) refl
 
 pub rows_text : (form : Form) (raw : RawTables) → lines_as form (row_lines raw)
-    ≡ lines_as form (document_lines raw) ++ (lines_as form (method_lines raw) ++ (lines_as form (scope_lines raw) ++ (lines_as form (variable_lines raw)
-    ++ (lines_as form (constant_lines raw) ++ (lines_as form (import_lines raw) ++ (lines_as form (machine_lines raw) ++ lines_as form (custom_lines raw)))))))
+    ≡ lines_as form (lines_of_table raw Documents) ++ (lines_as form (lines_of_table raw Methods) ++ (lines_as form (lines_of_table raw Scopes)
+    ++ (lines_as form (lines_of_items raw Variables) ++ (lines_as form (lines_of_items raw Constants) ++ (lines_as form (lines_of_table raw Imports)
+    ++ (lines_as form (lines_of_table raw Machines) ++ lines_as form (lines_of_table raw Customs)))))))
 rows_text form raw =
-    rows_in form (document_lines raw) (method_lines raw) (scope_lines raw) (variable_lines raw) (constant_lines raw) (import_lines raw) (machine_lines raw)
-    (custom_lines raw)
+    rows_in form (lines_of_table raw Documents) (lines_of_table raw Methods) (lines_of_table raw Scopes) (lines_of_items raw Variables)
+    (lines_of_items raw Constants) (lines_of_table raw Imports) (lines_of_table raw Machines) (lines_of_table raw Customs)

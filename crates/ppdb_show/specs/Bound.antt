@@ -1,5 +1,5 @@
 -- How many rows a query of an offset of a method reads at most.
-use Rattle.std.specs.Prelude.{ℕ, ◌+◌, ◌*◌, List, length, sum_by}
+use Rattle.std.specs.Prelude.{ℕ, ◌+◌, ◌*◌, length, sum_by}
 use Rattle.ppdb_tables.specs.RawTables.{RawTables}
 use Rattle.ppdb_queries.specs.{declared.scopes.ScopeView.ScopeView, Digits.digits, Scopes.{scopes_at, scope_count}}
 use Rattle.ppdb_show.specs.Query.{customs_on, variables_of, constants_of, imports_of}
@@ -8,16 +8,12 @@ use Rattle.ppdb_show.specs.Query.{customs_on, variables_of, constants_of, import
 abbrev pub with_customs : RawTables → ℕ → ℕ → ℕ
 with_customs raw table row = 1 + length (customs_on raw table row)
 
--- rows that are shown, each with the custom records on it
-abbrev pub all_with_customs : {X : Type 0} → RawTables → ℕ → List (ℕ × X) → ℕ
-all_with_customs raw table rows = sum_by (λ row. with_customs raw table row.0) rows
-
 -- a scope with what is shown of it: its variables, its constants, and its import scope with the parents of that
 abbrev pub shown_of_scope : RawTables → ScopeView → ℕ
 shown_of_scope raw scope = with_customs raw 0x32 scope.row
-    + (all_with_customs raw 0x33 (variables_of raw scope)
-    + (all_with_customs raw 0x34 (constants_of raw scope)
-    + all_with_customs raw 0x35 (imports_of raw scope)))
+    + (sum_by (λ row. with_customs raw 0x33 row.0) (variables_of raw scope)
+    + (sum_by (λ row. with_customs raw 0x34 row.0) (constants_of raw scope)
+    + sum_by (λ row. with_customs raw 0x35 row.0) (imports_of raw scope)))
 
 -- The scopes, variables, constants and import scopes that are shown, each as often as it is shown, and the custom records on
 -- them and on the method.

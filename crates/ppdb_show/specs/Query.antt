@@ -1,11 +1,11 @@
 -- What a query of an offset of a method prints, line by line, as text or as objects of JSON (this project's format; Portable PDB v1.0, "Metadata Tables").
-use Rattle.ppdb_values.specs.Names.{Point, Range, AsyncStep, ConstantRow, CustomRow, ImportRow, VariableRow, RawTables, row_at}
-use Rattle.std.specs.Prelude.{map, ℕ, List, [], ◌∷◌, ◌++◌, Option, Some, None, Bool, true, false, ◌==◌, codes, unwrap_or, option_map, flat_map}
+use Rattle.ppdb_values.specs.Names.{Point, AsyncStep, ConstantRow, CustomRow, ImportRow, VariableRow, RawTables, row_at}
+use Rattle.std.specs.Prelude.{map, ℕ, List, [], ◌∷◌, ◌++◌, Option, Some, None, ◌==◌, codes, if◌then◌else◌, unwrap_or, option_map, option_to_list, flat_map}
 use Rattle.ppdb_values.specs.{declared.custom.CustomBody.{CustomBody, TheVariants.{Async, Hoisted}}, declared.scope.VariableValue.VariableValue, Chains.chain_of}
 use Rattle.ppdb_values.specs.{Customs.custom_of, Documents.document_of, Imports.import_scope_of, Links.{kickoff_of, move_next_of}, Parts.{points_of, signature_of, last_point}}
 use Rattle.ppdb_values.specs.{RawFile.{RawFile, text, blob, guid as guid_in}, Value.{owned_by, variable_of, value_of}}
 use Rattle.ppdb_queries.specs.{declared.hoisted.Hoisted.Hoisted as HoistedLocal, declared.scopes.ScopeView.ScopeView, Hoisted.hoisted_at, Runs.customs_at, Scopes.scopes_at}
-use Rattle.ppdb_show_lines.specs.{declared.form.Form.Form, Forms.lines_as, Lines.{Line, line_with, Content, field, bare, named, number, guid, octets, name, absent}, Uses.use_line}
+use Rattle.ppdb_show_lines.specs.{declared.form.Form.Form, Forms.lines_as, Lines.{Line, line_with, field, bare, named, number, guid, octets, name, absent}, Uses.use_line}
 use Rattle.ppdb_show.specs.Show.{span_fields}
 
 -- ---- custom records ("CustomDebugInformation Table")
@@ -23,9 +23,6 @@ customs_found raw table row = map (λ custom. custom_found raw custom.1) (custom
 
 -- ---- the sequence point ("Sequence Points Blob", "Document Table")
 
-abbrev pub no_point_line : Line
-no_point_line = line_with "point" (bare "offset" (absent (codes "none")) ∷ [])
-
 abbrev pub point_found : Point → ℕ → List ℕ → Line
 point_found point signature document = line_with "point" (bare "offset" (number point.offset) ∷ bare "document" (number point.document)
     ∷ (span_fields point.span ++ named "signature" (number signature) ∷ named "name" (name document) ∷ []))
@@ -37,12 +34,9 @@ document_name raw row = unwrap_or (option_map (λ document. (document_of raw doc
 -- the last point that is not after the offset
 abbrev pub line_of_point : RawFile → ℕ → Option Point → Line
 line_of_point raw m (Some point) = point_found point (signature_of (value_of raw) m) (document_name raw.tables point.document)
-line_of_point raw m None = no_point_line
+line_of_point raw m None = line_with "point" (bare "offset" (absent (codes "none")) ∷ [])
 
 -- ---- scopes that hold the offset ("LocalScope Table", "LocalVariable Table", "LocalConstant Table", "ImportScope Table")
-
-abbrev pub scope_found : Range → Line
-scope_found range = line_with "scope" (bare "start" (number range.start) ∷ bare "end" (number range.end) ∷ [])
 
 abbrev pub variable_found : VariableValue → Line
 variable_found variable = line_with "variable" (bare "slot" (number variable.slot) ∷ bare "attributes" (number variable.attributes)
@@ -53,9 +47,6 @@ abbrev pub constant_found : RawTables → ConstantRow → Line
 constant_found raw constant = line_with "constant" (bare "signature" (octets (blob raw constant.signature))
     ∷ bare "name" (name (text raw constant.name)) ∷ [])
 
-abbrev pub import_found : ℕ → Line
-import_found row = line_with "import" (bare "row" (number row) ∷ [])
-
 abbrev pub variable_answer : RawTables → ℕ × VariableRow → List Line
 variable_answer raw variable = variable_found (variable_of raw variable.1) ∷ customs_found raw 0x33 variable.0
 
@@ -63,7 +54,8 @@ abbrev pub constant_answer : RawTables → ℕ × ConstantRow → List Line
 constant_answer raw constant = constant_found raw constant.1 ∷ customs_found raw 0x34 constant.0
 
 abbrev pub import_answer : RawTables → ℕ × ImportRow → List Line
-import_answer raw import = import_found import.0 ∷ (map use_line (import_scope_of raw import.1).imports ++ customs_found raw 0x35 import.0)
+import_answer raw import =
+    line_with "import" (bare "row" (number import.0) ∷ []) ∷ (map use_line (import_scope_of raw import.1).imports ++ customs_found raw 0x35 import.0)
 
 -- the variables and the constants that a scope owns, and its import scope with the parents of that
 abbrev pub variables_of : RawTables → ScopeView → List (ℕ × VariableRow)
@@ -76,7 +68,8 @@ abbrev pub imports_of : RawTables → ScopeView → List (ℕ × ImportRow)
 imports_of raw scope = chain_of (λ s. s.parent) raw.imports scope.import
 
 abbrev pub scope_answer : RawTables → ScopeView → List Line
-scope_answer raw scope = scope_found scope.range ∷ (customs_found raw 0x32 scope.row
+scope_answer raw scope = line_with "scope" (bare "start" (number scope.range.start) ∷ bare "end" (number scope.range.end) ∷ [])
+    ∷ (customs_found raw 0x32 scope.row
     ++ (flat_map (variable_answer raw) (variables_of raw scope)
     ++ (flat_map (constant_answer raw) (constants_of raw scope)
     ++ flat_map (import_answer raw) (imports_of raw scope))))
@@ -89,31 +82,20 @@ hoisted_line local = line_with "hoisted" (bare "slot" (number local.slot) ∷ ba
 
 -- ---- the method ("#Pdb stream": EntryPoint, "StateMachineMethod Table")
 
-abbrev pub entry_lines : Bool → List Line
-entry_lines true = line_with "entry" [] ∷ []
-entry_lines false = []
-
 -- its key is its word, as in the line of a state machine
 abbrev pub link_line : List ℕ → ℕ → Line
 link_line word method = record { word = word; fields = field (codes " ") word (number method) ∷ [] }
 
-abbrev pub links_to : List ℕ → Option ℕ → List Line
-links_to word (Some method) = link_line word method ∷ []
-links_to word None = []
-
 -- whether it is the entry point, the kickoff of the state machine that it runs, and the MoveNext of the one that it starts
 abbrev pub link_lines : RawFile → ℕ → List Line
-link_lines raw m = entry_lines (raw.entry == m)
-    ++ (links_to (codes "kickoff") (kickoff_of raw.tables.machines m) ++ links_to (codes "move") (move_next_of raw.tables.machines m))
+link_lines raw m = (if raw.entry == m then line_with "entry" [] ∷ [] else [])
+    ++ (map (link_line (codes "kickoff")) (option_to_list (kickoff_of raw.tables.machines m))
+    ++ map (link_line (codes "move")) (option_to_list (move_next_of raw.tables.machines m)))
 
 -- ---- the other custom records of the method ("Async Method Stepping Information")
 
-abbrev pub handler_or_none : Option ℕ → Content
-handler_or_none (Some offset) = number offset
-handler_or_none None = absent (codes "-")
-
 abbrev pub async_line : Option ℕ → Line
-async_line handler = line_with "async" (bare "handler" (handler_or_none handler) ∷ [])
+async_line handler = line_with "async" (bare "handler" (unwrap_or (option_map number handler) (absent (codes "-"))) ∷ [])
 
 abbrev pub step_line : AsyncStep → Line
 step_line step = line_with "step" (bare "pause" (number step.pause) ∷ bare "resume" (number step.resume) ∷ bare "method" (number step.method) ∷ [])

@@ -1,10 +1,10 @@
 -- Lines put one after the other, and the rows that are read for them, for the functions that put them.
-use Rattle.std.specs.Prelude.{map, ℕ, ◌≡◌, ◌+◌, ◌*◌, ◌≤◌, ◌++◌, List, ◌∷◌, length, Option, Some, None, flat_map, sum_by}
+use Rattle.std.specs.Prelude.{map, ℕ, ◌≡◌, ◌+◌, ◌*◌, ◌≤◌, ◌++◌, List, [], ◌∷◌, codes, length, Option, Some, None, flat_map, sum_by}
 use Rattle.ppdb_tables.specs.{declared.rows.ScopeRow.ScopeRow, RawTables.{RawTables, row_at}}
 use Rattle.ppdb_values.specs.{Imports.import_value, Rules.HasRow}
 use Rattle.ppdb_queries.specs.{declared.imports.ImportLink.ImportLink, declared.points.PointAt.PointAt, declared.scopes.ScopeView.ScopeView, Digits.digits, Scopes.{scope_view, scopes_at, scope_count}}
-use Rattle.ppdb_show_lines.specs.{declared.form.Form.Form, Forms.lines_as, Lines.Line, Uses.use_line}
-use Rattle.ppdb_show.specs.Query.{customs_on, customs_found, import_found, point_found, no_point_line, document_name, variables_of, constants_of, imports_of}
+use Rattle.ppdb_show_lines.specs.{declared.form.Form.Form, Forms.lines_as, Lines.{Line, line_with, bare, number, absent}, Uses.use_line}
+use Rattle.ppdb_show.specs.Query.{customs_on, customs_found, point_found, document_name, variables_of, constants_of, imports_of}
 
 -- the lines were put after a text
 abbrev pub Adds : Form → List ℕ → List ℕ → List Line → Type 0
@@ -46,7 +46,8 @@ pub record IsViewOf (raw : RawTables) (view : ScopeView) : Type 0 where
 
 -- an import scope, as a cursor gives it
 abbrev pub lines_of_link : RawTables → ImportLink → List Line
-lines_of_link raw link = import_found link.row ∷ (map use_line (map import_value link.imports.items) ++ customs_found raw 0x35 link.row)
+lines_of_link raw link =
+    line_with "import" (bare "row" (number link.row) ∷ []) ∷ (map use_line (map import_value link.imports.items) ++ customs_found raw 0x35 link.row)
 
 -- the document of a point that was found is there
 abbrev pub HasDocument : RawTables → Option PointAt → Type 0
@@ -56,4 +57,4 @@ HasDocument raw None = Unit {0}
 -- a point that was found, or that there is none
 abbrev pub found_line : RawTables → Option PointAt → Line
 found_line raw (Some at) = point_found at.point at.signature (document_name raw at.point.document)
-found_line raw None = no_point_line
+found_line raw None = line_with "point" (bare "offset" (absent (codes "none")) ∷ [])

@@ -78,40 +78,22 @@ custom_line raw row custom = line_with "custom" (bare "row" (number row)
     ∷ bare "parent_row" (number (parent_of custom.parent).row) ∷ named "kind" (guid (guid_in raw custom.kind))
     ∷ named "value" (octets (blob raw custom.value)) ∷ [])
 
--- ---- the rows of each table, by their numbers
-
-abbrev pub document_lines : RawTables → List Line
-document_lines raw = map (λ row. document_line row.0 (document_of raw row.1)) (numbered raw.documents)
-
-abbrev pub method_lines : RawTables → List Line
-method_lines raw = flat_map (λ row. lines_of_method (method_of raw row)) (numbered raw.methods)
-
-abbrev pub scope_lines : RawTables → List Line
-scope_lines raw = map (λ row. scope_line row.0 row.1) (numbered raw.scopes)
-
-abbrev pub variable_lines : RawTables → List Line
-variable_lines raw = map (λ row. variable_line row.0 (scope_of_item (λ scope. scope.variables) raw row.0) (variable_of raw row.1)) (numbered raw.variables)
-
-abbrev pub constant_lines : RawTables → List Line
-constant_lines raw = map (λ row. constant_line raw row.0 (scope_of_item (λ scope. scope.constants) raw row.0) row.1) (numbered raw.constants)
-
-abbrev pub import_lines : RawTables → List Line
-import_lines raw = flat_map (λ row. lines_of_import row.0 (import_scope_of raw row.1)) (numbered raw.imports)
-
-abbrev pub machine_lines : RawTables → List Line
-machine_lines raw = map (λ row. machine_line row.0 row.1) (numbered raw.machines)
-
-abbrev pub custom_lines : RawTables → List Line
-custom_lines raw = map (λ row. custom_line raw row.0 row.1) (numbered raw.customs)
-
 -- ---- the whole file
 
 abbrev pub head_lines : RawFile → List Line
 head_lines raw = id_line raw.id ∷ entry_line raw.entry ∷ count_lines raw.tables
 
+-- the rows of each table, by their numbers
 abbrev pub row_lines : RawTables → List Line
-row_lines raw = document_lines raw ++ (method_lines raw ++ (scope_lines raw ++ (variable_lines raw ++ (constant_lines raw
-    ++ (import_lines raw ++ (machine_lines raw ++ custom_lines raw))))))
+row_lines raw =
+    map (λ row. document_line row.0 (document_of raw row.1)) (numbered raw.documents)
+    ++ (flat_map (λ row. lines_of_method (method_of raw row)) (numbered raw.methods)
+    ++ (map (λ row. scope_line row.0 row.1) (numbered raw.scopes)
+    ++ (map (λ row. variable_line row.0 (scope_of_item (λ scope. scope.variables) raw row.0) (variable_of raw row.1)) (numbered raw.variables)
+    ++ (map (λ row. constant_line raw row.0 (scope_of_item (λ scope. scope.constants) raw row.0) row.1) (numbered raw.constants)
+    ++ (flat_map (λ row. lines_of_import row.0 (import_scope_of raw row.1)) (numbered raw.imports)
+    ++ (map (λ row. machine_line row.0 row.1) (numbered raw.machines)
+    ++ map (λ row. custom_line raw row.0 row.1) (numbered raw.customs)))))))
 
 -- What `show` prints.
 abbrev pub show_text_of : Form → RawFile → List ℕ

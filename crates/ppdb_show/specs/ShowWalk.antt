@@ -1,10 +1,9 @@
 -- The lines of one row of a table, for the functions that put them.
-use Rattle.std.specs.{Prelude.{ℕ, ◌≡◌, ◌-◌, List, [], ◌∷◌, Option, Some, None, length, flat_map}, List.range_with_len}
-use Rattle.ppdb_tables.specs.{declared.rows.ScopeRow.ScopeRow, RawTables.{RawTables, row_at}}
+use Rattle.std.specs.{Prelude.{map, ℕ, ◌≡◌, ◌-◌, List, [], ◌∷◌, Option, Some, None, length, flat_map}, List.range_with_len}
+use Rattle.ppdb_tables.specs.{declared.rows.ScopeRow.ScopeRow, RawTables.{RawTables, row_at, numbered}}
 use Rattle.ppdb_values.specs.{Documents.{document_of, method_of}, Imports.import_scope_of, Value.{owner_of, variable_of}}
 use Rattle.ppdb_show_lines.specs.Lines.{Line}
-use Rattle.ppdb_show.specs.Show.{document_line, lines_of_method, scope_line, variable_line, constant_line, lines_of_import, machine_line, custom_line, scope_of_item, document_lines, method_lines}
-use Rattle.ppdb_show.specs.Show.{scope_lines, variable_lines, constant_lines, import_lines, machine_lines, custom_lines}
+use Rattle.ppdb_show.specs.Show.{document_line, lines_of_method, scope_line, variable_line, constant_line, lines_of_import, machine_line, custom_line, scope_of_item}
 use Rattle.ppdb_show.specs.{declared.show.rows.Rows.{Rows, TheVariants.{Documents, Methods, Scopes, Imports, Machines, Customs}}, declared.show.owned.Owned.{Owned, TheVariants.{Variables, Constants}}}
 
 -- the lines that are made of a row, where it is there
@@ -53,12 +52,12 @@ lines_of_row raw Machines row = lines_of_machine raw row
 lines_of_row raw Customs row = lines_of_custom raw row
 
 abbrev pub lines_of_table : RawTables → Rows → List Line
-lines_of_table raw Documents = document_lines raw
-lines_of_table raw Methods = method_lines raw
-lines_of_table raw Scopes = scope_lines raw
-lines_of_table raw Imports = import_lines raw
-lines_of_table raw Machines = machine_lines raw
-lines_of_table raw Customs = custom_lines raw
+lines_of_table raw Documents = map (λ row. document_line row.0 (document_of raw row.1)) (numbered raw.documents)
+lines_of_table raw Methods = flat_map (λ row. lines_of_method (method_of raw row)) (numbered raw.methods)
+lines_of_table raw Scopes = map (λ row. scope_line row.0 row.1) (numbered raw.scopes)
+lines_of_table raw Imports = flat_map (λ row. lines_of_import row.0 (import_scope_of raw row.1)) (numbered raw.imports)
+lines_of_table raw Machines = map (λ row. machine_line row.0 row.1) (numbered raw.machines)
+lines_of_table raw Customs = map (λ row. custom_line raw row.0 row.1) (numbered raw.customs)
 
 -- ---- the tables whose rows belong to scopes
 
@@ -86,8 +85,10 @@ lines_of_item raw Constants row =
     made_of (λ constant. constant_line raw row (scope_of_item (λ scope. scope.constants) raw row) constant ∷ []) (row_at raw.constants row)
 
 abbrev pub lines_of_items : RawTables → Owned → List Line
-lines_of_items raw Variables = variable_lines raw
-lines_of_items raw Constants = constant_lines raw
+lines_of_items raw Variables =
+    map (λ row. variable_line row.0 (scope_of_item (λ scope. scope.variables) raw row.0) (variable_of raw row.1)) (numbered raw.variables)
+lines_of_items raw Constants =
+    map (λ row. constant_line raw row.0 (scope_of_item (λ scope. scope.constants) raw row.0) row.1) (numbered raw.constants)
 
 abbrev pub lines_between : RawTables → Owned → ℕ → ℕ → List Line
 lines_between raw owned first end = between (lines_of_item raw owned) first end

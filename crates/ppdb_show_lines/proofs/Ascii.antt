@@ -15,7 +15,7 @@ use Rattle.uuid.specs.Text.{lower}
 use Rattle.uuid.specs.Parts.{swap_fields}
 use Rattle.uuid.proofs.TextLemmas.{hyphenated_ascii}
 use Rattle.ppdb_base.specs.Escaped.{escaped, escaped_byte, code_of, is_plain}
-use Rattle.ppdb_show_lines.specs.Values.{table_text, token_text, guid_text, hex_text, hyphenated}
+use Rattle.ppdb_show_lines.specs.Values.{table_text, token_text, guid_text, hex_text}
 use Rattle.ppdb_show_lines.specs.Lines.{Content, number, table, token, guid, octets, name, absent, content_text}
 use Rattle.ppdb_show_lines.specs.Views.{IsText}
 
@@ -38,7 +38,7 @@ hexed_ascii [] = dash_ascii
 hexed_ascii (b ∷ bs) = hex_ascii (b ∷ bs)
 
 guided_ascii : (g : Option (List ℕ)) → IsAscii (guid_text g)
-unfolding guid_text hyphenated
+unfolding guid_text
 guided_ascii None = dash_ascii
 guided_ascii (Some g) = hyphenated_ascii lower (swap_fields g) (inl refl)
 

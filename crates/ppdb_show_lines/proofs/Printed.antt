@@ -7,7 +7,7 @@ use Rattle.json.specs.Token as tokens
 use Rattle.json.specs.Print.{print, print_from, quoted, token_text, ends}
 use Rattle.serde_json.specs.Data.{Members, object}
 use Rattle.serde_json.specs.Written.{compact_text, members_text, comma_if}
-use Rattle.ppdb_show_lines.specs.Lines.{Content, number, table, token, guid, octets, name, absent, content_data, Field, field, mark, Line, object_of}
+use Rattle.ppdb_show_lines.specs.Lines.{Content, number, table, token, guid, octets, name, absent, content_data, Field, field, mark, Line, members_of}
 use Rattle.ppdb_show_lines.specs.Tokens.{content_token, field_tokens, member_tokens, object_tokens, with_member, listed, IsKeyOrder}
 
 content_text_is : (c : Content) → token_text (content_token c) ≡ compact_text (content_data c)
@@ -73,8 +73,7 @@ unfolding print_from
 begin_printed rest = refl
 
 -- where the keys are in order
-pub object_printed : (order : List ℕ) (shown : Line) → IsKeyOrder order shown → print (object_tokens order shown) ≡ object_of shown
-unfolding object_of
+pub object_printed : (order : List ℕ) (shown : Line) → IsKeyOrder order shown → print (object_tokens order shown) ≡ compact_text (object (members_of shown))
 object_printed order shown in_order =
     begin_printed (flat_map (member_tokens shown) order ++ tokens.end_object ∷ [])
     ∙ ap (λ (x : List ℕ). 123 ∷ x) (places_printed order shown false)

@@ -85,8 +85,5 @@ with_field members (mark words) = members
 abbrev pub members_of : Line → Members
 members_of shown = fold with_field (put (codes "line") (string shown.word) no_members) shown.fields
 
-unfoldable pub object_of : Line → List ℕ
-object_of shown = compact_text (object (members_of shown))
-
 unfoldable pub json_of : Line → List ℕ
-json_of shown = line (object_of shown)
+json_of shown = line (compact_text (object (members_of shown)))

@@ -9,25 +9,18 @@ use Rattle.ppdb_show_lines.specs.Lines.{Line, line_with, Field, field, bare, nam
 abbrev pub use_of : ℕ → List Field → Line
 use_of kind fields = line_with "use" (bare "kind" (number kind) ∷ fields)
 
-abbrev pub alias_field : List ℕ → Field
-alias_field alias = named "alias" (name alias)
-
-abbrev pub assembly_field : ℕ → Field
-assembly_field row = named "assembly" (number row)
-
-abbrev pub namespace_field : List ℕ → Field
-namespace_field namespace = named "namespace" (name namespace)
-
 abbrev pub type_fields : TypeToken → List Field
 type_fields target = field (codes " type ") (codes "type_table") (table target.table) ∷ bare "type_row" (number target.row) ∷ []
 
 abbrev pub use_line : ImportValue → Line
-use_line (Namespace namespace) = use_of 1 (namespace_field namespace ∷ [])
-use_line (AssemblyNamespace assembly namespace) = use_of 2 (assembly_field assembly ∷ namespace_field namespace ∷ [])
+use_line (Namespace namespace) = use_of 1 (named "namespace" (name namespace) ∷ [])
+use_line (AssemblyNamespace assembly namespace) =
+    use_of 2 (named "assembly" (number assembly) ∷ named "namespace" (name namespace) ∷ [])
 use_line (Target target) = use_of 3 (type_fields target)
-use_line (Xml alias namespace) = use_of 4 (alias_field alias ∷ namespace_field namespace ∷ [])
-use_line (Alias alias) = use_of 5 (alias_field alias ∷ [])
-use_line (AssemblyAlias alias assembly) = use_of 6 (alias_field alias ∷ assembly_field assembly ∷ [])
-use_line (NamespaceAlias alias namespace) = use_of 7 (alias_field alias ∷ namespace_field namespace ∷ [])
-use_line (AssemblyNamespaceAlias alias assembly namespace) = use_of 8 (alias_field alias ∷ assembly_field assembly ∷ namespace_field namespace ∷ [])
-use_line (TargetAlias alias target) = use_of 9 (alias_field alias ∷ type_fields target)
+use_line (Xml alias namespace) = use_of 4 (named "alias" (name alias) ∷ named "namespace" (name namespace) ∷ [])
+use_line (Alias alias) = use_of 5 (named "alias" (name alias) ∷ [])
+use_line (AssemblyAlias alias assembly) = use_of 6 (named "alias" (name alias) ∷ named "assembly" (number assembly) ∷ [])
+use_line (NamespaceAlias alias namespace) = use_of 7 (named "alias" (name alias) ∷ named "namespace" (name namespace) ∷ [])
+use_line (AssemblyNamespaceAlias alias assembly namespace) =
+    use_of 8 (named "alias" (name alias) ∷ named "assembly" (number assembly) ∷ named "namespace" (name namespace) ∷ [])
+use_line (TargetAlias alias target) = use_of 9 (named "alias" (name alias) ∷ type_fields target)

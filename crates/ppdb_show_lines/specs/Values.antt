@@ -16,11 +16,7 @@ unfoldable pub hex_text : List ℕ → List ℕ
 hex_text [] = codes "-"
 hex_text (byte ∷ bytes) = encode_lower (byte ∷ bytes)
 
--- the hyphenated form of a GUID, whose bytes are in the order of the heap
-unfoldable pub hyphenated : List ℕ → List ℕ
-hyphenated guid = hyphenated_text lower (swap_fields guid)
-
--- the hyphenated form of a GUID, and a dash for none
+-- the hyphenated form of a GUID, whose bytes are in the order of the heap, and a dash for none
 unfoldable pub guid_text : Option (List ℕ) → List ℕ
 guid_text None = codes "-"
-guid_text (Some guid) = hyphenated guid
+guid_text (Some guid) = hyphenated_text lower (swap_fields guid)

@@ -1,8 +1,8 @@
 // Numbers, GUIDs and bytes as they are printed.
-ghost use Rattle.std.specs.Prelude.{◌≡◌, ◌≤◌, [], ◌∷◌, length};
+ghost use Rattle.std.specs.Prelude.{◌≡◌, ◌≤◌, [], ◌∷◌, Some, length};
 ghost use Rattle.hex.specs.Hex.{encode_lower};
 ghost use Rattle.ppdb_base.specs.Written.{PutsInto};
-ghost use Rattle.ppdb_show_lines.specs.Values.{table_text, token_text, hex_text, guid_text, hyphenated};
+ghost use Rattle.ppdb_show_lines.specs.Values.{table_text, token_text, hex_text, guid_text};
 
 use ppdb_base::{Sink, WriteError};
 use uuid::Uuid;
@@ -76,7 +76,7 @@ pub fn put_guid<O: Sink>(out: &mut O, guid: Option<[u8; 16]>) -> Result<(), Writ
 }
 
 fn put_hyphenated<O: Sink>(out: &mut O, guid: [u8; 16]) -> Result<(), WriteError>
-    ensures { PutsInto O.written O.faults result out.old out.new (hyphenated guid) }
+    ensures { PutsInto O.written O.faults result out.old out.new (guid_text (Some guid)) }
 {
     let guid = Uuid::from_bytes_le(guid).hyphenated();
     let mut buffer = Uuid::encode_buffer();

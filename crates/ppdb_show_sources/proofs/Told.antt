@@ -1,6 +1,6 @@
 -- What was put and what is still to come, under other names; the next break; the address of a document as it was reported.
 use Rattle.std.proofs.Common.{◌≡◌, ℕ, ◌∙◌, Bool, true, false, List, [], ◌∷◌, ◌++◌, map, refl, sym, ap, subst, Option, Some, None, Result, Ok, Err}
-use Rattle.std.specs.Prelude.{IfOk, OnOk}
+use Rattle.std.specs.Prelude.{IfOk, OnOk, option_map, unwrap_or}
 use Rattle.blob_grammar.specs.Reader.{tail}
 use Rattle.ppdb_base.specs.Written.{Puts}
 use Rattle.ppdb_base.specs.declared.link_error.LinkError.{LinkError}
@@ -16,9 +16,9 @@ use Rattle.break_lines.specs.declared.item.Break.{Break}
 use Rattle.source_link.specs.declared.pair.Pair.{Pair}
 use Rattle.source_link.specs.FileLinks.{link_record}
 use Rattle.source_link.specs.Laws.{AreLinks, OrderIsFree}
+use Rattle.source_link.specs.Record.{links_of}
 use Rattle.ppdb_show_sources.specs.Breaks.{break_line, text_of_breaks}
 use Rattle.ppdb_show_sources.specs.Found.{AreFileLinks}
-use Rattle.ppdb_show_sources.specs.Links.{links_in}
 use Rattle.ppdb_show_sources.proofs.Documents.{same_lines_of}
 
 pub rest_is : (old new : Option (List ℕ)) (before after : ℕ) (rest other whole : List ℕ) → rest ≡ other
@@ -48,7 +48,7 @@ pub links_ok : (value : FileValue) (bytes : List ℕ) (r : Result (List Pair) Li
     → IfOk r (AreLinks bytes) → IfOk r (AreFileLinks value)
 links_ok value bytes (Ok links) free e are = record {
   pairs = are.pairs;
-  said = ap links_in (sym e) ∙ are.said;
+  said = ap (λ (record_bytes : Option (List ℕ)). unwrap_or (option_map links_of record_bytes) (Ok [])) (sym e) ∙ are.said;
   lines = same_lines_of value links are.pairs (free.same bytes are.pairs links are.said are);
 }
 links_ok value bytes (Err error) free e are = tt

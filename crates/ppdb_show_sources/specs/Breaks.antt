@@ -1,8 +1,7 @@
 -- Where a debugger may stop, line by line (this project's format; Portable PDB v1.0, "Sequence Points Blob").
 use Rattle.std.specs.Prelude.{ℕ, List, ◌∷◌, map}
 use Rattle.ppdb_show_lines.specs.{declared.form.Form.Form, Forms.lines_as, Lines.{Line, line_with, bare, range_fields, number}}
-use Rattle.ppdb_values.specs.declared.file.FileValue.{FileValue}
-use Rattle.break_lines.specs.{declared.item.Break.Break, Breaks.breaks_in}
+use Rattle.break_lines.specs.{declared.item.Break.Break}
 
 abbrev pub break_line : Break → Line
 break_line found = line_with "break" (bare "method" (number found.method) ∷ bare "offset" (number found.offset)
@@ -10,7 +9,3 @@ break_line found = line_with "break" (bare "method" (number found.method) ∷ ba
 
 abbrev pub text_of_breaks : Form → List Break → List ℕ
 text_of_breaks form breaks = lines_as form (map break_line breaks)
-
--- the breaks of a line of a document, by method and IL offset
-abbrev pub break_text : Form → FileValue → ℕ → ℕ → List ℕ
-break_text form value document line = text_of_breaks form (breaks_in value document line)

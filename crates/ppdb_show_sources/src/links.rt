@@ -1,5 +1,5 @@
 // The lines of the documents, with the addresses of their sources.
-ghost use Rattle.std.specs.Prelude.{◌≡◌, ◌+◌, ◌*◌, ◌≤◌, [], ◌∷◌, length, Some, option_copied, IfOk};
+ghost use Rattle.std.specs.Prelude.{◌≡◌, ◌+◌, ◌*◌, ◌≤◌, [], ◌∷◌, length, Some, codes, option_copied, option_map, unwrap_or, IfOk};
 ghost use Rattle.ppdb_base.specs.Written.{PutsInto};
 ghost use Rattle.ppdb_tables.specs.RawTables.{count as count_of};
 ghost use Rattle.ppdb_tables.specs.declared.rows.DocumentRow.{DocumentRow};
@@ -13,9 +13,10 @@ ghost use Rattle.ppdb_queries.specs.Runs.{customs_at};
 ghost use Rattle.source_link.specs.FileLinks.{module_row};
 ghost use Rattle.source_link.specs.Record.{IsRefusedBy};
 ghost use Rattle.ppdb_show_lines.specs.Forms.{lines_as};
+ghost use Rattle.ppdb_show_lines.specs.Lines.{absent, name as named_bytes};
 ghost use Rattle.ppdb_show_lines.specs.Views.{content_of};
 ghost use Rattle.ppdb_show_sources.specs.Found.{AreFileLinks};
-ghost use Rattle.ppdb_show_sources.specs.Links.{address_or_none, file_links as links_said, link_line, link_of, link_text};
+ghost use Rattle.ppdb_show_sources.specs.Links.{file_links as links_said, link_line, link_of, link_text};
 
 use ppdb_base::{Bytes, LinkError, List, Sink, Steps, WriteError};
 use ppdb_show_lines::Item::{Absent, Name, Number};
@@ -53,7 +54,7 @@ pub fn file_links<L: Ledger>(
 
 /// An address, or that there is none.
 fn address_item<'a>(address: Option<&'a [u8]>) -> Item<'a>
-    ensures { content_of result ≡ address_or_none (option_copied address.entry) }
+    ensures { content_of result ≡ unwrap_or (option_map named_bytes (option_copied address.entry)) (absent (codes "none")) }
 {
     match address {
         Some(address) => Name(address),

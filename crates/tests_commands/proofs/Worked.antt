@@ -5,11 +5,11 @@ use Rattle.hex.specs.Hex.{encode_with}
 use Rattle.uuid.specs.Text.{by_index}
 use Rattle.ppdb_show_lines.specs.Lines.{text_of}
 use Rattle.ppdb_show_lines.specs.Pieces.{numbered, signed, tabled}
-use Rattle.ppdb_show_lines.specs.Values.{table_text, guid_text, hyphenated}
+use Rattle.ppdb_show_lines.specs.Values.{table_text, guid_text}
 use Rattle.tests_commands.specs.Worked.{WorkedLines}
 
 pub worked_lines : WorkedLines
-unfolding digits encode_with by_index text_of numbered signed tabled table_text guid_text hyphenated
+unfolding digits encode_with by_index text_of numbered signed tabled table_text guid_text
 worked_lines = record {
   unmapped_entry = record { status = refl; text = refl };
   unmapped_cell = record { status = refl; text = refl };

@@ -1,10 +1,11 @@
 -- An input that is added is one more.
 use Rattle.std.proofs.Common.{ℕ, ◌≡◌, ◌+◌, List, [], ◌∷◌, ◌++◌, length, sym, ◌∙◌, ap, arith}
-use Rattle.std.specs.Prelude.{None, Result, Ok, Err, OnOk}
+use Rattle.ppdb_base.specs.declared.merge_error.MergeError.{MergeError}
+use Rattle.std.specs.Prelude.{Option, None, Result, Ok, Err, OnOk}
 use Rattle.ppdb_maps.specs.Map.{Map}
 use Rattle.ppdb_merge.specs.declared.trace.Trace.{Trace}
-use Rattle.ppdb_merge.specs.Merged.{is_first, trace_of}
-use Rattle.ppdb_merge.specs.Refusals.{added, refusal_of, with_trace}
+use Rattle.ppdb_merge.specs.Merged.{is_first, trace_of, unless}
+use Rattle.ppdb_merge.specs.Refusals.{added, refusal_of}
 use Rattle.ppdb_values.specs.RawFile.{RawFile}
 
 one_longer : (traces : List Trace) (t : Trace) → length (traces ++ t ∷ []) ≡ length traces + 1
@@ -17,6 +18,6 @@ pub one_more : {T E : Type 0} (result : Result T E) (marks : List (List ℕ)) (t
 one_more (Err error) marks traces more m raw is fits = tt
 one_more (Ok answer) marks traces more m raw is fits =
     let last : Trace = trace_of (is_first traces) m raw in
-    let whole : Ok (traces ++ last ∷ []) ≡ Ok more = sym (ap (with_trace traces last) fits) ∙ is in
+    let whole : Ok (traces ++ last ∷ []) ≡ Ok more = sym (ap (λ (o : Option MergeError). unless o (Ok (traces ++ last ∷ []))) fits) ∙ is in
     let same : traces ++ last ∷ [] ≡ more = cc in
     sym (ap length same) ∙ one_longer traces last

@@ -1,12 +1,13 @@
 // The lines of a method as a whole: whether the program starts there, and its state machines.
-ghost use Rattle.std.specs.Prelude.{◌+◌, ◌≤◌, ℕ, length, OnOk};
+ghost use Rattle.std.specs.Prelude.{◌+◌, ◌≤◌, ℕ, [], ◌∷◌, length, map, option_to_list, if◌then◌else◌, OnOk};
+ghost use Rattle.ppdb_show_lines.specs.Lines.{line_with};
 ghost use Rattle.ppdb_tables.specs.RawOf.{raw_of};
 ghost use Rattle.ppdb_values.specs.Rules.{HasRow};
 ghost use Rattle.ppdb_verify.specs.Views.{tables_of, raw_file};
 ghost use Rattle.ppdb_queries.specs.Digits.{digits};
 ghost use Rattle.ppdb_queries.specs.Machines.{IsOrderOf};
 ghost use Rattle.ppdb_show_lines.specs.Tokens.{IsKeyOrder};
-ghost use Rattle.ppdb_show.specs.Query.{entry_lines, link_line, links_to, link_lines};
+ghost use Rattle.ppdb_show.specs.Query.{link_line, link_lines};
 ghost use Rattle.ppdb_show.specs.QueryWalk.{Adds};
 
 use crate::query::text::put_line;
@@ -20,7 +21,7 @@ use std::sync::ledger::Ledger;
 
 /// Puts the line of the entry point, where it is one.
 fn put_entry(printer: Printer<'_>, text: &mut SteadySink, is_entry: bool) -> Result<(), Memory>
-    ensures { OnOk result (Adds printer.entry.form text.old text.new (entry_lines is_entry)) }
+    ensures { OnOk result (Adds printer.entry.form text.old text.new (if is_entry then line_with "entry" [] ∷ [] else [])) }
 {
     if !is_entry {
         return Ok(());
@@ -37,7 +38,7 @@ fn put_method(
     method: Option<u32>,
 ) -> Result<(), Memory>
     requires { (row : ℕ) → IsKeyOrder order.now (link_line word.now row) }
-    ensures { OnOk result (Adds printer.entry.form text.old text.new (links_to word.now method)) }
+    ensures { OnOk result (Adds printer.entry.form text.old text.new (map (link_line word.now) (option_to_list method))) }
 {
     match method {
         Some(row) => put_line(

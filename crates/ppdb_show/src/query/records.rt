@@ -1,12 +1,13 @@
 // The lines of the custom records on a method.
-ghost use Rattle.std.specs.Prelude.{◌≡◌, ◌+◌, ◌≤◌, ◌<◌, [], ◌∷◌, map, flat_map, OnOk, None, Some};
+ghost use Rattle.std.specs.Prelude.{◌≡◌, ◌+◌, ◌≤◌, ◌<◌, [], ◌∷◌, map, flat_map, OnOk, None, Some, codes, option_map, unwrap_or};
 ghost use Rattle.ppdb_tables.specs.RawOf.{raw_of};
 ghost use Rattle.ppdb_tables.specs.RawTables.{row_at};
 ghost use Rattle.ppdb_values.specs.Rules.{HasRow};
 ghost use Rattle.ppdb_verify.specs.Views.{tables_of};
 ghost use Rattle.ppdb_verify_rows.specs.Customs.{IsOfKind};
 ghost use Rattle.ppdb_show_lines.specs.Views.{content_of};
-ghost use Rattle.ppdb_show.specs.Query.{async_line, handler_or_none, step_line, lines_of_record, customs_on};
+ghost use Rattle.ppdb_show_lines.specs.Lines.{number, absent};
+ghost use Rattle.ppdb_show.specs.Query.{async_line, step_line, lines_of_record, customs_on};
 ghost use Rattle.ppdb_show.specs.QueryWalk.{Adds, customs_reads};
 
 use crate::query::customs::put_custom;
@@ -24,7 +25,7 @@ use std::sync::ledger::Ledger;
 
 /// The offset of a catch handler, or that there is none.
 fn handler_item(handler: Option<u32>) -> Item<'static>
-    ensures { content_of result ≡ handler_or_none handler }
+    ensures { content_of result ≡ unwrap_or (option_map number handler) (absent (codes "-")) }
 {
     match handler {
         Some(offset) => Number(offset),

@@ -2,7 +2,9 @@ use Rattle.std.proofs.Common.{◌≡◌, ℕ, List, [], ◌∷◌, ◌++◌, ◌
 use Rattle.std.specs.List.{flat_map}
 use Rattle.std.proofs.lemmas.List.{take_all}
 use Rattle.json.specs.Token.{Token, begin_object, end_object}
-use Rattle.ppdb_show_lines.specs.Lines.{json_of}
+use Rattle.serde_json.specs.Data.{object}
+use Rattle.serde_json.specs.Written.{compact_text}
+use Rattle.ppdb_show_lines.specs.Lines.{json_of, members_of}
 use Rattle.ppdb_show_lines.specs.Tokens.{member_tokens, object_tokens}
 use Rattle.ppdb_show_lines.specs.Views.{line_of}
 use Rattle.ppdb_show_lines.proofs.Printed.{object_printed}
@@ -19,4 +21,5 @@ returns c =
     ∙ ap (λ (places : List ℕ). begin_object ∷ flat_map (member_tokens shown) places) all) in
     let before : c.end_object.new.self.before ≡ [] = c.end_object.ensures.room.0 ∙ c.loop-place.invariant.before in
     c.in_ok-push.ensures.items
-    ∙ ap (λ (text : List ℕ). text ++ 10 ∷ []) (c.into_inner-text.ensures.items ∙ rw (before, put) (object_printed c.args.order.now shown c.requires))
+    ∙ ap (λ (text : List ℕ). text ++ 10 ∷ []) {y = compact_text (object (members_of shown))}
+    (c.into_inner-text.ensures.items ∙ rw (before, put) (object_printed c.args.order.now shown c.requires))
