@@ -1,10 +1,10 @@
 -- How many names a map has, and how long they are: those of a map text are no more and no longer than its bytes.
 use Rattle.std.specs.{Prelude.{ℕ, ◌≤◌, List, IfSome, length}, List.AllByRecursion}
 use Rattle.ppdb_maps.specs.{declared.entries.NameLine.NameLine, Map.Map}
-use Rattle.ppdb_maps_text.specs.Putting.{LONGEST}
+use Rattle.ppdb_base.specs.declared.limits.TheConstants.{MAX_FILE_BYTES}
 
 abbrev pub IsShort : List ℕ → Type 0
-IsShort bytes = length bytes ≤ LONGEST
+IsShort bytes = length bytes ≤ MAX_FILE_BYTES
 
 -- both names of a line
 abbrev pub IsShortLine : NameLine → Type 0

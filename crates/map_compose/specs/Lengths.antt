@@ -2,12 +2,13 @@
 use Rattle.std.specs.Prelude.{◌≡◌, ℕ, ◌+◌, ◌-◌, ◌<◌, ◌≤◌, cond, nat_lt, List, [], ◌∷◌, Option, Some, None, map, length, slice_index_or, decimal}
 use Rattle.ppdb_base.specs.{declared.offsets.Run.Run, Offsets.{end_of, new_end_of}}
 use Rattle.ppdb_maps.specs.declared.line.Line.TheVariants.{Kept}
-use Rattle.ppdb_maps_text.specs.{declared.counted.Counted.Counted, Putting.LONGEST}
+use Rattle.ppdb_base.specs.declared.limits.TheConstants.{MAX_FILE_BYTES}
+use Rattle.ppdb_maps_text.specs.declared.counted.Counted.{Counted}
 use Rattle.map_compose.specs.Says.{lines_text}
 
 -- a text that is too long to be kept, and whose length fits its type
 pub record IsPast (text : Counted) : Type 0 where
-  pub long : LONGEST < text.length
+  pub long : MAX_FILE_BYTES < text.length
   pub fits : text.length ≤ 0xffffffffffffffff
 
 -- a run lies inside the images of another

@@ -2,7 +2,7 @@
 ghost use Rattle.std.specs.Prelude.{◌≡◌, ◌≤◌, ◌<◌, ◌||◌, [], ◌∷◌, length, MatchOption, OnOk, option_copied, slice_get};
 ghost use Rattle.ppdb_maps.specs.declared.line.Line.TheVariants.{Document};
 ghost use Rattle.ppdb_maps_text.specs.MapTexts.{ended, line_text, link_says, shares_says};
-ghost use Rattle.ppdb_maps_text.specs.Putting.{LONGEST, Puts};
+ghost use Rattle.ppdb_maps_text.specs.Putting.{Puts};
 ghost use Rattle.map_compose.specs.Composed.{named, document_entry, composed_link};
 ghost use Rattle.map_compose.specs.Fits.{IsShort, NamesFit};
 ghost use Rattle.map_compose.specs.Parts.{names_left};
@@ -77,7 +77,7 @@ fn put_name(
     requires own { NamesFit MAX_FILE_BYTES first.now }
     requires other { NamesFit MAX_FILE_BYTES second.now }
     requires short { IsShort name.now }
-    requires lengths { LONGEST < text.now.length → lengths.now.lengths.items ≡ new_lengths second.now }
+    requires lengths { MAX_FILE_BYTES < text.now.length → lengths.now.lengths.items ≡ new_lengths second.now }
     ensures { OnOk result (Puts text.old text.new (ended (line_text (Document (document_entry first.now second.now name.now))))) }
 {
     let middle = first.moved_name(name);

@@ -1,7 +1,6 @@
 // How long the names are that a map gives to documents, which are not spelled one by one.
 ghost use Rattle.std.specs.Prelude.{◌≡◌, ◌≤◌, ◌<◌, [], None, Some, MatchOption, OnOk, length, slice_get};
 ghost use Rattle.ppdb_maps.specs.Map.{document_line, moved_name};
-ghost use Rattle.ppdb_maps_text.specs.Putting.{LONGEST};
 ghost use Rattle.map_compose.specs.Composed.{named};
 ghost use Rattle.map_compose.specs.Fits.{IsShort, NamesFit};
 ghost use Rattle.map_compose.specs.Spelled.{spelled_length as length_of, new_lengths, AreLengthsOf};
@@ -68,7 +67,7 @@ impl NameLengths {
         requires are { AreLengthsOf self.now map.now }
         requires fit { NamesFit MAX_FILE_BYTES map.now }
         ensures are { OnOk result (AreLengthsOf self.new map.now) }
-        ensures past { OnOk result (LONGEST < text.now.length → self.new.lengths.items ≡ new_lengths map.now) }
+        ensures past { OnOk result (MAX_FILE_BYTES < text.now.length → self.new.lengths.items ≡ new_lengths map.now) }
     {
         if text.is_past() && self.lengths.is_empty() {
             push_lengths(map, &mut self.lengths)

@@ -1,6 +1,6 @@
 -- Which files can be laid out, and what is promised of one that is: read again, it is the same file.
-use Rattle.ppdb_values.specs.Names.{MAX_FILE_BYTES, IsAccepted, Streams, AreStreamsOf, ContainerFaults, Column, Sizes, Fit, PdbFaults, head_in, widths_of, document_columns, method_columns, scope_columns}
-use Rattle.ppdb_values.specs.Names.{variable_columns, constant_columns, import_columns, machine_columns, custom_columns, count, HasShape, TablesFaults}
+use Rattle.ppdb_values.specs.Names.{IsAccepted, Streams, AreStreamsOf, ContainerFaults, Column, Sizes, Fit, PdbFaults, head_in, widths_of, document_columns, method_columns, scope_columns}
+use Rattle.ppdb_values.specs.Names.{MAX_FILE_BYTES, variable_columns, constant_columns, import_columns, machine_columns, custom_columns, count, HasShape, TablesFaults}
 use Rattle.std.specs.Prelude.{◌≡◌, ℕ, ◌+◌, ◌<◌, ◌≤◌, ◌⊎◌, List, length, All, Some, None}
 use Rattle.ppdb_values.specs.RawFile.{RawFile, raw_in}
 use Rattle.ppdb_build_layout.specs.Bytes.{file_bytes, pdb_stream, tables_stream, sizes_of, rows_of, heaps_of, document_cells, method_cells, scope_cells, variable_cells, constant_cells, import_cells}

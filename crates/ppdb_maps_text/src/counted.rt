@@ -2,7 +2,7 @@
 ghost use Rattle.std.specs.Prelude.{◌≡◌, ℕ, ◌<◌, ◌≤◌, ◌↔◌, List, [], ◌∷◌, length, IsTrue, OnOk};
 ghost use Rattle.std.specs.Fmt.{decimal};
 ghost use Rattle.ppdb_base.specs.Escaped.{escaped};
-ghost use Rattle.ppdb_maps_text.specs.Putting.{LONGEST, Puts};
+ghost use Rattle.ppdb_maps_text.specs.Putting.{Puts};
 
 use itoa::Buffer;
 use ppdb_base::{Bytes, MAX_FILE_BYTES, Memory, SteadySink, put_escaped};
@@ -38,7 +38,7 @@ impl Counted {
 
     /// Whether the text is too long to be kept.
     pub fn is_past(&self) -> bool
-        ensures past { IsTrue result ↔ (LONGEST < self.now.length) }
+        ensures past { IsTrue result ↔ (MAX_FILE_BYTES < self.now.length) }
         ensures fits { self.now.length ≤ 0xffffffffffffffff }
     {
         self.length > MAX_FILE_BYTES as u64
@@ -65,7 +65,7 @@ impl Counted {
 
     /// Counts so many bytes more of a text that is too long to be kept.
     pub fn count_on(&mut self, bytes: u64)
-        requires { LONGEST < self.now.length }
+        requires { MAX_FILE_BYTES < self.now.length }
         ensures { (text : List ℕ) → length text ≡ bytes → Puts self.old self.new text }
     {
         self.length = self.length.saturating_add(bytes);
