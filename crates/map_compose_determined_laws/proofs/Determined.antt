@@ -194,7 +194,7 @@ compositions_are_one f s c d readable also one other =
 pub texts_of_both_are_one : TextsOfBothAreOne
 texts_of_both_are_one f s text other one two =
     let same : one.both ≡ two.both = compositions_are_one f s one.both two.both
-        (maps_are_readable text one.both one.has) (maps_are_readable other two.both two.has) one.composes two.composes in
+    (maps_are_readable text one.both one.has) (maps_are_readable other two.both two.has) one.composes two.composes in
     one.spells ∙ (ap map_text same ∙ sym two.spells)
 
 pub composed_is_the_only_one : ComposedComposes → ComposedIsReadable → ComposedIsTheOnlyOne

@@ -21,7 +21,8 @@ fn prefix(
     heaps: HeapLens,
 ) -> Result<Bytes, Memory> {
     let mut bytes = Bytes::new(alloc);
-    let fits = all_rows_fit(counts, rows, heaps) && file_len(counts, rows, heaps) <= MAX_FILE_BYTES as u64;
+    let fits = all_rows_fit(counts, rows, heaps)
+        && file_len(counts, rows, heaps) <= MAX_FILE_BYTES as u64;
     if fits && entry <= 0xffffff {
         put_prefix(&id, entry, counts, rows, heaps, &mut bytes)?;
     }
