@@ -1,4 +1,4 @@
--- The equations by which a map is the composition of two, and when the map of two maps is readable.
+-- The map of two maps by its equations (docs/FORMAT.md, "Two maps made into one"), its text, and when it is readable.
 use Rattle.std.specs.Prelude.{◌≡◌, ℕ, ◌≤◌, ◌↔◌, ◌⊎◌, ◌||◌, true, false, List, Option, Some, None, is_some, option_and_then}
 use Rattle.std.specs.Option.{option_or}
 use Rattle.ppdb_base.specs.{declared.offsets.Run.Run, Offsets.{lined, Rise, Kept, kept_runs, old_size, moved}}
@@ -35,7 +35,7 @@ pub record IsComposition (f s c : Map) : Type 0 where
   pub signatures : (method image : ℕ) → Follows f s method image → signature_line c method ≡ signature_then s image (signature_line f method)
   -- a document gets the name that the second map makes of what the first makes of its name
   pub names : (name : List ℕ) → moved_name c name ≡ moved_name s (moved_name f name)
-  -- a name has a `document` line exactly where one of the maps has one
+  -- a name has a `document` line if and only if one of the maps has one
   pub named : (name : List ℕ) → is_some (document_line c name) ≡ (is_some (document_line f name) || is_some (document_line s name))
   -- the value of Source Link records is the second map's, else the first's
   pub link : c.link ≡ option_or s.link f.link
@@ -46,7 +46,7 @@ pub record IsComposition (f s c : Map) : Type 0 where
   -- the runs of a line are the longest
   pub apart : (method : ℕ) (line : MethodLine) → method_line c method ≡ Some line → Apart line.runs
 
--- the canonical text of the map of two maps, which the text has
+-- the text has a map, which is the composition of the two maps, and it is the canonical text of that map
 pub record IsTextOfBoth (f s : Map) (text : List ℕ) : Type 0 where
   pub both : Map
   pub composes : IsComposition f s both

@@ -7,7 +7,7 @@ use Rattle.map_compose.specs.{Composed.composed, Composition.{IsComposition, IsT
 abbrev pub CompositionsAreOne : Type 0
 CompositionsAreOne = (f s c d : Map) → IsReadable c → IsReadable d → IsComposition f s c → IsComposition f s d → c ≡ d
 
--- the map of two maps has one text
+-- two maps have at most one text of both
 abbrev pub TextsOfBothAreOne : Type 0
 TextsOfBothAreOne = (f s : Map) (text other : List ℕ) → IsTextOfBoth f s text → IsTextOfBoth f s other → text ≡ other
 

@@ -8,7 +8,7 @@ pub fn compositions_are_one()
     ensures { CompositionsAreOne }
 {}
 
-/// The map of two maps has one text.
+/// Two maps have at most one text of both.
 pub fn texts_of_both_are_one()
     ensures { TextsOfBothAreOne }
 {}

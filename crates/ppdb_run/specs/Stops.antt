@@ -49,11 +49,11 @@ pub record WritesOutcome {T : Type 0} (task : Task) (result : Result T Stop) (ol
   pub again : OnOk result (OnTask task old (WritesAgain (Some task)))
   pub means : OnOk result (OnTask task old (WritesMeaning old (Some task)))
 
--- steps were carried out, and come to an outcome: they were done, or stopped at it, and its text was put
 -- an outcome that steps come to
 abbrev pub IsEnd : Step Outcome → Outcome → Type 0
 IsEnd steps due = steps (Ok due) ⊎ steps (Err due)
 
+-- steps were carried out, and come to an outcome: they were done, or stopped at it, and its text was put
 pub record Delivers {T : Type 0} (steps : Step Outcome) (result : Result T Stop) (old new : Option (List ℕ)) : Type 0 where
   pub due : Outcome
   pub is : IsEnd steps due

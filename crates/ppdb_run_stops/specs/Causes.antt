@@ -107,21 +107,22 @@ no_file name = ⊥
 
 -- ---- what the stop of a result comes from
 
--- nothing outside: it is a refusal, or there was no memory left
+-- a result stops by nothing outside: by a refusal, or since there was no memory left
 abbrev pub StopsInside : {T : Type 0} → Result T Stop → Type 0
 StopsInside result = IfErr result (λ stop. ComesFrom (cause_of stop) ⊥ no_file no_file None ⊥ ⊥ ⊥)
 
--- nothing outside but a sink, which is seen by its count of faults
+-- a result stops by nothing outside but a sink, which is seen by its count of faults
 abbrev pub StopsPutting : {S T : Type 0} → (S → ℕ) → Result T Stop → (old new : S) → Type 0
 StopsPutting faults result old new = IfErr result (λ stop. ComesFrom (cause_of stop) ⊥ no_file no_file None ⊥ ⊥ (Rose (faults old) (faults new)))
 
--- nothing outside but a folder, which is seen by its files and by its count of failed reads: ToRead says which file was to be read
+-- a result stops by nothing outside but a folder, which is seen by its files and by its count of failed reads: ToRead says which file was
+-- to be read
 abbrev pub StopsReading : {S T : Type 0} → (S → Option Files) → (S → ℕ) → Result T Stop → (old new : S) → (ToRead : List ℕ → Type 0) → Type 0
 StopsReading files read_faults result old new ToRead =
     IfErr result (λ stop. ComesFrom (cause_of stop) ⊥ ToRead no_file (files old) (Rose (read_faults old) (read_faults new)) ⊥ ⊥)
 
--- nothing outside but a folder, which is seen by its files and by its counts of failed reads and writes: ToRead says which file was to be
--- read, and output was to be written
+-- a result stops by nothing outside but a folder, which is seen by its files and by its counts of failed reads and writes: ToRead says
+-- which file was to be read, and output was to be written
 abbrev pub StopsWriting : {S T : Type 0} → (S → Option Files) → (read_faults write_faults : S → ℕ) → Result T Stop → (old new : S)
     → (ToRead : List ℕ → Type 0) → (output : List ℕ) → Type 0
 StopsWriting files read_faults write_faults result old new ToRead output =

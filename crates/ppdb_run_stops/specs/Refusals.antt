@@ -30,12 +30,12 @@ absent name = tells statuses.Absent (about (codes "absent") name [])
 abbrev pub too_long : List ℕ → Outcome
 too_long name = tells statuses.TooLong (about (codes "too long") name [])
 
--- a fault, as ` F3 root byte 48`
+-- the first fault of a file, as `refused cut.pdb F3 root byte 48`
 abbrev pub refused : List ℕ → Fault → Outcome
 refused name fault =
     tells statuses.Refused (about (codes "refused") name (said (codes " F") (number (number_of fault.code)) ∷ place_fields fault.place))
 
--- a line of a map's text, and the number of the rule that it breaks
+-- a text is no map: the number of a line of it, and that of the rule that the line breaks
 abbrev pub no_map : List ℕ → ℕ → ℕ → Outcome
 no_map name n kind =
     tells statuses.Unfit (about (codes "map") name (said (codes " line ") (number n) ∷ said (codes " kind ") (number kind) ∷ []))
@@ -46,7 +46,7 @@ unfit name error = tells statuses.Unfit (about (codes "unfit") name (merge_field
 abbrev pub limited : Limit → Outcome
 limited limit = prints statuses.Limit (limit_text limit)
 
--- the text of a map has so many bytes
+-- the text of a map would be too long: it has so many bytes
 abbrev pub map_limited : ℕ → Outcome
 map_limited bytes = prints statuses.Limit (line (numbered (codes "limit map bytes ") bytes))
 
@@ -59,11 +59,11 @@ unlinked name error = tells statuses.Unlinked (about (codes "links") name (link_
 abbrev pub no_document : List ℕ → Outcome
 no_document name = tells statuses.NoDocument (about (codes "no document") name [])
 
--- the first line of a list's text, by its number, that a list cannot have
+-- a text is no list of offsets: its first line, by its number, that a list cannot have
 abbrev pub unlisted : List ℕ → ℕ → Outcome
 unlisted name n = tells statuses.Unlisted (about (codes "list") name (said (codes " line ") (number n) ∷ []))
 
--- the sizes of a method after the first map and before the second
+-- two maps do not follow one another: a method's sizes after the first and before the second differ
 abbrev pub sizes_differ : ℕ → ℕ → ℕ → Outcome
 sizes_differ method first second = tells statuses.Uncomposed
     (line_with "sizes differ" (said (codes " method ") (number method) ∷ said (codes " ") (number first) ∷ said (codes " ") (number second) ∷ []))

@@ -9,8 +9,7 @@ use Rattle.map_compose.proofs.compose.compose_maps.Goals as goal
 pub returns-then-bytes-clause-refused : goal.returns-then-bytes-clause-refused
 returns-then-bytes-clause-refused c =
     let counts = c.in_ok-text.ensures in
-    let long = c.if-bytes.true in
-    (
+    let long = c.if-bytes.true in (
       c.in_default.ensures,
       (
         map_text (composed c.args.first.now c.args.second.now),
