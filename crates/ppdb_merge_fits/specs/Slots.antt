@@ -27,10 +27,11 @@ used m x =
     cond (is_dropped m x.method) None
     (option_map (λ image. record { method = x.method; slot = x.slot; image = image }) (slot_image m x.method x.slot))
 
--- M11 of two slots with one image; each slot that is used counts once, by method and slot
+-- M11 of two slots with one image
 abbrev pub slot_twice : UsedSlot → UsedSlot → MergeError
 slot_twice a b = SlotTwice a.method a.slot b.slot a.image
 
+-- M11 of all slots of variables: each slot that is used counts once, by method and slot
 abbrev pub slots_twice : Map → List MethodSlot → List MergeError
 slots_twice m slots =
     twice (λ (u : UsedSlot). u.method) (λ u. u.slot) (λ u. u.image) slot_twice

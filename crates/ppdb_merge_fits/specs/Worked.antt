@@ -169,12 +169,12 @@ pub record WorkedMaps : Type 0 where
   pub not_shared : rows_twice sharing (as_row 0x11 1 0x11 1 ∷ as_row 0x11 2 0x11 1 ∷ []) ≡ ImageTwice 0x11 1 2 1 ∷ []
   -- names of documents
   pub renamed : first_clash [] true (names (named (codes "/a/b") (codes "x") ∷ [])) small_file ≡ None
-  pub one_name : documents_twice (names (named (codes "b") (codes "a") ∷ [])) four_documents ≡ DocumentTwice 1 2 ∷ []
+  pub one_name : documents_twice (names (named (codes "b") (codes "a") ∷ [])) four_documents.documents ≡ DocumentTwice 1 2 ∷ []
   -- the least second document is reported first
-  pub least_second : documents_twice (names (named (codes "c") (codes "b") ∷ named (codes "d") (codes "a") ∷ [])) four_documents
+  pub least_second : documents_twice (names (named (codes "c") (codes "b") ∷ named (codes "d") (codes "a") ∷ [])) four_documents.documents
       ≡ DocumentTwice 2 3 ∷ DocumentTwice 1 4 ∷ []
-  pub three_one_name : documents_twice (names (named (codes "a") (codes "x") ∷ named (codes "b") (codes "x") ∷ named (codes "d") (codes "x") ∷ [])) four_documents
+  pub three_one_name : documents_twice (names (named (codes "a") (codes "x") ∷ named (codes "b") (codes "x") ∷ named (codes "d") (codes "x") ∷ [])) four_documents.documents
       ≡ DocumentTwice 1 2 ∷ DocumentTwice 1 4 ∷ DocumentTwice 2 4 ∷ []
-  pub names_exchanged : documents_twice (names (named (codes "a") (codes "b") ∷ named (codes "b") (codes "a") ∷ [])) four_documents ≡ []
+  pub names_exchanged : documents_twice (names (named (codes "a") (codes "b") ∷ named (codes "b") (codes "a") ∷ [])) four_documents.documents ≡ []
   -- a name that no document has says nothing
-  pub no_such_name : documents_twice (names (named (codes "e") (codes "a") ∷ [])) four_documents ≡ []
+  pub no_such_name : documents_twice (names (named (codes "e") (codes "a") ∷ [])) four_documents.documents ≡ []

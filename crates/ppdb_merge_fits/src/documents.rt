@@ -2,7 +2,7 @@
 ghost use Rattle.std.specs.Prelude.{◌≡◌, ℕ, List, None, Some, IfOk, OnOk, cond, bytes_eq, slice_get};
 ghost use Rattle.ppdb_values.specs.Value.{value_of};
 ghost use Rattle.ppdb_verify.specs.Views.{raw_file};
-ghost use Rattle.ppdb_merge_fits.specs.Documents.{documents_twice, documents_twice};
+ghost use Rattle.ppdb_merge_fits.specs.Documents.{documents_twice};
 ghost use Rattle.ppdb_merge_fits.specs.Names.{row_of};
 
 use ppdb_base::{Bytes, Memory, MergeError, Steps};
