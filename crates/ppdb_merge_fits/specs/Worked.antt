@@ -173,8 +173,8 @@ pub record WorkedMaps : Type 0 where
   -- the least second document is reported first
   pub least_second : documents_twice (names (named (codes "c") (codes "b") ∷ named (codes "d") (codes "a") ∷ [])) four_documents.documents
       ≡ DocumentTwice 2 3 ∷ DocumentTwice 1 4 ∷ []
-  pub three_one_name : documents_twice (names (named (codes "a") (codes "x") ∷ named (codes "b") (codes "x") ∷ named (codes "d") (codes "x") ∷ [])) four_documents.documents
-      ≡ DocumentTwice 1 2 ∷ DocumentTwice 1 4 ∷ DocumentTwice 2 4 ∷ []
+  pub three_one_name : documents_twice (names (named (codes "a") (codes "x") ∷ named (codes "b") (codes "x") ∷ named (codes "d") (codes "x") ∷ []))
+      four_documents.documents ≡ DocumentTwice 1 2 ∷ DocumentTwice 1 4 ∷ DocumentTwice 2 4 ∷ []
   pub names_exchanged : documents_twice (names (named (codes "a") (codes "b") ∷ named (codes "b") (codes "a") ∷ [])) four_documents.documents ≡ []
   -- a name that no document has says nothing
   pub no_such_name : documents_twice (names (named (codes "e") (codes "a") ∷ [])) four_documents.documents ≡ []
