@@ -9,7 +9,7 @@ mod Told
 pub mod Got
 pub mod Starting
 mod Methods
-mod Reading
+pub mod Reading
 pub mod Entries
 pub mod Held
 pub mod Judged
