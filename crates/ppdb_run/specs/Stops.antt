@@ -1,5 +1,5 @@
 -- What a command and its steps come to: an answer, or a stop and what holds then.
-use Rattle.std.specs.Prelude.{ℕ, List, [], Option, Some, Result, Ok, Err, IfErr, IfSome, OnOk, ◌≡◌, ◌≤◌}
+use Rattle.std.specs.Prelude.{ℕ, List, [], Option, Some, Result, Ok, Err, IfErr, IfSome, OnOk, ◌≡◌, ◌≤◌, ◌⊎◌}
 use Rattle.ppdb_base.specs.{Causes.Rose, Files.Files, Written.{appended, AppendsPrefix}}
 use Rattle.ppdb_run_stops.specs.{declared.status.Status.Status, declared.stop.Stop.Stop, Refusals.Outcome, Causes.{Cause, Unwritten, OutOfMemory, cause_of, refusal_of, status_of, line_of, OnCut}}
 use Rattle.ppdb_run_words.specs.Words.{Task}
