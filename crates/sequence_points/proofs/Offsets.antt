@@ -153,7 +153,7 @@ columns_in limits blob place step lines at len z e seen =
 start_sums : (row at offset : ℕ) (last : Option Last) → let s = sums (header 0 row ∷ last_entries last) in
     s.offset + at ≡ offset → with_entry s (hidden at) ≡ sums (header 0 row ∷ point_entry offset (start_of last) ∷ [])
 start_sums row at offset None o = same_five _ _ _ _ _ _ _ _ _ _ refl refl (omega (arith, o)) refl refl
-start_sums row at offset (Some last) = by_start last.start
+start_sums row at offset (Some last) o = by_start last.start o
   where
     by_start : (start : Option Start) → let s = sums (header 0 row ∷ point_entry last.offset start ∷ []) in
         s.offset + at ≡ offset → with_entry s (hidden at) ≡ sums (header 0 row ∷ point_entry offset start ∷ [])
