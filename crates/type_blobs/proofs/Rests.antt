@@ -30,7 +30,7 @@ module _ {R : Type 0} (g : Grammar R) (whole : List R) (begun : List Value) (blo
 
   abbrev begun_after : Step → List Value
   begun_after s =
-      let goes_on = λ len w b. fields_from g (place w b) (drop len (drop at blob)) in
+      let goes_on = λ (len : ℕ) (w : List R) (b : List Value). fields_from g (place w b) (drop len (drop at blob)) in
       (fold (λ (c : Cut R) f. with_value g c f.value) here (take_field g goes_on here (drop at blob) s)).begun
 
   stepped_close : (value : Value) (len : ℕ) (o : Option R)
