@@ -193,7 +193,7 @@ finishes n traces e holds (inr told) = absurd (none-some e (sym holds.fits ∙ t
 pub is_remapped : (n : ℕ) (traces : List Trace) (value : FileValue) → HoldsSample n traces → joined_of traces ≡ Ok value → value ≡ remapped_sample n
 is_remapped n traces value holds is =
     let e : joined_of traces ≡ Ok (value_of_annotated (joined (moved_files traces))) =
-        ap (λ (o : Option MergeError). unless o (Ok (value_of_annotated (joined (moved_files traces))))) holds.fits in
+    ap (λ (o : Option MergeError). unless o (Ok (value_of_annotated (joined (moved_files traces))))) holds.fits in
     let same : value ≡ value_of_annotated (joined (moved_files traces)) = cc in
     same ∙ ap (λ files. value_of_annotated (joined files)) holds.moved
 
