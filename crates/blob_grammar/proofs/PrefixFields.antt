@@ -1,28 +1,78 @@
 -- The fields that the plain reader takes are those of the longest valid prefix.
 use Rattle.std.proofs.Common.{◌≡◌, ℕ, zero, suc, ◌+◌, ◌<◌, Bool, true, false, ◌&&◌, List, [], ◌∷◌, ◌++◌, length, take, drop, Option}
-use Rattle.std.proofs.Common.{Some, Ok, Err, refl, sym, ap, subst, ◌∙◌, append_assoc, append-nil, arith, length-append}
-use Rattle.std.specs.Prelude.{◌↔◌}
+use Rattle.std.proofs.Common.{Some, None, Result, Ok, Err, refl, sym, ap, subst, ◌∙◌, append_assoc, append-nil, arith, length-append}
+use Rattle.std.specs.Prelude.{◌↔◌, if◌then◌else◌}
 use Rattle.std.specs.List.{flat_map}
+use Rattle.std.specs.Option.{option_map_or, option_and_then}
 use Rattle.std.proofs.Math.Seq.{take-append_seam}
 use Rattle.std.proofs.lemmas.List.{length-drop}
 use Rattle.ppdb_base.specs.declared.Code.{Code}
+use Rattle.ppdb_base.specs.declared.Code.TheVariants.{BlobEnd}
+use Rattle.ppdb_base.specs.declared.BlobFault.{BlobFault}
 use Rattle.blob_grammar.specs.Grammar.{Value, Form, Field, Grammar, Cut, with_value, cut, MayFollow, AtStart}
-use Rattle.blob_grammar.specs.Reading.{IsLongestPrefix}
+use Rattle.blob_grammar.specs.Reading.{IsLongestPrefix, Reading}
 use Rattle.blob_grammar.specs.Places.{PlacedField, placed_of, HasFields}
 use Rattle.blob_grammar.specs.Reader.{field_at, is_empty, Step, field, stop, invalid, stop_or, if_allowed, step_at, step_in, step}
-use Rattle.blob_grammar.specs.Reader.{take_field, fields_for, fields_from, prefix_of}
+use Rattle.blob_grammar.specs.Reader.{allowed_at, next_field, fields_for, fields_from, prefix_of, read_from, begun_from}
 use Rattle.blob_grammar.proofs.Prefixes.{cut-push, prefix-push, longest_where_stuck, prefix-unique}
-use Rattle.blob_grammar.proofs.Readers.{whole_of, begun_of, StepIs, step-is}
+use Rattle.blob_grammar.proofs.Readers.{whole_of, begun_of, StepIs, step-is, read_from-reads}
 use Rattle.blob_grammar.proofs.Steps.{Takes, takes_in}
 
 abbrev IsPrefix : {R : Type 0} → Grammar R → List ℕ → List Field → Type 0
 IsPrefix g blob fields = (after : List ℕ) × IsLongestPrefix g blob fields after
 
+abbrev pub place : {R : Type 0} → List R → List Value → Cut R
+place whole begun = record { whole = whole; begun = begun }
+
+-- the fields from a step on, by those after its field
+abbrev pub take_field : {R : Type 0} → Grammar R → (ℕ → List R → List Value → List Field) → Cut R → List ℕ → Step → List Field
+take_field g goes_on c bytes (field value len) =
+    record { bytes = take len bytes; value = value } ∷ goes_on len (with_value g c value).whole (with_value g c value).begun
+take_field g goes_on c bytes stop = []
+take_field g goes_on c bytes (invalid code) = []
+
+no_step : {R : Type 0} (g : Grammar R) (goes_on : ℕ → List R → List Value → List Field) (c : Cut R) (bytes : List ℕ) (b : Bool) (code : Code)
+    → take_field g goes_on c bytes (stop_or b code) ≡ []
+no_step g goes_on c bytes true code = refl
+no_step g goes_on c bytes false code = refl
+
+module _ {R : Type 0} (g : Grammar R) (h : ℕ → List R → List Value → List Field) (whole : List R) (begun : List Value) (bytes : List ℕ) where
+  abbrev taken : Option (Value × ℕ) → List Field
+  taken o = option_map_or (λ (x : Value × ℕ). take_field g h (place whole begun) bytes (field x.0 x.1)) o []
+
+  by_allowed : (x : Value × ℕ) (b : Bool) → taken (if b then Some x else None) ≡ take_field g h (place whole begun) bytes (if_allowed b x.0 x.1)
+  by_allowed x true = refl
+  by_allowed x false = refl
+
+  by_found : (r : Result (Value × ℕ) Code)
+      → taken (allowed_at g (place whole begun) r) ≡ take_field g h (place whole begun) bytes (step_at g whole begun bytes r)
+  by_found (Ok x) = by_allowed x (g.allows whole begun x.0)
+  by_found (Err code) = sym (no_step g h (place whole begun) bytes (is_empty bytes && g.may_stop whole begun) code)
+
+  by_none : (left : List ℕ) → [] ≡ take_field g h (place whole begun) bytes (step_in g whole begun left None)
+  by_none [] = sym (no_step g h (place whole begun) bytes (g.may_stop whole begun) BlobEnd)
+  by_none (b ∷ left) = refl
+
+  by_form : (o : Option Form) → taken (option_and_then (λ form. allowed_at g (place whole begun) (field_at form bytes)) o)
+      ≡ take_field g h (place whole begun) bytes (step_in g whole begun bytes o)
+  by_form None = by_none bytes
+  by_form (Some form) = by_found (field_at form bytes)
+
+  -- The next field is that of the next step, if there is one.
+  next_field-step : taken (next_field g (place whole begun) bytes) ≡ take_field g h (place whole begun) bytes (step g whole begun bytes)
+  next_field-step = by_form (g.form whole begun)
+
+pub fields_for-step : {R : Type 0} (g : Grammar R) (turns : ℕ) (whole : List R) (begun : List Value) (bytes : List ℕ)
+    → fields_for (suc turns) g (place whole begun) bytes
+    ≡ take_field g (λ len w b. fields_for turns g (place w b) (drop len bytes)) (place whole begun) bytes (step g whole begun bytes)
+unfolding fields_for
+fields_for-step g turns whole begun bytes = next_field-step g (λ len w b. fields_for turns g (place w b) (drop len bytes)) whole begun bytes
+
 step_fields : {R : Type 0} (g : Grammar R) (blob : List ℕ) (turns : ℕ) (fs : List Field) (bytes : List ℕ)
     → ((gs : List Field) (rest : List ℕ) → length rest < turns → AtStart g blob gs rest
-    → IsPrefix g blob (gs ++ fields_for turns g (whole_of g gs) (begun_of g gs) rest))
+    → IsPrefix g blob (gs ++ fields_for turns g (cut g gs) rest))
     → length bytes < suc turns → AtStart g blob fs bytes → (s : Step) → StepIs g fs bytes (g.form (whole_of g fs) (begun_of g fs)) s
-    → IsPrefix g blob (fs ++ take_field g (λ len w b. fields_for turns g w b (drop len bytes)) (cut g fs) bytes s)
+    → IsPrefix g blob (fs ++ take_field g (λ len w b. fields_for turns g (place w b) (drop len bytes)) (cut g fs) bytes s)
 step_fields g blob turns fs bytes again few prefix stop h =
     subst (λ l. IsPrefix g blob l) (sym (append-nil fs)) (bytes, longest_where_stuck g blob fs bytes prefix h.1)
 step_fields g blob turns fs bytes again few prefix (invalid code) h =
@@ -36,25 +86,25 @@ step_fields g blob turns fs bytes again few prefix (field value len) h =
     let sum : length (f.bytes ++ drop len bytes) ≡ length f.bytes + length (drop len bytes) = length-append f.bytes (drop len bytes) in
     let fewer : length (drop len bytes) < turns = omega (arith, h.prefix.len_is, h.prefix.positive) in
     let r = again (fs ++ f ∷ []) (drop len bytes) fewer next in
-    let r' : IsPrefix g blob ((fs ++ f ∷ []) ++ fields_for turns g (with_value g (cut g fs) value).whole (with_value g (cut g fs) value).begun (drop len bytes))
-    = subst (λ c. IsPrefix g blob ((fs ++ f ∷ []) ++ fields_for turns g c.whole c.begun (drop len bytes))) (cut-push g fs f) r in
+    let r' : IsPrefix g blob ((fs ++ f ∷ []) ++ fields_for turns g (with_value g (cut g fs) value) (drop len bytes))
+    = subst (λ c. IsPrefix g blob ((fs ++ f ∷ []) ++ fields_for turns g c (drop len bytes))) (cut-push g fs f) r in
     let taken : take len bytes ≡ h.prefix.text = seam h.prefix.text len bytes h.prefix.len_is h.prefix.parts in
-    subst (λ t. IsPrefix g blob (fs ++ (record { bytes = t; value = value } ∷ fields_for turns g (with_value g (cut g fs) value).whole
-    (with_value g (cut g fs) value).begun (drop len bytes)))) (sym taken)
+    subst (λ t. IsPrefix g blob (fs ++ (record { bytes = t; value = value } ∷ fields_for turns g (with_value g (cut g fs) value) (drop len bytes)))) (sym taken)
     (subst (λ l. IsPrefix g blob l) (append_assoc fs (f ∷ [])
-    (fields_for turns g (with_value g (cut g fs) value).whole (with_value g (cut g fs) value).begun (drop len bytes))) r')
+    (fields_for turns g (with_value g (cut g fs) value) (drop len bytes))) r')
   where
     seam : (text : List ℕ) (len : ℕ) (bytes : List ℕ) → length text ≡ len → bytes ≡ text ++ drop len bytes → take len bytes ≡ text
     seam text len bytes n e = ap (take len) e ∙ subst (λ (k : ℕ). take k (text ++ drop len bytes) ≡ text) n (take-append_seam text (drop len bytes))
 
 fields_for-longest : {R : Type 0} (g : Grammar R) (blob : List ℕ) (turns : ℕ) (fs : List Field) (bytes : List ℕ) → length bytes < turns
     → AtStart g blob fs bytes
-    → IsPrefix g blob (fs ++ fields_for turns g (whole_of g fs) (begun_of g fs) bytes)
+    → IsPrefix g blob (fs ++ fields_for turns g (cut g fs) bytes)
 unfolding fields_for
 fields_for-longest g blob zero fs bytes few prefix = absurd (omega arith)
 fields_for-longest g blob (suc turns) fs bytes few prefix =
-    step_fields g blob turns fs bytes (λ gs rest l a. fields_for-longest g blob turns gs rest l a) few prefix (step g (whole_of g fs) (begun_of g fs) bytes)
-    (step-is g fs bytes)
+    subst (λ l. IsPrefix g blob (fs ++ l)) (sym (fields_for-step g turns (whole_of g fs) (begun_of g fs) bytes))
+    (step_fields g blob turns fs bytes (λ gs rest l a. fields_for-longest g blob turns gs rest l a) few prefix (step g (whole_of g fs) (begun_of g fs) bytes)
+    (step-is g fs bytes))
 
 -- The plain reader takes the longest valid prefix.
 pub prefix_of-longest : {R : Type 0} (g : Grammar R) (blob : List ℕ) → (after : List ℕ) × IsLongestPrefix g blob (prefix_of g blob) after
@@ -65,6 +115,19 @@ prefix_of-longest g blob = fields_for-longest g blob (suc (length blob)) [] blob
 pub longest-prefix_of : {R : Type 0} (g : Grammar R) (blob : List ℕ) (fields : List Field) (after : List ℕ) → IsLongestPrefix g blob fields after
     → fields ≡ prefix_of g blob
 longest-prefix_of g blob fields after h = let f = prefix_of-longest g blob in (prefix-unique g blob fields (prefix_of g blob) after f.0 h f.1).0
+
+-- What a blob holds is what the fields of its longest valid prefix make.
+pub records_are_cut : {R : Type 0} (g : Grammar R) (blob : List ℕ) (records : List R) (fault : Option BlobFault) → Reading g blob records fault
+    → records ≡ (cut g (prefix_of g blob)).whole
+records_are_cut g blob records fault r = r.made ∙ ap (λ (fs : List Field). (cut g fs).whole) (longest-prefix_of g blob r.fields r.after r.prefix)
+
+pub records_read : {R : Type 0} (g : Grammar R) (blob : List ℕ) → (cut g (prefix_of g blob)).whole ≡ (read_from g [] [] 0 blob).items
+records_read g blob =
+    let left = read_from g [] [] 0 blob in sym (records_are_cut g blob left.items left.fault (read_from-reads g blob))
+
+pub values_read : {R : Type 0} (g : Grammar R) (blob : List ℕ) → (cut g (prefix_of g blob)).begun ≡ begun_from g [] [] blob
+unfolding begun_from
+values_read g blob = refl
 
 -- What a walk reports of the fields that the plain reader takes.
 pub prefix_of-fields : {R X : Type 0} (g : Grammar R) (tell : PlacedField → List X) (blob : List ℕ)
@@ -95,58 +158,54 @@ same_take g h k place bytes stop less e = refl
 same_take g h k place bytes (invalid code) less e = refl
 
 fields-enough : {R : Type 0} (g : Grammar R) (m n : ℕ) (whole : List R) (begun : List Value) (bytes : List ℕ) → length bytes < m → length bytes < n
-    → fields_for m g whole begun bytes ≡ fields_for n g whole begun bytes
+    → fields_for m g (place whole begun) bytes ≡ fields_for n g (place whole begun) bytes
 unfolding fields_for
 fields-enough g zero n whole begun bytes p q = absurd (omega arith)
 fields-enough g (suc m) zero whole begun bytes p q = absurd (omega arith)
 fields-enough g (suc m) (suc n) whole begun bytes p q =
-    same_take g (λ len w b. fields_for m g w b (drop len bytes)) (λ len w b. fields_for n g w b (drop len bytes))
-    (record { whole = whole; begun = begun }) bytes (step g whole begun bytes) (takes_in g whole begun bytes (g.form whole begun))
+    fields_for-step g m whole begun bytes
+    ∙ same_take g (λ len w b. fields_for m g (place w b) (drop len bytes)) (λ len w b. fields_for n g (place w b) (drop len bytes))
+    (place whole begun) bytes (step g whole begun bytes) (takes_in g whole begun bytes (g.form whole begun))
     (λ len less w b. fields-enough g m n w b (drop len bytes) (omega arith) (omega arith))
+    ∙ sym (fields_for-step g n whole begun bytes)
 
 -- The fields from a place on are what one step takes, and the fields from there on.
 pub fields_from-step : {R : Type 0} (g : Grammar R) (whole : List R) (begun : List Value) (bytes : List ℕ)
-    → fields_from g whole begun bytes ≡ take_field g (λ len w b. fields_from g w b (drop len bytes))
-    (record { whole = whole; begun = begun }) bytes (step g whole begun bytes)
-unfolding fields_for fields_from
+    → fields_from g (place whole begun) bytes ≡ take_field g (λ len w b. fields_from g (place w b) (drop len bytes))
+    (place whole begun) bytes (step g whole begun bytes)
+unfolding fields_from
 fields_from-step g whole begun bytes =
-    same_take g (λ len w b. fields_for (length bytes) g w b (drop len bytes)) (λ len w b. fields_for (suc (length (drop len bytes))) g w b (drop len bytes))
-    (record { whole = whole; begun = begun }) bytes (step g whole begun bytes) (takes_in g whole begun bytes (g.form whole begun))
+    fields_for-step g (length bytes) whole begun bytes
+    ∙ same_take g (λ len w b. fields_for (length bytes) g (place w b) (drop len bytes))
+    (λ len w b. fields_for (suc (length (drop len bytes))) g (place w b) (drop len bytes)) (place whole begun) bytes (step g whole begun bytes)
+    (takes_in g whole begun bytes (g.form whole begun))
     (λ len less w b. fields-enough g (length bytes) (suc (length (drop len bytes))) w b (drop len bytes) less (omega arith))
-
-abbrev place : {R : Type 0} → List R → List Value → Cut R
-place whole begun = record { whole = whole; begun = begun }
 
 fields_to : {R : Type 0} (g : Grammar R) (whole : List R) (begun : List Value) (bytes : List ℕ) (o : Option Form) (s : Step)
     → g.form whole begun ≡ o → step_in g whole begun bytes o ≡ s
-    → fields_from g whole begun bytes ≡ take_field g (λ len w b. fields_from g w b (drop len bytes)) (place whole begun) bytes s
+    → fields_from g (place whole begun) bytes ≡ take_field g (λ len w b. fields_from g (place w b) (drop len bytes)) (place whole begun) bytes s
 fields_to g whole begun bytes o s e f =
-    fields_from-step g whole begun bytes ∙ ap (take_field g (λ len w b. fields_from g w b (drop len bytes)) (place whole begun) bytes)
+    fields_from-step g whole begun bytes ∙ ap (take_field g (λ len w b. fields_from g (place w b) (drop len bytes)) (place whole begun) bytes)
     (ap (step_in g whole begun bytes) e ∙ f)
 
 -- A field that is there and allowed is the first of them.
 pub fields-field : {R : Type 0} (g : Grammar R) (whole : List R) (begun : List Value) (bytes : List ℕ) (form : Form) (value : Value) (len : ℕ)
     → g.form whole begun ≡ Some form → field_at form bytes ≡ Ok (value, len) → g.allows whole begun value ≡ true
-    → fields_from g whole begun bytes ≡ record { bytes = take len bytes; value = value } ∷ fields_from g (with_value g (place whole begun) value).whole
-    (with_value g (place whole begun) value).begun (drop len bytes)
+    → fields_from g (place whole begun) bytes
+    ≡ record { bytes = take len bytes; value = value } ∷ fields_from g (with_value g (place whole begun) value) (drop len bytes)
 fields-field g whole begun bytes form value len expected found allowed =
     fields_to g whole begun bytes (Some form) (field value len) expected (ap (step_at g whole begun bytes) found ∙ ap (λ b. if_allowed b value len) allowed)
 
 -- Where a field is there and not allowed there are no more.
 pub fields-out : {R : Type 0} (g : Grammar R) (whole : List R) (begun : List Value) (bytes : List ℕ) (form : Form) (value : Value) (len : ℕ)
-    → g.form whole begun ≡ Some form → field_at form bytes ≡ Ok (value, len) → g.allows whole begun value ≡ false → fields_from g whole begun bytes ≡ []
+    → g.form whole begun ≡ Some form → field_at form bytes ≡ Ok (value, len) → g.allows whole begun value ≡ false → fields_from g (place whole begun) bytes ≡ []
 fields-out g whole begun bytes form value len expected found allowed =
     fields_to g whole begun bytes (Some form) (step_at g whole begun bytes (Ok (value, len))) expected (ap (step_at g whole begun bytes) found)
-    ∙ ap (λ b. take_field g (λ len w b. fields_from g w b (drop len bytes)) (place whole begun) bytes (if_allowed b value len)) allowed
-
-no_step : {R : Type 0} (g : Grammar R) (goes_on : ℕ → List R → List Value → List Field) (c : Cut R) (bytes : List ℕ) (b : Bool) (code : Code)
-    → take_field g goes_on c bytes (stop_or b code) ≡ []
-no_step g goes_on c bytes true code = refl
-no_step g goes_on c bytes false code = refl
+    ∙ ap (λ b. take_field g (λ len w b. fields_from g (place w b) (drop len bytes)) (place whole begun) bytes (if_allowed b value len)) allowed
 
 -- Nor where no field of the form is there.
 pub fields-none : {R : Type 0} (g : Grammar R) (whole : List R) (begun : List Value) (bytes : List ℕ) (form : Form) (code : Code)
-    → g.form whole begun ≡ Some form → field_at form bytes ≡ Err code → fields_from g whole begun bytes ≡ []
+    → g.form whole begun ≡ Some form → field_at form bytes ≡ Err code → fields_from g (place whole begun) bytes ≡ []
 fields-none g whole begun bytes form code expected none =
     fields_to g whole begun bytes (Some form) (step_at g whole begun bytes (Err code)) expected (ap (step_at g whole begun bytes) none)
-    ∙ no_step g (λ len w b. fields_from g w b (drop len bytes)) (place whole begun) bytes (is_empty bytes && g.may_stop whole begun) code
+    ∙ no_step g (λ len w b. fields_from g (place w b) (drop len bytes)) (place whole begun) bytes (is_empty bytes && g.may_stop whole begun) code

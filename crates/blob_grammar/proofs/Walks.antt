@@ -8,8 +8,8 @@ use Rattle.ppdb_base.specs.declared.Code.TheVariants.{ValueRange, BlobEnd}
 use Rattle.blob_grammar.specs.Grammar.{Value, Form, Grammar, Cut, closed, with_value}
 use Rattle.blob_grammar.specs.Places.{PlacedField, placed_from, HasFields, HasEnd}
 use Rattle.blob_grammar.specs.Reader.{Left, field_at, is_empty, Step, field, stop, invalid, stop_or, if_allowed, step_at, step_in, step}
-use Rattle.blob_grammar.specs.Reader.{close_and, take_step, read_from, take_field, fields_from, fields_left}
-use Rattle.blob_grammar.proofs.PrefixFields.{fields_from-step, prefix_of-fields}
+use Rattle.blob_grammar.specs.Reader.{close_and, take_step, read_from, fields_from, fields_left}
+use Rattle.blob_grammar.proofs.PrefixFields.{take_field, fields_from-step, prefix_of-fields}
 use Rattle.blob_grammar.proofs.Readers.{read_from-reads}
 use Rattle.blob_grammar.proofs.Steps.{Takes, takes_in, read_from-step, nothing_left, Alike}
 
@@ -38,7 +38,7 @@ module _ {R X : Type 0} (g : Grammar R) (tell : PlacedField → List X) where
 
   abbrev walked : Cut R → ℕ → List ℕ → Step → Left X
   walked place at bytes s = record {
-    items = flat_map tell (placed_from g place at (take_field g (λ len w b. fields_from g w b (drop len bytes)) place bytes s));
+    items = flat_map tell (placed_from g place at (take_field g (λ len w b. fields_from g (record { whole = w; begun = b }) (drop len bytes)) place bytes s));
     fault = (take_step g (goes_on at bytes) place.whole place.begun at s).fault;
   }
 

@@ -1,7 +1,6 @@
--- The plain reader: it takes one field after the other, and keeps the records made so far.
+-- The plain reader: it takes one field after the other, up to the end of the longest valid prefix.
 use Rattle.std.specs.Prelude.{◌≡◌, ℕ, zero, suc, ◌+◌, ◌-◌, ◌*◌, ◌^◌, List, [], ◌∷◌, ◌++◌, length, take, drop, nat_lt, if◌then◌else◌, Option, Some, None, Bool, true, false, ◌&&◌, ℤ, Result, Ok, Err}
-use Rattle.std.specs.Prelude.{◌≤◌, fold, flat_map}
-use Rattle.std.specs.Int.{w32, from_le_bytes}
+use Rattle.std.specs.{Prelude.{◌≤◌, fold, flat_map, option_and_then}, Int.{w32, from_le_bytes}, Option.option_map_or}
 use Rattle.ppdb_base.specs.{declared.code.Code.{Code, TheVariants.{BlobEnd, IntegerForm, ValueRange}}, declared.fault.BlobFault.BlobFault}
 use Rattle.cli_ints.specs.{declared.IntFault.{IntFault, TheVariants.{End, Form as NoForm}}, Compressed.{bits_of, unrotated}}
 use Rattle.blob_grammar.specs.Grammar.{Value, number, integer, octets, Form, unsigned, signed, byte, word, fixed, rest, character, Field, Grammar, Cut, with_value, is_character}
@@ -107,6 +106,36 @@ field_at rest [] = Err BlobEnd
 field_at rest (b ∷ bytes) = Ok (octets (b ∷ bytes), length (b ∷ bytes))
 field_at character bytes = character_of bytes (character_len bytes)
 
+-- ---- the fields of the longest valid prefix
+
+-- what was found at a place of the grammar, a value and its length, if it is allowed there
+abbrev pub allowed_at : {R : Type 0} → Grammar R → Cut R → Result (Value × ℕ) Code → Option (Value × ℕ)
+allowed_at g place (Ok x) = if g.allows place.whole place.begun x.0 then Some x else None
+allowed_at g place (Err code) = None
+
+-- the field that comes at the start of the bytes: one of the form that is expected there, if it is allowed
+abbrev pub next_field : {R : Type 0} → Grammar R → Cut R → List ℕ → Option (Value × ℕ)
+next_field g place bytes =
+    option_and_then (λ form. allowed_at g place (field_at form bytes)) (g.form place.whole place.begun)
+
+-- the fields from a place on, at most so many
+unfoldable pub fields_for : {R : Type 0} → ℕ → Grammar R → Cut R → List ℕ → List Field
+fields_for zero g place bytes = []
+fields_for (suc turns) g place bytes =
+    option_map_or
+    (λ x. record { bytes = take x.1 bytes; value = x.0 } ∷ fields_for turns g (with_value g place x.0) (drop x.1 bytes))
+    (next_field g place bytes) []
+
+-- the fields of the longest valid prefix from a place on; each has a byte
+unfoldable pub fields_from : {R : Type 0} → Grammar R → Cut R → List ℕ → List Field
+fields_from g place bytes = fields_for (suc (length bytes)) g place bytes
+
+-- the fields of the blob's longest valid prefix
+abbrev pub prefix_of : {R : Type 0} → Grammar R → List ℕ → List Field
+prefix_of g blob = fields_from g (record { whole = []; begun = [] }) blob
+
+-- ---- what is there
+
 -- A field of the form with the value is there, of so many bytes.
 abbrev pub IsThere : Form → List ℕ → ℕ → Value → ℕ → Type 0
 IsThere form blob at value len = (field_at form (drop at blob) ≡ Ok (value, len)) × (at + len ≤ length blob)
@@ -165,26 +194,7 @@ read_for (suc turns) g whole begun at bytes =
 unfoldable pub read_from : {R : Type 0} → Grammar R → List R → List Value → ℕ → List ℕ → Left R
 read_from g whole begun at bytes = read_for (suc (length bytes)) g whole begun at bytes
 
--- ---- the fields themselves
-
-abbrev pub take_field : {R : Type 0} → Grammar R → (ℕ → List R → List Value → List Field) → Cut R → List ℕ → Step → List Field
-take_field g goes_on place bytes (field v len) =
-    record { bytes = take len bytes; value = v } ∷ goes_on len (with_value g place v).whole (with_value g place v).begun
-take_field g goes_on place bytes stop = []
-take_field g goes_on place bytes (invalid code) = []
-
-unfoldable pub fields_for : {R : Type 0} → ℕ → Grammar R → List R → List Value → List ℕ → List Field
-fields_for zero g whole begun bytes = []
-fields_for (suc turns) g whole begun bytes =
-    take_field g (λ len w b. fields_for turns g w b (drop len bytes)) (record { whole = whole; begun = begun }) bytes (step g whole begun bytes)
-
--- the fields of the longest valid prefix from a place on, after these whole records and these values of the next one
-unfoldable pub fields_from : {R : Type 0} → Grammar R → List R → List Value → List ℕ → List Field
-fields_from g whole begun bytes = fields_for (suc (length bytes)) g whole begun bytes
-
--- the fields of the blob's longest valid prefix
-abbrev pub prefix_of : {R : Type 0} → Grammar R → List ℕ → List Field
-prefix_of g blob = fields_from g [] [] blob
+-- ---- what is left after the fields
 
 -- what fields make after a place of the grammar
 abbrev pub cut_from : {R : Type 0} → Grammar R → Cut R → List Field → Cut R
@@ -192,11 +202,12 @@ cut_from g c fields = fold (λ c f. with_value g c f.value) c fields
 
 -- the values of the record that has begun where the longest valid prefix ends, from a place on
 unfoldable pub begun_from : {R : Type 0} → Grammar R → List R → List Value → List ℕ → List Value
-begun_from g whole begun bytes = (cut_from g (record { whole = whole; begun = begun }) (fields_from g whole begun bytes)).begun
+begun_from {R = R} g whole begun bytes =
+    let place : Cut R = record { whole = whole; begun = begun } in (cut_from g place (fields_from g place bytes)).begun
 
 -- what a walk reports of the fields from a place of the grammar and a byte on, and how the blob ends
 unfoldable pub fields_left : {R X : Type 0} → Grammar R → (PlacedField → List X) → Cut R → ℕ → List ℕ → Left X
 fields_left g tell place at bytes = record {
-  items = flat_map tell (placed_from g place at (fields_from g place.whole place.begun bytes));
+  items = flat_map tell (placed_from g place at (fields_from g place bytes));
   fault = (read_from g place.whole place.begun at bytes).fault;
 }

@@ -1,13 +1,13 @@
 -- What rows_into writes is read again.
 use Rattle.std.proofs.Common.{◌≡◌, ℕ, ◌≤◌, true, ◌&&◌, List, [], ◌∷◌, ◌++◌, None, refl, ap, subst, arith}
-use Rattle.std.specs.Prelude.{All, nat_le}
+use Rattle.std.specs.Prelude.{All, nat_le, flat_map}
 use Rattle.std.proofs.lemmas.List.Elements.{All-head, All-tail}
 use Rattle.cli_ints.specs.Shortest.{short_unsigned}
 use Rattle.cli_ints.proofs.Shortest.{short_unsigned-shortest}
 use Rattle.blob_grammar.specs.Grammar.{number, unsigned, Field, bytes_of}
 use Rattle.blob_grammar.specs.Reading.{Reading}
 use Rattle.blob_grammar.proofs.Written.{Writes, EachMayAdd, fields_after, records_read}
-use Rattle.custom_info.specs.TypeDocuments.{type_documents, rows_spelling, IsRowNumber}
+use Rattle.custom_info.specs.TypeDocuments.{type_documents, IsRowNumber}
 
 abbrev fields_of : List ℕ → ℕ → List Field
 fields_of whole row = record { bytes = short_unsigned row; value = number row } ∷ []
@@ -43,12 +43,12 @@ each documents whole (row ∷ rows) a b = (
       (All-tail (λ r. r ≤ documents) row rows b),
 )
 
-spelled : (whole rows : List ℕ) → bytes_of (fields_after fields_of whole rows) ≡ rows_spelling rows
+spelled : (whole rows : List ℕ) → bytes_of (fields_after fields_of whole rows) ≡ flat_map short_unsigned rows
 spelled whole [] = refl
 spelled whole (row ∷ rows) = ap (λ bs. short_unsigned row ++ bs) (spelled (whole ++ row ∷ []) rows)
 
 pub written_rows : (documents : ℕ) (rows : List ℕ) → All IsRowNumber rows → All (λ row. row ≤ documents) rows
-    → Reading (type_documents documents) (rows_spelling rows) rows None
+    → Reading (type_documents documents) (flat_map short_unsigned rows) rows None
 written_rows documents rows a b =
     subst (λ blob. Reading (type_documents documents) blob rows None) (spelled [] rows) (records_read (type_documents documents) fields_of (MayAdd documents)
     (writes documents) rows (each documents [] rows a b) refl)

@@ -1,6 +1,6 @@
 -- What slots_into writes is read again.
 use Rattle.std.proofs.Common.{◌≡◌, ℕ, ◌+◌, ◌-◌, ◌<◌, true, List, [], ◌∷◌, ◌++◌, None, refl, sym, ap, subst, ◌∙◌, arith}
-use Rattle.std.specs.Prelude.{All}
+use Rattle.std.specs.Prelude.{All, flat_map}
 use Rattle.std.specs.Int.{w32, to_le_bytes}
 use Rattle.std.proofs.lemmas.List.Elements.{All-head, All-tail}
 use Rattle.std.proofs.lemmas.Nat.{from_le_bytes-to_le_bytes_4}
@@ -9,7 +9,7 @@ use Rattle.blob_grammar.specs.Reading.{Reading}
 use Rattle.blob_grammar.proofs.Written.{Writes, EachMayAdd, fields_after, records_read}
 use Rattle.custom_info.specs.declared.slots.Slot.{Slot}
 use Rattle.custom_info.specs.declared.slots.Slot.TheVariants.{Empty, Held}
-use Rattle.custom_info.specs.HoistedScopes.{hoisted_scopes, IsSlot, is_length, slot_with, slot_spelling, slots_spelling}
+use Rattle.custom_info.specs.HoistedScopes.{hoisted_scopes, IsSlot, is_length, slot_with, slot_spelling}
 use Rattle.custom_info.proofs.SlotsLeft.{held}
 
 -- the start and the length of a slot, as they are written
@@ -74,11 +74,11 @@ each : (whole slots : List Slot) → All IsSlot slots → EachMayAdd MayAdd whol
 each whole [] h = tt
 each whole (slot ∷ slots) h = (All-head IsSlot slot slots h, each (whole ++ slot ∷ []) slots (All-tail IsSlot slot slots h))
 
-spelled : (whole slots : List Slot) → bytes_of (fields_after fields_of whole slots) ≡ slots_spelling slots
+spelled : (whole slots : List Slot) → bytes_of (fields_after fields_of whole slots) ≡ flat_map slot_spelling slots
 spelled whole [] = refl
 spelled whole (Empty ∷ slots) = ap (λ bs. slot_spelling Empty ++ bs) (spelled (whole ++ Empty ∷ []) slots)
 spelled whole (Held range ∷ slots) = ap (λ bs. slot_spelling (Held range) ++ bs) (spelled (whole ++ Held range ∷ []) slots)
 
-pub written_slots : (slots : List Slot) → All IsSlot slots → Reading hoisted_scopes (slots_spelling slots) slots None
+pub written_slots : (slots : List Slot) → All IsSlot slots → Reading hoisted_scopes (flat_map slot_spelling slots) slots None
 written_slots slots h =
     subst (λ blob. Reading hoisted_scopes blob slots None) (spelled [] slots) (records_read hoisted_scopes fields_of MayAdd writes slots (each [] slots h) refl)

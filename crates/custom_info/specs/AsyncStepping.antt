@@ -24,10 +24,10 @@ step_of _ = None
 -- Any number of steps.
 abbrev pub async_steps : ℕ → Grammar AsyncStep
 async_steps methods = record {
-  form = λ whole begun. step_form begun;
-  allows = λ whole begun value. step_allows methods begun value;
-  record_of = λ whole begun. step_of begun;
-  may_stop = λ whole begun. is_between begun;
+  form = λ _. step_form;
+  allows = λ _. step_allows methods;
+  record_of = λ _. step_of;
+  may_stop = λ _. is_between;
 }
 
 -- ---- the whole blob: the catch handler, and then the steps
@@ -58,12 +58,9 @@ abbrev pub allows : ℕ → List Entry → List Value → Value → Bool
 allows methods [] begun value = is_number is_stored value
 allows methods (first ∷ others) begun value = step_allows methods begun value
 
-abbrev pub handler_entry : List Value → Option Entry
-handler_entry (number stored ∷ []) = Some (catch_handler (handler_of stored))
-handler_entry _ = None
-
 abbrev pub entry_of : List Entry → List Value → Option Entry
-entry_of [] begun = handler_entry begun
+entry_of [] (number stored ∷ []) = Some (catch_handler (handler_of stored))
+entry_of [] _ = None
 entry_of (first ∷ others) begun = option_map await_step (step_of begun)
 
 abbrev pub may_stop : List Entry → List Value → Bool
@@ -71,12 +68,7 @@ may_stop [] begun = false
 may_stop (first ∷ others) begun = is_between begun
 
 abbrev pub async_stepping : ℕ → Grammar Entry
-async_stepping methods = record {
-  form = λ whole begun. form whole begun;
-  allows = λ whole begun value. allows methods whole begun value;
-  record_of = λ whole begun. entry_of whole begun;
-  may_stop = λ whole begun. may_stop whole begun;
-}
+async_stepping methods = record { form = form; allows = allows methods; record_of = entry_of; may_stop = may_stop }
 
 -- a blob's entries: one handler, and the steps
 abbrev pub entries_of : Option ℕ → List AsyncStep → List Entry

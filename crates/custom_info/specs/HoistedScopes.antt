@@ -1,5 +1,5 @@
 -- State Machine Hoisted Local Scopes (Portable PDB v1.0, CustomDebugInformation Table).
-use Rattle.std.specs.{Prelude.{ℕ, zero, suc, ◌+◌, ◌-◌, List, [], ◌∷◌, ◌++◌, Option, Some, None, Bool, true, ◌||◌, nat_lt, ◌==◌, drop, ◌<◌, flat_map}, Int.{w32, to_le_bytes}}
+use Rattle.std.specs.{Prelude.{ℕ, zero, suc, ◌+◌, ◌-◌, List, [], ◌∷◌, ◌++◌, Option, Some, None, Bool, true, ◌||◌, nat_lt, ◌==◌, drop, ◌<◌}, Int.{w32, to_le_bytes}}
 use Rattle.blob_grammar.specs.{Grammar.{Value, number, word, Grammar}, Reader.{Left, read_from}, Allowed.{is_number, is_between}}
 use Rattle.custom_info.specs.declared.slots.Slot.{Slot, TheVariants.{Empty, Held}}
 
@@ -23,12 +23,8 @@ slot_of _ = None
 
 -- Any number of slots, each a start and a length of four bytes.
 abbrev pub hoisted_scopes : Grammar Slot
-hoisted_scopes = record {
-  form = λ whole begun. Some word;
-  allows = λ whole begun value. allows begun value;
-  record_of = λ whole begun. slot_of begun;
-  may_stop = λ whole begun. is_between begun;
-}
+hoisted_scopes =
+    record { form = λ _ _. Some word; allows = λ _. allows; record_of = λ _. slot_of; may_stop = λ _. is_between }
 
 -- what a cursor of the blob has left at a place
 unfoldable pub slots_left : List ℕ → ℕ → Left Slot
@@ -43,6 +39,3 @@ IsSlot (Held range) = (range.start < range.end) × (range.end < 0x8000_0000)
 abbrev pub slot_spelling : Slot → List ℕ
 slot_spelling Empty = 0 ∷ 0 ∷ 0 ∷ 0 ∷ 0 ∷ 0 ∷ 0 ∷ 0 ∷ []
 slot_spelling (Held range) = to_le_bytes w32 range.start ++ to_le_bytes w32 (range.end - range.start)
-
-abbrev pub slots_spelling : List Slot → List ℕ
-slots_spelling slots = flat_map slot_spelling slots

@@ -1,13 +1,14 @@
 // What is written is read again, and what is read can be written.
-ghost use Rattle.std.specs.Prelude.{ℕ, List, Option, None, All};
+ghost use Rattle.std.specs.Prelude.{ℕ, List, Option, None, All, flat_map};
 ghost use Rattle.ppdb_base.specs.declared.BlobFault.{BlobFault};
 ghost use Rattle.blob_grammar.specs.Reading.{Reading, IsReadOnce};
 ghost use Rattle.custom_info.specs.declared.slots.Slot.{Slot};
 ghost use Rattle.custom_info.specs.declared.stepping.AsyncStep.{AsyncStep};
-ghost use Rattle.custom_info.specs.TypeDocuments.{type_documents, IsRowNumber, rows_spelling};
-ghost use Rattle.custom_info.specs.HoistedScopes.{hoisted_scopes, IsSlot, slots_spelling};
+ghost use Rattle.custom_info.specs.TypeDocuments.{type_documents, IsRowNumber};
+ghost use Rattle.custom_info.specs.HoistedScopes.{hoisted_scopes, IsSlot, slot_spelling};
 ghost use Rattle.custom_info.specs.AsyncStepping.{async_stepping, entries_of, IsHandler, IsStep, async_spelling};
 ghost use Rattle.std.specs.Prelude.{◌≤◌};
+ghost use Rattle.cli_ints.specs.Shortest.{short_unsigned};
 
 /// Each blob is read as stepping information, as hoisted scopes and as type documents in one way.
 pub fn customs_are_read_once()
@@ -19,12 +20,12 @@ pub fn customs_are_read_once()
 /// Rows that `rows_into` writes are read again, in a file that has those documents.
 pub fn written_rows_are_read()
     ensures { (documents : ℕ) (rows : List ℕ) → All IsRowNumber rows → All (λ row. row ≤ documents) rows
-        → Reading (type_documents documents) (rows_spelling rows) rows None }
+        → Reading (type_documents documents) (flat_map short_unsigned rows) rows None }
 {}
 
 /// Slots that `slots_into` writes are read again.
 pub fn written_slots_are_read()
-    ensures { (slots : List Slot) → All IsSlot slots → Reading hoisted_scopes (slots_spelling slots) slots None }
+    ensures { (slots : List Slot) → All IsSlot slots → Reading hoisted_scopes (flat_map slot_spelling slots) slots None }
 {}
 
 /// A handler and steps that `async_into` writes are read again, in a file that has those methods.

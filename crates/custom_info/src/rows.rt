@@ -1,9 +1,9 @@
 // Type definition documents.
-ghost use Rattle.std.specs.Prelude.{◌≡◌, ◌≤◌, ◌<◌, ◌^◌, ℕ, length, ◌++◌, All, OnOk, OnErr};
+ghost use Rattle.std.specs.Prelude.{◌≡◌, ◌≤◌, ◌<◌, ◌^◌, ℕ, length, ◌++◌, All, OnOk, OnErr, flat_map};
 ghost use Rattle.cli_ints.specs.Shortest.{short_unsigned};
 ghost use Rattle.blob_grammar.specs.Reading.{Reading};
 ghost use Rattle.blob_grammar.specs.Reader.{Left, NextIs, answer, rest_of};
-ghost use Rattle.custom_info.specs.TypeDocuments.{type_documents, rows_left, IsRowNumber, rows_spelling};
+ghost use Rattle.custom_info.specs.TypeDocuments.{type_documents, rows_left, IsRowNumber};
 
 use crate::fields::{number_into, row_field};
 use crate::written::{Written, all_into};
@@ -98,7 +98,7 @@ impl Written for u32 {
 /// Appends rows, each in its shortest form. After a refusal the bytes are unchanged.
 pub fn rows_into(rows: &[u32], into: &mut Bytes) -> Result<(), Memory>
     requires { All IsRowNumber rows.now }
-    ensures ok { OnOk result (into.new ≡ into.old ++ rows_spelling rows.now) }
+    ensures ok { OnOk result (into.new ≡ into.old ++ flat_map short_unsigned rows.now) }
     ensures err { OnErr result (into.new ≡ into.old) }
 {
     all_into(rows, into)

@@ -1,10 +1,10 @@
 // State machine hoisted local scopes.
-ghost use Rattle.std.specs.Prelude.{◌≡◌, ◌≤◌, ◌<◌, ◌^◌, ◌+◌, length, drop, ◌++◌, All, OnOk, OnErr, IfOk, true};
+ghost use Rattle.std.specs.Prelude.{◌≡◌, ◌≤◌, ◌<◌, ◌^◌, ◌+◌, length, drop, ◌++◌, All, OnOk, OnErr, IfOk, true, flat_map};
 ghost use Rattle.blob_grammar.specs.Reading.{Reading};
 ghost use Rattle.blob_grammar.specs.Reader.{Left, NextIs, answer, rest_of, placed, word_at};
 ghost use Rattle.custom_info.specs.Fields.{checked};
 ghost use Rattle.custom_info.specs.declared.slots.Slot.{Slot};
-ghost use Rattle.custom_info.specs.HoistedScopes.{hoisted_scopes, slots_left, is_length, slot_with, IsSlot, slot_spelling, slots_spelling};
+ghost use Rattle.custom_info.specs.HoistedScopes.{hoisted_scopes, slots_left, is_length, slot_with, IsSlot, slot_spelling};
 
 use crate::fields::{OFFSET_LIMIT, field_where, word_into};
 use crate::written::{Written, all_into};
@@ -144,7 +144,7 @@ impl Written for Slot {
 /// Appends slots, each as its start and its length, an empty one as zeros. After a refusal the bytes are unchanged.
 pub fn slots_into(slots: &[Slot], into: &mut Bytes) -> Result<(), Memory>
     requires { All IsSlot slots.now }
-    ensures ok { OnOk result (into.new ≡ into.old ++ slots_spelling slots.now) }
+    ensures ok { OnOk result (into.new ≡ into.old ++ flat_map slot_spelling slots.now) }
     ensures err { OnErr result (into.new ≡ into.old) }
 {
     all_into(slots, into)

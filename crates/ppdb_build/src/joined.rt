@@ -23,7 +23,7 @@ use ppdb_base::{Bytes, Limit, MAX_ROWS, Memory, Steps};
 use ppdb_build_canon::IdChoice;
 use ppdb_build_draft::{Drafting, drafts_are_canonical};
 use ppdb_build_from_rows::list_limit;
-use ppdb_build_heaps::{ItemKey, ItemStore};
+use ppdb_build_heaps::ItemStore;
 use ppdb_build_layout::Rows;
 use ppdb_build_merged::draft_of_inputs;
 use ppdb_merge_rows::RowInput;
@@ -97,8 +97,7 @@ fn joined_bytes(
 }
 
 /// The one file that says what inputs are joined into, each moved by its map, with the identity that is chosen. As many rows are read as the
-/// inputs have, and no value of them is made. Its items are hashed under the key, which should be that of all bytes that the inputs come from.
-/// None where rows alone do not tell whether the file passes a limit.
+/// inputs have, and no value of them is made. None where rows alone do not tell whether the file passes a limit.
 ///
 /// # Errors
 ///
@@ -107,7 +106,6 @@ pub fn write_joined<L: Ledger>(
     alloc: Global,
     inputs: &[RowInput<'_>],
     id: IdChoice,
-    key: ItemKey,
     steps: &mut Steps<L>,
 ) -> Result<Option<Bytes>, BuildError>
     requires some { 1 ≤ length inputs.now }
@@ -123,7 +121,7 @@ pub fn write_joined<L: Ledger>(
     ensures again { IfOk result (λ file. IfSome file (λ bytes.
         (again : RawFile) → IsRawOf bytes again → IsSameAgain (joined_inputs (moved_inputs inputs.now)) id again)) }
 {
-    let store = ItemStore::new(alloc, key);
+    let store = ItemStore::new(alloc);
     let draft = match draft_of_inputs(alloc, &store, inputs, steps) {
         Ok(Some(draft)) => draft,
         Ok(None) => return Ok(None),

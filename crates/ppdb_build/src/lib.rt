@@ -7,14 +7,12 @@ mod joined;
 mod joined_head;
 mod parts;
 mod rebuilding;
-mod value_key;
 mod write;
 
 pub use error::BuildError;
 pub use joined::write_joined;
 pub use ppdb_base::Limit;
 pub use ppdb_build_canon::IdChoice;
-pub use ppdb_build_heaps::{ItemKey, KeyMaker};
 pub use ppdb_build_sample::sample_value;
 pub use ppdb_merge_rows::RowInput;
 pub use ppdb_values::{
@@ -24,4 +22,4 @@ pub use ppdb_values::{
 pub use ppdb_values_check::sound;
 pub use ppdb_values_reading::value_of;
 pub use rebuilding::rebuild;
-pub use write::{write_file, write_file_under};
+pub use write::write_file;

@@ -19,7 +19,7 @@ use ppdb_base::{Bytes, Limit, Memory, Steps};
 use ppdb_build_canon::IdChoice;
 use ppdb_build_draft::Drafting;
 use ppdb_build_from_rows::{draft_of_file, files_pass_no_early_limit, list_limit};
-use ppdb_build_heaps::{ItemKey, ItemStore};
+use ppdb_build_heaps::ItemStore;
 use ppdb_tables::PdbHead;
 use ppdb_verify::Verified;
 use std::alloc::Global;
@@ -85,7 +85,7 @@ fn bytes_of(
 }
 
 /// The one file that says what a verified file says, with the identity that is chosen. As many rows are read as its tables have, and no
-/// value of it is made. Its items are hashed under the key, which should be that of the bytes of the file.
+/// value of it is made.
 ///
 /// # Errors
 ///
@@ -94,7 +94,6 @@ pub fn rebuild<L: Ledger>(
     alloc: Global,
     file: &Verified<'_>,
     id: IdChoice,
-    key: ItemKey,
     steps: &mut Steps<L>,
 ) -> Result<Bytes, BuildError>
     ensures written { IfOk result (λ bytes. bytes ≡ canon (value_in (raw_file file.now)) id) }
@@ -105,7 +104,7 @@ pub fn rebuild<L: Ledger>(
     ensures reread { IfOk result (λ bytes. Says bytes (with_id (value_in (raw_file file.now)) (chosen_id (value_in (raw_file file.now)) id))) }
     ensures again { IfOk result (λ bytes. (again : RawFile) → IsRawOf bytes again → IsSameAgain (value_in (raw_file file.now)) id again) }
 {
-    let store = ItemStore::new(alloc, key);
+    let store = ItemStore::new(alloc);
     let draft = match draft_of_file(alloc, &store, file, steps) {
         Ok(draft) => draft,
         Err(Memory) => return Err(BuildError::Memory),

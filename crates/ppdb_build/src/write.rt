@@ -16,11 +16,10 @@ ghost use Rattle.ppdb_build.specs.Building.{IsLimitOf, ArePartsWritable, early_l
 use crate::error::BuildError;
 use crate::finish::file_of_draft;
 use crate::parts::draft_of;
-use crate::value_key::key_of;
 use ppdb_base::{Bytes, Limit};
 use ppdb_build_canon::IdChoice;
 use ppdb_build_draft::{Drafting, drafts_are_canonical};
-use ppdb_build_heaps::{ItemKey, ItemStore};
+use ppdb_build_heaps::ItemStore;
 use ppdb_build_limits::{length_limit, offset_limit, value_has_types};
 use ppdb_tables::PdbHead;
 use ppdb_values::FileValue;
@@ -90,37 +89,13 @@ pub fn write_file(alloc: Global, value: &FileValue, id: IdChoice) -> Result<Byte
     ensures reread { IfOk result (λ bytes. Says bytes (with_id value.now (chosen_id value.now id))) }
     ensures again { IfOk result (λ bytes. (again : RawFile) → IsRawOf bytes again → IsSameAgain value.now id again) }
 {
-    let bytes = write_file_under(alloc, value, id, key_of(value))?;
-    Ok(bytes)
-}
-
-/// The canonical file of a value, with the identity that is chosen. Its items are hashed under the key, which should be that of all bytes that the
-/// value comes from.
-///
-/// # Errors
-///
-/// The first limit of the format that the value passes, or that there was no memory left.
-pub fn write_file_under(
-    alloc: Global,
-    value: &FileValue,
-    id: IdChoice,
-    key: ItemKey,
-) -> Result<Bytes, BuildError>
-    requires { IsSound value.now }
-    ensures written { IfOk result (λ bytes. bytes ≡ canon value.now id) }
-    ensures within { OnOk result (first_limit value.now ≡ None) }
-    ensures limit { IfErr result (IsLimitOf value.now) }
-    ensures accepted { IfOk result (λ bytes. IsAccepted (FileFaults bytes)) }
-    ensures reread { IfOk result (λ bytes. Says bytes (with_id value.now (chosen_id value.now id))) }
-    ensures again { IfOk result (λ bytes. (again : RawFile) → IsRawOf bytes again → IsSameAgain value.now id again) }
-{
     value_has_types(value);
     match early_limit(value) {
         Some(limit) => return Err(BuildError::Limit(limit)),
         None => {}
     }
     parts_are_writable(value);
-    let store = ItemStore::new(alloc, key);
+    let store = ItemStore::new(alloc);
     let draft = match draft_of(alloc, &store, value) {
         Ok(draft) => draft,
         Err(error) => return Err(error),

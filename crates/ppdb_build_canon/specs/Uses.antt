@@ -1,6 +1,6 @@
 -- Which texts, GUIDs and blobs the file of a value names, in the order of table, row and column (Portable PDB v1.0, "Metadata
 -- Tables" and the formats of its blobs; ECMA-335 II.24.2.3 to II.24.2.5).
-use Rattle.ppdb_values.specs.Names.{list_any, slice_split, short_unsigned, points_blob, TypeToken, constant_spelling, async_spelling, slots_spelling, rows_spelling}
+use Rattle.ppdb_values.specs.Names.{list_any, slice_split, short_unsigned, points_blob, TypeToken, constant_spelling, async_spelling, slot_spelling}
 use Rattle.std.specs.Prelude.{ℕ, List, [], ◌∷◌, ◌++◌, map, flat_map, option_to_list, ◌==◌, if◌then◌else◌}
 use Rattle.type_blobs.specs.Types.{number_of}
 use Rattle.ppdb_values.specs.{declared.file.{FileValue.FileValue, DocumentValue.DocumentValue, MethodValue.MethodValue}, declared.scope.{ConstantValue.ConstantValue, VariableValue.VariableValue}}
@@ -54,8 +54,8 @@ imports_pieces imports = flat_map import_pieces imports
 
 abbrev pub body_spelling : CustomBody → List ℕ
 body_spelling (Async handler steps) = async_spelling handler steps
-body_spelling (Hoisted slots) = slots_spelling slots
-body_spelling (TypeDocuments documents) = rows_spelling documents
+body_spelling (Hoisted slots) = flat_map slot_spelling slots
+body_spelling (TypeDocuments documents) = flat_map short_unsigned documents
 body_spelling (Unread content) = content
 
 abbrev pub signature_of : ConstantValue → List ℕ

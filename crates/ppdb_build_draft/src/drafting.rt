@@ -56,7 +56,7 @@ impl<'a> Drafting<'a> {
         Ok(Drafting {
             alloc,
             texts: TextHeap::new(alloc, store)?,
-            guids: GuidHeap::new(alloc, store),
+            guids: GuidHeap::new(alloc),
             blobs: BlobHeap::new(alloc, store)?,
             rows: Rows {
                 documents: List::new(alloc),

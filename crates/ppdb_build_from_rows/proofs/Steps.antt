@@ -1,5 +1,5 @@
 -- Points that were read have no step from line to line without a form: each step is a number that was stored.
-use Rattle.std.proofs.Common.{◌≡◌, ℕ, zero, suc, ◌+◌, ◌*◌, ◌^◌, ◌<◌, Bool, true, false, ◌||◌, List, [], ◌∷◌, ◌++◌, length, Option, Some, None, ℤ, pos}
+use Rattle.std.proofs.Common.{◌≡◌, ℕ, zero, suc, ◌+◌, ◌*◌, ◌^◌, ◌<◌, Bool, true, false, List, [], ◌∷◌, ◌++◌, length, Option, Some, None, ℤ, pos}
 use Rattle.std.proofs.Common.{negsuc, ◌+ℤ◌, refl, sym, ap, subst, ◌∙◌, append_assoc, append-nil, arith}
 use Rattle.std.specs.Prelude.{is_some, unsigned_abs, ◌-ℤ◌, if◌then◌else◌}
 use Rattle.std.specs.Option.{option_map, option_to_list}
@@ -14,15 +14,13 @@ use Rattle.sequence_points.specs.declared.point.Point.{Point}
 use Rattle.sequence_points.specs.declared.point.PointLimits.{PointLimits}
 use Rattle.sequence_points.specs.declared.point.Span.TheVariants.{Hidden, Lines}
 use Rattle.sequence_points.specs.declared.place.Start.{Start}
-use Rattle.sequence_points.specs.Records.{Entry, header, hidden, visible, in_document, is_visible, start_line_of, Sums, sums, int_of}
+use Rattle.sequence_points.specs.Records.{Entry, header, hidden, visible, in_document, Sums, with_entry, sums, int_of}
 use Rattle.sequence_points.specs.Records.{header_of, document_record, hidden_point, visible_point, point_of_fields, record_of, sequence_points}
 use Rattle.sequence_points.specs.Ranges.{is_line}
 use Rattle.sequence_points.specs.Points.{PointsReading, document_after, point_of, points_after}
 use Rattle.sequence_points.specs.Places.{start_after}
 use Rattle.sequence_points.specs.Written.{last_start, if_large, large_step, large_steps, numbered}
 use Rattle.sequence_points.proofs.Before.{last_start-push}
-use Rattle.sequence_points.proofs.Offsets.{or-false}
-use Rattle.sequence_points.proofs.Places.{or-true}
 use Rattle.sequence_points.proofs.Stands.{line_of}
 use Rattle.sequence_points.proofs.Sums.{sums-push}
 use Rattle.sequence_points.proofs.WellRead.{points-push}
@@ -79,15 +77,13 @@ record IsSteady (es : List Entry) : Type 0 where
   starts : (sums es).has_visible ≡ is_some (last_start (points_after [] es))
 
 -- a record that makes no point
-no_point : (es : List Entry) (e : Entry) → point_of es e ≡ None → start_line_of e ≡ pos 0 → is_visible e ≡ false → IsSteady es → IsSteady (es ++ e ∷ [])
-no_point es e none line plain h =
-    let push = sums-push es e in
+no_point : (es : List Entry) (e : Entry) → point_of es e ≡ None → with_entry (sums es) e ≡ sums es → IsSteady es → IsSteady (es ++ e ∷ [])
+no_point es e none stay h =
+    let push = sums-push es e ∙ stay in
     let same : points_after [] (es ++ e ∷ []) ≡ points_after [] es = points-push [] es e
     ∙ ap (λ (o : Option Point). points_after [] es ++ option_to_list o) none ∙ append-nil (points_after [] es) in
-    let line_is : (sums (es ++ e ∷ [])).line ≡ (sums es).line = ap (λ (x : Sums). x.line) push ∙ ap (λ (z : ℤ). (sums es).line +ℤ z) line
-    ∙ omega (arith, ints) in
-    let starts_is : (sums (es ++ e ∷ [])).has_visible ≡ (sums es).has_visible =
-    ap (λ (x : Sums). x.has_visible) push ∙ ap (λ (b : Bool). (sums es).has_visible || (b || false)) plain ∙ or-false (sums es).has_visible in
+    let line_is : (sums (es ++ e ∷ [])).line ≡ (sums es).line = ap (λ (x : Sums). x.line) push in
+    let starts_is : (sums (es ++ e ∷ [])).has_visible ≡ (sums es).has_visible = ap (λ (x : Sums). x.has_visible) push in
     record {
       steps = ap (λ (ps : List Point). large_steps [] ps) same ∙ h.steps;
       line = line_is ∙ h.line ∙ ap (λ (ps : List Point). pos (line_of (last_start ps))) (sym same);
@@ -120,8 +116,8 @@ hidden_steady es step h =
     let push = sums-push es (hidden step) in
     one_point es (hidden step) (record { offset = (sums es).offset + step; document = document_after es; span = Hidden }) refl
     (no_step (last_start (points_after [] es)))
-    (ap (λ (x : Sums). x.line) push ∙ (let e = h.line in omega (arith, ints)))
-    (ap (λ (x : Sums). x.has_visible) push ∙ or-false (sums es).has_visible ∙ h.starts) h
+    (ap (λ (x : Sums). x.line) push ∙ h.line)
+    (ap (λ (x : Sums). x.has_visible) push ∙ h.starts) h
 
 -- the line of a point, read after records with these sums
 abbrev LineIsRead : Sums → ℤ → Type 0
@@ -157,7 +153,7 @@ visible_steady es step lines columns line column read h =
     (unsigned_abs ((s.line +ℤ line) +ℤ pos lines)) (unsigned_abs ((s.column +ℤ column) +ℤ columns))
     h.line next (λ some. read.1 (h.starts ∙ some)))
     (ap (λ (x : Sums). x.line) push ∙ next)
-    (ap (λ (x : Sums). x.has_visible) push ∙ or-true s.has_visible) h
+    (ap (λ (x : Sums). x.has_visible) push) h
 
 -- ---- while the fields are read
 
@@ -197,9 +193,9 @@ header_made column [] made e h = cc
 header_made zero (number signature ∷ []) made e h = cc
 header_made (suc column) (number signature ∷ []) made e h =
     let same : header signature (suc column) ≡ made = cc in subst (λ (x : Entry). IsSteady (x ∷ [])) same
-    (no_point [] (header signature (suc column)) refl refl refl h)
+    (no_point [] (header signature (suc column)) refl refl h)
 header_made column (number signature ∷ number row ∷ []) made e h =
-    let same : header signature row ≡ made = cc in subst (λ (x : Entry). IsSteady (x ∷ [])) same (no_point [] (header signature row) refl refl refl h)
+    let same : header signature row ≡ made = cc in subst (λ (x : Entry). IsSteady (x ∷ [])) same (no_point [] (header signature row) refl refl h)
 header_made column (number signature ∷ number row ∷ v ∷ vs) made e h = cc
 header_made column (number signature ∷ integer z ∷ vs) made e h = cc
 header_made column (number signature ∷ octets xs ∷ vs) made e h = cc
@@ -209,7 +205,7 @@ header_made column (octets xs ∷ vs) made e h = cc
 document_made : (es : List Entry) (b : Bool) (first second : Value) (made : Entry) → document_record b first second ≡ Some made → IsSteady es
     → IsSteady (es ++ made ∷ [])
 document_made es true (number zero) (number row) made e h =
-    let same : in_document row ≡ made = cc in subst (λ (x : Entry). IsSteady (es ++ x ∷ [])) same (no_point es (in_document row) refl refl refl h)
+    let same : in_document row ≡ made = cc in subst (λ (x : Entry). IsSteady (es ++ x ∷ [])) same (no_point es (in_document row) refl refl h)
 document_made es true (number zero) (integer z) made e h = cc
 document_made es true (number zero) (octets xs) made e h = cc
 document_made es true (number (suc n)) second made e h = cc

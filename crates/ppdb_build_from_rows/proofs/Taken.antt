@@ -2,6 +2,7 @@
 use Rattle.std.proofs.Common.{◌≡◌, ℕ, Option, Some, None, refl, sym, subst, true}
 use Rattle.std.specs.Prelude.{All, is_some}
 use Rattle.std.proofs.lemmas.List.Elements.{All-weaker}
+use Rattle.std.specs.Option.{option_map_or}
 use Rattle.type_blobs.specs.declared.types.Modifier.{Modifier}
 use Rattle.type_blobs.specs.Constants.{constants, body_of, ConstantBody as StoredBody, primitive, enumerated, general, object}
 use Rattle.type_blobs.specs.Spelling.{IsBody}
@@ -9,7 +10,8 @@ use Rattle.type_blobs.specs.Types.{IsToken}
 use Rattle.ppdb_tables.specs.declared.rows.ConstantRow.{ConstantRow}
 use Rattle.ppdb_tables.specs.RawTables.{row_at}
 use Rattle.ppdb_values.specs.declared.scope.ConstantValue.{ConstantValue}
-use Rattle.ppdb_values.specs.Constants.{body_value, body_by, constant_of}
+use Rattle.ppdb_values.specs.declared.scope.ConstantBody.TheVariants.{Object}
+use Rattle.ppdb_values.specs.Constants.{body_value, constant_of}
 use Rattle.ppdb_values.specs.RawFile.{RawFile, blob, records_of, begun_of, type_limits}
 use Rattle.ppdb_values.specs.Rules.{KeepsRules, IsConstant}
 use Rattle.ppdb_values_sound_laws.specs.Scopes.{stored_body}
@@ -33,7 +35,7 @@ pub record IsTaken (constant : ConstantValue) : Type 0 where
 module _ (raw : RawFile) (keeps : KeepsRules raw) where
   body_taken : (row : ConstantRow) (o : Option StoredBody) → body_of (begun_of (constants (type_limits raw.tables)) (blob raw.tables row.signature)) ≡ o
       → IsConstant raw.tables row
-      → is_some o ≡ true → IsBody (stored_body (body_by o))
+      → is_some o ≡ true → IsBody (stored_body (option_map_or body_value o Object))
   body_taken row None is kept some = cc
   body_taken row (Some body) is kept some =
       let read = body_read (type_limits raw.tables) (limits_small raw keeps) (blob raw.tables row.signature)

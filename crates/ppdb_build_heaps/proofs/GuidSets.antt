@@ -1,50 +1,50 @@
--- A set of GUIDs as the list of their bytes.
-use Rattle.std.proofs.Common.{◌≡◌, ℕ, ◌+◌, Bool, true, false, cond, eqb, List, [], ◌∷◌, ◌++◌, ◌||◌, length, not, refl, sym, ap, ◌∙◌, arith, inl, inr, bytes_eq, if◌then◌else◌}
-use Rattle.std.proofs.lemmas.List.{map_push}
-use Rattle.std.proofs.lemmas.Bool.{cases_Bool, eqb-true}
-use Rattle.std.proofs.lemmas.List.Folds.{position_or_len_push}
-use Rattle.std.specs.List.{list_any, position_or_len}
-use Rattle.indexmap.specs.IndexSet.{insert_key}
-use Rattle.ppdb_build_heaps.specs.declared.item.Guid.{Guid}
-use Rattle.ppdb_build_heaps.specs.Guids.{guids_of}
+-- What the map of a heap's GUIDs says of them.
+use Rattle.std.proofs.Common.{◌≡◌, ℕ, ◌+◌, Bool, true, false, cond, List, [], ◌∷◌, ◌++◌, length, sym, ap, subst, refl, ◌∙◌}
+use Rattle.std.proofs.Common.{bytes_eq, min, Option, Some, None, IfNone, if◌then◌else◌}
+use Rattle.std.proofs.lemmas.Map.Text.{is_eq-slice_cmp}
+use Rattle.std.specs.{List.{list_any, position_or_len}, Map.lookup, BTreeMap.{BTreeMap, get, is_at}, Cmp.Lexicographic.slice_cmp, Ordering.nat_cmp}
+use Rattle.ppdb_build_heaps.specs.Guids.{number_of, AreNumbers}
 use Rattle.ppdb_build_heaps.specs.Items.{with_use}
-use Rattle.ppdb_build_heaps.proofs.Items.{itself}
+use Rattle.ppdb_build_heaps.proofs.Items.{before-new, itself}
+use Rattle.ppdb_build_heaps.proofs.Stays.{before-length, number}
+use Rattle.ppdb_build_heaps.proofs.Interned.{said_more}
 
-pub any-guids : (bytes : List ℕ) (guids : List Guid) → list_any (λ (guid : Guid). bytes_eq bytes guid.bytes) guids ≡ list_any (bytes_eq bytes) (guids_of guids)
-any-guids bytes [] = refl
-any-guids bytes (guid ∷ guids) = ap (λ b. bytes_eq bytes guid.bytes || b) (any-guids bytes guids)
+abbrev told_number : List (List ℕ) → List ℕ → ℕ
+told_number guids guid = min (1 + position_or_len (bytes_eq guid) guids) 0xffffffff
 
--- a GUID that is inserted is one more use
-pub inserted-guid : (guids : List Guid) (guid : Guid) → guids_of (insert_key (λ (a : Guid) (b : Guid). bytes_eq a.bytes b.bytes) guids guid)
-    ≡ with_use (guids_of guids) guid.bytes
-inserted-guid guids guid = by (list_any (λ (other : Guid). bytes_eq guid.bytes other.bytes) guids) ∙ ap chosen (any-guids guid.bytes guids)
+-- a new GUID stands after all that are there
+last_place : (guids : List (List ℕ)) (guid : List ℕ) → list_any (bytes_eq guid) guids ≡ false
+    → position_or_len (bytes_eq guid) (guids ++ guid ∷ []) ≡ length guids
+last_place guids guid none = sym (before-length (guids ++ guid ∷ []) guid) ∙ ap length (before-new (bytes_eq guid) guids guid [] none (itself guid))
+
+-- the map of one more GUID
+pub numbers_push : (guids : List (List ℕ)) (new : List ℕ) (old now : BTreeMap (List ℕ) ℕ) (last : ℕ) → AreNumbers guids old
+    → list_any (bytes_eq new) guids ≡ false → last ≡ min (1 + length guids) 0xffffffff
+    → ((q : List ℕ) → get (slice_cmp nat_cmp) now q ≡ cond (is_at (slice_cmp nat_cmp new) q) (Some last) (get (slice_cmp nat_cmp) old q))
+    → AreNumbers (guids ++ new ∷ []) now
+numbers_push guids new old now last are none at updates guid =
+    updates guid
+    ∙ ap (λ b. cond b (Some last) (get (slice_cmp nat_cmp) old guid)) (is_eq-slice_cmp new guid)
+    ∙ ap (λ was. cond (bytes_eq new guid) (Some last) was) (are guid)
+    ∙ sym (said_more told_number guids new guid last
+    (λ there. ap (λ n. min (1 + n) 0xffffffff) (number guids (new ∷ []) guid there))
+    (ap (λ n. min (1 + n) 0xffffffff) (last_place guids new none) ∙ sym at))
+
+-- a GUID that is not found is not there
+pub no_number : (guids : List (List ℕ)) (guid : List ℕ) (o : Option ℕ) → o ≡ number_of guid guids → IfNone o (list_any (bytes_eq guid) guids ≡ false)
+no_number guids guid o is = subst (λ found. IfNone found (list_any (bytes_eq guid) guids ≡ false)) (sym is) (by (list_any (bytes_eq guid) guids) refl)
   where
-    chosen : Bool → List (List ℕ)
-    chosen b = if b then guids_of guids else guids_of guids ++ guid.bytes ∷ []
+    by : (b : Bool) → list_any (bytes_eq guid) guids ≡ b
+        → IfNone (if b then Some (told_number guids guid) else None) (list_any (bytes_eq guid) guids ≡ false)
+    by true there = tt
+    by false none = none
 
-    by : (b : Bool) → guids_of (if b then guids else guids ++ guid ∷ []) ≡ chosen b
-    by true = refl
-    by false = map_push (λ (other : Guid). other.bytes) guids guid
+-- the number of a new GUID
+pub number_new : (guids : List (List ℕ)) (guid : List ℕ) → list_any (bytes_eq guid) guids ≡ false
+    → min (1 + length guids) 0xffffffff ≡ min (1 + position_or_len (bytes_eq guid) (with_use guids guid)) 0xffffffff
+number_new guids guid h = ap (λ n. min (1 + n) 0xffffffff) (sym (last_place guids guid h))
+    ∙ ap (λ b. min (1 + position_or_len (bytes_eq guid) (if b then guids else guids ++ guid ∷ [])) 0xffffffff) (sym h)
 
--- and has the same place
-pub place-guid : (bytes : List ℕ) (guids : List Guid)
-    → position_or_len (λ (guid : Guid). bytes_eq bytes guid.bytes) guids ≡ position_or_len (bytes_eq bytes) (guids_of guids)
-place-guid bytes [] = refl
-place-guid bytes (guid ∷ guids) = ap (λ n. cond (not (bytes_eq bytes guid.bytes)) (1 + n) 0) (place-guid bytes guids)
-
--- a place is not moved by one more use
-last_place : (n m : ℕ) → n ≡ cond (eqb n m) (m + 0) n
-last_place n m = elim (cases_Bool (eqb n m)) [
-  | inl same ↦ rw same (omega (arith, eqb-true n m same))
-  | inr other ↦ rw other refl
-]
-
-pub place-used : (items : List (List ℕ)) (item : List ℕ) → position_or_len (bytes_eq item) items ≡ position_or_len (bytes_eq item) (with_use items item)
-place-used items item = by (list_any (bytes_eq item) items)
-  where
-    by : (b : Bool) → position_or_len (bytes_eq item) items ≡ position_or_len (bytes_eq item) (if b then items else items ++ item ∷ [])
-    by true = refl
-    by false = last_place (position_or_len (bytes_eq item) items) (length items)
-        ∙ ap (λ b. cond (eqb (position_or_len (bytes_eq item) items) (length items)) (length items + cond b 0 1) (position_or_len (bytes_eq item) items))
-        (sym (itself item))
-        ∙ sym (position_or_len_push (bytes_eq item) items item)
+-- a map without entries has no number
+pub no_numbers : (map : BTreeMap (List ℕ) ℕ) → map.entries ≡ [] → AreNumbers [] map
+no_numbers map empty guid = ap (lookup (is_at (slice_cmp nat_cmp guid))) empty

@@ -1,165 +1,121 @@
 -- What the map of a heap's items says of them.
-use Rattle.std.proofs.Common.{◌≡◌, ℕ, suc, ◌+◌, ◌<◌, Bool, true, false, cond, List, [], ◌∷◌, ◌++◌, ◌||◌, length, take, map, get_or, refl, sym, ap, ◌∙◌, arith}
-use Rattle.std.proofs.Common.{bytes_eq, Option, Some, None, IfSome, IfNone, min, if◌then◌else◌, ⊎_elim, ◌⊎◌}
-use Rattle.std.proofs.lemmas.List.{take-append-le, take_at, map_push, length_push, get_or_append_left, get_or_push, length-map}
-use Rattle.std.proofs.lemmas.List.Sums.{sum_by-cons, sum_by_push}
-use Rattle.std.specs.List.{list_any, before_first}
-use Rattle.std.specs.Map.{lookup}
-use Rattle.indexmap.specs.IndexMap.{insert_entry}
+use Rattle.std.proofs.Common.{◌≡◌, ℕ, ◌+◌, Bool, true, false, cond, List, [], ◌∷◌, ◌++◌, ◌||◌, length, refl, sym, ap, subst, ◌∙◌, arith}
+use Rattle.std.proofs.Common.{Ordering, Result, Ok, Err, OnOk, is_err, true≢false, bytes_eq, Option, Some, None, IfSome, IfNone, min, if◌then◌else◌}
+use Rattle.std.proofs.lemmas.List.Sums.{sum_by_push}
+use Rattle.std.proofs.lemmas.Map.Text.{is_eq-slice_cmp}
+use Rattle.std.specs.{Borrow.Bor, List.list_any, Map.lookup, BTreeMap.{BTreeMap, get, get_by, is_at}}
+use Rattle.std.specs.{Cmp.Lexicographic.{slice_cmp, bytes_decides}, Ordering.nat_cmp}
 use Rattle.ppdb_build_heaps.specs.declared.heap.HeapKind.{HeapKind}
-use Rattle.ppdb_build_heaps.specs.declared.item.Item.{Item}
 use Rattle.ppdb_build_heaps.specs.Kinds.{spelled}
 use Rattle.ppdb_base.specs.Told.{told}
 use Rattle.ppdb_build_heaps.specs.Items.{with_use, index_of}
-use Rattle.ppdb_build_heaps.specs.Interned.{Contents, items_of, length_of, AreIndexes, IsIndexOf}
-use Rattle.ppdb_build_heaps.proofs.Items.{before-yes, before-no, index-new}
+use Rattle.ppdb_build_heaps.specs.Interned.{length_of, index_in, AreIndexes, IsIndexOf}
+use Rattle.ppdb_build_heaps.proofs.Items.{index-new, index-stable, stays-there, list_any-last, itself}
 
-some_same : {X : Type 0} {x y : X} → Some x ≡ Some y → x ≡ y
-some_same {x = x} e = ap (λ o. elim o [ None ↦ x | Some z ↦ z ]) e
+-- what is said of an answer that is no error
+pub on_ok : {X E : Type 0} {P : Type 0} (r : Result X E) → is_err r ≡ false → OnOk r P → P
+on_ok (Ok x) fine p = p
+on_ok (Err e) fails p = absurd (true≢false fails)
 
--- the index that is found is the length of the items before
-pub record Found (kind : HeapKind) (items : List (List ℕ)) (base : ℕ) (item : List ℕ) (index : ℕ) : Type 0 where
-  pub there : list_any (bytes_eq item) items ≡ true
-  pub place : index ≡ told (base + length_of kind (before_first (bytes_eq item) items))
+-- slices are ordered by their bytes
+abbrev pub by_bytes : Bor (List ℕ) → Bor (List ℕ) → Ordering
+by_bytes x y = slice_cmp nat_cmp x.now y.now
 
-module _ (kind : HeapKind) (item : List ℕ) where
-  test : Item → Bool
-  test key = bytes_eq item key.bytes.now
+-- ---- one more item
 
-  pub found : (entries : List (Item × ℕ)) (base index : ℕ)
-      → ((k : ℕ) (d : Item × ℕ) → k < length entries → (get_or entries k d).1 ≡ told (base + length_of kind (take k (items_of entries))))
-      → lookup (λ (key : Item). bytes_eq item key.bytes.now) entries ≡ Some index → Found kind (items_of entries) base item index
-  found [] base index are e = absurd (cc)
-  found (entry ∷ entries) base index are e =
-      by (bytes_eq item entry.0.bytes.now) refl
-      (found entries (base + length (spelled kind entry.0.bytes.now)) index
-      (λ k d h. are (suc k) d (omega (arith, h))
-      ∙ ap told (ap (λ n. base + n) (sum_by-cons (λ other. length (spelled kind other)) entry.0.bytes.now (take k (items_of entries))) ∙ omega arith)))
-    where
-      by : (b : Bool) → bytes_eq item entry.0.bytes.now ≡ b
-          → (lookup (λ (key : Item). bytes_eq item key.bytes.now) entries ≡ Some index
-          → Found kind (items_of entries) (base + length (spelled kind entry.0.bytes.now)) item index)
-          → Found kind (items_of (entry ∷ entries)) base item index
-      by true at rest = record {
-        there = ap (λ b. b || list_any (bytes_eq item) (items_of entries)) at;
-        place = sym (some_same (sym (ap (λ b. cond b (Some entry.1) (lookup (λ (key : Item). bytes_eq item key.bytes.now) entries)) at) ∙ e))
-            ∙ are 0 entry (omega arith)
-            ∙ ap (λ before. told (base + length_of kind before)) (sym (before-yes (bytes_eq item) entry.0.bytes.now (items_of entries) at));
-      }
-      by false at rest =
-          let found = rest (sym (ap (λ b. cond b (Some entry.1) (lookup (λ (key : Item). bytes_eq item key.bytes.now) entries)) at) ∙ e) in record {
-            there = ap (λ b. b || list_any (bytes_eq item) (items_of entries)) at ∙ found.there;
-            place = found.place ∙ ap told (omega (
-              arith,
-              sum_by-cons (λ other. length (spelled kind other)) entry.0.bytes.now (before_first (bytes_eq item) (items_of entries)),
-            ))
-                ∙ ap (λ before. told (base + length_of kind before)) (sym (before-no (bytes_eq item) entry.0.bytes.now (items_of entries) at));
-          }
-
-  pub absent : (entries : List (Item × ℕ)) → lookup (λ (key : Item). bytes_eq item key.bytes.now) entries ≡ None
-      → list_any (bytes_eq item) (items_of entries) ≡ false
-  absent [] e = refl
-  absent (entry ∷ entries) e = by (bytes_eq item entry.0.bytes.now) refl (absent entries)
-    where
-      by : (b : Bool) → bytes_eq item entry.0.bytes.now ≡ b
-          → (lookup (λ (key : Item). bytes_eq item key.bytes.now) entries ≡ None → list_any (bytes_eq item) (items_of entries) ≡ false)
-          → list_any (bytes_eq item) (items_of (entry ∷ entries)) ≡ false
-      by true at rest = let no = sym (ap (λ b. cond b (Some entry.1) (lookup (λ (key : Item). bytes_eq item key.bytes.now) entries)) at) ∙ e in absurd (cc (no))
-      by false at rest = ap (λ b. b || list_any (bytes_eq item) (items_of entries)) at
-          ∙ rest (sym (ap (λ b. cond b (Some entry.1) (lookup (λ (key : Item). bytes_eq item key.bytes.now) entries)) at) ∙ e)
-
--- what is no item has no entry
-pub not_there : (item : List ℕ) (entries : List (Item × ℕ)) → list_any (bytes_eq item) (items_of entries) ≡ false
-    → lookup (λ (key : Item). bytes_eq item key.bytes.now) entries ≡ None
-not_there item [] new = refl
-not_there item (entry ∷ entries) new = by (bytes_eq item entry.0.bytes.now) refl (not_there item entries)
+none_more : (item : List ℕ) (items : List (List ℕ)) (new : List ℕ) → list_any (bytes_eq item) items ≡ false → bytes_eq item new ≡ false
+    → list_any (bytes_eq item) (items ++ new ∷ []) ≡ false
+none_more item [] new none apart = ap (λ b. b || false) apart
+none_more item (x ∷ items) new none apart = by (bytes_eq item x) refl (none_more item items new)
   where
-    by : (b : Bool) → bytes_eq item entry.0.bytes.now ≡ b
-        → (list_any (bytes_eq item) (items_of entries) ≡ false → lookup (λ (key : Item). bytes_eq item key.bytes.now) entries ≡ None)
-        → lookup (λ (key : Item). bytes_eq item key.bytes.now) (entry ∷ entries) ≡ None
-    by true at rest = let yes = sym (ap (λ b. b || list_any (bytes_eq item) (items_of entries)) at) ∙ new in absurd (cc (yes))
-    by false at rest = ap (λ b. cond b (Some entry.1) (lookup (λ (key : Item). bytes_eq item key.bytes.now) entries)) at
-        ∙ rest (sym (ap (λ b. b || list_any (bytes_eq item) (items_of entries)) at) ∙ new)
+    by : (b : Bool) → bytes_eq item x ≡ b
+        → (list_any (bytes_eq item) items ≡ false → bytes_eq item new ≡ false → list_any (bytes_eq item) (items ++ new ∷ []) ≡ false)
+        → list_any (bytes_eq item) (x ∷ items ++ new ∷ []) ≡ false
+    by true at rest = absurd (true≢false (sym (ap (λ b. b || list_any (bytes_eq item) items) at) ∙ none))
+    by false at rest = ap (λ b. b || list_any (bytes_eq item) (items ++ new ∷ [])) at
+        ∙ rest (sym (ap (λ b. b || list_any (bytes_eq item) items) at) ∙ none) apart
 
--- one more item, with the length of all before it
-module _ (kind : HeapKind) where
-  pub indexes_push : (entries : List (Item × ℕ)) (key : Item) (index : ℕ) → AreIndexes kind entries
-      → index ≡ told (length_of kind (items_of entries)) → AreIndexes kind (entries ++ (key, index) ∷ [])
-  indexes_push entries key index are at k d h =
-      let items = map_push (λ (entry : Item × ℕ). entry.0.bytes.now) entries (key, index) in
-      let len = length-map entries (λ (entry : Item × ℕ). entry.0.bytes.now) in
-      ⊎_elim
-      (λ below. ap (λ entry. entry.1) (get_or_append_left entries ((key, index) ∷ []) d k below) ∙ are k d below
-      ∙ ap (λ prefix. told (length_of kind prefix)) (sym (ap (take k) items ∙ take-append-le k (items_of entries) (key.bytes.now ∷ []) (omega (arith, len)))))
-      (λ last. ap (λ entry. entry.1) (get_or_push entries (key, index) d k (sym last)) ∙ at
-      ∙ ap (λ prefix. told (length_of kind prefix)) (sym (ap (take k) items ∙ take_at (items_of entries) (key.bytes.now ∷ []) k (len ∙ sym last))))
-      (which k (length entries) (omega (arith, h, length_push entries (key, index))))
+pub apart : (x y : List ℕ) → bytes_eq x y ≡ false → bytes_eq y x ≡ false
+apart x y differ = by (bytes_eq y x) refl
+  where
+    by : (b : Bool) → bytes_eq y x ≡ b → b ≡ false
+    by true at = let yes = subst (λ other. bytes_eq other y ≡ true) ((bytes_decides y x).0 at) (itself y) in absurd (true≢false (sym yes ∙ differ))
+    by false at = refl
+
+-- what is said of each item stays, and the new one has what is said of it
+pub said_more : (said : List (List ℕ) → List ℕ → ℕ) (items : List (List ℕ)) (new item : List ℕ) (last : ℕ)
+    → (list_any (bytes_eq item) items ≡ true → said (items ++ new ∷ []) item ≡ said items item)
+    → said (items ++ new ∷ []) new ≡ last
+    → (if list_any (bytes_eq item) (items ++ new ∷ []) then Some (said (items ++ new ∷ []) item) else None)
+    ≡ cond (bytes_eq new item) (Some last) (if list_any (bytes_eq item) items then Some (said items item) else None)
+said_more said items new item last stays at = by (bytes_eq new item) refl
+  where
+    all : List (List ℕ)
+    all = items ++ new ∷ []
+
+    was : Option ℕ
+    was = if list_any (bytes_eq item) items then Some (said items item) else None
+
+    other : (b : Bool) → list_any (bytes_eq item) items ≡ b → bytes_eq new item ≡ false
+        → (if list_any (bytes_eq item) all then Some (said all item) else None) ≡ was
+    other true there differ = ap (λ b. if b then Some (said all item) else None) (stays-there items (new ∷ []) item there) ∙ ap Some (stays there)
+        ∙ ap (λ b. if b then Some (said items item) else None) (sym there)
+    other false none differ = ap (λ b. if b then Some (said all item) else None) (none_more item items new none (apart new item differ))
+        ∙ ap (λ b. if b then Some (said items item) else None) (sym none)
+
+    by : (b : Bool) → bytes_eq new item ≡ b
+        → (if list_any (bytes_eq item) all then Some (said all item) else None) ≡ cond (bytes_eq new item) (Some last) was
+    by true is =
+        subst (λ i. (if list_any (bytes_eq i) all then Some (said all i) else None) ≡ Some last) ((bytes_decides new item).0 is)
+        (ap (λ b. if b then Some (said all new) else None) (list_any-last (bytes_eq new) items new (itself new)) ∙ ap Some at)
+        ∙ ap (λ b. cond b (Some last) was) (sym is)
+    by false differ = other (list_any (bytes_eq item) items) refl differ ∙ ap (λ b. cond b (Some last) was) (sym differ)
+
+module _ (kind : HeapKind) (items : List (List ℕ)) where
+  -- the map of one more item, with the length of all before it
+  pub indexes_push : (new : Bor (List ℕ)) (old now : BTreeMap (Bor (List ℕ)) ℕ) (index : ℕ) → AreIndexes kind items old
+      → list_any (bytes_eq new.now) items ≡ false → index ≡ told (length_of kind items)
+      → ((key : Bor (List ℕ)) → get by_bytes now key ≡ cond (is_at (by_bytes new) key) (Some index) (get by_bytes old key))
+      → AreIndexes kind (items ++ new.now ∷ []) now
+  indexes_push new old now index are none at updates item =
+      updates (record { ref_ptr = (0, 0); now = item })
+      ∙ ap (λ b. cond b (Some index) (get_by (λ (key : Bor (List ℕ)). slice_cmp nat_cmp item key.now) old)) (is_eq-slice_cmp new.now item)
+      ∙ ap (λ was. cond (bytes_eq new.now item) (Some index) was) (are item)
+      ∙ sym (said_more (λ all one. told (index_of (spelled kind) all one)) items new.now item index
+      (λ there. ap told (index-stable (spelled kind) items (new.now ∷ []) item there))
+      (ap told (index-new (spelled kind) items new.now none) ∙ sym at))
+
+  pub length_push_item : (new : List ℕ) (index len : ℕ) → index ≡ told (length_of kind items) → len ≡ told (length (spelled kind new))
+      → min (index + len) 18446744073709551615 ≡ told (length_of kind (items ++ new ∷ []))
+  length_push_item new index len at more =
+      let all : length_of kind (items ++ new ∷ []) ≡ length_of kind items + length (spelled kind new) = sum_by_push
+      (λ item. length (spelled kind item)) items new in
+      omega arith
+
+  -- an item that is found has the index of its place, and one that is not found is not there
+  pub index_found : (item : List ℕ) (o : Option ℕ) → o ≡ index_in kind items item → IfSome o (IsIndexOf (record { kind = kind; items = items }) item)
+  index_found item o is = subst (λ found. IfSome found (IsIndexOf (record { kind = kind; items = items }) item)) (sym is)
+      (by (list_any (bytes_eq item) items) refl)
     where
-      which : (k n : ℕ) → k < n + 1 → (k < n) ⊎ (k ≡ n)
-      which k n h = grind arith
+      by : (b : Bool) → list_any (bytes_eq item) items ≡ b
+          → IfSome (if b then Some (told (index_of (spelled kind) items item)) else None) (IsIndexOf (record { kind = kind; items = items }) item)
+      by true there = (there, refl)
+      by false none = tt
 
-  pub length_push_item : (entries : List (Item × ℕ)) (key : Item) (index len : ℕ) → index ≡ told (length_of kind (items_of entries))
-      → len ≡ told (length (spelled kind key.bytes.now))
-      → min (index + len) 18446744073709551615 ≡ told (length_of kind (items_of (entries ++ (key, index) ∷ [])))
-  length_push_item entries key index len at more =
-      (let all : length_of kind (items_of entries ++ key.bytes.now ∷ []) ≡ length_of kind (items_of entries) + length (spelled kind key.bytes.now) = sum_by_push
-      (λ item. length (spelled kind item)) (items_of entries) key.bytes.now in
-      omega arith)
-      ∙ ap (λ items. told (length_of kind items)) (sym (map_push (λ (entry : Item × ℕ). entry.0.bytes.now) entries (key, index)))
-
-  pub inserted : (entries : List (Item × ℕ)) (key : Item) (index : ℕ) → lookup (λ (other : Item). bytes_eq key.bytes.now other.bytes.now) entries ≡ None
-      → insert_entry (λ (x : Item) (y : Item). bytes_eq x.bytes.now y.bytes.now) entries key index ≡ entries ++ (key, index) ∷ []
-  inserted [] key index none = refl
-  inserted (entry ∷ entries) key index none = by (bytes_eq key.bytes.now entry.0.bytes.now) refl (inserted entries key index)
+  pub none_found : (item : List ℕ) (o : Option ℕ) → o ≡ index_in kind items item → IfNone o (list_any (bytes_eq item) items ≡ false)
+  none_found item o is = subst (λ found. IfNone found (list_any (bytes_eq item) items ≡ false)) (sym is) (by (list_any (bytes_eq item) items) refl)
     where
-      by : (b : Bool) → bytes_eq key.bytes.now entry.0.bytes.now ≡ b
-          → (lookup (λ (other : Item). bytes_eq key.bytes.now other.bytes.now) entries ≡ None
-          → insert_entry (λ (x : Item) (y : Item). bytes_eq x.bytes.now y.bytes.now) entries key index ≡ entries ++ (key, index) ∷ [])
-          → insert_entry (λ (x : Item) (y : Item). bytes_eq x.bytes.now y.bytes.now) (entry ∷ entries) key index ≡ entry ∷ entries ++ (key, index) ∷ []
-      by true at rest = let no = sym (ap (λ b. cond b (Some entry.1) (lookup (λ (other : Item). bytes_eq key.bytes.now other.bytes.now) entries)) at)
-          ∙ none in absurd (cc (no))
-      by false at rest =
-          ap (λ b. if b then (entry.0, index) ∷ entries else entry ∷ insert_entry (λ (x : Item)
-          (y : Item). bytes_eq x.bytes.now y.bytes.now) entries key index) at
-          ∙ ap (λ r. entry ∷ r) (rest (sym (ap (λ b. cond b (Some entry.1) (lookup (λ
-          (other : Item). bytes_eq key.bytes.now other.bytes.now) entries)) at) ∙ none))
+      by : (b : Bool) → list_any (bytes_eq item) items ≡ b
+          → IfNone (if b then Some (told (index_of (spelled kind) items item)) else None) (list_any (bytes_eq item) items ≡ false)
+      by true there = tt
+      by false none = none
 
--- an item that is there is no new one
-pub same_contents : (contents : Contents) (item : List ℕ) → list_any (bytes_eq item) contents.items ≡ true
-    → contents ≡ record contents { items = with_use contents.items item }
-same_contents contents item h = ap (λ b. record contents { items = if b then contents.items else contents.items ++ item ∷ [] }) (sym h)
-
--- a new item goes last
-pub more_contents : (contents : Contents) (item : List ℕ) → list_any (bytes_eq item) contents.items ≡ false
-    → record contents { items = contents.items ++ item ∷ [] } ≡ record contents { items = with_use contents.items item }
-more_contents contents item h = ap (λ b. record contents { items = if b then contents.items else contents.items ++ item ∷ [] }) (sym h)
-
--- the index of an item that is there, and of a new one
-pub index_there : (kind : HeapKind) (items : List (List ℕ)) (item : List ℕ) → list_any (bytes_eq item) items ≡ true
-    → told (index_of (spelled kind) items item) ≡ told (index_of (spelled kind) (with_use items item) item)
-index_there kind items item h = ap (λ b. told (index_of (spelled kind) (if b then items else items ++ item ∷ []) item)) (sym h)
-
+-- the index of a new item
 pub index_new : (kind : HeapKind) (items : List (List ℕ)) (item : List ℕ) → list_any (bytes_eq item) items ≡ false
     → told (length_of kind items) ≡ told (index_of (spelled kind) (with_use items item) item)
 index_new kind items item h = ap told (sym (index-new (spelled kind) items item h))
     ∙ ap (λ b. told (index_of (spelled kind) (if b then items else items ++ item ∷ []) item)) (sym h)
 
--- the items are the keys' bytes
-pub keys-items : (entries : List (Item × ℕ))
-    → map (λ (key : Item). key.bytes.now) (map (λ (entry : Item × ℕ). entry.0) entries) ≡ items_of entries
-keys-items [] = refl
-keys-items (entry ∷ entries) = ap (λ rest. entry.0.bytes.now ∷ rest) (keys-items entries)
-
--- an item that is found has the index of its place, and one that is not found is not there
-pub index_found : (kind : HeapKind) (item : List ℕ) (entries : List (Item × ℕ)) → AreIndexes kind entries → (o : Option ℕ)
-    → o ≡ lookup (λ (key : Item). bytes_eq item key.bytes.now) entries
-    → IfSome o (IsIndexOf (record { kind = kind; items = items_of entries }) item)
-index_found kind item entries are None is = tt
-index_found kind item entries are (Some index) is =
-    let was = found kind item entries 0 index (λ k d h. are k d h ∙ ap told (omega arith)) (sym is) in
-    (was.there, was.place ∙ ap told (omega arith))
-
-pub none_found : (kind : HeapKind) (item : List ℕ) (entries : List (Item × ℕ)) (o : Option ℕ)
-    → o ≡ lookup (λ (key : Item). bytes_eq item key.bytes.now) entries → IfNone o (list_any (bytes_eq item) (items_of entries) ≡ false)
-none_found kind item entries None is = absent kind item entries (sym is)
-none_found kind item entries (Some index) is = tt
+-- a map without entries has no index
+pub no_indexes : (kind : HeapKind) (map : BTreeMap (Bor (List ℕ)) ℕ) → map.entries ≡ [] → AreIndexes kind [] map
+no_indexes kind map empty item = ap (lookup (is_at (λ (key : Bor (List ℕ)). slice_cmp nat_cmp item key.now))) empty

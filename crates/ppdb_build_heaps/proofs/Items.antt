@@ -98,7 +98,7 @@ list_any-append p (x ∷ xs) ys h = by (p x) refl (list_any-append p xs ys)
     by true e rest = ap (λ b. b || list_any p (xs ++ ys)) e
     by false e rest = ap (λ b. b || list_any p (xs ++ ys)) e ∙ rest (sym (ap (λ b. b || list_any p xs) e) ∙ h)
 
-list_any-last : (p : List ℕ → Bool) (xs : List (List ℕ)) (x : List ℕ) → p x ≡ true → list_any p (xs ++ x ∷ []) ≡ true
+pub list_any-last : (p : List ℕ → Bool) (xs : List (List ℕ)) (x : List ℕ) → p x ≡ true → list_any p (xs ++ x ∷ []) ≡ true
 list_any-last p [] x h = ap (λ b. b || false) h
 list_any-last p (y ∷ ys) x h = by (p y) refl (list_any-last p ys x h)
   where

@@ -27,7 +27,7 @@ within spelled items item is =
     omega (arith, split, index)
 
 -- before an item stand as many as its place says
-before-length : (items : List (List ℕ)) (item : List ℕ) → length (before_first (bytes_eq item) items) ≡ position_or_len (bytes_eq item) items
+pub before-length : (items : List (List ℕ)) (item : List ℕ) → length (before_first (bytes_eq item) items) ≡ position_or_len (bytes_eq item) items
 before-length items item = length-take-le (position_or_len (bytes_eq item) items) items (prefix_len-le-length (λ other. not (bytes_eq item other)) items)
 
 -- the place of an item that is there
@@ -37,7 +37,7 @@ counted items item is =
     let before = before_first (bytes_eq item) items in
     omega (arith, ap length stands.split, length-append before (item ∷ stands.after), before-length items item)
 
-number : (items more : List (List ℕ)) (item : List ℕ) → IsIn items item
+pub number : (items more : List (List ℕ)) (item : List ℕ) → IsIn items item
     → position_or_len (bytes_eq item) (items ++ more) ≡ position_or_len (bytes_eq item) items
 number items more item is = sym (before-length (items ++ more) item) ∙ ap length (before-stable (bytes_eq item) items more is) ∙ before-length items item
 

@@ -2,7 +2,6 @@ pub mod Items
 pub mod Kinds
 pub mod Interned
 pub mod Guids
-pub mod Keys
 pub mod Uses
 pub mod Drafts
 pub mod Laws

@@ -1,39 +1,43 @@
 // The GUIDs of a heap, each of which is kept once.
-use crate::item::Guid;
-use crate::keys::ItemKey;
-use crate::store::ItemStore;
-use indexmap::IndexSet;
 use ppdb_base::{Bytes, Memory};
-use std::alloc::{AllocError, AllocFailed, Global};
+use std::alloc::{AllocFailed, Global};
+use std::collections::BTreeMap;
 use std::marker::Model;
 
 /// The GUIDs of a heap, each of which is kept once. Contracts see it as the list of its GUIDs.
 #[derive(Drop)]
 pub struct GuidHeap {
-    guids: IndexSet<Guid, ItemKey>,
+    /// In order of first use.
+    guids: Vec<[u8; 16]>,
+    /// Each GUID's number.
+    numbers: BTreeMap<[u8; 16], u32>,
 }
 
 impl Model for GuidHeap {
     ghost use Rattle.std.specs.Prelude.{ℕ, List};
-    ghost use Rattle.ppdb_build_heaps.specs.Guids.{guids_of};
+    ghost use Rattle.ppdb_build_heaps.specs.Guids.{AreNumbers};
 
     ghost Value = { List (List ℕ) };
 
-    ghost view = { λ h. guids_of h.guids.keys };
+    ghost view = { λ h. h.guids.items };
+
+    ghost invariant = { λ h. AreNumbers h.guids.items h.numbers };
 }
 
 impl GuidHeap {
-    ghost use Rattle.std.specs.Prelude.{◌≡◌, ◌+◌, ◌*◌, [], ◌++◌, length, flat_map, bytes_eq, min, OnOk, OnErr, IfOk};
-    ghost use Rattle.std.specs.List.{position_or_len};
+    ghost use Rattle.std.specs.Prelude.{◌≡◌, ◌+◌, ◌*◌, false, [], ◌∷◌, ◌++◌, length, flat_map, bytes_eq, min, OnOk, OnErr, IfOk};
+    ghost use Rattle.std.specs.List.{list_any, position_or_len};
     ghost use Rattle.ppdb_base.specs.Told.{told};
     ghost use Rattle.ppdb_build_heaps.specs.Items.{with_use};
+    ghost use Rattle.ppdb_build_heaps.specs.Guids.{number_of};
 
-    /// A heap without GUIDs, which are hashed under the key of the store.
-    pub fn new(alloc: Global, store: &ItemStore) -> GuidHeap
+    /// A heap without GUIDs.
+    pub fn new(alloc: Global) -> GuidHeap
         ensures { result ≡ [] }
     {
         GuidHeap {
-            guids: IndexSet::with_hasher(alloc, store.key()),
+            guids: Vec::new(alloc),
+            numbers: BTreeMap::new(alloc),
         }
     }
 
@@ -44,14 +48,40 @@ impl GuidHeap {
         (self.guids.len() as u64).saturating_mul(16)
     }
 
+    /// Adds a GUID that is not there, under its number.
+    fn add(&mut self, guid: &[u8; 16], number: u32) -> Result<(), Memory>
+        requires new { list_any (bytes_eq guid.now) self.old ≡ false }
+        requires number { number ≡ min (1 + length self.old) 0xffffffff }
+        ensures ok { OnOk result (self.new ≡ self.old ++ guid.now ∷ []) }
+        ensures err { OnErr result (self.new ≡ self.old) }
+    {
+        self.guids.push(*guid)?;
+        if self.numbers.insert(*guid, number).is_err() {
+            let _guid = self.guids.pop();
+            return Err(Memory);
+        }
+        Ok(())
+    }
+
+    /// The number of a GUID; none of one that is not there.
+    fn find(&self, guid: &[u8; 16]) -> Option<u32>
+        ensures { result ≡ number_of guid.now self.now }
+    {
+        self.numbers.get(guid).copied()
+    }
+
     /// Notes a use of a GUID, and answers its number, from 1. A number of 2 ^ 32 or more is reported as the greatest below.
     pub fn use_guid(&mut self, guid: &[u8; 16]) -> Result<u32, Memory>
         ensures guids { OnOk result (self.new ≡ with_use self.old guid.now) }
         ensures number { IfOk result (λ number. number ≡ min (1 + position_or_len (bytes_eq guid.now) (with_use self.old guid.now)) 0xffffffff) }
         ensures err { OnErr result (self.new ≡ self.old) }
     {
-        let (index, _) = self.guids.insert_full(Guid { bytes: *guid })?;
-        Ok((index as u64).saturating_add(1).min(0xffff_ffff) as u32)
+        if let Some(number) = self.find(guid) {
+            return Ok(number);
+        }
+        let number = (self.guids.len() as u64).saturating_add(1).min(0xffff_ffff) as u32;
+        self.add(guid, number)?;
+        Ok(number)
     }
 
     /// Appends the GUIDs, one after another.
@@ -59,7 +89,7 @@ impl GuidHeap {
         ensures { OnOk result (into.new ≡ into.old ++ flat_map (λ guid. guid) self.now) }
     {
         for guid in self.guids.as_slice() {
-            into.append(&guid.bytes)?;
+            into.append(guid)?;
         }
         Ok(())
     }

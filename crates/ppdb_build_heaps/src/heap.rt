@@ -3,13 +3,11 @@ ghost use Rattle.std.specs.Prelude.{◌≡◌, length};
 ghost use Rattle.ppdb_build_heaps.specs.Kinds.{spelled};
 ghost use Rattle.ppdb_base.specs.Told.{told};
 
-use crate::item::Item;
-use crate::keys::ItemKey;
 use crate::put::put_items;
 use crate::store::ItemStore;
-use indexmap::IndexMap;
 use ppdb_base::{Bytes, Memory};
 use std::alloc::{AllocFailed, Global};
+use std::collections::BTreeMap;
 use std::marker::Model;
 
 /// What a heap holds.
@@ -40,8 +38,10 @@ impl HeapKind {
 pub struct Heap<'a> {
     store: &'a ItemStore,
     kind: HeapKind,
+    /// In order of first use.
+    items: Vec<&'a [u8]>,
     /// Each item's index.
-    indexes: IndexMap<Item<'a>, u64, ItemKey>,
+    indexes: BTreeMap<&'a [u8], u64>,
     /// How many bytes all of them take.
     len: u64,
 }
@@ -49,13 +49,13 @@ pub struct Heap<'a> {
 impl<'a> Model for Heap<'a> {
     ghost use Rattle.std.specs.Prelude.{◌≡◌};
     ghost use Rattle.ppdb_base.specs.Told.{told};
-    ghost use Rattle.ppdb_build_heaps.specs.Interned.{Contents, items_of, length_of, AreIndexes};
+    ghost use Rattle.ppdb_build_heaps.specs.Interned.{Contents, bytes_of, length_of, AreIndexes};
 
     ghost Value = { Contents };
 
-    ghost view = { λ h. record { kind = h.kind; items = items_of h.indexes.entries } };
+    ghost view = { λ h. record { kind = h.kind; items = bytes_of h.items.items } };
 
-    ghost invariant = { λ h. AreIndexes h.kind h.indexes.entries × (h.len ≡ told (length_of h.kind (items_of h.indexes.entries))) };
+    ghost invariant = { λ h. AreIndexes h.kind (bytes_of h.items.items) h.indexes × (h.len ≡ told (length_of h.kind (bytes_of h.items.items))) };
 }
 
 impl<'a> Heap<'a> {
@@ -73,7 +73,8 @@ impl<'a> Heap<'a> {
         Heap {
             store,
             kind,
-            indexes: IndexMap::with_hasher(alloc, store.key()),
+            items: Vec::new(alloc),
+            indexes: BTreeMap::new(alloc),
             len: 0,
         }
     }
@@ -90,7 +91,7 @@ impl<'a> Heap<'a> {
         ensures there { IfSome result (IsIndexOf self.now item.now) }
         ensures new { IfNone result (list_any (bytes_eq item.now) self.now.items ≡ false) }
     {
-        self.indexes.get(&Item { bytes: item }).copied()
+        self.indexes.get(item).copied()
     }
 
     /// Adds an item that is not there, and answers its index.
@@ -101,7 +102,11 @@ impl<'a> Heap<'a> {
         ensures err { OnErr result (self.new ≡ self.old) }
     {
         let index = self.len;
-        self.indexes.insert(Item { bytes: item }, index)?;
+        self.items.push(item)?;
+        if self.indexes.insert(item, index).is_err() {
+            let _item = self.items.pop();
+            return Err(Memory);
+        }
         self.len = index.saturating_add(self.kind.spelled_len(item));
         Ok(index)
     }
@@ -124,7 +129,7 @@ impl<'a> Heap<'a> {
     pub fn put(&self, into: &mut Bytes) -> Result<(), Memory>
         ensures { OnOk result (into.new ≡ into.old ++ flat_map (spelled self.now.kind) self.now.items) }
     {
-        put_items(self.kind, self.indexes.keys().as_slice(), into)?;
+        put_items(self.kind, self.items.as_slice(), into)?;
         Ok(())
     }
 }

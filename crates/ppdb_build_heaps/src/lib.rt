@@ -4,8 +4,6 @@
 mod draft;
 mod guids;
 mod heap;
-mod item;
-mod keys;
 mod laws;
 mod number;
 mod put;
@@ -14,7 +12,6 @@ mod store;
 pub use draft::{BlobPiece, put_index, use_pieces};
 pub use guids::GuidHeap;
 pub use heap::{Heap, HeapKind};
-pub use keys::{ItemKey, KeyMaker};
 pub use laws::{
     all_uses_are_there, drafts_are_interned, heaps_are_first_uses, items_have_forms, items_stay,
     written_items_are_read,

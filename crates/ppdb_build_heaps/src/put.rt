@@ -1,10 +1,9 @@
 // The items of a heap, as its stream.
-ghost use Rattle.std.specs.Prelude.{◌≡◌, ◌++◌, map, flat_map, OnOk};
+ghost use Rattle.std.specs.Prelude.{◌≡◌, ◌++◌, flat_map, OnOk};
 ghost use Rattle.ppdb_build_heaps.specs.Kinds.{spelled};
-ghost use Rattle.ppdb_build_heaps.specs.declared.item.Item.{Item};
+ghost use Rattle.ppdb_build_heaps.specs.Interned.{bytes_of};
 
 use crate::heap::HeapKind;
-use crate::item::Item;
 use crate::number::put_shortest;
 use ppdb_base::{Bytes, Memory};
 
@@ -25,11 +24,11 @@ fn put_item(kind: HeapKind, item: &[u8], into: &mut Bytes) -> Result<(), Memory>
 }
 
 /// Appends the items, one after another.
-pub fn put_items(kind: HeapKind, items: &[Item<'_>], into: &mut Bytes) -> Result<(), Memory>
-    ensures { OnOk result (into.new ≡ into.old ++ flat_map (spelled kind) (map (λ (item : Item). item.bytes.now) items.now)) }
+pub fn put_items(kind: HeapKind, items: &[&[u8]], into: &mut Bytes) -> Result<(), Memory>
+    ensures { OnOk result (into.new ≡ into.old ++ flat_map (spelled kind) (bytes_of items.now)) }
 {
     for item in items {
-        put_item(kind, item.bytes, into)?;
+        put_item(kind, item, into)?;
     }
     Ok(())
 }

@@ -1,32 +1,22 @@
 // Where the items of heaps are kept.
 ghost use Rattle.std.specs.Prelude.{◌≡◌, IfOk};
 
-use crate::keys::ItemKey;
 use bumpalo::Bump;
 use ppdb_base::Memory;
 use std::alloc::{AllocError, Global};
 
-/// The bytes of the items that are made, one after another, and the key under which all items are hashed.
+/// The bytes of the items that are made, one after another.
 #[derive(Drop)]
 pub struct ItemStore {
     bytes: Bump,
-    key: ItemKey,
 }
 
 impl ItemStore {
     /// A store without bytes. It takes no memory.
-    pub fn new(alloc: Global, key: ItemKey) -> ItemStore {
+    pub fn new(alloc: Global) -> ItemStore {
         ItemStore {
             bytes: Bump::new(alloc),
-            key,
         }
-    }
-
-    /// The key under which the items are hashed.
-    pub(crate) fn key(&self) -> ItemKey
-        ensures { result ≡ self.now.key }
-    {
-        self.key
     }
 
     /// Keeps a copy of an item.

@@ -12,9 +12,10 @@ use Rattle.ppdb_base.proofs.Fields.{ends_within, sum_append}
 use Rattle.ppdb_base.proofs.Judging.{accepted_then}
 use Rattle.metadata_root.specs.Fields.{number_at}
 use Rattle.row_layout.specs.declared.column.Sizes.{Sizes}
+use Rattle.row_layout.specs.declared.column.Column.{Column}
 use Rattle.ppdb_tables.specs.declared.head.PdbHead.{PdbHead}
 use Rattle.ppdb_tables.specs.Counts.{counts_below}
-use Rattle.ppdb_tables.specs.Layouts.{Table, debug_tables, row_fields, row_fields_of, row_len}
+use Rattle.ppdb_tables.specs.Layouts.{debug_tables, row_fields, row_fields_of, row_len}
 use Rattle.ppdb_tables.specs.Tables.{TableFieldFaults, BoundFaults, TablesFaults, heap_sizes, valid, table_fields, table_rows, rows_start, count_in, sizes_in}
 use Rattle.ppdb_tables.specs.Tables.TableFieldFaults.{short, heap_bits, foreign, rows, method_rows}
 use Rattle.ppdb_tables.specs.Tables.BoundFaults.{bounds}
@@ -37,16 +38,16 @@ map-back f (x ∷ xs) at same =
 
 -- ---- how many bytes the rows of some tables have
 
-abbrev pub total : Sizes → List Table → ℕ
+abbrev pub total : Sizes → List (ℕ × List Column) → ℕ
 total sizes [] = 0
-total sizes (table ∷ tables) = row_len sizes table * slice_index sizes.rows table.number + total sizes tables
+total sizes (table ∷ tables) = row_len sizes table * slice_index sizes.rows table.0 + total sizes tables
 
-pub sum-rows : (sizes : Sizes) (tables : List Table) → sum (row_fields sizes tables) ≡ total sizes tables
+pub sum-rows : (sizes : Sizes) (tables : List (ℕ × List Column)) → sum (row_fields sizes tables) ≡ total sizes tables
 sum-rows sizes [] = refl
 sum-rows sizes (table ∷ tables) =
     sum_append (row_fields_of sizes table) (row_fields sizes tables)
-    ∙ ap (λ n. n + sum (row_fields sizes tables)) (sum-replicate (slice_index sizes.rows table.number) (row_len sizes table))
-    ∙ ap (λ n. row_len sizes table * slice_index sizes.rows table.number + n) (sum-rows sizes tables)
+    ∙ ap (λ n. n + sum (row_fields sizes tables)) (sum-replicate (slice_index sizes.rows table.0) (row_len sizes table))
+    ∙ ap (λ n. row_len sizes table * slice_index sizes.rows table.0 + n) (sum-rows sizes tables)
 
 -- the same, by the rows that are there
 rows-counted : (a0 a1 a2 a3 a4 a5 a6 a7 c0 c1 c2 c3 c4 c5 c6 c7 l0 l1 l2 l3 l4 l5 l6 l7 : ℕ)

@@ -117,38 +117,38 @@ module _ (counts : List ℕ) (all : Rows) (heaps : HeapLens) (small : (t : ℕ)
   begins : rows_start file_stream ≡ length f
   begins = start counts all heaps small
 
-  len-0 : length t0 ≡ row_len cell_sizes (record { number = 0x30; columns = document_columns }) * slice_index counts 0x30
+  len-0 : length t0 ≡ row_len cell_sizes (0x30, document_columns) * slice_index counts 0x30
   len-0 = length-rows cell_sizes document_columns document_cells (λ row. refl) all.documents
       ∙ ap (λ n. n * sum (widths_of cell_sizes document_columns)) lens.documents
       ∙ mul_comm (slice_index counts 0x30) (sum (widths_of cell_sizes document_columns))
 
-  len-1 : length t1 ≡ row_len cell_sizes (record { number = 0x31; columns = method_columns }) * slice_index counts 0x31
+  len-1 : length t1 ≡ row_len cell_sizes (0x31, method_columns) * slice_index counts 0x31
   len-1 = length-rows cell_sizes method_columns method_cells (λ row. refl) all.methods
       ∙ ap (λ n. n * sum (widths_of cell_sizes method_columns)) lens.methods ∙ mul_comm (slice_index counts 0x31) (sum (widths_of cell_sizes method_columns))
 
-  len-2 : length t2 ≡ row_len cell_sizes (record { number = 0x32; columns = scope_columns }) * slice_index counts 0x32
+  len-2 : length t2 ≡ row_len cell_sizes (0x32, scope_columns) * slice_index counts 0x32
   len-2 = length-rows cell_sizes scope_columns scope_cells (λ row. refl) all.scopes ∙ ap (λ n. n * sum (widths_of cell_sizes scope_columns)) lens.scopes
       ∙ mul_comm (slice_index counts 0x32) (sum (widths_of cell_sizes scope_columns))
 
-  len-3 : length t3 ≡ row_len cell_sizes (record { number = 0x33; columns = variable_columns }) * slice_index counts 0x33
+  len-3 : length t3 ≡ row_len cell_sizes (0x33, variable_columns) * slice_index counts 0x33
   len-3 = length-rows cell_sizes variable_columns variable_cells (λ row. refl) all.variables
       ∙ ap (λ n. n * sum (widths_of cell_sizes variable_columns)) lens.variables
       ∙ mul_comm (slice_index counts 0x33) (sum (widths_of cell_sizes variable_columns))
 
-  len-4 : length t4 ≡ row_len cell_sizes (record { number = 0x34; columns = constant_columns }) * slice_index counts 0x34
+  len-4 : length t4 ≡ row_len cell_sizes (0x34, constant_columns) * slice_index counts 0x34
   len-4 = length-rows cell_sizes constant_columns constant_cells (λ row. refl) all.constants
       ∙ ap (λ n. n * sum (widths_of cell_sizes constant_columns)) lens.constants
       ∙ mul_comm (slice_index counts 0x34) (sum (widths_of cell_sizes constant_columns))
 
-  len-5 : length t5 ≡ row_len cell_sizes (record { number = 0x35; columns = import_columns }) * slice_index counts 0x35
+  len-5 : length t5 ≡ row_len cell_sizes (0x35, import_columns) * slice_index counts 0x35
   len-5 = length-rows cell_sizes import_columns import_cells (λ row. refl) all.imports
       ∙ ap (λ n. n * sum (widths_of cell_sizes import_columns)) lens.imports ∙ mul_comm (slice_index counts 0x35) (sum (widths_of cell_sizes import_columns))
 
-  len-6 : length t6 ≡ row_len cell_sizes (record { number = 0x36; columns = machine_columns }) * slice_index counts 0x36
+  len-6 : length t6 ≡ row_len cell_sizes (0x36, machine_columns) * slice_index counts 0x36
   len-6 = length-rows cell_sizes machine_columns machine_cells (λ row. refl) all.machines
       ∙ ap (λ n. n * sum (widths_of cell_sizes machine_columns)) lens.machines ∙ mul_comm (slice_index counts 0x36) (sum (widths_of cell_sizes machine_columns))
 
-  len-7 : length t7 ≡ row_len cell_sizes (record { number = 0x37; columns = custom_columns }) * slice_index counts 0x37
+  len-7 : length t7 ≡ row_len cell_sizes (0x37, custom_columns) * slice_index counts 0x37
   len-7 = length-rows cell_sizes custom_columns custom_cells (λ row. refl) all.customs
       ∙ ap (λ n. n * sum (widths_of cell_sizes custom_columns)) lens.customs ∙ mul_comm (slice_index counts 0x37) (sum (widths_of cell_sizes custom_columns))
 
@@ -156,14 +156,14 @@ module _ (counts : List ℕ) (all : Rows) (heaps : HeapLens) (small : (t : ℕ)
   place-0 = omega (arith, begins, sum-rows cell_sizes ([]))
 
   place-1 : length (f ++ t0) ≡ table_place cell_sizes file_stream 0x31
-  place-1 = omega (arith, begins, sum-rows cell_sizes (record { number = 0x30; columns = document_columns } ∷ []), len-0, length-append f t0)
+  place-1 = omega (arith, begins, sum-rows cell_sizes ((0x30, document_columns) ∷ []), len-0, length-append f t0)
 
   place-2 : length (f ++ t0 ++ t1) ≡ table_place cell_sizes file_stream 0x32
   place-2 = omega (
     arith,
     begins,
     sum-rows cell_sizes
-        (record { number = 0x30; columns = document_columns } ∷ record { number = 0x31; columns = method_columns } ∷ []),
+        ((0x30, document_columns) ∷ (0x31, method_columns) ∷ []),
     len-0,
     length-append f t0,
     len-1,
@@ -175,11 +175,7 @@ module _ (counts : List ℕ) (all : Rows) (heaps : HeapLens) (small : (t : ℕ)
     arith,
     begins,
     sum-rows cell_sizes
-        (record { number = 0x30; columns = document_columns } ∷ record { number = 0x31; columns = method_columns } ∷ record {
-          number = 0x32;
-          columns =
-              scope_columns;
-        } ∷ []),
+        ((0x30, document_columns) ∷ (0x31, method_columns) ∷ (0x32, scope_columns) ∷ []),
     len-0,
     length-append f t0,
     len-1,
@@ -193,11 +189,7 @@ module _ (counts : List ℕ) (all : Rows) (heaps : HeapLens) (small : (t : ℕ)
     arith,
     begins,
     sum-rows cell_sizes
-        (record { number = 0x30; columns = document_columns } ∷ record { number = 0x31; columns = method_columns } ∷ record {
-          number = 0x32;
-          columns =
-              scope_columns;
-        } ∷ record { number = 0x33; columns = variable_columns } ∷ []),
+        ((0x30, document_columns) ∷ (0x31, method_columns) ∷ (0x32, scope_columns) ∷ (0x33, variable_columns) ∷ []),
     len-0,
     length-append f t0,
     len-1,
@@ -213,11 +205,7 @@ module _ (counts : List ℕ) (all : Rows) (heaps : HeapLens) (small : (t : ℕ)
     arith,
     begins,
     sum-rows cell_sizes
-        (record { number = 0x30; columns = document_columns } ∷ record { number = 0x31; columns = method_columns } ∷ record {
-          number = 0x32;
-          columns =
-              scope_columns;
-        } ∷ record { number = 0x33; columns = variable_columns } ∷ record { number = 0x34; columns = constant_columns } ∷ []),
+        ((0x30, document_columns) ∷ (0x31, method_columns) ∷ (0x32, scope_columns) ∷ (0x33, variable_columns) ∷ (0x34, constant_columns) ∷ []),
     len-0,
     length-append f t0,
     len-1,
@@ -235,15 +223,8 @@ module _ (counts : List ℕ) (all : Rows) (heaps : HeapLens) (small : (t : ℕ)
     arith,
     begins,
     sum-rows cell_sizes
-        (record { number = 0x30; columns = document_columns } ∷ record { number = 0x31; columns = method_columns } ∷ record {
-          number = 0x32;
-          columns =
-              scope_columns;
-        } ∷ record { number = 0x33; columns = variable_columns } ∷ record { number = 0x34; columns = constant_columns } ∷ record {
-          number =
-              0x35;
-          columns = import_columns;
-        } ∷ []),
+        ((0x30, document_columns) ∷ (0x31, method_columns) ∷ (0x32, scope_columns) ∷ (0x33, variable_columns)
+        ∷ (0x34, constant_columns) ∷ (0x35, import_columns) ∷ []),
     len-0,
     length-append f t0,
     len-1,
@@ -263,15 +244,8 @@ module _ (counts : List ℕ) (all : Rows) (heaps : HeapLens) (small : (t : ℕ)
     arith,
     begins,
     sum-rows cell_sizes
-        (record { number = 0x30; columns = document_columns } ∷ record { number = 0x31; columns = method_columns } ∷ record {
-          number = 0x32;
-          columns =
-              scope_columns;
-        } ∷ record { number = 0x33; columns = variable_columns } ∷ record { number = 0x34; columns = constant_columns } ∷ record {
-          number =
-              0x35;
-          columns = import_columns;
-        } ∷ record { number = 0x36; columns = machine_columns } ∷ []),
+        ((0x30, document_columns) ∷ (0x31, method_columns) ∷ (0x32, scope_columns) ∷ (0x33, variable_columns)
+        ∷ (0x34, constant_columns) ∷ (0x35, import_columns) ∷ (0x36, machine_columns) ∷ []),
     len-0,
     length-append f t0,
     len-1,

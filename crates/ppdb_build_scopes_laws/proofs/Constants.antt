@@ -2,6 +2,7 @@
 use Rattle.std.proofs.Common.{◌≡◌, ℕ, zero, suc, List, [], length, map, refl, sym, ap, ◌∙◌, subst, slice_get}
 use Rattle.std.specs.Prelude.{Option, Some, None, All, is_some}
 use Rattle.std.proofs.lemmas.List.{append-nil}
+use Rattle.std.specs.Option.{option_map_or}
 use Rattle.blob_grammar.specs.Reading.{Reading}
 use Rattle.type_blobs.specs.declared.types.Modifier.{Modifier}
 use Rattle.type_blobs.specs.declared.types.TypeLimits.{TypeLimits}
@@ -19,7 +20,7 @@ use Rattle.ppdb_values.specs.declared.scope.ScopeValue.{ScopeValue}
 use Rattle.ppdb_values.specs.declared.scope.ConstantBody.{ConstantBody}
 use Rattle.ppdb_values.specs.declared.scope.ConstantBody.TheVariants.{Primitive, Enumerated, General, Object}
 use Rattle.ppdb_values.specs.declared.scope.ConstantValue.{ConstantValue}
-use Rattle.ppdb_values.specs.Constants.{constant_of, body_value, body_by}
+use Rattle.ppdb_values.specs.Constants.{constant_of, body_value}
 use Rattle.ppdb_values.specs.Ordered.{EachRow}
 use Rattle.ppdb_values.specs.RawFile.{text, blob, records_of, begun_of, type_limits as raw_limits}
 use Rattle.ppdb_values.specs.Rules.{KeepsConstants, IsConstant}
@@ -110,7 +111,7 @@ module _ (value : FileValue) (entries : length value.rows ≡ 64) (sound : Sound
     constant_read =
         let name = name_is in
         let modifiers = modifiers_is in
-        let end = ap (λ (o : Option StoredBody). body_by o) body_there ∙ body_back constant.body in
+        let end = ap (λ (o : Option StoredBody). option_map_or body_value o Object) body_there ∙ body_back constant.body in
         (λ t. record { name = name t; modifiers = modifiers t; body = end t })
 
     constant_kept : IsConstant raw (constant_row value constant)

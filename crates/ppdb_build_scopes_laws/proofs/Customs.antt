@@ -1,6 +1,6 @@
 -- The custom records of a canonical file.
 use Rattle.std.proofs.Common.{◌≡◌, ℕ, zero, suc, ◌≤◌, ◌/◌, ◌%◌, List, [], length, map, refl, sym, ap, ◌∙◌, subst, arith, slice_get}
-use Rattle.std.specs.Prelude.{Option, Some, None, All, IfSome, IsSome, unwrap_or}
+use Rattle.std.specs.Prelude.{Option, Some, None, All, IfSome, IsSome, unwrap_or, flat_map}
 use Rattle.std.specs.List.{Contains}
 use Rattle.std.specs.Option.{option_map}
 use Rattle.std.proofs.lemmas.List.{append-nil}
@@ -13,9 +13,10 @@ use Rattle.custom_info.specs.declared.kinds.Kind.TheVariants.{Async as AsyncKind
 use Rattle.custom_info.specs.declared.slots.Slot.{Slot}
 use Rattle.custom_info.specs.declared.stepping.AsyncStep.{AsyncStep}
 use Rattle.custom_info.specs.AsyncStepping.{async_stepping, async_spelling, entries_of, IsStep}
-use Rattle.custom_info.specs.HoistedScopes.{hoisted_scopes, slots_spelling}
+use Rattle.cli_ints.specs.Shortest.{short_unsigned}
+use Rattle.custom_info.specs.HoistedScopes.{hoisted_scopes, slot_spelling}
 use Rattle.custom_info.specs.Kinds.{kind_of}
-use Rattle.custom_info.specs.TypeDocuments.{type_documents, IsRowNumber, rows_spelling}
+use Rattle.custom_info.specs.TypeDocuments.{type_documents, IsRowNumber}
 use Rattle.custom_info.proofs.WrittenRows.{written_rows}
 use Rattle.custom_info.proofs.WrittenSlots.{written_slots}
 use Rattle.custom_info.proofs.WrittenSteps.{written_steps}
@@ -100,8 +101,8 @@ module _ (value : FileValue) (entries : length value.rows ≡ 64) (few : length 
   body_reread HoistedKind (Hoisted slots) b =
       let reading = written_slots slots b in
       record {
-        read = ap (λ (all : List Slot). Hoisted all) (records_are hoisted_scopes (slots_spelling slots) slots None reading);
-        whole = whole_as hoisted_scopes (slots_spelling slots) slots reading;
+        read = ap (λ (all : List Slot). Hoisted all) (records_are hoisted_scopes (flat_map slot_spelling slots) slots None reading);
+        whole = whole_as hoisted_scopes (flat_map slot_spelling slots) slots reading;
       }
   body_reread DocumentsKind (TypeDocuments rows) b =
       let documents = count raw 0x30 in
@@ -110,8 +111,8 @@ module _ (value : FileValue) (entries : length value.rows ≡ 64) (few : length 
       (All-weaker (HasValueRow value 0x30) IsRowNumber (λ row is. (is.0, omega (arith, is.1, few))) rows b)
       (All-weaker (λ (row : ℕ). (1 ≤ row) × (row ≤ documents)) (λ row. row ≤ documents) (λ row is. is.1) rows named) in
       record {
-        read = ap (λ (all : List ℕ). TypeDocuments all) (records_are (type_documents documents) (rows_spelling rows) rows None reading);
-        whole = whole_as (type_documents documents) (rows_spelling rows) rows reading;
+        read = ap (λ (all : List ℕ). TypeDocuments all) (records_are (type_documents documents) (flat_map short_unsigned rows) rows None reading);
+        whole = whole_as (type_documents documents) (flat_map short_unsigned rows) rows reading;
       }
   body_reread Free (Unread content) b = record { read = refl; whole = tt }
   body_reread Unknown (Unread content) b = record { read = refl; whole = tt }

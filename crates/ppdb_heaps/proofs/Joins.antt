@@ -1,14 +1,14 @@
 -- How the parts of a name are joined, a part at a time.
-use Rattle.std.proofs.Common.{◌≡◌, ℕ, List, [], ◌∷◌, ◌++◌, Option, Some, None, Ok, Err, sym, ap, subst, ◌∙◌, append_assoc}
+use Rattle.std.proofs.Common.{◌≡◌, ℕ, List, [], ◌∷◌, ◌++◌, Option, Some, None, Ok, Err, refl, sym, ap, subst, ◌∙◌, append_assoc, append-nil}
 use Rattle.std.specs.List.{flat_map, join_by}
 use Rattle.ppdb_base.specs.declared.BlobFault.{BlobFault}
 use Rattle.blob_grammar.specs.Reading.{Reading}
 use Rattle.blob_grammar.specs.Reader.{Left, answer_from, answer, rest_of, tail}
 use Rattle.ppdb_heaps.specs.declared.join.NameError.TheVariants.{Blob}
-use Rattle.ppdb_heaps.specs.Names.{separator, names, NameReading}
+use Rattle.ppdb_heaps.specs.Names.{separator, names, without_zero, IsName, NameReading}
 use Rattle.std.specs.Borrow.{Bor}
 use Rattle.ppdb_heaps.specs.Cursor.{lent}
-use Rattle.ppdb_heaps.specs.Joining.{IsRefusal}
+use Rattle.ppdb_heaps.specs.Joining.{IsRefusal, HasAppended}
 
 some-of : {X : Type 0} (items : List X) (fault : Option BlobFault) (x : X) → Ok (Some x) ≡ answer_from items fault → items ≡ x ∷ tail items
 some-of (y ∷ items) fault x e = let s : x ≡ y = cc in cc
@@ -19,6 +19,11 @@ err-of : {X : Type 0} (items : List X) (fault : Option BlobFault) (f : BlobFault
 err-of (y ∷ items) fault f e = absurd cc
 err-of [] None f e = absurd cc
 err-of [] (Some g) f e = cc
+
+none-of : {X : Type 0} (items : List X) (fault : Option BlobFault) → Ok None ≡ answer_from items fault → (items ≡ []) × (fault ≡ None)
+none-of (y ∷ items) fault e = absurd cc
+none-of [] None e = (refl, refl)
+none-of [] (Some f) e = absurd cc
 
 abbrev after_separator : List ℕ → List (List ℕ) → List ℕ
 after_separator sep contents = flat_map (λ content. sep ++ content) contents
@@ -57,3 +62,33 @@ joining-starts blobs blob old into sep own before left x h s e l i =
 -- An answer turned over, where its slice is known.
 pub answer-is : (left : Left (List ℕ)) (o p : Option (Bor (List ℕ))) → lent (Ok o) ≡ answer left → o ≡ p → lent (Ok p) ≡ answer left
 answer-is left o p e i = sym (ap (λ (q : Option (Bor (List ℕ))). lent (Ok q)) i) ∙ e
+
+-- A reading with no fault is a whole name, and its text is the contents with the separator between them.
+is-name : (blobs blob sep : List ℕ) (contents : List (List ℕ)) (fault : Option BlobFault) → NameReading blobs blob sep contents fault → fault ≡ None
+    → IsName blobs blob (join_by (λ content. content) sep contents)
+is-name blobs blob sep contents fault h e = record {
+  parts = separator h.bytes ∷ h.parts;
+  whole = subst (λ f. Reading (names blobs) blob (separator h.bytes ∷ h.parts) f) e h.reading;
+  text = ap (λ t. join_by (λ content. content) t contents) h.separator_is
+      ∙ ap (λ all. join_by (λ content. content) (without_zero h.bytes) all) h.contents_are;
+}
+
+-- Nothing is left of the parts: what was joined is the name.
+pub joining-ends : (blobs blob old sep into : List ℕ) (left : Left (List ℕ)) → Joining blobs blob old sep into left → Ok None ≡ answer left
+    → HasAppended blobs blob old into
+joining-ends blobs blob old sep into left h e =
+    let n = none-of left.items left.fault e in (
+      join_by (λ content. content) sep h.contents,
+      is-name blobs blob sep h.contents left.fault h.reading n.1,
+      sym (append-nil into) ∙ ap (λ items. into ++ after_separator sep items) (sym n.0) ∙ h.goes_on,
+    )
+
+-- There is no part: the name is empty.
+pub joining-none : (blobs blob old sep : List ℕ) (left : Left (List ℕ)) → NameReading blobs blob sep left.items left.fault → Ok None ≡ answer left
+    → HasAppended blobs blob old old
+joining-none blobs blob old sep left h e =
+    let n = none-of left.items left.fault e in (
+      join_by (λ content. content) sep left.items,
+      is-name blobs blob sep left.items left.fault h n.1,
+      sym (append-nil old) ∙ ap (λ items. old ++ join_by (λ content. content) sep items) (sym n.0),
+    )

@@ -36,20 +36,20 @@ abbrev form_by : ℕ → Option Form
 form_by zero = Some character
 form_by (suc k) = Some unsigned
 
-form-kind : (a : List NamePart) → form a ≡ form_by (kind a)
-form-kind [] = refl
-form-kind (x ∷ []) = refl
-form-kind (x ∷ y ∷ a) = refl
+form-kind : (a : List NamePart) (vs : List Value) → form a vs ≡ form_by (kind a)
+form-kind [] vs = refl
+form-kind (x ∷ []) vs = refl
+form-kind (x ∷ y ∷ a) vs = refl
 
-allows-kind : (blobs : List ℕ) (a b : List NamePart) (v : Value) → kind a ≡ kind b → allows blobs a v ≡ allows blobs b v
-allows-kind blobs [] [] v e = refl
-allows-kind blobs [] (y ∷ []) v e = absurd (omega arith)
-allows-kind blobs [] (y ∷ z ∷ b) v e = absurd (omega arith)
-allows-kind blobs (x ∷ []) [] v e = absurd (omega arith)
-allows-kind blobs (x ∷ w ∷ a) [] v e = absurd (omega arith)
-allows-kind blobs (x ∷ a) (y ∷ b) (number n) e = refl
-allows-kind blobs (x ∷ a) (y ∷ b) (octets xs) e = refl
-allows-kind blobs (x ∷ a) (y ∷ b) _ e = refl
+allows-kind : (blobs : List ℕ) (a b : List NamePart) (vs : List Value) (v : Value) → kind a ≡ kind b → allows blobs a vs v ≡ allows blobs b vs v
+allows-kind blobs [] [] vs v e = refl
+allows-kind blobs [] (y ∷ []) vs v e = absurd (omega arith)
+allows-kind blobs [] (y ∷ z ∷ b) vs v e = absurd (omega arith)
+allows-kind blobs (x ∷ []) [] vs v e = absurd (omega arith)
+allows-kind blobs (x ∷ w ∷ a) [] vs v e = absurd (omega arith)
+allows-kind blobs (x ∷ a) (y ∷ b) vs (number n) e = refl
+allows-kind blobs (x ∷ a) (y ∷ b) vs (octets xs) e = refl
+allows-kind blobs (x ∷ a) (y ∷ b) vs _ e = refl
 
 part-kind : (blobs : List ℕ) (a b : List NamePart) (vs : List Value) → kind a ≡ kind b → part_of blobs a vs ≡ part_of blobs b vs
 part-kind blobs [] [] vs e = refl
@@ -84,8 +84,8 @@ push-kind (x ∷ y ∷ z ∷ a) r = refl
 
 names-alike : (blobs : List ℕ) → Alike (names blobs) (names blobs) SameKind
 names-alike blobs = record {
-  form = λ a b vs e. form-kind a ∙ ap form_by e ∙ sym (form-kind b);
-  allows = λ a b vs v e. allows-kind blobs a b v e;
+  form = λ a b vs e. form-kind a vs ∙ ap form_by e ∙ sym (form-kind b vs);
+  allows = λ a b vs v e. allows-kind blobs a b vs v e;
   record_of = λ a b vs e. part-kind blobs a b vs e;
   may_stop = λ a b vs e. stop-kind a vs ∙ ap (λ k. stop_by k vs) e ∙ sym (stop-kind b vs);
   push = λ a b r e. push-kind a r ∙ ap kind_after e ∙ sym (push-kind b r);
@@ -96,11 +96,11 @@ names-alike blobs = record {
 abbrev before_if : Bool → List NamePart
 before_if b = if b then separator [] ∷ [] else separator [] ∷ part [] ∷ []
 
-if-form : (b : Bool) → form (before_if b) ≡ Some unsigned
+if-form : (b : Bool) → form (before_if b) [] ≡ Some unsigned
 if-form true = refl
 if-form false = refl
 
-if-allows : (blobs : List ℕ) (b : Bool) (n : ℕ) → allows blobs (before_if b) (number n) ≡ is_some (blob_at blobs n)
+if-allows : (blobs : List ℕ) (b : Bool) (n : ℕ) → allows blobs (before_if b) [] (number n) ≡ is_some (blob_at blobs n)
 if-allows blobs true n = refl
 if-allows blobs false n = refl
 

@@ -1,21 +1,16 @@
 -- The text and the part indexes of a document name, as functions of the blob.
-use Rattle.std.proofs.Common.{◌≡◌, ℕ, List, [], None, refl, sym, ap, subst, ◌∙◌}
+use Rattle.std.proofs.Common.{◌≡◌, ℕ, List, None, refl, sym, ap, subst, ◌∙◌}
 use Rattle.blob_grammar.specs.Reading.{Reading}
 use Rattle.std.specs.Prelude.{◌↔◌}
 use Rattle.blob_grammar.specs.declared.places.PlacedIndex.{PlacedIndex}
 use Rattle.blob_grammar.specs.Places.{HasFields}
-use Rattle.blob_grammar.specs.Reader.{read_from}
-use Rattle.blob_grammar.proofs.Readers.{read_from-reads}
-use Rattle.blob_grammar.proofs.Unique.{reading-unique}
-use Rattle.blob_grammar.proofs.PrefixFields.{are-fields}
+use Rattle.blob_grammar.proofs.PrefixFields.{are-fields, records_are_cut}
 use Rattle.ppdb_heaps.specs.Names.{NamePart, names, part_index, joined, IsName, name_of, name_indexes}
 
 -- A blob that is a whole name has one text, and it is name_of.
 pub name_of-is : (blobs blob name : List ℕ) → IsName blobs blob name → name ≡ name_of blobs blob
 unfolding name_of
-name_of-is blobs blob name h =
-    let left = read_from (names blobs) [] [] 0 blob in
-    h.text ∙ ap joined (reading-unique (names blobs) blob h.parts left.items None left.fault h.whole (read_from-reads (names blobs) blob)).0
+name_of-is blobs blob name h = h.text ∙ ap joined (records_are_cut (names blobs) blob h.parts None h.whole)
 
 pub name-unique : (blobs blob a b : List ℕ) → IsName blobs blob a → IsName blobs blob b → a ≡ b
 name-unique blobs blob a b p q = name_of-is blobs blob a p ∙ sym (name_of-is blobs blob b q)

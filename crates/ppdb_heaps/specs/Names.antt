@@ -1,8 +1,8 @@
 -- The names of documents (Portable PDB v1.0, "Document Name Blob"): a separator, and parts that are blobs of their own.
 use Rattle.std.specs.{Prelude.{◌≡◌, ◌≢◌, ℕ, zero, ◌+◌, ◌^◌, ◌<◌, List, [], ◌∷◌, length, map, All, Option, Some, None, Bool, true, false, is_some, option_map, flat_map}, List.join_by}
 use Rattle.ppdb_base.specs.declared.fault.BlobFault.{BlobFault}
-use Rattle.blob_grammar.specs.{Grammar.{Value, number, octets, Form, character, unsigned, Grammar}, Reading.Reading, declared.places.PlacedIndex.PlacedIndex, Places.{PlacedField, placed_of}}
-use Rattle.blob_grammar.specs.Reader.{read_from, prefix_of}
+use Rattle.blob_grammar.specs.{Grammar.{Value, number, octets, Form, character, unsigned, Grammar, cut}, Reading.Reading, Reader.prefix_of}
+use Rattle.blob_grammar.specs.{declared.places.PlacedIndex.PlacedIndex, Places.{PlacedField, placed_of}}
 use Rattle.cli_ints.specs.Shortest.{short_unsigned}
 use Rattle.ppdb_heaps.specs.Heaps.{blob_at}
 
@@ -12,15 +12,15 @@ pub data NamePart : Type 0 where
   part : (content : List ℕ) → NamePart
 
 -- The first field is a UTF-8 character, each other one the index of a part in #Blob.
-abbrev pub form : List NamePart → Option Form
-form [] = Some character
-form (first ∷ others) = Some unsigned
+abbrev pub form : List NamePart → List Value → Option Form
+form [] begun = Some character
+form (first ∷ others) begun = Some unsigned
 
 -- A part is there. Index 0 is the empty text.
-abbrev pub allows : List ℕ → List NamePart → Value → Bool
-allows blobs [] value = true
-allows blobs (first ∷ others) (number index) = is_some (blob_at blobs index)
-allows blobs (first ∷ others) value = false
+abbrev pub allows : List ℕ → List NamePart → List Value → Value → Bool
+allows blobs [] begun value = true
+allows blobs (first ∷ others) begun (number index) = is_some (blob_at blobs index)
+allows blobs (first ∷ others) begun value = false
 
 abbrev pub part_of : List ℕ → List NamePart → List Value → Option NamePart
 part_of blobs [] (octets bytes ∷ []) = Some (separator bytes)
@@ -33,12 +33,7 @@ may_stop (first ∷ second ∷ others) [] = true
 may_stop before begun = false
 
 abbrev pub names : List ℕ → Grammar NamePart
-names blobs = record {
-  form = λ before begun. form before;
-  allows = λ before begun value. allows blobs before value;
-  record_of = λ before begun. part_of blobs before begun;
-  may_stop = λ before begun. may_stop before begun;
-}
+names blobs = record { form = form; allows = allows blobs; record_of = part_of blobs; may_stop = may_stop }
 
 -- Byte 00 stands for no separator.
 abbrev pub without_zero : List ℕ → List ℕ
@@ -74,9 +69,9 @@ pub record NameReading (blobs blob sep : List ℕ) (contents : List (List ℕ)) 
   pub separator_is : sep ≡ without_zero bytes
   pub contents_are : contents ≡ contents_of parts
 
--- The text of a name, as the plain reader reads it.
+-- The text of a name: the parts that the fields of its longest valid prefix make.
 unfoldable pub name_of : List ℕ → List ℕ → List ℕ
-name_of blobs blob = joined (read_from (names blobs) [] [] 0 blob).items
+name_of blobs blob = joined (cut (names blobs) (prefix_of (names blobs) blob)).whole
 
 abbrev pub index_at : ℕ → Value → List PlacedIndex
 index_at at (number n) = record { byte = at; index = n } ∷ []

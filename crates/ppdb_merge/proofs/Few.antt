@@ -1,7 +1,8 @@
 -- A moved file has no more rows than the file, and the rows of a file have numbers of three bytes.
 use Rattle.std.proofs.Common.{◌≡◌, ℕ, suc, ◌+◌, ◌<◌, ◌≤◌, Bool, true, false, cond, List, [], ◌∷◌, Option, Some, None, length, map, filter}
+use Rattle.std.specs.Option.{option_map_or}
 use Rattle.std.proofs.Common.{refl, ◌∙◌, ap, subst, arith}
-use Rattle.std.specs.Prelude.{◌==◌, sum_by}
+use Rattle.std.specs.Prelude.{◌==◌, nat_eq, sum_by}
 use Rattle.std.specs.List.{filter_map, cons_option, enumerate_from}
 use Rattle.std.proofs.lemmas.Bool.{eqb-true}
 use Rattle.std.proofs.lemmas.List.Sums.{sum_by-cons}
@@ -13,7 +14,7 @@ use Rattle.ppdb_values.specs.declared.scope.ScopeValue.{ScopeValue}
 use Rattle.ppdb_values.specs.declared.file.FileValue.{FileValue}
 use Rattle.ppdb_values.specs.Meaning.{annotated_from}
 use Rattle.ppdb_values.specs.RawFile.{RawFile}
-use Rattle.ppdb_values.specs.Value.{value_of, scope_of, variable_of, owned_by, owner_of, is_number}
+use Rattle.ppdb_values.specs.Value.{value_of, scope_of, variable_of, owned_by, owner_of}
 use Rattle.ppdb_values.specs.Constants.{constant_of}
 use Rattle.ppdb_values.specs.Documents.{document_of}
 use Rattle.ppdb_values.specs.Imports.{import_scope_of}
@@ -58,15 +59,15 @@ total_none (x ∷ xs) = let rest = total_none xs in omega (arith, rest)
 -- ---- what is owned is owned once
 
 hit : Option ℕ → ℕ → ℕ
-hit o n = cond (is_number n o) 1 0
+hit o n = cond (option_map_or (nat_eq n) o false) 1 0
 
 hits_after : {A : Type 0} (k from : ℕ) (xs : List A) → k < from → total (λ (x : ℕ × A). hit (Some k) x.0) (enumerate_from from xs) ≡ 0
 unfolding total hit
 hits_after k from [] above = refl
 hits_after k from (x ∷ xs) above = step (from == k) refl (hits_after k (from + 1) xs (omega (arith, above)))
   where
-    step : (b : Bool) → (from == k) ≡ b → total (λ (x : ℕ × _). cond (is_number x.0 (Some k)) 1 0) (enumerate_from (from + 1) xs) ≡ 0
-        → cond b 1 0 + total (λ (x : ℕ × _). cond (is_number x.0 (Some k)) 1 0) (enumerate_from (from + 1) xs) ≡ 0
+    step : (b : Bool) → (from == k) ≡ b → total (λ (x : ℕ × _). cond (option_map_or (nat_eq x.0) (Some k) false) 1 0) (enumerate_from (from + 1) xs) ≡ 0
+        → cond b 1 0 + total (λ (x : ℕ × _). cond (option_map_or (nat_eq x.0) (Some k) false) 1 0) (enumerate_from (from + 1) xs) ≡ 0
     step true is rest = let same = eqb-true from k is in absurd (omega (arith, same, above))
     step false is rest = omega (arith, rest)
 
@@ -75,9 +76,9 @@ unfolding total hit
 hits_once k from [] = omega arith
 hits_once k from (x ∷ xs) = step (from == k) refl (hits_once k (from + 1) xs) (λ above. hits_after k (from + 1) xs above)
   where
-    step : (b : Bool) → (from == k) ≡ b → total (λ (x : ℕ × _). cond (is_number x.0 (Some k)) 1 0) (enumerate_from (from + 1) xs) ≤ 1
-        → (k < from + 1 → total (λ (x : ℕ × _). cond (is_number x.0 (Some k)) 1 0) (enumerate_from (from + 1) xs) ≡ 0)
-        → cond b 1 0 + total (λ (x : ℕ × _). cond (is_number x.0 (Some k)) 1 0) (enumerate_from (from + 1) xs) ≤ 1
+    step : (b : Bool) → (from == k) ≡ b → total (λ (x : ℕ × _). cond (option_map_or (nat_eq x.0) (Some k) false) 1 0) (enumerate_from (from + 1) xs) ≤ 1
+        → (k < from + 1 → total (λ (x : ℕ × _). cond (option_map_or (nat_eq x.0) (Some k) false) 1 0) (enumerate_from (from + 1) xs) ≡ 0)
+        → cond b 1 0 + total (λ (x : ℕ × _). cond (option_map_or (nat_eq x.0) (Some k) false) 1 0) (enumerate_from (from + 1) xs) ≤ 1
     step true is rest after = let same = eqb-true from k is in let none = after (omega (arith, same)) in omega (arith, none)
     step false is rest after = omega (arith, rest)
 
@@ -87,24 +88,25 @@ hits_few None from xs = let none = total_none (enumerate_from from xs) in omega 
 hits_few (Some k) from xs = hits_once k from xs
 
 owned_few : {A I : Type 0} (owner : I → Option ℕ) (from : ℕ) (xs : List A) (items : List I)
-    → total (λ (x : ℕ × A). length (filter (λ item. is_number x.0 (owner item)) items)) (enumerate_from from xs) ≤ length items
+    → total (λ (x : ℕ × A). length (filter (λ item. option_map_or (nat_eq x.0) (owner item) false) items)) (enumerate_from from xs) ≤ length items
 unfolding hit
 owned_few owner from xs [] = let none = total_none (enumerate_from from xs) in omega (arith, none)
 owned_few {A} {I} owner from xs (i ∷ items) =
-    let split = total_same (λ (x : ℕ × A). length (filter (λ item. is_number x.0 (owner item)) (i ∷ items)))
-    (λ (x : ℕ × A). hit (owner i) x.0 + length (filter (λ item. is_number x.0 (owner item)) items)) (λ x. one x) (enumerate_from from xs) in
-    let sums = total_both (λ (x : ℕ × A). hit (owner i) x.0) (λ (x : ℕ × A). length (filter (λ item. is_number x.0 (owner item)) items))
+    let split = total_same (λ (x : ℕ × A). length (filter (λ item. option_map_or (nat_eq x.0) (owner item) false) (i ∷ items)))
+    (λ (x : ℕ × A). hit (owner i) x.0 + length (filter (λ item. option_map_or (nat_eq x.0) (owner item) false) items)) (λ x. one x) (enumerate_from from xs) in
+    let sums = total_both (λ (x : ℕ × A). hit (owner i) x.0) (λ (x : ℕ × A). length (filter (λ item. option_map_or (nat_eq x.0) (owner item) false) items))
     (enumerate_from from xs) in
     let once = hits_few (owner i) from xs in
     let rest = owned_few owner from xs items in
     omega (arith, split, sums, once, rest)
   where
-    one : (x : ℕ × A) → length (filter (λ item. is_number x.0 (owner item)) (i ∷ items))
-        ≡ hit (owner i) x.0 + length (filter (λ item. is_number x.0 (owner item)) items)
-    one x = step (is_number x.0 (owner i))
+    one : (x : ℕ × A) → length (filter (λ item. option_map_or (nat_eq x.0) (owner item) false) (i ∷ items))
+        ≡ hit (owner i) x.0 + length (filter (λ item. option_map_or (nat_eq x.0) (owner item) false) items)
+    one x = step (option_map_or (nat_eq x.0) (owner i) false)
       where
-        step : (b : Bool) → length (cond b (i ∷ filter (λ item. is_number x.0 (owner item)) items) (filter (λ item. is_number x.0 (owner item)) items))
-            ≡ cond b 1 0 + length (filter (λ item. is_number x.0 (owner item)) items)
+        step : (b : Bool) → length (cond b (i ∷ filter (λ item. option_map_or (nat_eq x.0) (owner item) false) items)
+            (filter (λ item. option_map_or (nat_eq x.0) (owner item) false) items))
+            ≡ cond b 1 0 + length (filter (λ item. option_map_or (nat_eq x.0) (owner item) false) items)
         step true = omega arith
         step false = omega arith
 
@@ -164,7 +166,7 @@ unnumbered f from (x ∷ xs) = ap (λ n. f x + n) (unnumbered f (from + 1) xs)
 owned_moved : {I : Type 0} (m : Map) (raw : RawFile) (of_annotated : AnnotatedScope → ℕ) (of_value : ScopeValue → ℕ) (owner : ℕ × I → Option ℕ) (items : List I)
     → ((s : AnnotatedScope) → of_annotated (scope_image m s) ≤ of_annotated s)
     → ((x : ℕ × ScopeValue) → of_annotated (annotated_scope (value_of raw) x) ≡ of_value x.1)
-    → ((x : ℕ × _) → of_value (scope_of raw.tables x) ≡ length (filter (λ item. is_number x.0 (owner item)) (numbered items)))
+    → ((x : ℕ × _) → of_value (scope_of raw.tables x) ≡ length (filter (λ item. option_map_or (nat_eq x.0) (owner item) false) (numbered items)))
     → sum_by of_annotated (moved_file m (annotated_file (value_of raw))).scopes ≤ length items
 owned_moved m raw of_annotated of_value owner items kept annotated owned =
     let is = sum_is of_annotated (moved_file m (annotated_file (value_of raw))).scopes in
@@ -174,7 +176,7 @@ owned_moved m raw of_annotated of_value owner items kept annotated owned =
     let of_values = total_same (λ x. of_annotated (annotated_scope (value_of raw) x)) (λ (x : ℕ × ScopeValue). of_value x.1) annotated (numbered (value_of raw).scopes) in
     let plain = unnumbered of_value 1 (value_of raw).scopes in
     let of_rows = total_map of_value (scope_of raw.tables) (numbered raw.tables.scopes) in
-    let of_owned = total_same (λ x. of_value (scope_of raw.tables x)) (λ x. length (filter (λ item. is_number x.0 (owner item)) (numbered items))) owned
+    let of_owned = total_same (λ x. of_value (scope_of raw.tables x)) (λ x. length (filter (λ item. option_map_or (nat_eq x.0) (owner item) false) (numbered items))) owned
     (numbered raw.tables.scopes) in
     let few = owned_few owner 1 raw.tables.scopes (numbered items) in
     let many = length_numbered 1 items in

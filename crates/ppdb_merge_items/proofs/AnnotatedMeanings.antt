@@ -2,7 +2,7 @@
 use Rattle.std.proofs.Common.{◌≡◌, ℕ, ◌&&◌, List, [], ◌∷◌, map, refl, ap, sym, ◌∙◌, Bool, true, false, cond, Option}
 use Rattle.std.specs.Prelude.{Some, None, is_none, nat_eq, nat_lt, nat_le}
 use Rattle.std.specs.List.{filter, find, last_or}
-use Rattle.std.specs.Option.{option_map, option_and_then}
+use Rattle.std.specs.Option.{option_map, option_and_then, option_map_or}
 use Rattle.std.proofs.lemmas.Bool.{eqb-true, and_parts}
 use Rattle.sequence_points.specs.declared.point.Point.{Point}
 use Rattle.ppdb_tables.specs.RawTables.{numbered, row_at}
@@ -12,7 +12,7 @@ use Rattle.ppdb_values.specs.declared.file.DocumentValue.{DocumentValue}
 use Rattle.ppdb_values.specs.declared.scope.ScopeValue.{ScopeValue}
 use Rattle.ppdb_values.specs.declared.import.ImportScopeValue.{ImportScopeValue}
 use Rattle.ppdb_values.specs.declared.custom.CustomValue.{CustomValue}
-use Rattle.ppdb_values.specs.Parts.{slots_in, points_of, last_point, scopes_at, import_chain, is_at, points_by, signature_by}
+use Rattle.ppdb_values.specs.Parts.{slots_in, points_of, last_point, scopes_at, import_chain, is_at}
 use Rattle.ppdb_values.specs.declared.annotation.Annotation.{Annotation}
 use Rattle.ppdb_values.specs.Links.{links}
 use Rattle.ppdb_values.specs.Meaning.{meaning, point_meaning, scope_meaning, import_meaning, slots_at, annotated_on, without_parent}
@@ -48,7 +48,8 @@ point_is : (value : FileValue) (m x : ℕ) → option_map (point_meaning value m
     ≡ option_and_then (λ (e : MethodValue). annotated.point_meaning (annotated_file value) e x) (annotated.method_of (annotated_file value) m)
 point_is value m x = of (find (λ (e : MethodValue). nat_eq e.method m) value.methods) refl
   where
-    shown : (e : MethodValue) (o : Option Point) → signature_by (find (λ (e : MethodValue). nat_eq e.method m) value.methods) ≡ e.signature
+    shown : (e : MethodValue) (o : Option Point)
+        → option_map_or (λ (e : MethodValue). e.signature) (find (λ (e : MethodValue). nat_eq e.method m) value.methods) 0 ≡ e.signature
         → option_map (point_meaning value m) o
         ≡ option_map
         (λ (p : Point). record { offset = p.offset; span = p.span; document = annotated.document_at (annotated_file value) p.document; signature = e.signature }) o
@@ -56,11 +57,11 @@ point_is value m x = of (find (λ (e : MethodValue). nat_eq e.method m) value.me
     shown e (Some p) is = ap Some (rw (is, items_numbered value p.document) refl)
 
     of : (o : Option MethodValue) → find (λ (e : MethodValue). nat_eq e.method m) value.methods ≡ o
-        → option_map (point_meaning value m) (last_point (points_by o) x)
+        → option_map (point_meaning value m) (last_point (option_map_or (λ (e : MethodValue). e.points) o []) x)
         ≡ option_and_then (λ (e : MethodValue). annotated.point_meaning (annotated_file value) e x) o
     of None is = refl
     of (Some e) is =
-        shown e (last_point e.points x) (ap signature_by is)
+        shown e (last_point e.points x) (ap (λ (o : Option MethodValue). option_map_or (λ (e : MethodValue). e.signature) o 0) is)
         ∙ ap (option_map
         (λ (p : Point). record { offset = p.offset; span = p.span; document = annotated.document_at (annotated_file value) p.document; signature = e.signature }))
         (last_same (filter (λ (p : Point). nat_le p.offset x) e.points))

@@ -3,13 +3,13 @@ use Rattle.std.proofs.Common.{◌≡◌, ◌≢◌, ℕ, zero, suc, ◌+◌, ◌
 use Rattle.std.proofs.Common.{refl, sym, ◌∙◌, ap, subst, arith}
 use Rattle.std.specs.Prelude.{nat_eq, nat_le, AllPairs, Contains}
 use Rattle.std.specs.List.{filter, find, last_or}
-use Rattle.std.specs.Option.{option_map, option_and_then}
+use Rattle.std.specs.Option.{option_map, option_and_then, option_map_or}
 use Rattle.std.proofs.lemmas.Bool.{ne_eqb}
 use Rattle.ppdb_base.specs.Offsets.{Kept, moved}
 use Rattle.ppdb_base.proofs.Moved.{moved_kept}
 use Rattle.sequence_points.specs.declared.point.Point.{Point}
 use Rattle.ppdb_values.specs.declared.file.MethodValue.{MethodValue}
-use Rattle.ppdb_values.specs.Parts.{points_of, points_by, last_point}
+use Rattle.ppdb_values.specs.Parts.{points_of, last_point}
 use Rattle.ppdb_maps.specs.Map.{Map, moved_row, row_within, offsets_in, is_dropped}
 use Rattle.ppdb_values.specs.declared.custom.CustomValue.{CustomValue}
 use Rattle.ppdb_values.specs.declared.file.FileValue.{FileValue}
@@ -253,7 +253,7 @@ module _ (annotated : SoundnessIsAnnotated) (before after : List Input) (i : Inp
   -- ---- points
 
   rise_of : (o : Option MethodValue) → find (λ (e : MethodValue). nat_eq e.method method) i.1.value.methods ≡ o
-      → AllPairs (λ (p q : Point). p.offset < q.offset) (points_by o)
+      → AllPairs (λ (p q : Point). p.offset < q.offset) (option_map_or (λ (e : MethodValue). e.points) o [])
   rise_of None is = λ a b d less within. absurd (omega (arith, within))
   rise_of (Some e) is = found_each (λ (e : MethodValue). AllPairs (λ (p q : Point). p.offset < q.offset) e.points)
       (λ (e : MethodValue). nat_eq e.method method) i.1.value.methods e

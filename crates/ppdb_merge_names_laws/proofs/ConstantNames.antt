@@ -2,6 +2,7 @@
 use Rattle.std.proofs.Common.{◌≡◌, ℕ, Bool, true, false, List, [], ◌∷◌, ◌++◌, Option, Some, None, refl, sym, ap, subst, ◌∙◌, append_assoc, append-nil, map, cond}
 use Rattle.std.specs.Prelude.{◌==◌, is_some}
 use Rattle.std.proofs.lemmas.List.{map-append}
+use Rattle.std.specs.Option.{option_map_or}
 use Rattle.blob_grammar.specs.Grammar.{Value, number, integer, octets, Cut, with_value, cut}
 use Rattle.blob_grammar.specs.Reader.{prefix_of}
 use Rattle.type_blobs.specs.declared.types.TypeLimits.{TypeLimits}
@@ -9,7 +10,8 @@ use Rattle.type_blobs.specs.declared.types.Modifier.{Modifier}
 use Rattle.type_blobs.specs.Types.{token_of}
 use Rattle.type_blobs.specs.Constants.{constants, modifier_of, body_of, is_modifier, is_object, is_string, ConstantBody as StoredBody, primitive, enumerated}
 use Rattle.type_blobs.specs.Constants.{general, object}
-use Rattle.ppdb_values.specs.Constants.{body_value, body_by}
+use Rattle.ppdb_values.specs.declared.scope.ConstantBody.TheVariants.{Object}
+use Rattle.ppdb_values.specs.Constants.{body_value}
 use Rattle.ppdb_values.specs.RawFile.{records_of, begun_of}
 use Rattle.type_blobs_rows.specs.declared.row.Role.TheVariants.{Modifier as ModifierRole, Class}
 use Rattle.type_blobs_rows.specs.Rows.{type_role, constant_type, constant_types}
@@ -158,7 +160,7 @@ module _ (limits : TypeLimits) where
 
   pub constant-names : (blob : List ℕ) → is_some (body_of (begun_of (constants limits) blob)) ≡ true
       → map said (constant_types limits blob) ≡ targets_said (records_of (constants limits) blob)
-      ++ body_said (body_by (body_of (begun_of (constants limits) blob)))
+      ++ body_said (option_map_or body_value (body_of (begun_of (constants limits) blob)) Object)
   constant-names blob some =
       let g = constants limits in
       let prefix = cut g (prefix_of g blob) in
@@ -169,4 +171,4 @@ module _ (limits : TypeLimits) where
       ∙ ap (λ (modifiers : List Modifier). targets_said modifiers ++ begun_types prefix.begun) (sym (records-prefix g blob))
       ∙ ap (λ (values : List Value). targets_said (records_of g blob) ++ begun_types values) (sym (begun-prefix g blob))
       ∙ ap (λ (l : List Said). targets_said (records_of g blob) ++ l) (sym (body_names begun body.0 good body.1))
-      ∙ ap (λ (o : Option StoredBody). targets_said (records_of g blob) ++ body_said (body_by o)) (sym body.1)
+      ∙ ap (λ (o : Option StoredBody). targets_said (records_of g blob) ++ body_said (option_map_or body_value o Object)) (sym body.1)

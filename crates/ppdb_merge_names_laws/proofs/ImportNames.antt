@@ -11,7 +11,7 @@ use Rattle.type_blobs.specs.declared.types.TypeLimits.{TypeLimits}
 use Rattle.type_blobs.specs.declared.import_part.ImportPart.{ImportPart}
 use Rattle.type_blobs.specs.declared.import_part.ImportPart.TheVariants.{Kind, Alias, Assembly, Namespace, Target}
 use Rattle.type_blobs.specs.Types.{token_of}
-use Rattle.type_blobs.specs.Imports.{ImportItem, imports, import_of, item_of, parts_of, numbers_of, next_allows, allows}
+use Rattle.type_blobs.specs.Imports.{ImportItem, imports, import_of, item_of, parts_of, numbers_of, next_part, next_allows}
 use Rattle.ppdb_values.specs.Imports.{import_value}
 use Rattle.ppdb_values.specs.RawFile.{records_of}
 use Rattle.type_blobs_rows.specs.declared.row.Role.TheVariants.{ImportedType}
@@ -241,7 +241,7 @@ module _ (heap : ℕ → Option (List ℕ)) where
     told_number kind values at n part e =
         ap (λ (o : Option ImportPart). map said (row_behind (number kind ∷ values) o at (number n))) e ∙ part_is kind part at n
 
-    steps : (whole : List ImportItem) (begun : List Value) (at : ℕ) (value : Value) → Numbers begun → allows limits heap begun value ≡ true
+    steps : (whole : List ImportItem) (begun : List Value) (at : ℕ) (value : Value) → Numbers begun → next_allows limits heap (next_part begun) value ≡ true
         → Steps whole begun at value
     steps whole [] at (number n) good allowed = first whole n (import_of heap (number n ∷ [])) (λ item e. record_rows n [] item e)
     steps whole [] at (integer z) good allowed = absurd cc

@@ -3,6 +3,7 @@ use Rattle.std.proofs.Common.{◌≡◌, ℕ, suc, ◌+◌, ◌-◌, Bool, true,
 use Rattle.std.proofs.Common.{slice_get, drop, arith}
 use Rattle.std.specs.Prelude.{nat_eq, nat_lt, slice_range}
 use Rattle.std.specs.List.{flat_map, filter}
+use Rattle.std.specs.Option.{option_map_or}
 use Rattle.ppdb_base.specs.Place.{cell}
 use Rattle.blob_grammar.specs.Grammar.{Value, cut}
 use Rattle.blob_grammar.specs.Reader.{prefix_of}
@@ -27,7 +28,8 @@ use Rattle.ppdb_values.specs.declared.custom.CustomValue.{CustomValue}
 use Rattle.ppdb_values.specs.declared.import.ImportScopeValue.{ImportScopeValue}
 use Rattle.ppdb_values.specs.declared.annotation.Annotation.{Annotation}
 use Rattle.ppdb_values.specs.declared.scope.ConstantValue.{ConstantValue}
-use Rattle.ppdb_values.specs.Constants.{constant_of, body_by}
+use Rattle.ppdb_values.specs.declared.scope.ConstantBody.TheVariants.{Object}
+use Rattle.ppdb_values.specs.Constants.{body_value, constant_of}
 use Rattle.ppdb_values.specs.Customs.{custom_of, custom_body, async_body, parent_of, kind_in}
 use Rattle.ppdb_values.specs.Imports.{import_scope_of, import_value, heap_of}
 use Rattle.ppdb_values.specs.Owners.{ListsAreOwned, list_of}
@@ -86,7 +88,7 @@ module _ (m : Map) (raw : RawFile) (owned : ListsAreOwned) (keeps : KeepsRules r
       let g = constants (type_limits raw.tables) in
       let content = blob raw.tables cells.signature in
       inside-named 0x34 row 1 _
-      ∙ constant_live m (constant_types (type_limits raw.tables) content) (records_of g content) (body_by (body_of (begun_of g content)))
+      ∙ constant_live m (constant_types (type_limits raw.tables) content) (records_of g content) (option_map_or body_value (body_of (begun_of g content)) Object)
       (constant-names (type_limits raw.tables) content ((keeps.constants.each row cells there).body))
 
   -- a constant of a slice of the table is that of its row

@@ -2,10 +2,12 @@
 use Rattle.std.proofs.Common.{◌≡◌, ℕ, suc, List, [], ◌∷◌, sym, ap, subst, ◌∙◌, arith}
 use Rattle.std.specs.Prelude.{Option, Some, None, All, nat_le, IfSome}
 use Rattle.std.specs.List.{filter, last_or}
+use Rattle.std.specs.Option.{option_map_or}
 use Rattle.std.proofs.lemmas.List.Elements.{All-filter}
 use Rattle.sequence_points.specs.declared.point.Point.{Point}
 use Rattle.ppdb_tables.specs.RawTables.{RawTables}
-use Rattle.ppdb_values.specs.Parts.{last_point, points_of, signature_of, points_by, signature_by}
+use Rattle.ppdb_values.specs.declared.file.MethodValue.{MethodValue}
+use Rattle.ppdb_values.specs.Parts.{last_point, points_of, signature_of}
 use Rattle.ppdb_values.specs.RawFile.{RawFile}
 use Rattle.ppdb_values.specs.Rules.{HasRow}
 use Rattle.ppdb_values.specs.Value.{value_of}
@@ -14,10 +16,10 @@ use Rattle.ppdb_verify_rows.specs.Points.{PointsAre}
 
 -- what a cursor has are the points and the signature of the value
 pub points_held : (raw : RawFile) (m : ℕ) (shown : Shown) → PointsAre raw m (Some shown) → shown.left.items ≡ points_of (value_of raw) m
-points_held raw m shown are = sym (ap points_by are.0)
+points_held raw m shown are = sym (ap (λ (o : Option MethodValue). option_map_or (λ (e : MethodValue). e.points) o []) are.0)
 
 pub signature_held : (raw : RawFile) (m : ℕ) (shown : Shown) → PointsAre raw m (Some shown) → shown.signature ≡ signature_of (value_of raw) m
-signature_held raw m shown are = sym (ap signature_by are.0)
+signature_held raw m shown are = sym (ap (λ (o : Option MethodValue). option_map_or (λ (e : MethodValue). e.signature) o 0) are.0)
 
 last_all : {X : Type 0} (P : X → Type 0) (found : Option X) (xs : List X) (x : X) → IfSome found P → All P xs → last_or found xs ≡ Some x → P x
 last_all P (Some y) [] x h all is = let same : y ≡ x = cc in subst P same h

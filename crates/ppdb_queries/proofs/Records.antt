@@ -70,9 +70,9 @@ slots_are raw row found there same =
 
 -- no bytes are no slots
 pub nothing_whole : IsWhole hoisted_scopes []
-unfolding records_of reader.read_from reader.read_for
+unfolding records_of reader.read_from reader.read_for reader.fields_from reader.fields_for
 nothing_whole = read_from-reads hoisted_scopes []
 
 pub nothing_read : records_of hoisted_scopes [] ≡ []
-unfolding records_of reader.read_from reader.read_for
+unfolding records_of reader.fields_from reader.fields_for
 nothing_read = refl

@@ -1,5 +1,5 @@
 // The answers to questions about one file: what is read and verified, and what is put.
-ghost use Rattle.std.specs.Prelude.{◌≡◌, ◌≤◌, [], ◌∷◌, Some, None, OnOk, IfErr, IfSome};
+ghost use Rattle.std.specs.Prelude.{◌≡◌, ◌≤◌, [], ◌∷◌, Some, OnOk, IfErr, IfSome};
 ghost use Rattle.ppdb_base.specs.Causes.{Rose};
 ghost use Rattle.ppdb_base.specs.Written.{appended, AppendsPrefix, PutsInto};
 ghost use Rattle.ppdb_show_lines.specs.{Forms.lines_as, Heads.{id_line, entry_line}};
@@ -56,7 +56,7 @@ pub fn answer<'a, F: Folder, O: Sink, K: Ledger, L: Ledger>(
     ensures later { O.faults out.old ≤ O.faults out.new }
 {
     let mut bytes = List::new(alloc);
-    let verified = match read_verified(alloc, file, folder, &mut bytes, None, checks) {
+    let verified = match read_verified(alloc, file, folder, &mut bytes, checks) {
         Ok(verified) => verified,
         Err(stop) => return Err(stop),
     };

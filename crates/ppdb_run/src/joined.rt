@@ -17,7 +17,6 @@ use crate::joined_value::{input_of, joined_value_bytes};
 use crate::rebuild::choice;
 use ppdb_base::{Bytes, Steps};
 use ppdb_build::{BuildError, RowInput, write_joined};
-use ppdb_build_heaps::ItemKey;
 use ppdb_merge::RowMerger;
 use ppdb_run_stops::Stop;
 use ppdb_run_words::Inputs;
@@ -30,7 +29,6 @@ pub(crate) fn joined_bytes<'a, L: Ledger>(
     inputs: Inputs<'a>,
     merger: RowMerger<'_>,
     keep_id: bool,
-    key: ItemKey,
     steps: &mut Steps<L>,
 ) -> Result<Bytes, Stop<'a>>
     requires { 1 ≤ length merger.traces }
@@ -44,9 +42,9 @@ pub(crate) fn joined_bytes<'a, L: Ledger>(
         Some(error) => return Err(Stop::Unfit(inputs.file(input_of(error)), error)),
         None => {}
     }
-    match rows_bytes(alloc, merger.inputs(), keep_id, key, steps) {
+    match rows_bytes(alloc, merger.inputs(), keep_id, steps) {
         Ok(Some(bytes)) => Ok(bytes),
-        Ok(None) => joined_value_bytes(alloc, inputs, merger, keep_id, key, steps),
+        Ok(None) => joined_value_bytes(alloc, inputs, merger, keep_id, steps),
         Err(stop) => Err(stop),
     }
 }
@@ -56,7 +54,6 @@ fn rows_bytes<'a, L: Ledger>(
     alloc: Global,
     inputs: &[RowInput<'_>],
     keep_id: bool,
-    key: ItemKey,
     steps: &mut Steps<L>,
 ) -> Result<Option<Bytes>, Stop<'a>>
     requires some { 1 ≤ length inputs.now }
@@ -71,7 +68,7 @@ fn rows_bytes<'a, L: Ledger>(
         IfOk result (λ file. IfSome file (λ bytes. RebuildsWhereKnown (record { keep_id = keep_id; marks = marks }) (output, bytes))) }
     ensures causes { StopsInside result }
 {
-    match write_joined(alloc, inputs, choice(keep_id), key, steps) {
+    match write_joined(alloc, inputs, choice(keep_id), steps) {
         Ok(file) => Ok(file),
         Err(BuildError::Limit(limit)) => Err(Stop::Limit(limit)),
         Err(BuildError::Memory) => Err(Stop::Memory),

@@ -14,8 +14,7 @@ ghost use Rattle.ppdb_run_words.specs.Task.{inputs_of};
 
 use crate::rebuild::choice;
 use ppdb_base::{Bytes, MergeError, Steps};
-use ppdb_build::{BuildError, FileValue, write_file_under};
-use ppdb_build_heaps::ItemKey;
+use ppdb_build::{BuildError, FileValue, write_file};
 use ppdb_merge::RowMerger;
 use ppdb_run_stops::Stop;
 use ppdb_run_words::Inputs;
@@ -28,7 +27,6 @@ pub(crate) fn joined_value_bytes<'a, L: Ledger>(
     inputs: Inputs<'a>,
     merger: RowMerger<'_>,
     keep_id: bool,
-    key: ItemKey,
     steps: &mut Steps<L>,
 ) -> Result<Bytes, Stop<'a>>
     requires { 1 ≤ length merger.traces }
@@ -42,7 +40,7 @@ pub(crate) fn joined_value_bytes<'a, L: Ledger>(
         Ok(value) => value,
         Err(stop) => return Err(stop),
     };
-    value_bytes(alloc, &value, keep_id, key)
+    value_bytes(alloc, &value, keep_id)
 }
 
 /// The value that inputs are joined to, where they fit together.
@@ -73,13 +71,8 @@ pub(crate) fn input_of(error: MergeError) -> u32
     }
 }
 
-/// The canonical file of a value, whose items are hashed under the key.
-fn value_bytes<'a>(
-    alloc: Global,
-    value: &FileValue,
-    keep_id: bool,
-    key: ItemKey,
-) -> Result<Bytes, Stop<'a>>
+/// The canonical file of a value.
+fn value_bytes<'a>(alloc: Global, value: &FileValue, keep_id: bool) -> Result<Bytes, Stop<'a>>
     requires { IsSound value.now }
     ensures told { (output : List ℕ) (marks : List (List ℕ)) →
         Gives (written output) result (gives (in_limits output (record { keep_id = keep_id; marks = marks }) value.now)) }
@@ -89,7 +82,7 @@ fn value_bytes<'a>(
         IfOk result (λ bytes. RebuildsWhereKnown (record { keep_id = keep_id; marks = marks }) (output, bytes)) }
     ensures causes { StopsInside result }
 {
-    match write_file_under(alloc, value, choice(keep_id), key) {
+    match write_file(alloc, value, choice(keep_id)) {
         Ok(bytes) => Ok(bytes),
         Err(BuildError::Limit(limit)) => Err(Stop::Limit(limit)),
         Err(BuildError::Memory) => Err(Stop::Memory),

@@ -8,7 +8,6 @@ mod form;
 mod input;
 mod joined;
 mod joined_value;
-mod keys;
 pub mod laws;
 mod lookup;
 mod map;

@@ -17,7 +17,6 @@ use crate::meaning_laws::{
 use crate::merged::{free_cells, merged};
 use crate::output::write_output;
 use ppdb_base::{Bytes, Folder, Steps};
-use ppdb_build_heaps::KeyMaker;
 use ppdb_run_stops::Stop;
 use ppdb_run_words::{Inputs, Options};
 use std::alloc::Global;
@@ -79,13 +78,11 @@ fn merged_bytes<'a, F: Folder, K: Ledger, L: Ledger>(
     joined_files_keep_inputs();
     let marks = options.marks(alloc)?;
     let mut cells = free_cells(alloc)?;
-    let mut maker = KeyMaker::new();
     let merger = match merged(
         alloc,
         inputs,
         marks,
         cells.as_mut_slice(),
-        &mut maker,
         folder,
         checks,
         steps,
@@ -93,5 +90,5 @@ fn merged_bytes<'a, F: Folder, K: Ledger, L: Ledger>(
         Ok(merger) => merger,
         Err(stop) => return Err(stop),
     };
-    joined_bytes(alloc, inputs, merger, options.keep_id, maker.key(), steps)
+    joined_bytes(alloc, inputs, merger, options.keep_id, steps)
 }

@@ -9,12 +9,10 @@ ghost use Rattle.ppdb_run_words.specs.Task.{input_of, inputs_of, pairs_of};
 ghost use Rattle.ppdb_run_words.specs.Words.{Merge, texts};
 
 use crate::input::read_input;
-use crate::keys::take_in;
 use crate::map::map_of;
 use custom_info::Marks;
 use ppdb_base::{Bytes, Folder, List, MAX_FILE_BYTES, Memory, Steps};
 use ppdb_build::RowInput;
-use ppdb_build_heaps::KeyMaker;
 use ppdb_merge::RowMerger;
 use ppdb_run_stops::Stop;
 use ppdb_run_words::{Inputs, Pair};
@@ -36,13 +34,12 @@ pub fn free_cells(alloc: Global) -> Result<List<Bytes>, Memory>
     Ok(cells)
 }
 
-/// Reads and moves all inputs, of which each has a cell for its file. The maker takes in all that is read.
+/// Reads and moves all inputs, of which each has a cell for its file.
 pub fn merged<'a, 'b, F: Folder, K: Ledger, L: Ledger>(
     alloc: Global,
     inputs: Inputs<'a>,
     marks: Marks,
     cells: &'b mut [Bytes],
-    maker: &mut KeyMaker,
     folder: &mut F,
     checks: &mut Steps<K>,
     steps: &mut Steps<L>,
@@ -60,10 +57,8 @@ pub fn merged<'a, 'b, F: Folder, K: Ledger, L: Ledger>(
 {
     let merger = RowMerger::new(alloc, marks);
     match inputs {
-        Inputs::One(input) => add_one(alloc, input, merger, cells, maker, folder, checks, steps),
-        Inputs::Pairs(words) => {
-            add_pairs(alloc, words, merger, cells, maker, folder, checks, steps)
-        }
+        Inputs::One(input) => add_one(alloc, input, merger, cells, folder, checks, steps),
+        Inputs::Pairs(words) => add_pairs(alloc, words, merger, cells, folder, checks, steps),
     }
 }
 
@@ -73,7 +68,6 @@ fn add_one<'a, 'b, F: Folder, K: Ledger, L: Ledger>(
     input: Pair<'a>,
     merger: RowMerger<'b>,
     cells: &'b mut [Bytes],
-    maker: &mut KeyMaker,
     folder: &mut F,
     checks: &mut Steps<K>,
     steps: &mut Steps<L>,
@@ -91,16 +85,7 @@ fn add_one<'a, 'b, F: Folder, K: Ledger, L: Ledger>(
 {
     let mut merger = merger;
     let cell = &mut cells[0];
-    match add_input(
-        alloc,
-        input,
-        cell,
-        &mut merger,
-        maker,
-        folder,
-        checks,
-        steps,
-    ) {
+    match add_input(alloc, input, cell, &mut merger, folder, checks, steps) {
         Ok(()) => Ok(merger),
         Err(stop) => Err(stop),
     }
@@ -112,7 +97,6 @@ fn add_pairs<'a, 'b, F: Folder, K: Ledger, L: Ledger>(
     words: &'a [String],
     merger: RowMerger<'b>,
     cells: &'b mut [Bytes],
-    maker: &mut KeyMaker,
     folder: &mut F,
     checks: &mut Steps<K>,
     steps: &mut Steps<L>,
@@ -140,16 +124,7 @@ fn add_pairs<'a, 'b, F: Folder, K: Ledger, L: Ledger>(
         let Some((cell, others)) = free.split_first_mut() else {
             unreachable!()
         };
-        match add_input(
-            alloc,
-            input,
-            cell,
-            &mut merger,
-            maker,
-            folder,
-            checks,
-            steps,
-        ) {
+        match add_input(alloc, input, cell, &mut merger, folder, checks, steps) {
             Ok(()) => {}
             Err(stop) => return Err(stop),
         }
@@ -165,7 +140,6 @@ fn add_input<'a, 'b, F: Folder, K: Ledger, L: Ledger>(
     input: Pair<'a>,
     cell: &'b mut Bytes,
     merger: &mut RowMerger<'b>,
-    maker: &mut KeyMaker,
     folder: &mut F,
     checks: &mut Steps<K>,
     steps: &mut Steps<L>,
@@ -189,8 +163,6 @@ fn add_input<'a, 'b, F: Folder, K: Ledger, L: Ledger>(
         Ok(text) => text,
         Err(stop) => return Err(stop),
     };
-    take_in(maker, &bytes);
-    take_in(maker, &text);
     *cell = bytes;
     add_texts(alloc, input, cell.as_slice(), text, merger, checks, steps)
 }

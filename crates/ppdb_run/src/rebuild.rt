@@ -20,7 +20,6 @@ use crate::verified::read_verified;
 use custom_info::{Kind, Marks, kind_of};
 use ppdb_base::{Bytes, Folder, List, MergeError, Steps};
 use ppdb_build::{BuildError, IdChoice};
-use ppdb_build_heaps::{ItemKey, KeyMaker};
 use ppdb_run_stops::Stop;
 use ppdb_run_words::Options;
 use ppdb_tables::CUSTOM;
@@ -79,20 +78,11 @@ fn rebuilt_bytes<'a, F: Folder, K: Ledger, L: Ledger>(
     rebuilt_files_keep_themselves();
     let marks = options.marks(alloc)?;
     let mut bytes = List::new(alloc);
-    let mut maker = KeyMaker::new();
-    let file = match read_verified(alloc, input, folder, &mut bytes, Some(&mut maker), checks) {
+    let file = match read_verified(alloc, input, folder, &mut bytes, checks) {
         Ok(file) => file,
         Err(stop) => return Err(stop),
     };
-    file_bytes(
-        alloc,
-        input,
-        &file,
-        &marks,
-        options.keep_id,
-        maker.key(),
-        steps,
-    )
+    file_bytes(alloc, input, &file, &marks, options.keep_id, steps)
 }
 
 /// The canonical file of a verified file, where each of its custom records is of a kind that is read or passed on.
@@ -102,7 +92,6 @@ fn file_bytes<'a, L: Ledger>(
     file: &Verified<'_>,
     marks: &Marks,
     keep_id: bool,
-    key: ItemKey,
     steps: &mut Steps<L>,
 ) -> Result<Bytes, Stop<'a>>
     ensures told { (output : List ℕ) → Gives (written output) result
@@ -116,7 +105,7 @@ fn file_bytes<'a, L: Ledger>(
         Some(error) => return Err(Stop::Unfit(name, error)),
         None => {}
     }
-    match ppdb_build::rebuild(alloc, file, choice(keep_id), key, steps) {
+    match ppdb_build::rebuild(alloc, file, choice(keep_id), steps) {
         Ok(bytes) => Ok(bytes),
         Err(BuildError::Limit(limit)) => Err(Stop::Limit(limit)),
         Err(BuildError::Memory) => Err(Stop::Memory),

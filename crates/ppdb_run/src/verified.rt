@@ -7,21 +7,18 @@ ghost use Rattle.ppdb_verify.specs.Files.{FileFaults, IsRawOf};
 ghost use Rattle.ppdb_verify.specs.Views.{raw_file};
 
 use crate::input::read_input;
-use crate::keys::take_in_if;
 use ppdb_base::{Bytes, Folder, MAX_FILE_BYTES, Steps};
-use ppdb_build_heaps::KeyMaker;
 use ppdb_run_stops::Stop;
 use ppdb_verify::{Verified, VerifyError, verify};
 use std::alloc::Global;
 use std::sync::ledger::Ledger;
 
-/// Reads a file of a command into `bytes`, and verifies it there. The maker takes in what is read, where there is one.
+/// Reads a file of a command into `bytes`, and verifies it there.
 pub fn read_verified<'a, 'b, F: Folder, L: Ledger>(
     alloc: Global,
     file: &'a str,
     folder: &mut F,
     bytes: &'b mut Bytes,
-    maker: Option<&mut KeyMaker>,
     steps: &mut Steps<L>,
 ) -> Result<Verified<'b>, Stop<'a>>
     ensures told { IfSome (F.files folder.old) (λ all. Gives raw_file result (verified all file.now)) }
@@ -32,10 +29,7 @@ pub fn read_verified<'a, 'b, F: Folder, L: Ledger>(
         (λ failed. (failed ≡ file.now) × (F.reads folder.new ≡ F.reads folder.old)) }
 {
     match read_input(alloc, folder, file) {
-        Ok(contents) => {
-            take_in_if(maker, &contents);
-            *bytes = contents;
-        }
+        Ok(contents) => *bytes = contents,
         Err(stop) => return Err(stop),
     }
     match verify(alloc, bytes.as_slice(), steps) {

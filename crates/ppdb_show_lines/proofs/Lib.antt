@@ -2,7 +2,6 @@ pub mod Ascii
 pub mod Counted
 pub mod Hexed
 pub mod Keeping
-pub mod Names
 pub mod Parts
 pub mod Places
 pub mod Printed

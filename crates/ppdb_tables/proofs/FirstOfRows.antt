@@ -25,22 +25,22 @@ use Rattle.row_layout.specs.declared.column.Sizes.{Sizes}
 use Rattle.row_layout.specs.declared.column.Column.{Column}
 use Rattle.row_layout.specs.declared.column.Column.TheVariants.{U16, U32, Text, Blob, Guid, Row, Parent}
 use Rattle.row_layout.specs.Columns.{width_of, index_width, has_rows, parent_tables}
-use Rattle.ppdb_tables.specs.Layouts.{Table, debug_tables, row_len, row_fields, row_fields_of}
+use Rattle.ppdb_tables.specs.Layouts.{debug_tables, row_len, row_fields, row_fields_of}
 use Rattle.ppdb_tables.specs.Tables.{BoundFaults, bounds, rows_start}
 use Rattle.ppdb_tables.specs.Bounds.{IsRowFault}
 use Rattle.ppdb_tables.proofs.RowCounts.{sum-replicate}
 
-pub no_table : Table
-no_table = record { number = 0; columns = [] }
+pub no_table : ℕ × List Column
+no_table = (0, [])
 
 -- a debug table, in file order
-unfoldable pub table : ℕ → Table
+unfoldable pub table : ℕ → ℕ × List Column
 table index = get_or debug_tables index no_table
 
 -- the number of a debug table
-pub number_is : (index : ℕ) → index < 8 → (table index).number ≡ 0x30 + index
+pub number_is : (index : ℕ) → index < 8 → (table index).0 ≡ 0x30 + index
 unfolding table
-number_is index lt = sym (get_or-map (λ t. t.number) debug_tables index no_table 0 lt) ∙ get_or-range_with_len 0x30 8 index 0 lt
+number_is index lt = sym (get_or-map (λ (t : ℕ × List Column). t.0) debug_tables index no_table 0 lt) ∙ get_or-range_with_len 0x30 8 index 0 lt
 
 -- the length of its rows
 pub len_is : (sizes : Sizes) (index : ℕ) → index < 8 → get_or (map (row_len sizes) debug_tables) index 0 ≡ row_len sizes (table index)
@@ -69,20 +69,20 @@ columns_some sizes (column ∷ columns) some = omega (arith, sum_cons (width_of 
 is_some : ℕ → Bool
 is_some n = nat_lt 0 n
 
-some_case : (index n : ℕ) (b : Bool) → index < 8 → get_or (map (λ t. length t.columns) debug_tables) index 0 ≡ n → is_some n ≡ b → 0 < n
+some_case : (index n : ℕ) (b : Bool) → index < 8 → get_or (map (λ (t : ℕ × List Column). length t.1) debug_tables) index 0 ≡ n → is_some n ≡ b → 0 < n
 unfolding is_some
 some_case index n true lt here e = ltb-true 0 n e
 some_case index n false lt here e =
-    let no = list_all_at is_some (map (λ t. length t.columns) debug_tables) index 0 lt (ap is_some here ∙ e) in
-    let all : list_all is_some (map (λ t. length t.columns) debug_tables) ≡ true = refl in
+    let no = list_all_at is_some (map (λ (t : ℕ × List Column). length t.1) debug_tables) index 0 lt (ap is_some here ∙ e) in
+    let all : list_all is_some (map (λ (t : ℕ × List Column). length t.1) debug_tables) ≡ true = refl in
     absurd (false≢true (sym no ∙ all))
 
 -- each row of a debug table has bytes
 pub row_some : (sizes : Sizes) (index : ℕ) → index < 8 → 0 < row_len sizes (table index)
 unfolding table
 row_some sizes index lt =
-    columns_some sizes (table index).columns
-    (some_case index (length (table index).columns) _ lt (get_or-map (λ t. length t.columns) debug_tables index no_table 0 lt) refl)
+    columns_some sizes (table index).1
+    (some_case index (length (table index).1) _ lt (get_or-map (λ (t : ℕ × List Column). length t.1) debug_tables index no_table 0 lt) refl)
 
 -- ---- the tables one after another
 

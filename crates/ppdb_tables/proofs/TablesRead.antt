@@ -30,14 +30,14 @@ lens_are sizes l a = rw (a.documents, a.methods, a.scopes, a.variables, a.consta
 
 -- a table that was placed ends in the stream
 pub table_fits : (sizes : Sizes) (stream : List ℕ) (index number : ℕ) (columns : List Column) (widths : List ℕ) (place : ℕ)
-    → slice_get debug_tables index ≡ Some (record { number = number; columns = columns })
+    → slice_get debug_tables index ≡ Some (number, columns)
     → StandsAt sizes stream index place → widths ≡ widths_of sizes columns → place + slice_index sizes.rows number * sum widths ≤ length stream
 unfolding table
 table_fits sizes stream index number columns widths place listed stands is =
-    let lt : index < 8 = slice_get_within debug_tables index (record { number = number; columns = columns }) listed in
-    let there : table index ≡ record { number = number; columns = columns } =
-    get_or_from_slice_get debug_tables index (record { number = number; columns = columns }) no_table listed in
-    let number_here : 0x30 + index ≡ number = sym (number_is index lt) ∙ ap (λ t. t.number) there in
+    let lt : index < 8 = slice_get_within debug_tables index (number, columns) listed in
+    let there : table index ≡ (number, columns) =
+    get_or_from_slice_get debug_tables index (number, columns) no_table listed in
+    let number_here : 0x30 + index ≡ number = sym (number_is index lt) ∙ ap (λ (t : ℕ × List Column). t.0) there in
     let len : row_len sizes (table index) ≡ sum widths = ap (row_len sizes) there ∙ ap sum (sym is) in
     let product : slice_index sizes.rows (0x30 + index) * row_len sizes (table index) ≡ slice_index sizes.rows number * sum widths =
     ap (λ n. slice_index sizes.rows n * row_len sizes (table index)) number_here ∙ ap (λ n. slice_index sizes.rows number * n) len in

@@ -36,38 +36,26 @@ machine_columns = Row 0x06 ∷ Row 0x06 ∷ []
 abbrev pub custom_columns : List Column
 custom_columns = Parent ∷ Guid ∷ Blob ∷ []
 
--- a table: its number and its columns
-pub record Table : Type 0 where
-  pub number : ℕ
-  pub columns : List Column
-
--- the debug tables in file order
-abbrev pub debug_tables : List Table
+-- the debug tables in file order, each with its number and its columns
+abbrev pub debug_tables : List (ℕ × List Column)
 debug_tables =
-    record { number = 0x30; columns = document_columns }
-    ∷ record { number = 0x31; columns = method_columns }
-    ∷ record { number = 0x32; columns = scope_columns }
-    ∷ record { number = 0x33; columns = variable_columns }
-    ∷ record { number = 0x34; columns = constant_columns }
-    ∷ record { number = 0x35; columns = import_columns }
-    ∷ record { number = 0x36; columns = machine_columns }
-    ∷ record { number = 0x37; columns = custom_columns }
-    ∷ []
+    (0x30, document_columns) ∷ (0x31, method_columns) ∷ (0x32, scope_columns) ∷ (0x33, variable_columns)
+    ∷ (0x34, constant_columns) ∷ (0x35, import_columns) ∷ (0x36, machine_columns) ∷ (0x37, custom_columns) ∷ []
 
 -- the widths of a row's cells
 abbrev pub widths_of : Sizes → List Column → List ℕ
 widths_of sizes columns = map (width_of sizes) columns
 
 -- how many bytes a row has
-abbrev pub row_len : Sizes → Table → ℕ
-row_len sizes table = sum (widths_of sizes table.columns)
+abbrev pub row_len : Sizes → ℕ × List Column → ℕ
+row_len sizes table = sum (widths_of sizes table.1)
 
 -- the rows of a table as fields
-abbrev pub row_fields_of : Sizes → Table → List ℕ
-row_fields_of sizes table = replicate (slice_index sizes.rows table.number) (row_len sizes table)
+abbrev pub row_fields_of : Sizes → ℕ × List Column → List ℕ
+row_fields_of sizes table = replicate (slice_index sizes.rows table.0) (row_len sizes table)
 
 -- the rows of some tables as fields, one table after another
-abbrev pub row_fields : Sizes → List Table → List ℕ
+abbrev pub row_fields : Sizes → List (ℕ × List Column) → List ℕ
 row_fields sizes tables = flat_map (row_fields_of sizes) tables
 
 -- the bytes of a row, where the rows stand one after another; the first is row 0 here
@@ -87,14 +75,9 @@ abbrev pub method_row : List ℕ → List ℕ → MethodDebugRow
 method_row widths row = record { document = cell_in widths row 0; points = cell_in widths row 1 }
 
 abbrev pub scope_row : List ℕ → List ℕ → ScopeRow
-scope_row widths row = record {
-  method = cell_in widths row 0;
-  «import» = cell_in widths row 1;
-  variables = cell_in widths row 2;
-  constants = cell_in widths row 3;
-  start = cell_in widths row 4;
-  length = cell_in widths row 5;
-}
+scope_row widths row =
+    let at = cell_in widths row in
+    record { method = at 0; «import» = at 1; variables = at 2; constants = at 3; start = at 4; length = at 5 }
 
 abbrev pub variable_row : List ℕ → List ℕ → VariableRow
 variable_row widths row = record { attributes = cell_in widths row 0; slot = cell_in widths row 1; name = cell_in widths row 2 }

@@ -67,7 +67,7 @@ TablesFaults head stream = Then (TableFieldFaults (slice_index head.rows 6) stre
 
 -- where a table begins: after the rows of the tables below it
 abbrev pub table_place : Sizes → List ℕ → ℕ → ℕ
-table_place sizes stream number = rows_start stream + sum (row_fields sizes (filter (λ table. nat_lt table.number number) debug_tables))
+table_place sizes stream number = rows_start stream + sum (row_fields sizes (filter (λ table. nat_lt table.0 number) debug_tables))
 
 -- the rows of a table
 abbrev pub rows_at : {X : Type 0} → (List ℕ → List ℕ → X) → Sizes → List ℕ → ℕ → List Column → List X

@@ -1,12 +1,13 @@
 -- The worked program's file keeps the rules.
-use Rattle.std.proofs.Common.{◌≡◌, ◌≢◌, ℕ, zero, suc, ◌≤◌, List, [], ◌∷◌, refl, subst, arith, inl, inr, true, slice_index}
+use Rattle.std.proofs.Common.{◌≡◌, ◌≢◌, ℕ, zero, suc, ◌≤◌, List, [], ◌∷◌, refl, sym, subst, arith, inl, inr, true, slice_index}
 use Rattle.std.specs.Prelude.{Option, Some, None, nat_le}
 use Rattle.std.specs.List.{list_all}
 use Rattle.std.proofs.lemmas.Bool.Decides.{nat_tests}
 use Rattle.ppdb_base.specs.declared.fault.BlobFault.{BlobFault}
 use Rattle.blob_grammar.specs.Grammar.{Grammar}
 use Rattle.blob_grammar.specs.Reading.{Reading}
-use Rattle.blob_grammar.specs.Reader.{read_from, read_for, fields_from, fields_for, begun_from, unsigned_at, signed_at, two_at, four_at, character_len}
+use Rattle.blob_grammar.specs.Reader.{read_from, read_for, fields_from, fields_for, unsigned_at, signed_at, two_at, four_at, character_len}
+use Rattle.blob_grammar.proofs.PrefixFields.{records_read}
 use Rattle.blob_grammar.proofs.Readers.{read_from-reads}
 use Rattle.ppdb_heaps.specs.Heaps.{text_at, blob_at, guid_at}
 use Rattle.ppdb_tables.specs.declared.rows.ScopeRow.{ScopeRow}
@@ -72,7 +73,11 @@ below top (x ∷ xs) e (suc i) = below top xs (grind (arith, nat_tests, e)) i
 
 whole : {R : Type 0} (g : Grammar R) (content : List ℕ) → (read_from g [] [] 0 content).fault ≡ None → IsWhole g content
 unfolding records_of
-whole g content e = subst (λ (fault : Option BlobFault). Reading g content (records_of g content) fault) e (read_from-reads g content)
+whole {R = R} g content e =
+    let left = read_from g [] [] 0 content in
+    let read : Reading g content (records_of g content) left.fault
+    = subst (λ (records : List R). Reading g content records left.fault) (sym (records_read g content)) (read_from-reads g content) in
+    subst (λ (fault : Option BlobFault). Reading g content (records_of g content) fault) e read
 
 -- ---- the tables
 
@@ -127,7 +132,7 @@ scopes_kept : KeepsScopes program_file.tables
 scopes_kept = record { each = each_one _ _ scope_kept; by_method = sorted_one 4; by_start = pairs_one _ _; nested = pairs_one _ _ }
 
 constant_kept : IsConstant program_file.tables (record { name = 1; signature = 98 })
-unfolding text_at blob_at begun_of read_from read_for begun_from fields_from fields_for unsigned_at two_at four_at
+unfolding text_at blob_at begun_of read_from read_for fields_from fields_for unsigned_at two_at four_at
 constant_kept = record { name = refl; signature = refl; signature_whole = whole _ _ refl; body = refl }
 
 first_import_kept : IsImport program_file.tables (record { parent = 0; imports = 0 })

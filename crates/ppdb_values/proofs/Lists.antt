@@ -1,16 +1,16 @@
 -- Where the lists of scopes are in order, a scope owns the items of its list.
 use Rattle.std.proofs.Common.{◌≡◌, ℕ, zero, suc, ◌+◌, ◌-◌, ◌≤◌, ◌<◌, ◌↔◌, List, [], ◌∷◌, length, map, take, drop, refl, ap, sym, arith}
 use Rattle.std.proofs.Common.{inl, inr, Bool, true, false, slice_get, slice_index}
-use Rattle.std.specs.Prelude.{Option, Some, None, unwrap_or}
+use Rattle.std.specs.Prelude.{Option, Some, None, unwrap_or, nat_eq}
 use Rattle.std.specs.List.{filter, enumerate_from}
-use Rattle.std.specs.Option.{option_map}
+use Rattle.std.specs.Option.{option_map, option_map_or}
 use Rattle.std.proofs.lemmas.Bool.{cases_lt, cases_eq}
 use Rattle.std.proofs.lemmas.Bool.Decides.{nat_tests}
 use Rattle.std.proofs.lemmas.List.{length-map}
 use Rattle.std.proofs.lemmas.Option.{slice_get_cases, slice_get_within}
 use Rattle.ppdb_tables.specs.declared.rows.ScopeRow.{ScopeRow}
 use Rattle.ppdb_tables.specs.RawTables.{row_at}
-use Rattle.ppdb_values.specs.Value.{owner_of, is_number, owned_by}
+use Rattle.ppdb_values.specs.Value.{owner_of, owned_by}
 use Rattle.ppdb_values.specs.Rules.{KeepsLists}
 use Rattle.ppdb_tables.specs.Owners.{Owns}
 use Rattle.ppdb_values.specs.Owners.{list_end, list_of}
@@ -157,11 +157,11 @@ slice_filter p n (x ∷ xs) (suc a) (suc b) below mid above ab bn =
     (omega arith) (omega arith) in
     rw (e, h) more
 
-yes : (owner : ℕ) (o : Option ℕ) → o ≡ Some owner → is_number owner o ≡ true
+yes : (owner : ℕ) (o : Option ℕ) → o ≡ Some owner → option_map_or (nat_eq owner) o false ≡ true
 yes owner None h = cc
 yes owner (Some m) h = let e : m ≡ owner = cc in grind (arith, nat_tests, e)
 
-no : (owner : ℕ) (o : Option ℕ) → (o ≡ Some owner → ⊥) → is_number owner o ≡ false
+no : (owner : ℕ) (o : Option ℕ) → (o ≡ Some owner → ⊥) → option_map_or (nat_eq owner) o false ≡ false
 no owner None h = refl
 no owner (Some m) h = elim (cases_eq owner m) [
   | inl e ↦ absurd (h (ap (λ (n : ℕ). Some n) (sym e)))
@@ -176,7 +176,7 @@ owned_is_list list scopes owner scope items keeps there =
     let after = end_after list scopes (length items) owner scope (row_at scopes (suc owner)) refl keeps there in
     let inside = end_within list scopes (length items) owner (row_at scopes (suc owner)) refl keeps in
     let end = list_end list scopes owner (length items) in
-    slice_filter (λ item. is_number owner (owner_of list scopes item)) 1 items (list scope - 1) (end - 1)
+    slice_filter (λ item. option_map_or (nat_eq owner) (owner_of list scopes item) false) 1 items (list scope - 1) (end - 1)
     (λ i low. no owner (owner_of list scopes (1 + i))
     (λ h. let o = ((owner_in_list list scopes (length items) owner (1 + i) scope keeps there (omega (arith, low, first, after, inside))).0 h).0 in
     omega (arith, o, low, first)))

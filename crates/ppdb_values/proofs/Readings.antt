@@ -4,10 +4,7 @@ use Rattle.std.specs.List.{filter_map}
 use Rattle.ppdb_base.specs.declared.fault.BlobFault.{BlobFault}
 use Rattle.blob_grammar.specs.Grammar.{Value, Field, Grammar, cut}
 use Rattle.blob_grammar.specs.Reading.{Reading, IsLongestPrefix}
-use Rattle.blob_grammar.specs.Reader.{read_from, begun_from}
-use Rattle.blob_grammar.proofs.Readers.{read_from-reads}
-use Rattle.blob_grammar.proofs.Unique.{reading-unique}
-use Rattle.blob_grammar.proofs.PrefixFields.{longest-prefix_of}
+use Rattle.blob_grammar.proofs.PrefixFields.{longest-prefix_of, records_are_cut}
 use Rattle.ppdb_heaps.specs.Names.{IsName, names, joined, name_of}
 use Rattle.sequence_points.specs.declared.point.Point.{Point}
 use Rattle.sequence_points.specs.Records.{Entry as PointEntry, sequence_points}
@@ -27,13 +24,12 @@ use Rattle.ppdb_values.specs.Customs.{step_of, async_body}
 pub records_are : {R : Type 0} (g : Grammar R) (blob : List ℕ) (records : List R) (fault : Option BlobFault) → Reading g blob records fault
     → records_of g blob ≡ records
 unfolding records_of
-records_are g blob records fault h =
-    (reading-unique g blob (read_from g [] [] 0 blob).items records (read_from g [] [] 0 blob).fault fault (read_from-reads g blob) h).0
+records_are g blob records fault h = sym (records_are_cut g blob records fault h)
 
 -- the values of the record that has begun where the longest valid prefix ends
 pub begun_is : {R : Type 0} (g : Grammar R) (blob : List ℕ) (fields : List Field) (after : List ℕ) → IsLongestPrefix g blob fields after
     → begun_of g blob ≡ (cut g fields).begun
-unfolding begun_of begun_from
+unfolding begun_of
 begun_is g blob fields after prefix = sym (ap (λ (fs : List Field). (cut g fs).begun) (longest-prefix_of g blob fields after prefix))
 
 pub name_is : (raw : RawTables) (content name : List ℕ) → IsName raw.blobs content name → name_of raw.blobs content ≡ name

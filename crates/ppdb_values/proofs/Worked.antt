@@ -1,6 +1,6 @@
 -- The worked files, by computation.
 use Rattle.std.proofs.Common.{◌≡◌, refl}
-use Rattle.blob_grammar.specs.Reader.{read_from, read_for, fields_from, fields_for, begun_from, unsigned_at, signed_at, two_at, four_at, character_len}
+use Rattle.blob_grammar.specs.Reader.{fields_from, fields_for, unsigned_at, signed_at, two_at, four_at, character_len}
 use Rattle.ppdb_heaps.specs.Heaps.{text_at, blob_at, guid_at}
 use Rattle.ppdb_heaps.specs.Names.{name_of}
 use Rattle.ppdb_values.specs.Chains.{chain_for}
@@ -15,12 +15,12 @@ pub empty_is : value_of empty_file ≡ empty_value
 empty_is = refl
 
 pub small_is : value_of small_file ≡ small_value
-unfolding text_at blob_at guid_at name_of records_of begun_of read_from read_for begun_from fields_from fields_for unsigned_at two_at four_at signed_at
+unfolding text_at blob_at guid_at name_of records_of begun_of fields_from fields_for unsigned_at two_at four_at signed_at
     character_len
 small_is = refl
 
 pub program_is : value_of program_file ≡ program_value
-unfolding text_at blob_at guid_at name_of records_of begun_of read_from read_for begun_from fields_from fields_for unsigned_at two_at four_at signed_at
+unfolding text_at blob_at guid_at name_of records_of begun_of fields_from fields_for unsigned_at two_at four_at signed_at
     character_len
 program_is = refl
 

@@ -1,7 +1,8 @@
 -- The names of the crates below that definitions of this crate and of those above cite, passed on from one place. Declares nothing.
 pub use Rattle.ppdb_base.specs.declared.merge_error.MergeError.TheVariants.{AsyncLost, DocumentConflict, ImageRange, ImageTwice, KindUnknown, MethodTaken, OffsetBeyond, RowsDiffer, SlotTwice}
 pub use Rattle.ppdb_base.specs.declared.merge_error.MergeError.TheVariants.{DocumentTwice, LinkDiffers, SlotUnmapped, Unmapped}
-pub use Rattle.std.specs.{Cmp.Lexicographic.slice_cmp, List.{enumerate_from, join_by, last_or, list_any, position_or_len, range_with_len, repeat, slice_split}, Option.option_or, Ordering.nat_cmp}
+pub use Rattle.std.specs.{Cmp.Lexicographic.slice_cmp, List.{enumerate_from, join_by, last_or, list_any, position_or_len, range_with_len, repeat, slice_split}}
+pub use Rattle.std.specs.{Option.{option_map_or, option_or}, Ordering.nat_cmp}
 pub use Rattle.std.specs.Str.Lines.{lines}
 pub use Rattle.ppdb_base.specs.{Causes.{Rose, counted}, Files.{Contents, Files, Longer, Missing, reading}, First.{IsAccepted, IsFirst, Then}}
 pub use Rattle.ppdb_base.specs.{Offsets.{Kept, Offsets, Rise, every, gone, is_kept_between, lined, moved, old_size}, Place.{at_byte, cell}, Told.told, Written.{AppendsPrefix, appended}}
@@ -11,7 +12,7 @@ pub use Rattle.ppdb_base.specs.{declared.link_error.LinkError.{LinkError, TheVar
 pub use Rattle.cli_ints.specs.Shortest.{short_unsigned}
 pub use Rattle.row_layout.specs.{Rows.{Fit, row_bytes}, declared.column.{Column.Column, Sizes.Sizes}}
 pub use Rattle.metadata_root.specs.{Streams.{AreStreamsOf, ContainerFaults, Streams, bytes_of}, declared.kind.StreamKind.TheVariants.Pdb}
-pub use Rattle.blob_grammar.specs.{Grammar.{Grammar, Value}, Reader.{Left, answer, begun_from, read_from}, Reading.Reading}
+pub use Rattle.blob_grammar.specs.{Grammar.{Grammar, Value, cut}, Reader.{Left, answer, prefix_of}, Reading.Reading}
 pub use Rattle.ppdb_heaps.specs.{Cursor.NameLeft, Heaps.{blob_at, guid_at, text_at}, Names.{IsName, NameReading, name_of, names}}
 pub use Rattle.ppdb_tables.specs.{Chains.{NeverEnds, parent_at}, Head.{PdbFaults, head_in}}
 pub use Rattle.ppdb_tables.specs.Layouts.{constant_columns, custom_columns, document_columns, import_columns, machine_columns, method_columns, scope_columns, variable_columns, widths_of}
@@ -26,6 +27,6 @@ pub use Rattle.type_blobs.specs.Constants.{ConstantBody, body_of, constants, enu
 pub use Rattle.type_blobs.specs.Imports.{ImportItem, alias, assembly_alias, assembly_namespace, assembly_namespace_alias, imports, namespace, namespace_alias, target, target_alias, text_of, xml}
 pub use Rattle.type_blobs.specs.{Spelling.{IsBody, IsImport, constant_spelling, import_item}, Types.IsToken, declared.import_writer.ImportNumbers.ImportNumbers, declared.types.Modifier.Modifier}
 pub use Rattle.type_blobs.specs.declared.types.{TypeLimits.TypeLimits, TypeToken.TypeToken}
-pub use Rattle.custom_info.specs.{AsyncStepping.{IsHandler, IsStep, Stepping, async_spelling, async_stepping, entries_of}, HoistedScopes.{IsSlot, slots_spelling}, Kinds.{kind_of, source_link}}
-pub use Rattle.custom_info.specs.{TypeDocuments.{IsRowNumber, rows_spelling, type_documents}, declared.kinds.Kind.{Kind, TheVariants.{Async, Free, Hoisted, TypeDocuments, Unknown}}}
+pub use Rattle.custom_info.specs.{AsyncStepping.{IsHandler, IsStep, Stepping, async_spelling, async_stepping, entries_of}, HoistedScopes.{IsSlot, slot_spelling}, Kinds.{kind_of, source_link}}
+pub use Rattle.custom_info.specs.{TypeDocuments.{IsRowNumber, type_documents}, declared.kinds.Kind.{Kind, TheVariants.{Async, Free, Hoisted, TypeDocuments, Unknown}}}
 pub use Rattle.custom_info.specs.{declared.slots.{Range.Range, Slot.{Slot, TheVariants.{Empty, Held}}}, declared.stepping.AsyncStep.AsyncStep}

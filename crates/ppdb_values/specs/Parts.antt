@@ -1,5 +1,5 @@
 -- What of a value belongs to a method, to a row and to an offset (Portable PDB v1.0).
-use Rattle.ppdb_values.specs.Names.{last_or, Point, Range, Slot, Parent, numbered}
+use Rattle.ppdb_values.specs.Names.{last_or, option_map_or, Point, Range, Slot, Parent, numbered}
 use Rattle.std.specs.Prelude.{ℕ, suc, ◌-◌, ◌==◌, ◌&&◌, nat_le, nat_lt, List, [], Option, Some, None, Bool, take, filter, filter_map, find, sum_by}
 use Rattle.ppdb_values.specs.{declared.file.{FileValue.FileValue, MethodValue.MethodValue}, declared.scope.ScopeValue.ScopeValue, declared.import.ImportScopeValue.ImportScopeValue}
 use Rattle.ppdb_values.specs.{declared.custom.{CustomBody.{CustomBody, TheVariants.Hoisted}, CustomValue.CustomValue}, Chains.chain_of}
@@ -10,20 +10,12 @@ use Rattle.ppdb_values.specs.{declared.custom.{CustomBody.{CustomBody, TheVarian
 abbrev pub method_at : FileValue → ℕ → Option MethodValue
 method_at value m = find (λ method. method.method == m) value.methods
 
-abbrev pub points_by : Option MethodValue → List Point
-points_by (Some method) = method.points
-points_by None = []
-
-abbrev pub signature_by : Option MethodValue → ℕ
-signature_by (Some method) = method.signature
-signature_by None = 0
-
--- the points of a method, and its local signature
+-- the points of a method, and its local signature; none and 0 where it has no points
 abbrev pub points_of : FileValue → ℕ → List Point
-points_of value m = points_by (method_at value m)
+points_of value m = option_map_or (λ method. method.points) (method_at value m) []
 
 abbrev pub signature_of : FileValue → ℕ → ℕ
-signature_of value m = signature_by (method_at value m)
+signature_of value m = option_map_or (λ method. method.signature) (method_at value m) 0
 
 -- the last point that is not after an offset
 abbrev pub last_point : List Point → ℕ → Option Point

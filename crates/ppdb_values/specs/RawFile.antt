@@ -1,6 +1,6 @@
 -- A Portable PDB file as it is stored: its identity and entry point, and its tables with their heaps (Portable PDB v1.0,
 -- "#Pdb stream" and "Metadata Tables").
-use Rattle.ppdb_values.specs.Names.{Value, Grammar, read_from, begun_from, text_at, blob_at, guid_at, PointLimits, TypeLimits, Pdb, Streams, bytes_of, head_in, RawTables, count, tables_in}
+use Rattle.ppdb_values.specs.Names.{Value, Grammar, cut, prefix_of, text_at, blob_at, guid_at, PointLimits, TypeLimits, Pdb, Streams, bytes_of, head_in, RawTables, count, tables_in}
 use Rattle.std.specs.Prelude.{ℕ, List, [], Option, unwrap_or}
 
 pub record RawFile : Type 0 where
@@ -30,13 +30,13 @@ guid raw number = guid_at raw.guids number
 
 -- ---- what a blob holds
 
--- the records of a blob, as the plain reader reads them
+-- the records of a blob: those that the fields of its longest valid prefix make
 unfoldable pub records_of : {R : Type 0} → Grammar R → List ℕ → List R
-records_of g blob = (read_from g [] [] 0 blob).items
+records_of g blob = (cut g (prefix_of g blob)).whole
 
--- the values after the last whole record
+-- the values that follow the last of them in that prefix
 unfoldable pub begun_of : {R : Type 0} → Grammar R → List ℕ → List Value
-begun_of g blob = begun_from g [] [] blob
+begun_of g blob = (cut g (prefix_of g blob)).begun
 
 -- ---- the tables whose rows a blob may name
 

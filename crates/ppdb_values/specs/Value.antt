@@ -1,6 +1,6 @@
 -- What a file says: the items themselves in place of indexes (Portable PDB v1.0, "Metadata Tables").
-use Rattle.ppdb_values.specs.Names.{last_or, repeat, Range, ScopeRow, VariableRow, RawTables, numbered}
-use Rattle.std.specs.Prelude.{map, Bool, false, ℕ, ◌+◌, ◌==◌, nat_le, List, [], ◌∷◌, ◌++◌, take, Option, Some, None, option_map, filter, filter_map}
+use Rattle.ppdb_values.specs.Names.{last_or, option_map_or, repeat, Range, ScopeRow, VariableRow, RawTables, numbered}
+use Rattle.std.specs.Prelude.{map, false, ℕ, ◌+◌, nat_eq, nat_le, List, [], ◌∷◌, ◌++◌, take, Option, None, option_map, filter, filter_map}
 use Rattle.ppdb_values.specs.{declared.scope.{ScopeValue.ScopeValue, VariableValue.VariableValue}, declared.file.FileValue.FileValue, RawFile.{RawFile, text}, Documents.{document_of, method_of}}
 use Rattle.ppdb_values.specs.{Constants.constant_of, Imports.import_scope_of, Customs.custom_of}
 
@@ -10,13 +10,10 @@ use Rattle.ppdb_values.specs.{Constants.constant_of, Imports.import_scope_of, Cu
 abbrev pub owner_of : (ScopeRow → ℕ) → List ScopeRow → ℕ → Option ℕ
 owner_of list scopes item = option_map (λ scope. scope.0) (last_or None (filter (λ scope. nat_le (list scope.1) item) (numbered scopes)))
 
-abbrev pub is_number : ℕ → Option ℕ → Bool
-is_number n (Some m) = n == m
-is_number n None = false
-
 -- the items of a scope, in order, with their rows
 abbrev pub owned_by : {X : Type 0} → (ScopeRow → ℕ) → List ScopeRow → ℕ → List X → List (ℕ × X)
-owned_by list scopes owner items = filter (λ item. is_number owner (owner_of list scopes item.0)) (numbered items)
+owned_by list scopes owner items =
+    filter (λ item. option_map_or (nat_eq owner) (owner_of list scopes item.0) false) (numbered items)
 
 abbrev pub variable_of : RawTables → VariableRow → VariableValue
 variable_of raw row = record { attributes = row.attributes; slot = row.slot; name = text raw row.name }

@@ -1,6 +1,7 @@
 -- The constants of a valid file are whole.
 use Rattle.std.proofs.Common.{◌≡◌, List, refl, sym, ap, ◌∙◌, subst}
 use Rattle.std.specs.Prelude.{Option, Some, None, Result, Ok, Err}
+use Rattle.std.specs.Option.{option_map_or}
 use Rattle.ppdb_base.specs.declared.BlobFault.{BlobFault}
 use Rattle.type_blobs.specs.declared.constant.Constant.{Constant}
 use Rattle.type_blobs.specs.declared.types.Modifier.{Modifier}
@@ -10,7 +11,8 @@ use Rattle.type_blobs.specs.Constants.{ConstantBody, constants, body_of}
 use Rattle.ppdb_tables.specs.declared.rows.ConstantRow.{ConstantRow}
 use Rattle.ppdb_tables.specs.RawTables.{RawTables}
 use Rattle.ppdb_values.specs.declared.scope.ConstantValue.{ConstantValue}
-use Rattle.ppdb_values.specs.Constants.{constant_of, body_by, body_value}
+use Rattle.ppdb_values.specs.declared.scope.ConstantBody.TheVariants.{Object}
+use Rattle.ppdb_values.specs.Constants.{constant_of, body_value}
 use Rattle.ppdb_values.specs.RawFile.{blob, text, begun_of, type_limits}
 use Rattle.ppdb_values.specs.Readings.{ConstantsAreRead}
 use Rattle.ppdb_values.specs.Rules.{IsConstant}
@@ -65,6 +67,6 @@ constant_read raw row left modifiers r constant read keeps reading same answer o
     subst (λ (end : ConstantEnd). ConstantReading (type_limits raw) content (record { modifiers = left.modifiers; end = end })) ends.1 reading in
     let m = read.modifiers raw content left.modifiers ends.0 there in
     let b = read.body_is raw content left.modifiers ends.0 there in
-    let made : List Modifier → Option ConstantBody → ConstantValue = λ ms o. record { name = text raw row.name; modifiers = ms; body = body_by o } in
+    let made : List Modifier → Option ConstantBody → ConstantValue = λ ms o. record { name = text raw row.name; modifiers = ms; body = option_map_or body_value o Object } in
     ap (λ (ms : List Modifier). made ms (body_of (begun_of (constants (type_limits raw)) content))) (m ∙ sym same)
     ∙ ap (λ (o : Option ConstantBody). made modifiers o) (b ∙ ap (λ (c : ConstantBody). Some c) (sym is))

@@ -1,14 +1,15 @@
 -- The items of a scope are made of rows that it owns.
 use Rattle.std.proofs.Common.{◌≡◌, ℕ, suc, ◌+◌, ◌<◌, Bool, true, cond, List, map, sym, ap, subst, arith}
-use Rattle.std.specs.Prelude.{Option, Some, None}
+use Rattle.std.specs.Option.{option_map_or}
+use Rattle.std.specs.Prelude.{Option, Some, None, nat_eq, false}
 use Rattle.std.proofs.lemmas.Bool.{eqb-true}
 use Rattle.std.proofs.lemmas.Option.{cond_some}
 use Rattle.ppdb_tables.specs.declared.rows.ScopeRow.{ScopeRow}
 use Rattle.ppdb_tables.specs.RawTables.{numbered, row_at}
-use Rattle.ppdb_values.specs.Value.{owner_of, is_number, owned_by}
+use Rattle.ppdb_values.specs.Value.{owner_of, owned_by}
 use Rattle.ppdb_values_sound_laws.proofs.Listed.{IsMade, made, both_made, map_filter}
 
-is_owner : (owner : ℕ) (o : Option ℕ) → is_number owner o ≡ true → o ≡ Some owner
+is_owner : (owner : ℕ) (o : Option ℕ) → option_map_or (nat_eq owner) o false ≡ true → o ≡ Some owner
 is_owner owner None e = cc
 is_owner owner (Some n) e = ap (λ (m : ℕ). Some m) (sym (eqb-true owner n e))
 
@@ -28,7 +29,7 @@ pub record AreOwned {X Y : Type 0} (f : X → Y) (list : ScopeRow → ℕ) (scop
 
 module _ {X Y : Type 0} (f : X → Y) (list : ScopeRow → ℕ) (scopes : List ScopeRow) (owner : ℕ) (items : List X) where
   abbrev owns : ℕ × X → Bool
-  owns item = is_number owner (owner_of list scopes item.0)
+  owns item = option_map_or (nat_eq owner) (owner_of list scopes item.0) false
 
   abbrev one : ℕ × X → Option Y
   one item = cond (owns item) (Some (f item.1)) None

@@ -11,8 +11,8 @@ use Rattle.type_blobs.specs.declared.types.TypeLimits.{TypeLimits}
 use Rattle.type_blobs.specs.declared.types.Modifier.{Modifier}
 use Rattle.type_blobs.specs.Types.{is_type, token_of, IsToken, IsThere}
 use Rattle.type_blobs.specs.Constants.{ConstantBody, primitive, enumerated, general, object, is_modifier, is_primitive, is_enumerable}
-use Rattle.type_blobs.specs.Constants.{is_general, is_string, is_object, is_code, size_of, after_code, after_two, second_allows}
-use Rattle.type_blobs.specs.Constants.{third_allows, body_of, constants}
+use Rattle.type_blobs.specs.Constants.{is_general, is_string, is_object, is_code, size_of, after_code, after_two, allows}
+use Rattle.type_blobs.specs.Constants.{body_of, constants}
 use Rattle.type_blobs.specs.Spelling.{IsPrimitive, IsBody, IsBodyThere}
 use Rattle.type_blobs.proofs.Codes.{eq-is, modifier_is, general_is, of_general, of_primitive, primitive_range, enumerable_range}
 use Rattle.ppdb_values.specs.RawFile.{begun_of}
@@ -87,14 +87,14 @@ module _ (limits : TypeLimits) (small : AreSmall limits) (whole : List Modifier)
 
   abbrev Second : ℕ → Type 0
   Second code = (form : Form) (bytes : List ℕ) (v : Value) (after : List ℕ) → after_code code ≡ Some form → Spells form bytes v after
-      → second_allows limits code v ≡ true → Goes limits whole (number code ∷ []) v
+      → allows limits (number code ∷ []) v ≡ true → Goes limits whole (number code ∷ []) v
 
   second_required : Second 0x1f
   second_required form bytes v after e s a =
       let n = number_read form bytes v after e s in
       subst (λ (u : Value). Goes limits whole (number 0x1f ∷ []) u) (sym n.1) (
         All-push (IsModifier limits) whole (record { required = true; target = token_of n.0 }) h
-            (type_read limits small n.0 (subst (λ (u : Value). second_allows limits 0x1f u ≡ true) n.1 a)),
+            (type_read limits small n.0 (subst (λ (u : Value). allows limits (number 0x1f ∷ []) u ≡ true) n.1 a)),
         tt,
       )
 
@@ -103,24 +103,24 @@ module _ (limits : TypeLimits) (small : AreSmall limits) (whole : List Modifier)
       let n = number_read form bytes v after e s in
       subst (λ (u : Value). Goes limits whole (number 0x20 ∷ []) u) (sym n.1) (
         All-push (IsModifier limits) whole (record { required = false; target = token_of n.0 }) h
-            (type_read limits small n.0 (subst (λ (u : Value). second_allows limits 0x20 u ≡ true) n.1 a)),
+            (type_read limits small n.0 (subst (λ (u : Value). allows limits (number 0x20 ∷ []) u ≡ true) n.1 a)),
         tt,
       )
 
   second_class : Second 0x12
   second_class form bytes v after e s a =
       let n = number_read form bytes v after e s in
-      subst (λ (u : Value). Goes limits whole (number 0x12 ∷ []) u) (sym n.1) (h, (refl, subst (λ (u : Value). second_allows limits 0x12 u ≡ true) n.1 a))
+      subst (λ (u : Value). Goes limits whole (number 0x12 ∷ []) u) (sym n.1) (h, (refl, subst (λ (u : Value). allows limits (number 0x12 ∷ []) u ≡ true) n.1 a))
 
   second_value : Second 0x11
   second_value form bytes v after e s a =
       let n = number_read form bytes v after e s in
-      subst (λ (u : Value). Goes limits whole (number 0x11 ∷ []) u) (sym n.1) (h, (refl, subst (λ (u : Value). second_allows limits 0x11 u ≡ true) n.1 a))
+      subst (λ (u : Value). Goes limits whole (number 0x11 ∷ []) u) (sym n.1) (h, (refl, subst (λ (u : Value). allows limits (number 0x11 ∷ []) u ≡ true) n.1 a))
 
   second_string : Second 0x0e
   second_string form bytes v after e s a =
       let xs = rest_read form bytes v after e s in
-      subst (λ (u : Value). Goes limits whole (number 0x0e ∷ []) u) (sym xs.1) (h, subst (λ (u : Value). second_allows limits 0x0e u ≡ true) xs.1 a)
+      subst (λ (u : Value). Goes limits whole (number 0x0e ∷ []) u) (sym xs.1) (h, subst (λ (u : Value). allows limits (number 0x0e ∷ []) u ≡ true) xs.1 a)
 
   second_object : Second 0x1c
   second_object form bytes v after e s a = cc
@@ -167,7 +167,7 @@ module _ (limits : TypeLimits) (small : AreSmall limits) (whole : List Modifier)
 
   third_enumerated : (code : ℕ) (value : List ℕ) (b c : Bool) → is_enumerable code ≡ b → is_general code ≡ c → IsPrimitive (is_string code) code value
       → (form : Form) (bytes : List ℕ) (v : Value) (after : List ℕ)
-      → (if b then Some unsigned else (if c then Some rest else None)) ≡ Some form → Spells form bytes v after → third_allows limits v ≡ true
+      → (if b then Some unsigned else (if c then Some rest else None)) ≡ Some form → Spells form bytes v after → allows limits (number code ∷ octets value ∷ []) v ≡ true
       → Goes limits whole (number code ∷ octets value ∷ []) v
   third_enumerated code value true c is g p form bytes v after e s a =
       let n = number_read form bytes v after e s in
@@ -175,7 +175,7 @@ module _ (limits : TypeLimits) (small : AreSmall limits) (whole : List Modifier)
       let known = of_primitive code range.0 range.1 in
       let fits : IsPrimitive false code value = subst (λ (b : Bool). IsPrimitive b code value) known.no_string p in
       subst (λ (u : Value). Goes limits whole (number code ∷ octets value ∷ []) u) (sym n.1)
-      (h, (is, fits.size, subst (λ (u : Value). third_allows limits u ≡ true) n.1 a))
+      (h, (is, fits.size, subst (λ (u : Value). allows limits (number code ∷ octets value ∷ []) u ≡ true) n.1 a))
   third_enumerated code value false true is g p form bytes v after e s a = absurd (no_general_value code value g p)
   third_enumerated code value false false is g p form bytes v after e s a = cc
 

@@ -1,13 +1,15 @@
 -- The scopes of a value, with the variables and the constants that they own.
 use Rattle.std.proofs.Common.{◌≡◌, ◌≢◌, ℕ, List, refl, sym, ap, ◌∙◌, subst, arith, true}
 use Rattle.std.specs.Prelude.{Option, Some, None, All, is_some}
+use Rattle.std.specs.Option.{option_map_or}
 use Rattle.type_blobs.specs.declared.types.TypeLimits.{TypeLimits}
 use Rattle.type_blobs.specs.Constants.{ConstantBody as StoredBody, primitive, enumerated, general, object, constants, body_of}
 use Rattle.ppdb_tables.specs.declared.rows.ScopeRow.{ScopeRow}
 use Rattle.ppdb_tables.specs.declared.rows.ConstantRow.{ConstantRow}
 use Rattle.ppdb_tables.specs.RawTables.{row_at}
 use Rattle.ppdb_values.specs.declared.scope.ScopeValue.{ScopeValue}
-use Rattle.ppdb_values.specs.Constants.{constant_of, body_value, body_by}
+use Rattle.ppdb_values.specs.declared.scope.ConstantBody.TheVariants.{Object}
+use Rattle.ppdb_values.specs.Constants.{constant_of, body_value}
 use Rattle.ppdb_values.specs.Ordered.{EachRow, EachPair, IsSorted}
 use Rattle.ppdb_values.specs.RawFile.{RawFile, text, blob, begun_of, type_limits as raw_limits}
 use Rattle.ppdb_values.specs.Rules.{KeepsRules, DifferInScope, IsConstant}
@@ -56,7 +58,7 @@ module _ (raw : RawFile) (keeps : KeepsRules raw) where
 
   body_sound : (row : ConstantRow) (o : Option StoredBody) → body_of (begun_of (constants (raw_limits raw.tables)) (blob raw.tables row.signature)) ≡ o
       → IsConstant raw.tables row → is_some o ≡ true
-      → IsRead (type_limits (value_of raw)) (stored_body (body_by o))
+      → IsRead (type_limits (value_of raw)) (stored_body (option_map_or body_value o Object))
   body_sound row None e kept there = cc
   body_sound row (Some body) e kept there =
       let read = body_read (raw_limits raw.tables) limits_small (blob raw.tables row.signature) _ None body kept.signature_whole e in

@@ -4,7 +4,6 @@ use Rattle.std.specs.Prelude.{Some, is_some}
 use Rattle.ppdb_base.specs.declared.code.Code.{Code}
 use Rattle.ppdb_base.specs.First.{IsAccepted}
 use Rattle.blob_grammar.specs.Grammar.{Field, cut}
-use Rattle.blob_grammar.specs.Reader.{begun_from}
 use Rattle.blob_grammar.proofs.PrefixFields.{longest-prefix_of}
 use Rattle.ppdb_tables.specs.declared.rows.ScopeRow.{ScopeRow}
 use Rattle.ppdb_tables.specs.declared.rows.ConstantRow.{ConstantRow}
@@ -25,7 +24,7 @@ use Rattle.ppdb_verify_accepted_laws.proofs.Variables.{are_same_text}
 
 -- a whole signature ends with a body
 body_there : (limits : TypeLimits) (content : List ℕ) → IsWhole (constants limits) content → is_some (body_of (begun_of (constants limits) content)) ≡ true
-unfolding begun_of begun_from
+unfolding begun_of
 body_there limits content is =
     let same : begun_of (constants limits) content ≡ (cut (constants limits) is.fields).begun =
     sym (ap (λ (fs : List Field). (cut (constants limits) fs).begun) (longest-prefix_of (constants limits) content is.fields is.after is.prefix)) in

@@ -1,11 +1,12 @@
 -- What a cell names is there where it is not at fault, and what blobs hold is whole.
-use Rattle.std.proofs.Common.{◌≡◌, ℕ, ◌≤◌, List, [], refl, inl, inr, true}
+use Rattle.std.proofs.Common.{◌≡◌, ℕ, ◌≤◌, List, [], refl, sym, subst, inl, inr, true}
 use Rattle.std.specs.Prelude.{Option, Some, None, unwrap_or, is_some}
 use Rattle.std.proofs.lemmas.Bool.{cases_eq, cases_lt}
 use Rattle.ppdb_base.specs.declared.fault.BlobFault.{BlobFault}
 use Rattle.blob_grammar.specs.Grammar.{Grammar}
 use Rattle.blob_grammar.specs.Reader.{read_from}
 use Rattle.blob_grammar.specs.Reading.{Reading}
+use Rattle.blob_grammar.proofs.PrefixFields.{records_read}
 use Rattle.blob_grammar.proofs.Readers.{read_from-reads}
 use Rattle.ppdb_heaps.specs.Heaps.{text_at, blob_at, guid_at}
 use Rattle.ppdb_tables.specs.RawTables.{RawTables}
@@ -54,7 +55,11 @@ by_fault g content (Some fault) reading none = absurd (none fault (records_of g 
 -- a blob that has no fault is whole
 pub whole : {R : Type 0} (g : Grammar R) (content : List ℕ) → ((fault : BlobFault) → HasEnd g content (Some fault) → ⊥) → IsWhole g content
 unfolding records_of
-whole g content none = by_fault g content (read_from g [] [] 0 content).fault (read_from-reads g content) none
+whole {R = R} g content none =
+    let left = read_from g [] [] 0 content in
+    let read : Reading g content (records_of g content) left.fault
+    = subst (λ (records : List R). Reading g content records left.fault) (sym (records_read g content)) (read_from-reads g content) in
+    by_fault g content left.fault read none
 
 -- the same of the blob that a cell names
 pub whole_there : {R : Type 0} (raw : RawTables) (g : Grammar R) (index : ℕ) → HasBlob raw index

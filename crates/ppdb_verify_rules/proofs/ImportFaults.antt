@@ -11,7 +11,8 @@ use Rattle.ppdb_tables.specs.declared.rows.ImportRow.{ImportRow}
 use Rattle.ppdb_tables.specs.RawTables.{RawTables, row_at, count}
 use Rattle.type_blobs.specs.Imports.{imports}
 use Rattle.ppdb_verify_rules.specs.Blobs.{HasFault, in_blob, type_limits}
-use Rattle.ppdb_verify_rules.specs.Chains.{NeverEnds}
+use Rattle.ppdb_tables.specs.Chains.{NeverEnds}
+use Rattle.ppdb_verify_rules.specs.Chains.{parent_in}
 use Rattle.ppdb_verify_rules.specs.Earlier.{NamesNoRow}
 use Rattle.ppdb_verify_rules.specs.Judged.{ToTable, ToRow, ToCell, IsFirstOf}
 use Rattle.ppdb_verify_rules.specs.Rows.{RowFaults, ImportFault}
@@ -67,7 +68,7 @@ module _ (raw : RawTables) (row : ℕ) (import : ImportRow) (there : row_at raw.
       none _ _ (no_parent _) lower = omega (arith, lower)
       none _ _ (cycle _) lower = omega (arith, lower)
 
-  pub cycle_first : (fault : Fault) → ToCell raw 0x35 row 0 → (NamesNoRow 0 (count raw 0x35) import.parent → ⊥) → NeverEnds raw.imports row
+  pub cycle_first : (fault : Fault) → ToCell raw 0x35 row 0 → (NamesNoRow 0 (count raw 0x35) import.parent → ⊥) → NeverEnds (parent_in raw.imports) row
       → fault ≡ record { code = ImportCycle; place = in_blob 0x35 row 0 0 } → IsFirstOf raw fault
   cycle_first fault judged no0 wrong = first 0 ImportCycle fault judged (cycle wrong) none
     where
@@ -75,7 +76,7 @@ module _ (raw : RawTables) (row : ℕ) (import : ImportRow) (there : row_at raw.
       none _ _ (no_parent w) lower = no0 w
       none _ _ (cycle _) lower = omega (arith, lower)
 
-  pub next_0 : ToCell raw 0x35 row 0 → (NamesNoRow 0 (count raw 0x35) import.parent → ⊥) → (NeverEnds raw.imports row → ⊥) → ToCell raw 0x35 row 1
+  pub next_0 : ToCell raw 0x35 row 0 → (NamesNoRow 0 (count raw 0x35) import.parent → ⊥) → (NeverEnds (parent_in raw.imports) row → ⊥) → ToCell raw 0x35 row 1
   next_0 judged no0 no1 = next 0 judged none
     where
       none : (b : ℕ) (other : Code) → ImportFault raw row import 0 b other → ⊥

@@ -1,7 +1,7 @@
 -- Custom records: their parents and the kinds that are read (Portable PDB v1.0, "CustomDebugInformation Table").
 use Rattle.std.specs.Prelude.{ℕ, ◌≡◌, ◌≢◌, ◌/◌, ◌%◌, List, [], Option, Some, None, slice_get}
 use Rattle.ppdb_base.specs.declared.fault.BlobFault.{BlobFault}
-use Rattle.custom_info.specs.{declared.kinds.Kind.{Kind, TheVariants.{Async, Hoisted, TypeDocuments, Free, Unknown}}, AsyncStepping.async_stepping, HoistedScopes.hoisted_scopes}
+use Rattle.custom_info.specs.{declared.kinds.Kind.{Kind, TheVariants.{Async, Hoisted, TypeDocuments}}, AsyncStepping.async_stepping, HoistedScopes.hoisted_scopes}
 use Rattle.custom_info.specs.{TypeDocuments.type_documents, Kinds.kind_of}
 use Rattle.ppdb_heaps.specs.Heaps.{blob_at, guid_at}
 use Rattle.ppdb_tables.specs.{declared.rows.CustomRow.CustomRow, RawTables.{RawTables, count}}
@@ -26,8 +26,7 @@ abbrev pub parent_table : Kind → Option ℕ
 parent_table Async = Some 0x06
 parent_table Hoisted = Some 0x06
 parent_table TypeDocuments = Some 0x02
-parent_table Free = None
-parent_table Unknown = None
+parent_table _ = None
 
 -- the record is of a read kind, and its parent is not of that kind's table
 pub record HasOtherParent (guids : List ℕ) (custom : CustomRow) : Type 0 where
@@ -42,8 +41,7 @@ abbrev pub ReadsValue : RawTables → Kind → List ℕ → Option BlobFault →
 ReadsValue raw Async content fault = HasEnd (async_stepping (count raw 0x06)) content fault
 ReadsValue raw Hoisted content fault = HasEnd hoisted_scopes content fault
 ReadsValue raw TypeDocuments content fault = HasEnd (type_documents (count raw 0x30)) content fault
-ReadsValue raw Free content fault = fault ≡ None
-ReadsValue raw Unknown content fault = fault ≡ None
+ReadsValue raw _ content fault = fault ≡ None
 
 -- the record's value is there, and has this fault
 pub record HasInvalidValue (raw : RawTables) (custom : CustomRow) (fault : BlobFault) : Type 0 where

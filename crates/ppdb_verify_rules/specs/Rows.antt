@@ -6,10 +6,10 @@ use Rattle.std.specs.Prelude.{ℕ, ◌≡◌, ◌%◌, ◌<◌, ◌≤◌, None,
 use Rattle.ppdb_base.specs.{declared.code.Code.Code, declared.fault.{BlobFault.BlobFault, Place.Place}}
 use Rattle.ppdb_heaps.specs.{Heaps.{text_at, blob_at}, Names.names}
 use Rattle.ppdb_tables.specs.declared.rows.{DocumentRow.DocumentRow, MethodDebugRow.MethodDebugRow, ScopeRow.ScopeRow, VariableRow.VariableRow, ConstantRow.ConstantRow, ImportRow.ImportRow}
-use Rattle.ppdb_tables.specs.{declared.rows.{MachineRow.MachineRow, CustomRow.CustomRow}, RawTables.{RawTables, row_at, count}}
+use Rattle.ppdb_tables.specs.{declared.rows.{MachineRow.MachineRow, CustomRow.CustomRow}, RawTables.{RawTables, row_at, count}, Chains.{NeverEnds, parent_at}}
 use Rattle.sequence_points.specs.Records.{sequence_points}
 use Rattle.type_blobs.specs.{Constants.constants, Imports.imports}
-use Rattle.ppdb_verify_rules.specs.{Blobs.{HasFault, IsNil, NamesNoGuid, in_blob, point_limits, type_limits}, Chains.NeverEnds, Customs.{HasNoParent, HasOtherParent, HasInvalidValue}}
+use Rattle.ppdb_verify_rules.specs.{Blobs.{HasFault, IsNil, NamesNoGuid, in_blob, point_limits, type_limits}, Customs.{HasNoParent, HasOtherParent, HasInvalidValue}}
 use Rattle.ppdb_verify_rules.specs.{Earlier.{HasEarlier, NamesNoRow}, Names.AreSameName, Scopes.{AreCrossed, AreSameText, HasNoRange, IsAbove, IsListOut, ShareOwner, extent_of}}
 
 -- Document: Name, HashAlgorithm, Hash, Language
@@ -78,7 +78,7 @@ pub data ConstantFault (raw : RawTables) (row : ℕ) (constant : ConstantRow) : 
 pub data ImportFault (raw : RawTables) (row : ℕ) (import : ImportRow) : ℕ → ℕ → Code → Type 0 where
   -- F22: the parent is no row; F32: the chain of parents never ends
   no_parent : NamesNoRow 0 (count raw 0x35) import.parent → ImportFault raw row import 0 0 RowIndex
-  cycle : NeverEnds raw.imports row → ImportFault raw row import 0 0 ImportCycle
+  cycle : NeverEnds (parent_at (λ (i : ImportRow). i.parent) raw.imports) row → ImportFault raw row import 0 0 ImportCycle
   -- F20: the list is no blob; F37 to F39: it is at fault by its grammar
   no_list : blob_at raw.blobs import.imports ≡ None → ImportFault raw row import 1 0 BlobIndex
   invalid_list : {fault : BlobFault} → HasFault (imports (type_limits raw) (blob_at raw.blobs)) raw.blobs import.imports fault

@@ -5,7 +5,8 @@ ghost use Rattle.ppdb_tables.specs.RawTables.{row_at, count};
 ghost use Rattle.ppdb_tables.specs.RawOf.{raw_of};
 ghost use Rattle.ppdb_verify_rules.specs.Errors.{FaultIs};
 ghost use Rattle.ppdb_verify_rules.specs.Judged.{ToTable, ToRow, ToCell, IsFirstOf};
-ghost use Rattle.ppdb_verify_rules.specs.Chains.{MarksEnd, NeverEnds};
+ghost use Rattle.ppdb_verify_rules.specs.Chains.{MarksEnd, parent_in};
+ghost use Rattle.ppdb_tables.specs.Chains.{NeverEnds};
 
 use crate::cells::{fault, fault_within, names_no_row, row_count};
 use crate::contents::imports_fault;
@@ -25,7 +26,7 @@ fn never_ends<L: Ledger>(
     requires first { 1 ≤ row }
     requires last { row ≤ length (raw_of tables.now).imports }
     requires marks { MarksEnd (raw_of tables.now).imports row marks.old }
-    ensures value { IsTrue result ↔ NeverEnds (raw_of tables.now).imports row }
+    ensures value { IsTrue result ↔ NeverEnds (parent_in (raw_of tables.now).imports) row }
     ensures marks { OnFalse result (MarksEnd (raw_of tables.now).imports (row + 1) marks.new) }
 {
     let count = row_count(tables, IMPORT_SCOPE);

@@ -1,11 +1,10 @@
 -- Document records, and the fields Offset, Lines and Columns of a point.
-use Rattle.std.proofs.Common.{◌≡◌, ℕ, zero, suc, ◌+◌, ◌<◌, ◌≤◌, Bool, true, false, ◌&&◌, ◌||◌, List, [], ◌∷◌, ◌++◌, length, drop, Option}
+use Rattle.std.proofs.Common.{◌≡◌, ℕ, zero, suc, ◌+◌, ◌<◌, ◌≤◌, Bool, true, false, ◌&&◌, List, [], ◌∷◌, ◌++◌, length, drop, Option}
 use Rattle.std.proofs.Common.{Some, None, Result, Ok, Err, ℤ, pos, refl, sym, ap, subst, ◌∙◌, arith}
 use Rattle.std.specs.Prelude.{if◌then◌else◌, not, ◌==◌, nat_lt, neg_ℤ, ◌≤ℤ◌, ◌⊎◌}
 use Rattle.std.proofs.Common.{inl, inr}
 use Rattle.std.specs.Int.{w64, cast_signed, cast_unsigned}
 use Rattle.std.specs.Int.RustNames.{FitsSigned}
-use Rattle.std.specs.List.{list_any}
 use Rattle.std.proofs.lemmas.Int.{ints, to_z-of_z}
 use Rattle.blob_grammar.specs.Reader.{unsigned_at}
 use Rattle.ppdb_base.specs.declared.Code.TheVariants.{ValueRange}
@@ -22,7 +21,7 @@ use Rattle.sequence_points.specs.declared.point.Span.TheVariants.{Hidden}
 use Rattle.sequence_points.specs.declared.place.Place.{Place}
 use Rattle.sequence_points.specs.declared.place.Last.{Last}
 use Rattle.sequence_points.specs.declared.place.Start.{Start}
-use Rattle.sequence_points.specs.Records.{header, hidden, in_document, is_point, is_visible, offset_of, start_line_of, start_column_of}
+use Rattle.sequence_points.specs.Records.{header, hidden, in_document, with_entry}
 use Rattle.sequence_points.specs.Records.{int_of, Sums, sums, columns_form, second_allows, sequence_points, document_record, hidden_point}
 use Rattle.sequence_points.specs.Points.{document_after}
 use Rattle.sequence_points.specs.Places.{entries_of, last_entries, point_entry, start_of, points_at, points_left, no_points, int_placed}
@@ -42,10 +41,6 @@ S place = sums (entries_of place)
 
 -- ---- document records
 
-pub or-false : (b : Bool) → (b || false) ≡ b
-or-false true = refl
-or-false false = refl
-
 pub same_row : (row other : ℕ) (last : Option Last) → sums (header 0 row ∷ last_entries last) ≡ sums (header 0 other ∷ last_entries last)
 same_row row other None = refl
 same_row row other (Some last) = refl
@@ -54,10 +49,7 @@ same-document : (place : Place) (at row : ℕ) → SameSums (entries_of place ++
 same-document place at row = record {
   started = tt;
   starts = tt;
-  sums_are = sums-push (entries_of place) (in_document row)
-      ∙ same_five _ (S place).has_point _ (S place).has_visible _ (S place).offset _ (S place).line _ (S place).column (or-false (S place).has_point)
-      (or-false (S place).has_visible) (omega arith) (omega (arith, ints)) (omega (arith, ints))
-      ∙ same_row place.document row place.last;
+  sums_are = sums-push (entries_of place) (in_document row) ∙ same_row place.document row place.last;
   document_is = document-push (entries_of place) (in_document row) ∙ sym (document-at (in_document_at place at row));
 }
 
@@ -157,39 +149,26 @@ columns_in limits blob place step lines at len z e seen =
 
 -- ---- a hidden point
 
-start_sums : (row offset : ℕ) (last : Option Last) → let s = sums (header 0 row ∷ last_entries last) in let e = point_entry offset (start_of last) in
-    (s.has_visible ≡ list_any is_visible (e ∷ [])) × (s.line ≡ start_line_of e) × (s.column ≡ start_column_of e) × (offset_of e ≡ offset) × (is_point e ≡ true)
-start_sums row offset None = (refl, omega (arith, ints), omega (arith, ints), refl, refl)
-start_sums row offset (Some last) = by_start last.start
+-- where the last point stands, a hidden one adds its offset alone
+start_sums : (row at offset : ℕ) (last : Option Last) → let s = sums (header 0 row ∷ last_entries last) in
+    s.offset + at ≡ offset → with_entry s (hidden at) ≡ sums (header 0 row ∷ point_entry offset (start_of last) ∷ [])
+start_sums row at offset None o = same_five _ _ _ _ _ _ _ _ _ _ refl refl (omega (arith, o)) refl refl
+start_sums row at offset (Some last) o = by_start last.start o
   where
-    by_start : (start : Option Start) → let s = sums (header 0 row ∷ point_entry last.offset start ∷ []) in let e = point_entry offset start in
-        (s.has_visible ≡ list_any is_visible (e ∷ [])) × (s.line ≡ start_line_of e) × (s.column ≡ start_column_of e) × (offset_of e ≡ offset)
-        × (is_point e ≡ true)
-    by_start None = (refl, omega (arith, ints), omega (arith, ints), refl, refl)
-    by_start (Some start) = (refl, omega (arith, ints), omega (arith, ints), refl, refl)
-
-or-true : (b : Bool) → (b || true) ≡ true
-or-true true = refl
-or-true false = refl
+    by_start : (start : Option Start) → let s = sums (header 0 row ∷ point_entry last.offset start ∷ []) in
+        s.offset + at ≡ offset → with_entry s (hidden at) ≡ sums (header 0 row ∷ point_entry offset start ∷ [])
+    by_start None o = same_five _ _ _ _ _ _ _ _ _ _ refl refl (omega (arith, o)) refl refl
+    by_start (Some start) o = same_five _ _ _ _ _ _ _ _ _ _ refl refl (omega (arith, o)) refl refl
 
 same-hidden : (place : Place) (at step offset : ℕ) → offset ≡ (S place).offset + step
     → SameSums (entries_of place ++ hidden step ∷ []) (entries_of (place_after at place.document offset (start_of place.last)))
-same-hidden place at step offset o =
-    let e = point_entry offset (start_of place.last) in
-    let s = start_sums place.document offset place.last in
-    let p : is_point e ≡ true = s.4 in
-    let x : offset_of e ≡ offset = s.3 in
-    let l : (S place).line ≡ start_line_of e = s.1 in
-    let k : (S place).column ≡ start_column_of e = s.2 in
-    record {
-      started = tt;
-      starts = tt;
-      sums_are = sums-push (entries_of place) (hidden step)
-          ∙ same_five _ _ _ _ _ _ _ _ _ _ (or-true (S place).has_point ∙ sym (ap (λ b. false || (b || false)) p)) (or-false (S place).has_visible ∙ s.0)
-          (omega arith) (omega (arith, ints)) (omega (arith, ints));
-      document_is =
-          document-push (entries_of place) (hidden step) ∙ document-at place ∙ sym (document-at (place_after at place.document offset (start_of place.last)));
-    }
+same-hidden place at step offset o = record {
+  started = tt;
+  starts = tt;
+  sums_are = sums-push (entries_of place) (hidden step) ∙ start_sums place.document step offset place.last (sym o);
+  document_is =
+      document-push (entries_of place) (hidden step) ∙ document-at place ∙ sym (document-at (place_after at place.document offset (start_of place.last)));
+}
 
 hidden_value : (at : ℕ) (blob : List ℕ) (v : Value) (len : ℕ) → field_at unsigned (drop at blob) ≡ Ok (v, len) → int_of v ≡ pos 0 → v ≡ number 0
 hidden_value at blob v len e z =

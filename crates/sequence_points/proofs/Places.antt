@@ -1,5 +1,5 @@
 -- What is left of the points, a field at a time.
-use Rattle.std.proofs.Common.{◌≡◌, ℕ, ◌+◌, Bool, true, false, ◌&&◌, ◌||◌, List, [], ◌∷◌, ◌++◌, drop, Option, Some, None, Ok, Err, ℤ, pos}
+use Rattle.std.proofs.Common.{◌≡◌, ℕ, ◌+◌, Bool, true, false, ◌&&◌, List, [], ◌∷◌, ◌++◌, drop, Option, Some, None, Ok, Err, ℤ, pos}
 use Rattle.std.proofs.Common.{◌+ℤ◌, refl, sym, ap, ◌∙◌, arith}
 use Rattle.std.specs.Option.{option_to_list}
 use Rattle.std.proofs.lemmas.Int.{ints}
@@ -98,10 +98,6 @@ document-at place = by_last place.last
     by_last None = refl
     by_last (Some last) = by_start last.offset last.start
 
-pub or-true : (b : Bool) → (b || true) ≡ true
-or-true true = refl
-or-true false = refl
-
 -- after a point that is not hidden
 pub same-visible : (place : Place) (at step lines : ℕ) (columns line column : ℤ) (offset start_line start_column : ℕ)
     → offset ≡ (sums_at place).offset + step → (sums_at place).line +ℤ line ≡ pos start_line → (sums_at place).column +ℤ column ≡ pos start_column
@@ -111,7 +107,6 @@ same-visible place at step lines columns line column offset start_line start_col
   started = tt;
   starts = tt;
   sums_are = sums-push (entries_of place) (visible step lines columns line column)
-      ∙ same_five _ _ _ _ _ _ _ _ _ _ (or-true (sums_at place).has_point) (or-true (sums_at place).has_visible) (omega arith) (omega (arith, ints))
-      (omega (arith, ints));
+      ∙ same_five _ _ _ _ _ _ _ _ _ _ refl refl (omega arith) (omega (arith, ints)) (omega (arith, ints));
   document_is = document-push (entries_of place) (visible step lines columns line column) ∙ document-at place;
 }

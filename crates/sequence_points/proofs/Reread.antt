@@ -1,14 +1,14 @@
 -- The blob of some points is whole and has the points.
 use Rattle.std.proofs.Common.{◌≡◌, ◌≢◌, ℕ, zero, suc, ◌<◌, ◌≤◌, Bool, true, false, List, [], ◌∷◌, ◌++◌, None, refl, sym, ap, subst, ◌∙◌, append_assoc, arith}
 use Rattle.std.specs.Prelude.{All, nat_le, ◌==◌, if◌then◌else◌}
-use Rattle.std.specs.List.{list_any, list_all}
+use Rattle.std.specs.List.{fold, list_all}
 use Rattle.std.proofs.lemmas.List.Elements.{All-head}
 use Rattle.cli_ints.specs.Shortest.{short_unsigned}
 use Rattle.blob_grammar.specs.Grammar.{number, unsigned}
 use Rattle.blob_grammar.specs.Reading.{Reading}
 use Rattle.sequence_points.specs.declared.point.Point.{Point}
 use Rattle.sequence_points.specs.declared.point.PointLimits.{PointLimits}
-use Rattle.sequence_points.specs.Records.{Entry, header, hidden, visible, in_document, is_point, sequence_points}
+use Rattle.sequence_points.specs.Records.{Entry, header, hidden, visible, in_document, Sums, with_entry, sums, sequence_points}
 use Rattle.sequence_points.specs.Points.{PointsReading, points_after, common_document}
 use Rattle.sequence_points.specs.Written.{CanBeWritten, large_steps, initial_document, points_bytes, points_blob}
 use Rattle.sequence_points.specs.Ranges.{IsDocument}
@@ -26,13 +26,21 @@ abbrev row_of : ℕ → Point → ℕ
 row_of zero p = p.document
 row_of (suc column) p = suc column
 
+-- once there was a point, there was one
+keeps_point : (s : Sums) (es : List Entry) → s.has_point ≡ true → (fold with_entry s es).has_point ≡ true
+keeps_point s [] h = h
+keeps_point s (header n r ∷ es) h = keeps_point s es h
+keeps_point s (in_document r ∷ es) h = keeps_point s es h
+keeps_point s (hidden o ∷ es) h = keeps_point (with_entry s (hidden o)) es refl
+keeps_point s (visible o l c sl sc ∷ es) h = keeps_point (with_entry s (visible o l c sl sc)) es refl
+
 -- records that make points have a point
-some_point : (before es : List Entry) → points_after before es ≢ [] → list_any is_point es ≡ true
-some_point before [] h = absurd (h refl)
-some_point before (header s r ∷ es) h = some_point (before ++ header s r ∷ []) es h
-some_point before (in_document r ∷ es) h = some_point (before ++ in_document r ∷ []) es h
-some_point before (hidden o ∷ es) h = refl
-some_point before (visible o l c sl sc ∷ es) h = refl
+some_point : (before es : List Entry) (s : Sums) → points_after before es ≢ [] → (fold with_entry s es).has_point ≡ true
+some_point before [] s h = absurd (h refl)
+some_point before (header n r ∷ es) s h = some_point (before ++ header n r ∷ []) es s h
+some_point before (in_document r ∷ es) s h = some_point (before ++ in_document r ∷ []) es s h
+some_point before (hidden o ∷ es) s h = keeps_point (with_entry s (hidden o)) es refl
+some_point before (visible o l c sl sc ∷ es) s h = keeps_point (with_entry s (visible o l c sl sc)) es refl
 
 -- the whole blob, with the points after the header
 whole : (column : ℕ) (limits : PointLimits) (signature : ℕ) (p : Point) (ps : List Point) (bytes : List ℕ) → signature < 536870912
@@ -54,7 +62,7 @@ whole zero limits signature p ps bytes small there document document_there rest 
       (field_last (sequence_points 0 limits) [] (number signature ∷ []) unsigned (short_unsigned p.document)
       (number p.document) rest.fields (header signature p.document) rest.records
       refl (unsigned_spells p.document document.1) (row-true limits.documents p.document document.0 document_there) refl rest.made))
-      (some_point (header signature p.document ∷ []) rest.records (subst (λ (qs : List Point). qs ≢ []) (sym rest.points_are) (λ e. cc))));
+      (some_point (header signature p.document ∷ []) rest.records (sums []) (subst (λ (qs : List Point). qs ≢ []) (sym rest.points_are) (λ e. cc))));
   signature_is = refl;
   points_are = sym rest.points_are;
 }
@@ -67,7 +75,7 @@ whole (suc column) limits signature p ps bytes small there document document_the
       (field_last (sequence_points (suc column) limits) [] [] unsigned (short_unsigned signature)
       (number signature) rest.fields (header signature (suc column)) rest.records
       refl (unsigned_spells signature small) (le-true signature limits.signatures there) refl rest.made)
-      (some_point (header signature (suc column) ∷ []) rest.records (subst (λ (qs : List Point). qs ≢ []) (sym rest.points_are) (λ e. cc))));
+      (some_point (header signature (suc column) ∷ []) rest.records (sums []) (subst (λ (qs : List Point). qs ≢ []) (sym rest.points_are) (λ e. cc))));
   signature_is = refl;
   points_are = sym rest.points_are;
 }

@@ -1,15 +1,12 @@
 -- What records say of the points that they make: their sums are the last point's offset, and the start of the last one that is not hidden.
 use Rattle.std.proofs.Common.{◌≡◌, ℕ, ◌+◌, List, [], ◌∷◌, ◌++◌, Option, Some, None, ℤ, pos, ◌+ℤ◌, refl, ap, ◌∙◌, arith}
 use Rattle.std.specs.Prelude.{is_some}
-use Rattle.std.proofs.lemmas.Int.{ints}
 use Rattle.sequence_points.specs.declared.point.Point.{Point}
 use Rattle.sequence_points.specs.declared.place.Start.{Start}
 use Rattle.sequence_points.specs.Records.{Entry, header, hidden, visible, in_document, Sums, sums}
 use Rattle.sequence_points.specs.Points.{document_after}
 use Rattle.sequence_points.specs.Written.{last_offset}
 use Rattle.sequence_points.proofs.Sums.{IsStarted, sums-push, document-push, started-push}
-use Rattle.sequence_points.proofs.Places.{or-true}
-use Rattle.sequence_points.proofs.Offsets.{or-false}
 
 abbrev pub line_of : Option Start → ℕ
 line_of None = 0
@@ -37,11 +34,11 @@ stands_document es last start document row s =
     let push = sums-push es (in_document row) in
     record {
       started = started-push es (in_document row);
-      has_point = ap (λ (x : Sums). x.has_point) push ∙ or-false (sums es).has_point ∙ s.has_point;
-      has_visible = ap (λ (x : Sums). x.has_visible) push ∙ or-false (sums es).has_visible ∙ s.has_visible;
-      offset = ap (λ (x : Sums). x.offset) push ∙ (let e = s.offset in omega arith);
-      line = ap (λ (x : Sums). x.line) push ∙ (let e = s.line in omega (arith, ints));
-      column = ap (λ (x : Sums). x.column) push ∙ (let e = s.column in omega (arith, ints));
+      has_point = ap (λ (x : Sums). x.has_point) push ∙ s.has_point;
+      has_visible = ap (λ (x : Sums). x.has_visible) push ∙ s.has_visible;
+      offset = ap (λ (x : Sums). x.offset) push ∙ s.offset;
+      line = ap (λ (x : Sums). x.line) push ∙ s.line;
+      column = ap (λ (x : Sums). x.column) push ∙ s.column;
       document_is = document-push es (in_document row);
     }
 
@@ -51,11 +48,11 @@ stands_hidden es last start document step p s o =
     let push = sums-push es (hidden step) in
     record {
       started = started-push es (hidden step);
-      has_point = ap (λ (x : Sums). x.has_point) push ∙ or-true (sums es).has_point;
-      has_visible = ap (λ (x : Sums). x.has_visible) push ∙ or-false (sums es).has_visible ∙ s.has_visible;
+      has_point = ap (λ (x : Sums). x.has_point) push;
+      has_visible = ap (λ (x : Sums). x.has_visible) push ∙ s.has_visible;
       offset = ap (λ (x : Sums). x.offset) push ∙ (let e = s.offset in omega arith);
-      line = ap (λ (x : Sums). x.line) push ∙ (let e = s.line in omega (arith, ints));
-      column = ap (λ (x : Sums). x.column) push ∙ (let e = s.column in omega (arith, ints));
+      line = ap (λ (x : Sums). x.line) push ∙ s.line;
+      column = ap (λ (x : Sums). x.column) push ∙ s.column;
       document_is = document-push es (hidden step) ∙ s.document_is;
     }
 
@@ -68,8 +65,8 @@ stands_visible es last start document step lines columns line column p at s o l 
     let push = sums-push es e in
     record {
       started = started-push es e;
-      has_point = ap (λ (x : Sums). x.has_point) push ∙ or-true (sums es).has_point;
-      has_visible = ap (λ (x : Sums). x.has_visible) push ∙ or-true (sums es).has_visible;
+      has_point = ap (λ (x : Sums). x.has_point) push;
+      has_visible = ap (λ (x : Sums). x.has_visible) push;
       offset = ap (λ (x : Sums). x.offset) push ∙ (let f = s.offset in omega arith);
       line = ap (λ (x : Sums). x.line) push ∙ ap (λ z. z +ℤ line) s.line ∙ l;
       column = ap (λ (x : Sums). x.column) push ∙ ap (λ z. z +ℤ column) s.column ∙ k;

@@ -1,14 +1,11 @@
 -- What is left after some records depends on their sums alone.
-use Rattle.std.proofs.Common.{◌≡◌, ℕ, ◌+◌, Bool, ◌||◌, List, [], ◌∷◌, ◌++◌, ℤ, ◌+ℤ◌, refl, sym, ap, ◌∙◌, arith}
-use Rattle.std.specs.List.{sum_by, list_any, flat_map}
-use Rattle.std.proofs.lemmas.List.Sums.{sum_by-append}
-use Rattle.std.proofs.lemmas.List.Folds.{list_any-append}
+use Rattle.std.proofs.Common.{◌≡◌, ℕ, Bool, List, [], ◌∷◌, ◌++◌, ℤ, refl, sym, ap, ◌∙◌}
+use Rattle.std.specs.List.{flat_map, fold}
 use Rattle.std.proofs.lemmas.Grind.{flat_map-append}
-use Rattle.std.proofs.lemmas.Int.{ints}
 use Rattle.blob_grammar.specs.Grammar.{Value}
 use Rattle.blob_grammar.proofs.Steps.{Alike}
 use Rattle.sequence_points.specs.declared.point.PointLimits.{PointLimits}
-use Rattle.sequence_points.specs.Records.{Entry, is_point, is_visible, offset_of, start_line_of, start_column_of, int_sum_by, Sums, sums}
+use Rattle.sequence_points.specs.Records.{Entry, Sums, with_entry, sums}
 use Rattle.sequence_points.specs.Records.{point_form, point_allows, point_of_fields, form, allows, record_of, may_stop, sequence_points}
 use Rattle.sequence_points.specs.Points.{named_document, last_row, document_after}
 
@@ -24,19 +21,6 @@ pub record SameSums (a b : List Entry) : Type 0 where
   pub sums_are : sums a ≡ sums b
   pub document_is : document_after a ≡ document_after b
 
-int_sum_by-push : (f : Entry → ℤ) (es : List Entry) (e : Entry) → int_sum_by f (es ++ e ∷ []) ≡ int_sum_by f es +ℤ f e
-int_sum_by-push f [] e = omega (arith, ints)
-int_sum_by-push f (x ∷ es) e = rw (int_sum_by-push f es e) (omega (arith, ints))
-
-abbrev pub add_sums : Sums → Entry → Sums
-add_sums s e = record {
-  has_point = s.has_point || list_any is_point (e ∷ []);
-  has_visible = s.has_visible || list_any is_visible (e ∷ []);
-  offset = s.offset + sum_by offset_of (e ∷ []);
-  line = s.line +ℤ start_line_of e;
-  column = s.column +ℤ start_column_of e;
-}
-
 pub same_five : (a b c d : Bool) (m n : ℕ) (x y z w : ℤ) → a ≡ b → c ≡ d → m ≡ n → x ≡ y → z ≡ w
     → let one : Sums = record { has_point = a; has_visible = c; offset = m; line = x; column = z } in
     let two : Sums = record { has_point = b; has_visible = d; offset = n; line = y; column = w } in one ≡ two
@@ -44,9 +28,12 @@ same_five a b c d m n x y z w p q r s t =
     ap (λ (v : Bool × Bool × ℕ × ℤ × ℤ). let one : Sums = record { has_point = v.0; has_visible = v.1; offset = v.2; line = v.3; column = v.4 } in one)
     (let e : (a, c, m, x, z) ≡ (b, d, n, y, w) = cc in e)
 
-pub sums-push : (es : List Entry) (e : Entry) → sums (es ++ e ∷ []) ≡ add_sums (sums es) e
-sums-push es e = same_five _ _ _ _ _ _ _ _ _ _ (list_any-append is_point es (e ∷ [])) (list_any-append is_visible es (e ∷ []))
-    (sum_by-append offset_of es (e ∷ [])) (int_sum_by-push start_line_of es e) (int_sum_by-push start_column_of es e)
+sums_from : (s : Sums) (es : List Entry) (e : Entry) → fold with_entry s (es ++ e ∷ []) ≡ with_entry (fold with_entry s es) e
+sums_from s [] e = refl
+sums_from s (x ∷ es) e = sums_from (with_entry s x) es e
+
+pub sums-push : (es : List Entry) (e : Entry) → sums (es ++ e ∷ []) ≡ with_entry (sums es) e
+sums-push es e = sums_from _ es e
 
 pub last_row-append : (other : ℕ) (xs ys : List ℕ) → last_row other (xs ++ ys) ≡ last_row (last_row other xs) ys
 last_row-append other [] ys = refl
@@ -64,7 +51,7 @@ pub same-push : (a b : List Entry) (e : Entry) → SameSums a b → SameSums (a 
 same-push a b e s = record {
   started = started-push a e;
   starts = started-push b e;
-  sums_are = sums-push a e ∙ ap (λ x. add_sums x e) s.sums_are ∙ sym (sums-push b e);
+  sums_are = sums-push a e ∙ ap (λ x. with_entry x e) s.sums_are ∙ sym (sums-push b e);
   document_is = document-push a e ∙ ap (λ n. last_row n (named_document e ++ [])) s.document_is ∙ sym (document-push b e);
 }
 

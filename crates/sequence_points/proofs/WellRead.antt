@@ -16,8 +16,6 @@ use Rattle.sequence_points.specs.Points.{document_after, point_of, points_after,
 use Rattle.sequence_points.specs.Written.{IsSpan}
 use Rattle.sequence_points.specs.Ranges.{IsOffset, IsLine, IsColumn}
 use Rattle.sequence_points.proofs.Sums.{IsStarted, sums-push, document-push, started-push}
-use Rattle.sequence_points.proofs.Places.{or-true}
-use Rattle.sequence_points.proofs.Offsets.{or-false}
 
 abbrev pub IsThere : PointLimits → ℕ → Type 0
 IsThere limits row = (1 ≤ row) × (row ≤ limits.documents)
@@ -83,8 +81,8 @@ well_document limits es row w there =
     let e = in_document row in
     let push = sums-push es e in
     let same : points_after [] (es ++ e ∷ []) ≡ points_after [] es = points-push [] es e ∙ append-nil (points_after [] es) in
-    let has : (sums (es ++ e ∷ [])).has_point ≡ (sums es).has_point = ap (λ (x : Sums). x.has_point) push ∙ or-false (sums es).has_point in
-    let offset : (sums (es ++ e ∷ [])).offset ≡ (sums es).offset = ap (λ (x : Sums). x.offset) push ∙ omega arith in
+    let has : (sums (es ++ e ∷ [])).has_point ≡ (sums es).has_point = ap (λ (x : Sums). x.has_point) push in
+    let offset : (sums (es ++ e ∷ [])).offset ≡ (sums es).offset = ap (λ (x : Sums). x.offset) push in
     record {
       started = started-push es e;
       rise = subst (AllPairs (λ (p q : Point). p.offset < q.offset)) (sym same) w.rise;
@@ -137,8 +135,8 @@ well_hidden limits es step w small rises =
     let e = hidden step in
     let push = sums-push es e in
     well_point limits es e (record { offset = (sums es).offset + step; document = document_after es; span = Hidden }) w refl
-    (ap (λ (x : Sums). x.has_point) push ∙ or-true (sums es).has_point)
-    (ap (λ (x : Sums). x.offset) push ∙ omega arith) (document-push es e) refl (omega arith) (λ h. let more = rises h in omega arith) small tt
+    (ap (λ (x : Sums). x.has_point) push)
+    (ap (λ (x : Sums). x.offset) push) (document-push es e) refl (omega arith) (λ h. let more = rises h in omega arith) small tt
 
 line_read : (n : ℕ) → is_line (pos n) ≡ true → IsLine n
 line_read n h =
@@ -177,5 +175,5 @@ well_visible limits es step lines columns line column w small rises span =
       span = Lines (unsigned_abs (s.line +ℤ line)) (unsigned_abs (s.column +ℤ column))
           (unsigned_abs ((s.line +ℤ line) +ℤ pos lines)) (unsigned_abs ((s.column +ℤ column) +ℤ columns));
     })
-    w refl (ap (λ (x : Sums). x.has_point) push ∙ or-true s.has_point) (ap (λ (x : Sums). x.offset) push ∙ omega arith) (document-push es e) refl (omega arith)
+    w refl (ap (λ (x : Sums). x.has_point) push) (ap (λ (x : Sums). x.offset) push) (document-push es e) refl (omega arith)
     (λ h. let more = rises h in omega arith) small span

@@ -24,12 +24,10 @@ document_after entries = last_row 0 (flat_map named_document entries)
 abbrev pub point_by : Sums → ℕ → Entry → Option Point
 point_by before row (hidden offset) = Some (record { offset = before.offset + offset; document = row; span = Hidden })
 point_by before row (visible offset lines columns line column) =
-    Some (record {
-      offset = before.offset + offset;
-      document = row;
-      span = Lines (unsigned_abs (before.line +ℤ line)) (unsigned_abs (before.column +ℤ column)) (unsigned_abs ((before.line +ℤ line) +ℤ pos lines))
-          (unsigned_abs ((before.column +ℤ column) +ℤ columns));
-    })
+    let l = before.line +ℤ line in
+    let c = before.column +ℤ column in
+    let span = Lines (unsigned_abs l) (unsigned_abs c) (unsigned_abs (l +ℤ pos lines)) (unsigned_abs (c +ℤ columns)) in
+    Some (record { offset = before.offset + offset; document = row; span = span })
 point_by before row _ = None
 
 abbrev pub point_of : List Entry → Entry → Option Point
@@ -60,7 +58,7 @@ HasDocument points row = (points ≢ []) × All (λ p. p.document ≡ row) point
 abbrev pub IsSingleDocument : List Point → ℕ → Type 0
 IsSingleDocument points row = HasDocument points row ⊎ ((row ≡ 0) × ((other : ℕ) → ¬ (HasDocument points other)))
 
--- It, as a function.
+-- The common document of the points, as a function.
 abbrev pub common_document : List Point → ℕ
 common_document [] = 0
 common_document (p ∷ ps) = if list_all (λ q. q.document == p.document) (p ∷ ps) then p.document else 0

@@ -6,14 +6,6 @@ use Rattle.std.specs.Prelude.{◌≢◌, ℕ, ◌<◌, ◌≤◌, ℤ, pos, negs
 abbrev pub number_limit : ℕ
 number_limit = 0x2000_0000
 
--- the line that marks a hidden point in other formats: no point has it
-abbrev pub hidden_line : ℕ
-hidden_line = 0xfe_efee
-
--- the first number that is no column
-abbrev pub column_limit : ℕ
-column_limit = 0x1_0000
-
 abbrev pub IsOffset : ℕ → Type 0
 IsOffset offset = offset < number_limit
 
@@ -23,16 +15,17 @@ is_offset offset = nat_lt offset number_limit
 abbrev pub IsDocument : ℕ → Type 0
 IsDocument row = (1 ≤ row) × (row < number_limit)
 
+-- feefee marks a hidden point in other formats: it is no line
 abbrev pub IsLine : ℕ → Type 0
-IsLine line = (line < number_limit) × (line ≢ hidden_line)
+IsLine line = (line < number_limit) × (line ≢ 0xfe_efee)
 
 abbrev pub is_line : ℤ → Bool
-is_line (pos line) = nat_lt line number_limit && not (line == hidden_line)
+is_line (pos line) = nat_lt line number_limit && not (line == 0xfe_efee)
 is_line (negsuc _) = false
 
 abbrev pub IsColumn : ℕ → Type 0
-IsColumn column = column < column_limit
+IsColumn column = column < 0x1_0000
 
 abbrev pub is_column : ℤ → Bool
-is_column (pos column) = nat_lt column column_limit
+is_column (pos column) = nat_lt column 0x1_0000
 is_column (negsuc _) = false

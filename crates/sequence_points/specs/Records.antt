@@ -1,5 +1,5 @@
 -- Sequence points (Portable PDB v1.0, "Sequence Points Blob"): which field may follow the fields before it.
-use Rattle.std.specs.{Prelude.{ℕ, zero, suc, ◌+◌, List, [], ◌∷◌, Option, Some, None, Bool, true, false, ◌&&◌, nat_le, if◌then◌else◌, ℤ, pos, ◌+ℤ◌, sum_by}, List.list_any}
+use Rattle.std.specs.Prelude.{ℕ, zero, suc, ◌+◌, List, [], ◌∷◌, Option, Some, None, Bool, true, false, ◌&&◌, nat_le, if◌then◌else◌, ℤ, pos, ◌+ℤ◌, fold}
 use Rattle.blob_grammar.specs.{Grammar.{Value, number, integer, Form, unsigned, signed, Grammar}, Allowed.{is_row, is_number}}
 use Rattle.sequence_points.specs.{declared.point.PointLimits.PointLimits, Ranges.{is_offset, is_line, is_column}}
 
@@ -12,32 +12,6 @@ pub data Entry : Type 0 where
 
 -- ---- sums over the records before
 
-abbrev pub offset_of : Entry → ℕ
-offset_of (hidden offset) = offset
-offset_of (visible offset lines columns start_line start_column) = offset
-offset_of _ = 0
-
-abbrev pub start_line_of : Entry → ℤ
-start_line_of (visible offset lines columns start_line start_column) = start_line
-start_line_of _ = pos 0
-
-abbrev pub start_column_of : Entry → ℤ
-start_column_of (visible offset lines columns start_line start_column) = start_column
-start_column_of _ = pos 0
-
-abbrev pub is_point : Entry → Bool
-is_point (header signature row) = false
-is_point (in_document row) = false
-is_point _ = true
-
-abbrev pub is_visible : Entry → Bool
-is_visible (visible offset lines columns start_line start_column) = true
-is_visible _ = false
-
-abbrev pub int_sum_by : (Entry → ℤ) → List Entry → ℤ
-int_sum_by f [] = pos 0
-int_sum_by f (e ∷ es) = f e +ℤ int_sum_by f es
-
 -- What the records so far add up to: whether there was a point, and one that is not hidden; the IL offset of the last
 -- point; the start of the last point that is not hidden.
 pub record Sums : Type 0 where
@@ -47,14 +21,20 @@ pub record Sums : Type 0 where
   pub line : ℤ
   pub column : ℤ
 
-abbrev pub sums : List Entry → Sums
-sums entries = record {
-  has_point = list_any is_point entries;
-  has_visible = list_any is_visible entries;
-  offset = sum_by offset_of entries;
-  line = int_sum_by start_line_of entries;
-  column = int_sum_by start_column_of entries;
+-- the sums with one more record
+abbrev pub with_entry : Sums → Entry → Sums
+with_entry before (hidden offset) = record before { has_point = true; offset = before.offset + offset }
+with_entry before (visible offset lines columns line column) = record {
+  has_point = true;
+  has_visible = true;
+  offset = before.offset + offset;
+  line = before.line +ℤ line;
+  column = before.column +ℤ column;
 }
+with_entry before _ = before
+
+abbrev pub sums : List Entry → Sums
+sums entries = fold with_entry (record { has_point = false; has_visible = false; offset = 0; line = pos 0; column = pos 0 }) entries
 
 -- ---- ranges
 
@@ -64,15 +44,6 @@ int_of (integer z) = z
 int_of _ = pos 0
 
 -- ---- the header: LocalSignature, and InitialDocument where the Document column of the method is 0
-
-abbrev pub header_form : List Value → Option Form
-header_form [] = Some unsigned
-header_form (signature ∷ []) = Some unsigned
-header_form _ = None
-
-abbrev pub header_allows : PointLimits → List Value → Value → Bool
-header_allows limits [] signature = is_number (λ row. nat_le row limits.signatures) signature
-header_allows limits _ document = is_number (is_row limits.documents) document
 
 abbrev pub header_for : ℕ → ℕ → Option Entry
 header_for zero signature = None
@@ -141,11 +112,14 @@ point_of_fields before _ = None
 -- ---- the whole blob: a header, a point, and any mix of points and document records
 
 abbrev pub form : List Entry → List Value → Option Form
-form [] begun = header_form begun
+form [] [] = Some unsigned
+form [] (signature ∷ []) = Some unsigned
+form [] _ = None
 form before begun = point_form (sums before) begun
 
 abbrev pub allows : PointLimits → List Entry → List Value → Value → Bool
-allows limits [] begun value = header_allows limits begun value
+allows limits [] [] signature = is_number (λ row. nat_le row limits.signatures) signature
+allows limits [] _ document = is_number (is_row limits.documents) document
 allows limits before begun value = point_allows limits (sums before) begun value
 
 abbrev pub record_of : ℕ → List Entry → List Value → Option Entry
@@ -157,9 +131,5 @@ may_stop before [] = (sums before).has_point
 may_stop before _ = false
 
 abbrev pub sequence_points : ℕ → PointLimits → Grammar Entry
-sequence_points column limits = record {
-  form = λ before begun. form before begun;
-  allows = λ before begun value. allows limits before begun value;
-  record_of = λ before begun. record_of column before begun;
-  may_stop = λ before begun. may_stop before begun;
-}
+sequence_points column limits =
+    record { form = form; allows = allows limits; record_of = record_of column; may_stop = may_stop }

@@ -1,6 +1,6 @@
 -- The one canonical blob of some points (Portable PDB v1.0, "Sequence Points Blob"): each number has its shortest form
 -- (ECMA-335 II.23.2), and a document record stands exactly before each point whose document is not that of the point before.
-use Rattle.std.specs.Prelude.{◌≡◌, ◌≢◌, ℕ, ◌+◌, ◌-◌, ◌<◌, ◌^◌, ◌⊎◌, zero, suc, List, [], ◌∷◌, ◌++◌, length, Option, Some, None, ◌==◌, if◌then◌else◌, All, AllPairs, ℤ, pos, ◌-ℤ◌, filter_map}
+use Rattle.std.specs.Prelude.{◌≡◌, ◌≢◌, ℕ, ◌+◌, ◌-◌, ◌<◌, ◌^◌, ◌⊎◌, zero, List, [], ◌∷◌, ◌++◌, length, Option, Some, None, ◌==◌, if◌then◌else◌, All, AllPairs, ℤ, pos, ◌-ℤ◌, filter_map}
 use Rattle.std.specs.Prelude.{option_map, option_to_list}
 use Rattle.cli_ints.specs.Shortest.{short_unsigned, short_signed, fits_half}
 use Rattle.sequence_points.specs.{declared.point.{Point.Point, Span.{Span, TheVariants.{Hidden, Lines}}}, declared.place.Start.Start, declared.step.LineStep.LineStep}
@@ -85,8 +85,7 @@ points_bytes before (p ∷ ps) = bytes_after (last_of before) (last_start before
 -- InitialDocument, which is there exactly where the Document column is 0: the first point's
 abbrev pub initial_document : ℕ → List Point → List ℕ
 initial_document zero (p ∷ ps) = short_unsigned p.document
-initial_document zero [] = []
-initial_document (suc column) points = []
+initial_document _ _ = []
 
 abbrev pub header_bytes : ℕ → List Point → List ℕ
 header_bytes signature points = short_unsigned signature ++ initial_document (common_document points) points

@@ -1,11 +1,11 @@
 // Heaps that are written.
 use ppdb_base::{Bytes, Memory};
-use ppdb_build_heaps::{BlobPiece, GuidHeap, Heap, HeapKind, ItemKey, ItemStore, use_pieces};
+use ppdb_build_heaps::{BlobPiece, GuidHeap, Heap, HeapKind, ItemStore, use_pieces};
 use std::alloc::Global;
 
 /// The heap of a document's name, which is split at this separator, with a hash after it, as bytes.
 fn heap_of_name(alloc: Global, separator: u8, name: &[u8], hash: &[u8]) -> Result<Bytes, Memory> {
-    let store = ItemStore::new(alloc, ItemKey::of(&[]));
+    let store = ItemStore::new(alloc);
     let mut heap = Heap::new(alloc, &store, HeapKind::Blobs);
     heap.use_item(&[])?;
     let separators = [separator];
@@ -64,7 +64,7 @@ fn use_zeros(heap: &mut Heap) -> Result<[u64; 5], Memory> {
 
 /// The same in a heap of its own, and how long that is.
 fn indexes(alloc: Global) -> Result<([u64; 5], u64), Memory> {
-    let store = ItemStore::new(alloc, ItemKey::of(&[]));
+    let store = ItemStore::new(alloc);
     let mut heap = Heap::new(alloc, &store, HeapKind::Blobs);
     match use_zeros(&mut heap) {
         Ok(indexes) => Ok((indexes, heap.len())),
@@ -91,8 +91,7 @@ fn use_guids(heap: &mut GuidHeap, bytes: &mut Bytes) -> Result<[u32; 3], Memory>
 fn guids_are_numbered_from_one(rt: HostRuntime) {
     let mut expected = [1; 32];
     expected[16..].fill(2);
-    let store = ItemStore::new(rt.alloc(), ItemKey::of(&[]));
-    let mut heap = GuidHeap::new(rt.alloc(), &store);
+    let mut heap = GuidHeap::new(rt.alloc());
     let mut bytes = Bytes::new(rt.alloc());
     assert!(rt; use_guids(&mut heap, &mut bytes) == Ok([1, 2, 1]));
     assert!(rt; bytes.as_slice() == expected.as_slice());
@@ -110,7 +109,7 @@ fn use_texts(heap: &mut Heap, bytes: &mut Bytes) -> Result<[u64; 3], Memory> {
 
 #[test]
 fn texts_end_with_a_zero(rt: HostRuntime) {
-    let store = ItemStore::new(rt.alloc(), ItemKey::of(&[]));
+    let store = ItemStore::new(rt.alloc());
     let mut heap = Heap::new(rt.alloc(), &store, HeapKind::Texts);
     let mut bytes = Bytes::new(rt.alloc());
     assert!(rt; use_texts(&mut heap, &mut bytes) == Ok([0, 1, 4]));

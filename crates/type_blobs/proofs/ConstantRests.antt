@@ -1,9 +1,10 @@
 -- What is left of a constant, a step at a time.
-use Rattle.std.proofs.Common.{◌≡◌, ℕ, zero, suc, ◌+◌, List, [], ◌∷◌, ◌++◌, drop, take, Option, Some, None, refl, ap, ◌∙◌}
+use Rattle.std.proofs.Common.{◌≡◌, ℕ, zero, suc, ◌+◌, List, [], ◌∷◌, ◌++◌, drop, take, Option, Some, None, refl, sym, ap, ◌∙◌}
 use Rattle.std.specs.List.{fold}
 use Rattle.ppdb_base.specs.declared.Code.{Code}
 use Rattle.blob_grammar.specs.Grammar.{Value, Field, Cut, closed, with_value}
-use Rattle.blob_grammar.specs.Reader.{Step, field, stop, invalid, step, take_field, fields_for, fields_from, begun_from}
+use Rattle.blob_grammar.specs.Reader.{Step, field, stop, invalid, step, fields_for, fields_from, begun_from}
+use Rattle.blob_grammar.proofs.PrefixFields.{take_field, fields_for-step}
 use Rattle.blob_grammar.proofs.Steps.{Alike, read_from-alike}
 use Rattle.type_blobs.specs.declared.types.TypeLimits.{TypeLimits}
 use Rattle.type_blobs.specs.declared.types.Modifier.{Modifier}
@@ -43,12 +44,14 @@ module _ (limits : TypeLimits) (blob : List ℕ) where
   same_take h a b vs bytes (invalid code) e = refl
 
   fields_for-alike : (turns : ℕ) (a b : List Modifier) (vs : List Value) (bytes : List ℕ)
-      → fields_for turns (constants limits) a vs bytes ≡ fields_for turns (constants limits) b vs bytes
+      → fields_for turns (constants limits) (at_place a vs) bytes ≡ fields_for turns (constants limits) (at_place b vs) bytes
   unfolding fields_for
   fields_for-alike zero a b vs bytes = refl
   fields_for-alike (suc turns) a b vs bytes =
-      same_take (λ len w t. fields_for turns (constants limits) w t (drop len bytes)) a b vs bytes (step (constants limits) a vs bytes)
+      fields_for-step (constants limits) turns a vs bytes
+      ∙ same_take (λ len w t. fields_for turns (constants limits) (at_place w t) (drop len bytes)) a b vs bytes (step (constants limits) a vs bytes)
       (λ len c d ws. fields_for-alike turns c d ws (drop len bytes))
+      ∙ sym (fields_for-step (constants limits) turns b vs bytes)
 
   begun_after : List Field → List Modifier → List Value → List Value
   begun_after fs whole begun = (fold (λ (c : Cut Modifier) f. with_value (constants limits) c f.value) (at_place whole begun) fs).begun
@@ -63,7 +66,7 @@ module _ (limits : TypeLimits) (blob : List ℕ) where
       → begun_from (constants limits) a vs bytes ≡ begun_from (constants limits) b vs bytes
   unfolding begun_from fields_from begun_after
   begun_from-alike a b vs bytes =
-      ap (λ fs. begun_after fs a vs) (fields_for-alike _ a b vs bytes) ∙ begun_after-alike (fields_from (constants limits) b vs bytes) a b vs
+      ap (λ fs. begun_after fs a vs) (fields_for-alike _ a b vs bytes) ∙ begun_after-alike (fields_from (constants limits) (at_place b vs) bytes) a b vs
 
   -- ---- the steps
 

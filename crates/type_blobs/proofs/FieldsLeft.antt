@@ -18,7 +18,7 @@ use Rattle.type_blobs.specs.declared.import_part.ImportField.{ImportField}
 use Rattle.type_blobs.specs.declared.import_fields.ImportPlace.{ImportPlace}
 use Rattle.blob_grammar.specs.Allowed.{is_between}
 use Rattle.type_blobs.specs.Imports.{ImportItem, imports, import_of, item_of, items_by_kind, of_kind, parts_of, numbers_of, next_part}
-use Rattle.type_blobs.specs.Imports.{next_allows, part_allows, allows, import_field, field_of}
+use Rattle.type_blobs.specs.Imports.{next_allows, part_allows, import_field, field_of}
 use Rattle.type_blobs.specs.Numbers.{number_at}
 use Rattle.type_blobs.specs.ImportReading.{zeros, begun_of, SameShape, import_fields_left}
 use Rattle.type_blobs.proofs.NextStep.{found, step-number, step-no_number}
@@ -70,7 +70,7 @@ module _ (limits : TypeLimits) (heap : ℕ → Option (List ℕ)) where
   same_stop (number k ∷ vs) (number l ∷ ws) e = refl
   same_stop _ _ e = absurd e
 
-  keeps_at : (w x : List ImportItem) (vs ws : List Value) (value : Value) → SameShape vs ws → allows limits heap vs value ≡ true
+  keeps_at : (w x : List ImportItem) (vs ws : List Value) (value : Value) → SameShape vs ws → next_allows limits heap (next_part vs) value ≡ true
       → SameShape (with_value (imports limits heap) (record { whole = w; begun = vs }) value).begun (with_value (imports limits heap)
       (record { whole = x; begun = ws }) value).begun
   keeps_at w x [] [] (number n) e allowed = closed_as (import_of heap (number n ∷ [])) w x (number n ∷ []) (number n ∷ []) (refl, refl)
@@ -133,7 +133,7 @@ module _ (limits : TypeLimits) (heap : ℕ → Option (List ℕ)) where
       and-false false = refl
 
   allows_it : (begun : List Value) (part : ImportPart) → next_part begun ≡ Some part → (n : ℕ)
-      → allows limits heap begun (number n) ≡ part_allows limits heap part n
+      → next_allows limits heap (next_part begun) (number n) ≡ part_allows limits heap part n
   allows_it begun part e n = ap (λ p. next_allows limits heap p (number n)) e
 
   pub fields-refused : (blob : List ℕ) (place : ImportPlace) (part : ImportPart) (fault : BlobFault) → place.at ≤ length blob

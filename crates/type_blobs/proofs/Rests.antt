@@ -3,10 +3,10 @@ use Rattle.std.proofs.Common.{◌≡◌, ℕ, ◌+◌, List, [], ◌∷◌, ◌+
 use Rattle.std.specs.List.{fold}
 use Rattle.std.proofs.lemmas.List.{drop-drop}
 use Rattle.blob_grammar.specs.Grammar.{Value, Grammar, Cut, closed, with_value}
-use Rattle.blob_grammar.specs.Reader.{Left, Step, field, stop, invalid, step, push, close_and, take_step, take_field, read_from, fields_from, begun_from}
+use Rattle.blob_grammar.specs.Reader.{Left, Step, field, stop, invalid, step, push, close_and, take_step, read_from, fields_from, begun_from}
 use Rattle.blob_grammar.proofs.Steps.{read_from-step}
 use Rattle.type_blobs.specs.ConstantReading.{Rest, rest_at}
-use Rattle.blob_grammar.proofs.PrefixFields.{fields_from-step}
+use Rattle.blob_grammar.proofs.PrefixFields.{place, take_field, fields_from-step}
 
 abbrev pub push_rest : {R : Type 0} → R → Rest R → Rest R
 push_rest r found = record { left = push r found.left; begun = found.begun }
@@ -30,7 +30,8 @@ module _ {R : Type 0} (g : Grammar R) (whole : List R) (begun : List Value) (blo
 
   abbrev begun_after : Step → List Value
   begun_after s =
-      (fold (λ (c : Cut R) f. with_value g c f.value) here (take_field g (λ len w b. fields_from g w b (drop len (drop at blob))) here (drop at blob) s)).begun
+      let goes_on = λ (len : ℕ) (w : List R) (b : List Value). fields_from g (place w b) (drop len (drop at blob)) in
+      (fold (λ (c : Cut R) f. with_value g c f.value) here (take_field g goes_on here (drop at blob) s)).begun
 
   stepped_close : (value : Value) (len : ℕ) (o : Option R)
       → record {

@@ -1,6 +1,6 @@
 -- What constant_into writes is read again.
 use Rattle.std.proofs.Common.{◌≡◌, ℕ, Bool, true, false, List, [], ◌∷◌, ◌++◌, length, Some, None, refl, sym, ap, subst, ◌∙◌, arith, append-nil}
-use Rattle.std.specs.Prelude.{All, is_some}
+use Rattle.std.specs.Prelude.{All, is_some, if◌then◌else◌}
 use Rattle.std.specs.List.{flat_map}
 use Rattle.std.proofs.lemmas.List.Elements.{All-head, All-tail}
 use Rattle.std.proofs.lemmas.Grind.{flat_map-append}
@@ -16,7 +16,7 @@ use Rattle.type_blobs.specs.Types.{number_of, IsToken, IsThere}
 use Rattle.type_blobs.specs.Constants.{ConstantBody, primitive, enumerated, general, object, is_enumerable, is_general, is_string}
 use Rattle.type_blobs.specs.Constants.{is_text, is_code, size_of, body_of, modifier_of, after_two, constants}
 use Rattle.type_blobs.specs.ConstantReading.{ConstantLeft, body, ConstantReading}
-use Rattle.type_blobs.specs.Spelling.{code_of, modifier_spelling, body_spelling, constant_spelling, IsPrimitive, IsBody, IsBodyThere}
+use Rattle.type_blobs.specs.Spelling.{modifier_spelling, body_spelling, constant_spelling, IsPrimitive, IsBody, IsBodyThere}
 use Rattle.type_blobs.proofs.Codes.{OfGeneral, of_general, OfPrimitive, of_primitive, primitive_range, enumerable_range, eq-is}
 use Rattle.type_blobs.proofs.WrittenNumbers.{number_small, token-back, type_is}
 
@@ -35,7 +35,7 @@ after whole begun = record { whole = whole; begun = begun }
 -- ---- modifiers
 
 abbrev modifier_fields : List Modifier → Modifier → List Field
-modifier_fields whole m = code_field (code_of m.required) ∷ type_field m.target ∷ []
+modifier_fields whole m = code_field (if m.required then 0x1f else 0x20) ∷ type_field m.target ∷ []
 
 abbrev IsModifierThere : TypeLimits → Modifier → Type 0
 IsModifierThere limits m = IsToken m.target × IsThere limits m.target
@@ -79,7 +79,7 @@ module _ (limits : TypeLimits) where
 
   modifiers_spelled : (whole ms : List Modifier) → bytes_of (fields_after modifier_fields whole ms) ≡ flat_map modifier_spelling ms
   modifiers_spelled whole [] = refl
-  modifiers_spelled whole (m ∷ ms) = ap (λ bs. code_of m.required ∷ (short_unsigned (number_of m.target) ++ bs)) (modifiers_spelled (whole ++ m ∷ []) ms)
+  modifiers_spelled whole (m ∷ ms) = ap (λ bs. (if m.required then 0x1f else 0x20) ∷ (short_unsigned (number_of m.target) ++ bs)) (modifiers_spelled (whole ++ m ∷ []) ms)
 
   -- ---- the body
 

@@ -13,7 +13,7 @@ use Rattle.blob_grammar.proofs.Written.{FollowFrom, follow-append, cut_from-appe
 use Rattle.blob_grammar.proofs.Written.{number_field, number_allowed}
 use Rattle.type_blobs.specs.declared.types.TypeLimits.{TypeLimits}
 use Rattle.type_blobs.specs.declared.import_writer.ImportNumbers.{ImportNumbers}
-use Rattle.type_blobs.specs.Imports.{import_field, import_fields, import_indexes, text_index, parts_of, part_allows, allows, ImportItem, item_of, imports}
+use Rattle.type_blobs.specs.Imports.{import_field, import_fields, import_indexes, text_index, parts_of, part_allows, next_part, next_allows, ImportItem, item_of, imports}
 use Rattle.type_blobs.specs.declared.import_part.ImportPart.{ImportPart}
 use Rattle.type_blobs.specs.declared.import_part.ImportField.{ImportField}
 use Rattle.blob_grammar.specs.Places.{placed_from}
@@ -90,7 +90,7 @@ module _ (limits : TypeLimits) (heap : ℕ → Option (List ℕ)) where
   part_there numbers h Target t = type_is limits numbers.target h.target t
 
   -- a field after some others
-  ok : (whole : List ImportItem) (begun : List _) (n : ℕ) (left : List ℕ) → n < 2 ^ 29 → allows limits heap begun (number n) ≡ true
+  ok : (whole : List ImportItem) (begun : List _) (n : ℕ) (left : List ℕ) → n < 2 ^ 29 → next_allows limits heap (next_part begun) (number n) ≡ true
       → IsAllowed (imports limits heap) (record { whole = whole; begun = begun }) (number_field n) left
   ok whole begun n left small h = number_allowed (imports limits heap) (record { whole = whole; begun = begun }) n left refl small h
 

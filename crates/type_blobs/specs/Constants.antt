@@ -1,6 +1,6 @@
 -- The signature of a local constant (Portable PDB v1.0, "LocalConstantSig Blob"; codes of ECMA-335 II.23.1.16).
 use Rattle.std.specs.Prelude.{ℕ, ◌%◌, List, [], ◌∷◌, length, Option, Some, None, Bool, true, false, is_some, ◌&&◌, ◌||◌, ◌==◌, nat_le, if◌then◌else◌}
-use Rattle.blob_grammar.specs.Grammar.{Value, number, octets, Form, unsigned, byte, fixed, rest, Grammar}
+use Rattle.blob_grammar.specs.{Grammar.{Value, number, octets, Form, unsigned, byte, fixed, rest, Grammar}, Allowed.is_number}
 use Rattle.type_blobs.specs.{declared.types.{TypeToken.TypeToken, TypeLimits.TypeLimits, Modifier.Modifier}, Types.{is_type, token_of}}
 
 -- The body of a constant, after its modifiers: a value of a primitive type or a text; a value of an enumeration; a value of
@@ -70,23 +70,14 @@ form (number code ∷ []) = after_code code
 form (number code ∷ second ∷ []) = after_two code
 form _ = None
 
--- a type is there
-abbrev pub is_type_value : TypeLimits → Value → Bool
-is_type_value limits (number n) = is_type limits n
-is_type_value limits _ = false
-
-abbrev pub second_allows : TypeLimits → ℕ → Value → Bool
-second_allows limits code (octets xs) = if is_string code then is_text xs else true
-second_allows limits code value = is_type_value limits value
-
-abbrev pub third_allows : TypeLimits → Value → Bool
-third_allows limits (octets xs) = true
-third_allows limits value = is_type_value limits value
-
+-- A code comes first. After it comes a type that is there, a value, or a text; after a value a type that is there, and after
+-- a type any bytes.
 abbrev pub allows : TypeLimits → List Value → Value → Bool
 allows limits [] (number code) = is_code code
-allows limits (number code ∷ []) value = second_allows limits code value
-allows limits (number code ∷ second ∷ []) value = third_allows limits value
+allows limits (number code ∷ []) (octets xs) = if is_string code then is_text xs else true
+allows limits (number code ∷ []) value = is_number (is_type limits) value
+allows limits (number code ∷ second ∷ []) (octets xs) = true
+allows limits (number code ∷ second ∷ []) value = is_number (is_type limits) value
 allows limits _ value = false
 
 -- A modifier: its code says whether it is required.
@@ -108,8 +99,8 @@ body_of _ = None
 -- Modifiers are the records; the body is what has begun where the blob ends.
 abbrev pub constants : TypeLimits → Grammar Modifier
 constants limits = record {
-  form = λ whole begun. form begun;
-  allows = λ whole begun value. allows limits begun value;
-  record_of = λ whole begun. modifier_of begun;
-  may_stop = λ whole begun. is_some (body_of begun);
+  form = λ _. form;
+  allows = λ _. allows limits;
+  record_of = λ _. modifier_of;
+  may_stop = λ _ begun. is_some (body_of begun);
 }

@@ -60,13 +60,12 @@ items_by_kind heap =
 abbrev pub item_of : (ℕ → Option (List ℕ)) → ℕ → List ℕ → Option ImportItem
 item_of heap kind numbers = option_map (λ make. make numbers) (of_kind (items_by_kind heap) kind)
 
--- One of the nine kinds; a text, a row or a type is there.
+-- A kind is one of nine; a row, a type, or the text of an alias or a namespace is there.
 abbrev pub part_allows : TypeLimits → (ℕ → Option (List ℕ)) → ImportPart → ℕ → Bool
 part_allows limits heap Kind n = nat_le 1 n && nat_le n 9
-part_allows limits heap Alias n = is_some (heap n)
 part_allows limits heap Assembly n = is_row limits.assembly_refs n
-part_allows limits heap Namespace n = is_some (heap n)
 part_allows limits heap Target n = is_type limits n
+part_allows limits heap _ n = is_some (heap n)
 
 -- the part that comes after some fields of an import
 abbrev pub next_part : List Value → Option ImportPart
@@ -77,9 +76,6 @@ next_part _ = None
 abbrev pub next_allows : TypeLimits → (ℕ → Option (List ℕ)) → Option ImportPart → Value → Bool
 next_allows limits heap (Some part) (number n) = part_allows limits heap part n
 next_allows limits heap _ value = false
-
-abbrev pub allows : TypeLimits → (ℕ → Option (List ℕ)) → List Value → Value → Bool
-allows limits heap begun value = next_allows limits heap (next_part begun) value
 
 abbrev pub numbers_of : List Value → List ℕ
 numbers_of [] = []
@@ -93,10 +89,10 @@ import_of heap _ = None
 -- Any number of imports; all fields are compressed unsigned numbers.
 abbrev pub imports : TypeLimits → (ℕ → Option (List ℕ)) → Grammar ImportItem
 imports limits heap = record {
-  form = λ whole begun. Some unsigned;
-  allows = λ whole begun value. allows limits heap begun value;
-  record_of = λ whole begun. import_of heap begun;
-  may_stop = λ whole begun. is_between begun;
+  form = λ _ _. Some unsigned;
+  allows = λ _ begun. next_allows limits heap (next_part begun);
+  record_of = λ _. import_of heap;
+  may_stop = λ _. is_between;
 }
 
 -- ---- the fields where they stand

@@ -8,11 +8,8 @@ use Rattle.type_blobs.specs.{Imports.{parts_of, ImportItem, item_of}, declared.i
 
 -- ---- constants
 
-abbrev pub code_of : Bool → ℕ
-code_of required = if required then 0x1f else 0x20
-
 abbrev pub modifier_spelling : Modifier → List ℕ
-modifier_spelling modifier = code_of modifier.required ∷ short_unsigned (number_of modifier.target)
+modifier_spelling modifier = (if modifier.required then 0x1f else 0x20) ∷ short_unsigned (number_of modifier.target)
 
 abbrev pub body_spelling : ConstantBody → List ℕ
 body_spelling (primitive code value) = code ∷ value

@@ -1,5 +1,5 @@
 use Rattle.std.proofs.Common.{refl}
-use Rattle.blob_grammar.specs.Reader.{read_from, read_for, signed_at, unsigned_at}
+use Rattle.blob_grammar.specs.Reader.{fields_from, fields_for, signed_at, unsigned_at}
 use Rattle.ppdb_heaps.specs.Heaps.{blob_at}
 use Rattle.ppdb_merge_names.specs.References.{references}
 use Rattle.ppdb_values.specs.RawFile.{records_of}
@@ -7,7 +7,7 @@ use Rattle.ppdb_merge_fits.specs.Clashes.{first_clash}
 use Rattle.ppdb_merge_fits.proofs.laws.worked_maps.Goals as goal
 
 pub returns : goal.returns
-unfolding first_clash references records_of blob_at read_from read_for signed_at unsigned_at
+unfolding first_clash references records_of blob_at fields_from fields_for signed_at unsigned_at
 returns c = record {
   nothing = refl;
   point = refl;

@@ -1,5 +1,5 @@
 use Rattle.std.proofs.Common.{sym, ◌∙◌}
-use Rattle.ppdb_show_lines.proofs.Names.{plain_escaped}
+use Rattle.ppdb_base.proofs.Escaped.{plain_escaped}
 use Rattle.ppdb_show_lines.proofs.plain.plain_text.Goals as goal
 
 pub returns-in-Ok : goal.returns-in-Ok

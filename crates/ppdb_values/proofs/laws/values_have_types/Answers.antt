@@ -1,5 +1,6 @@
 use Rattle.std.proofs.Common.{◌∙◌, arith, refl}
-use Rattle.std.specs.Prelude.{All, take}
+use Rattle.std.specs.Option.{option_map_or}
+use Rattle.std.specs.Prelude.{All, take, nat_eq, false}
 use Rattle.std.proofs.lemmas.List.{length-take-le, length-append}
 use Rattle.std.proofs.lemmas.List.Elements.{All-map, All-filter, All-weaker}
 use Rattle.ppdb_tables.specs.RawTables.{numbered}
@@ -7,7 +8,7 @@ use Rattle.ppdb_values.specs.Customs.{custom_of, kind_in}
 use Rattle.ppdb_values.specs.Documents.{document_of}
 use Rattle.ppdb_values.specs.Rules.{IsCustom}
 use Rattle.ppdb_values.specs.Types.{HasGuids, IsGuid, IsNarrow, IsNarrowRow}
-use Rattle.ppdb_values.specs.Value.{scope_of, variable_of, owner_of, is_number}
+use Rattle.ppdb_values.specs.Value.{scope_of, variable_of, owner_of}
 use Rattle.ppdb_values.proofs.Typed.{each_all, numbered_all, any_all, guid_length, guid_or_none}
 use Rattle.ppdb_values.proofs.laws.values_have_types.Goals as goal
 
@@ -24,7 +25,7 @@ returns c = λ raw keeps id narrow. record {
   variables = All-map (λ scope. All IsNarrow scope.variables) (scope_of raw.tables) (numbered raw.tables.scopes)
       (any_all (λ row. All IsNarrow (scope_of raw.tables row).variables) (numbered raw.tables.scopes) (λ row.
       All-map IsNarrow (λ item. variable_of raw.tables item.1) _
-      (All-filter (λ item. is_number row.0 (owner_of (λ scope. scope.variables) raw.tables.scopes item.0)) (λ item. IsNarrow (variable_of raw.tables item.1))
+      (All-filter (λ item. option_map_or (nat_eq row.0) (owner_of (λ scope. scope.variables) raw.tables.scopes item.0) false) (λ item. IsNarrow (variable_of raw.tables item.1))
       (numbered raw.tables.variables)
       (numbered_all IsNarrowRow 1 raw.tables.variables narrow))));
   kinds = All-map (λ custom. IsGuid custom.kind) (custom_of raw.tables) raw.tables.customs

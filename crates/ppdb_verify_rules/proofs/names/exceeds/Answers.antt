@@ -1,8 +1,9 @@
 use Rattle.std.proofs.Common.{ap, ◌∙◌, List, [], ◌++◌, length, Option, Some, None, is_some, Bool, true, false, not, IsTrue, ◌↔◌, ◌<◌, refl, arith, ℕ, ◌≡◌}
+use Rattle.std.proofs.lemmas.Result.{err_from_is_err_and}
 use Rattle.std.specs.Borrow.{Bor}
 use Rattle.ppdb_verify_rules.specs.SeenNames.{HasRoom}
 use Rattle.ppdb_heaps.specs.Views.{blobs_of}
-use Rattle.ppdb_heaps.proofs.Joins.{answer-is, joining-starts}
+use Rattle.ppdb_heaps.proofs.Joins.{answer-is, joining-starts, joining-none, joining-fault}
 use Rattle.ppdb_verify_rules.proofs.NameParts.{joining-end, joining-goes}
 use Rattle.ppdb_verify_rules.proofs.names.exceeds.Goals as goal
 
@@ -42,3 +43,24 @@ returns-clause-ok c =
     let e = answer-is c.loop-part.cursor.left c.in_ok-part.field-0 none c.in_ok-part.ensures.answer c.in_default-2.is in
     let end = joining-end (blobs_of c.args.blobs) c.args.content.now [] c.separator-separator.result.now h.0 c.loop-part.cursor.left h.1 e in
     (end.0, end.1, room_tells c.args.most h.0 end.0 c.loop-part.room c.is_none.result c.is_none.ensures h.2 end.2)
+
+pub returns-in_err-first-clause-fault : goal.returns-in_err-first-clause-fault
+returns-in_err-first-clause-fault c =
+    let p = err_from_is_err_and c.from_residual-in_err-first.result c.from_residual-in_err-first.ensures.1 in
+    rw (p.1, p.2) (joining-fault (blobs_of c.args.blobs) c.args.content.now c.in_ok-cursor.cursor.separator c.in_ok-cursor.cursor.left.items
+    c.in_ok-cursor.cursor.left c.in_err-first.field-0.0 c.in_ok-cursor.ensures.begun c.in_err-first.ensures.answer)
+
+pub returns-in_err-part-clause-fault : goal.returns-in_err-part-clause-fault
+returns-in_err-part-clause-fault c =
+    let p = err_from_is_err_and c.from_residual-in_err-part.result c.from_residual-in_err-part.ensures.1 in
+    let h = c.loop-part.invariant.1 in
+    rw (p.1, p.2) (joining-fault (blobs_of c.args.blobs) c.args.content.now c.separator-separator.result.now h.contents c.loop-part.cursor.left
+    c.in_err-part.field-0.0 h.reading c.in_err-part.ensures.answer)
+
+pub returns-in_default-clause-ok : goal.returns-in_default-clause-ok
+returns-in_default-clause-ok c =
+    let none : Option (Bor (List ℕ)) = None in
+    let e = answer-is c.in_ok-cursor.cursor.left c.in_ok-first.field-0 none c.in_ok-first.ensures.answer c.in_default.is in
+    let end = joining-none (blobs_of c.args.blobs) c.args.content.now [] c.in_ok-cursor.cursor.separator c.in_ok-cursor.cursor.left
+    c.in_ok-cursor.ensures.begun e in
+    (end.0, end.1, ((λ yes. absurd cc), (λ more. absurd (omega (arith, more, ap length end.2)))))

@@ -1,14 +1,11 @@
-use Rattle.std.proofs.Common.{◌++◌, flat_map, sym, ap, ◌∙◌, arith}
+use Rattle.std.proofs.Common.{◌++◌, flat_map, ap, ◌∙◌, arith}
 use Rattle.std.proofs.lemmas.List.{take_all}
-use Rattle.std.proofs.lemmas.List.Folds.{flat_map-map}
-use Rattle.ppdb_build_heaps.specs.declared.item.Guid.{Guid}
 use Rattle.ppdb_build_heaps.proofs.guids.GuidHeap.put.Goals as goal
 
 pub returns : goal.returns
 returns c =
     let into = c.args.into.now in
     c.loop-guid.invariant
-    ∙ ap (λ guids. into ++ flat_map (λ (guid : Guid). guid.bytes) guids)
-    (take_all c.loop-guid.guid-index c.as_slice-guid-items.result.now (omega arith) ∙ c.as_slice-guid-items.ensures.keys)
-    ∙ ap (λ bytes. into ++ bytes) (sym (flat_map-map (λ bytes. bytes) (λ (guid : Guid). guid.bytes) c.self.inside.guids.keys))
+    ∙ ap (λ guids. into ++ flat_map (λ guid. guid) guids)
+    (take_all c.loop-guid.guid-index c.as_slice-guid-items.result.now (omega arith) ∙ c.as_slice-guid-items.ensures.value)
     ∙ ap (λ guids. into ++ flat_map (λ guid. guid) guids) c.self.view_is
