@@ -126,7 +126,7 @@ fields_for (suc turns) g place bytes =
     (λ x. record { bytes = take x.1 bytes; value = x.0 } ∷ fields_for turns g (with_value g place x.0) (drop x.1 bytes))
     (next_field g place bytes) []
 
--- the fields of the longest valid prefix from a place on; each has a byte
+-- the fields of the longest valid prefix from a place on; each has a byte, so there are no more fields than bytes
 unfoldable pub fields_from : {R : Type 0} → Grammar R → Cut R → List ℕ → List Field
 fields_from g place bytes = fields_for (suc (length bytes)) g place bytes
 

@@ -16,7 +16,7 @@ use Rattle.ppdb_values.specs.Value.{value_of}
 use Rattle.ppdb_values.proofs.Rows.{method_is_row}
 use Rattle.ppdb_queries.specs.Cursors.{next_of}
 use Rattle.break_lines.specs.declared.item.Break.{Break}
-use Rattle.break_lines.specs.Breaks.{breaks_of}
+use Rattle.break_lines.specs.Walks.{breaks_of}
 use Rattle.break_lines.specs.Walks.{breaks_by, breaks_at_row, breaks_now, breaks_left}
 
 method_is : (raw : RawFile) (m : ℕ) (row : MethodDebugRow) → row_at raw.tables.methods m ≡ Some row

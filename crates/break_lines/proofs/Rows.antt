@@ -5,7 +5,7 @@ use Rattle.ppdb_tables.specs.declared.rows.MethodDebugRow.{MethodDebugRow}
 use Rattle.ppdb_tables.specs.RawTables.{RawTables, numbered}
 use Rattle.ppdb_values.specs.declared.file.MethodValue.{MethodValue}
 use Rattle.ppdb_values.specs.Documents.{method_of}
-use Rattle.break_lines.specs.Breaks.{breaks_of}
+use Rattle.break_lines.specs.Walks.{breaks_of}
 use Rattle.break_lines.specs.Walks.{breaks_by, breaks_at_row}
 use Rattle.break_lines.specs.Laws.{BreaksAreRows}
 

@@ -26,9 +26,6 @@ break_at line method offset (Lines start_line start_column end_line end_column) 
 abbrev pub break_of : ℕ → ℕ → ℕ → Point → Option Break
 break_of document line method point = if point.document == document then break_at line method point.offset point.span else None
 
-abbrev pub breaks_of : ℕ → ℕ → ℕ → List Point → List Break
-breaks_of document line method points = filter_map (break_of document line method) points
-
 -- all points that cover the line in the document, by method and offset
 abbrev pub breaks_in : FileValue → ℕ → ℕ → List Break
-breaks_in value document line = flat_map (λ method. breaks_of document line method.method method.points) value.methods
+breaks_in value document line = flat_map (λ method. filter_map (break_of document line method.method) method.points) value.methods

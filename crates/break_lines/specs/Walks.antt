@@ -1,9 +1,14 @@
 -- The breaks as a walk over the rows of MethodDebugInformation gives them (Portable PDB v1.0, "MethodDebugInformation Table").
-use Rattle.std.specs.Prelude.{ℕ, ◌-◌, List, [], ◌++◌, Option, Some, None, length, drop, flat_map}
+use Rattle.std.specs.Prelude.{ℕ, ◌-◌, List, [], ◌++◌, Option, Some, None, length, drop, filter_map, flat_map}
+use Rattle.sequence_points.specs.declared.point.Point.{Point}
 use Rattle.ppdb_tables.specs.{declared.rows.MethodDebugRow.MethodDebugRow, RawTables.{RawTables, numbered}}
 use Rattle.ppdb_values.specs.{declared.file.MethodValue.MethodValue, Documents.method_of}
 use Rattle.ppdb_queries.specs.Cursors.{Walk}
-use Rattle.break_lines.specs.{declared.item.Break.Break, Breaks.breaks_of}
+use Rattle.break_lines.specs.{declared.item.Break.Break, Breaks.break_of}
+
+-- the breaks of some points of a method
+abbrev pub breaks_of : ℕ → ℕ → ℕ → List Point → List Break
+breaks_of document line method points = filter_map (break_of document line method) points
 
 abbrev pub breaks_by : ℕ → ℕ → Option MethodValue → List Break
 breaks_by document line None = []

@@ -41,7 +41,7 @@ pub(crate) struct MethodBreaks<'a> {
 
 impl<'a> Model for MethodBreaks<'a> {
     ghost use Rattle.std.specs.Prelude.{◌≡◌, List, None};
-    ghost use Rattle.break_lines.specs.Breaks.{breaks_of};
+    ghost use Rattle.break_lines.specs.Walks.{breaks_of};
     ghost use Rattle.break_lines.specs.declared.item.Break.{Break};
 
     ghost Value = { List Break };

@@ -19,6 +19,6 @@ type_documents documents = record {
 unfoldable pub rows_left : ℕ → List ℕ → ℕ → Left ℕ
 rows_left documents blob at = read_from (type_documents documents) [] [] at (drop at blob)
 
--- A row that has a spelling, its shortest form: a compressed unsigned number is below 2 ^ 29 (ECMA-335 II.23.2).
+-- A row that has a spelling: a compressed unsigned number is below 2 ^ 29 (ECMA-335 II.23.2).
 abbrev pub IsRowNumber : ℕ → Type 0
 IsRowNumber row = (1 ≤ row) × (row < 0x2000_0000)

@@ -4,7 +4,7 @@ use Rattle.std.specs.List.{flat_map}
 use Rattle.ppdb_maps.specs.Map.{Map}
 use Rattle.ppdb_maps.specs.Readable.{IsReadable}
 use Rattle.ppdb_maps_text.specs.declared.counted.Counted.{Counted}
-use Rattle.ppdb_maps_text.specs.MapTexts.{ended, shares_says, link_says, map_text, has_newer, version_of, head_text}
+use Rattle.ppdb_maps_text.specs.MapTexts.{ended, map_text, version_of, head_text}
 use Rattle.ppdb_maps_text.specs.Putting.{Puts}
 use Rattle.map_compose.specs.declared.part.Part.{Part}
 use Rattle.map_compose.specs.declared.part.Part.TheVariants.{Drops, Slots, Signatures, Methods}
@@ -19,6 +19,7 @@ use Rattle.map_compose.proofs.Named.{composed_fits}
 use Rattle.map_compose.proofs.Putting.{puts_then}
 use Rattle.map_compose.proofs.Readable.{composed_is_readable}
 use Rattle.map_compose.proofs.Saying.{text_is}
+use Rattle.ppdb_maps_text.proofs.Parts.{link_says, shares_says, has_newer}
 
 counts_text : (start end : Counted) (text : List ℕ) → start.length ≡ 0 → start.text ≡ [] → length text < 0xffffffffffffffff → Puts start end text
     → Counts end text

@@ -16,10 +16,10 @@ use Rattle.ppdb_maps.specs.declared.entries.SlotImage.{SlotImage}
 use Rattle.ppdb_maps.specs.declared.entries.SignatureImage.{SignatureImage}
 use Rattle.ppdb_maps.specs.Map.{Map, MethodLine, count_of, row_line, cross_line, has_gone_line, told_image, line_image, row_within, row_image, method_line, is_dropped}
 use Rattle.ppdb_maps.specs.Map.{has_slots, slot_line, slot_image, offsets_in}
-use Rattle.ppdb_maps.specs.Map.{line_offsets, rows_of, slots_of, signature_line}
+use Rattle.ppdb_maps.specs.Map.{rows_of, slots_of, signature_line}
 use Rattle.std.specs.List.{AllByRecursion}
 use Rattle.map_compose.specs.Runs.{met, longest}
-use Rattle.map_compose.specs.Composed.{tables, composed_count, count_entry, image_then, own_assembly, composed_image, composed_row, sources, sources_of, row_lined, cross_lined}
+use Rattle.map_compose.specs.Composed.{tables, composed_count, count_entry, image_then, own_assembly, composed_image, sources, sources_of, row_lined, cross_lined}
 use Rattle.map_compose.specs.Composed.{gone_lined, row_entries, cross_entries, gone_entries, spoken_of, of_image, drops_one}
 use Rattle.map_compose.specs.Composed.{has_image, second_line, composed_runs, sized, composed_line, has_slot_lines, composed_slot, slot_sources, slot_entry}
 use Rattle.map_compose.specs.Composed.{slot_entries, slotted_methods, composed, signature_then, composed_signature, signature_entry, signed}
@@ -34,6 +34,7 @@ use Rattle.ppdb_maps_text.proofs.Starting.{olds_have as lines_have}
 use Rattle.map_compose.proofs.Imaging.{within, by_image, within_lined, told_lined, image_within, lineless, own_itself, may_cross, image_kept}
 use Rattle.map_compose.proofs.Meeting.{runs_compose}
 use Rattle.map_compose.proofs.Named.{names_are, named_are}
+use Rattle.ppdb_maps.proofs.Parts.{line_offsets}
 
 -- ---- small things
 
@@ -438,7 +439,7 @@ is_some_map g None = refl
 is_some_map g (Some a) = refl
 
 -- a row has an image by both only where it has one by the first
-pub first_some : (f s : Map) (table old : ℕ) → is_some (composed_row f s table old) ≡ true → is_some (row_within f table old) ≡ true
+pub first_some : (f s : Map) (table old : ℕ) → is_some (option_and_then (row_within s table) (row_within f table old)) ≡ true → is_some (row_within f table old) ≡ true
 first_some f s table old some = of (row_within f table old) some
   where
     of : (o : Option ℕ) → is_some (option_and_then (row_within s table) o) ≡ true → is_some o ≡ true
@@ -554,7 +555,7 @@ composed_within f s table old =
     of false (Some n) = given_cond (has table tables) (has old (sources_of f s table))
 
 pub kept_row : (f s : Map) → IsReadable f → IsReadable s → (table old : ℕ) → may_cross table ≡ false
-    → row_within (composed f s) table old ≡ composed_row f s table old
+    → row_within (composed f s) table old ≡ option_and_then (row_within s table) (row_within f table old)
 kept_row f s f_readable s_readable table old stays =
     composed_within f s table old ∙ ap (within table) (images_are f s (tables_known f f_readable) (tables_known s s_readable) table old)
     ∙ image_kept f s f_readable s_readable table old stays

@@ -5,12 +5,12 @@ use Rattle.std.specs.List.{filter_map, slice_get, AllByRecursion}
 use Rattle.std.proofs.lemmas.List.{append_assoc, append-nil}
 use Rattle.ppdb_base.specs.declared.offsets.Run.{Run}
 use Rattle.ppdb_base.specs.Offsets.{RiseFrom, end_of, new_end_of}
-use Rattle.ppdb_maps.specs.Forms.{OFFSETS}
 use Rattle.ppdb_maps_text.specs.declared.counted.Counted.{Counted}
 use Rattle.map_compose.specs.Runs.{meet, met, longest}
 use Rattle.map_compose.specs.Joining.{IsShort, AreRuns, Holding, JoinsRuns, JoinsOne, Joins}
 use Rattle.map_compose.proofs.JoinedRuns.{joins_same, joins_then, holding_same}
 use Rattle.map_compose.proofs.Putting.{take_more, take_past, flat_join}
+use Rattle.ppdb_base.specs.declared.limits.TheConstants.{MAX_OFFSET}
 
 -- ---- bounds
 
@@ -22,11 +22,11 @@ all_get P (y ∷ ys) (suc i) x all is = all_get P ys i x all.1 is
 pub run_short : (rs : List Run) (i : ℕ) (r : Run) → AreRuns rs → slice_get rs i ≡ Some r → IsShort r
 run_short rs i r are is = all_get IsShort rs i r are.short is
 
-few_from : (a b : ℕ) (rs : List Run) → a ≤ OFFSETS → RiseFrom a b rs → AllByRecursion IsShort rs → a + length rs ≤ OFFSETS
+few_from : (a b : ℕ) (rs : List Run) → a ≤ MAX_OFFSET → RiseFrom a b rs → AllByRecursion IsShort rs → a + length rs ≤ MAX_OFFSET
 few_from a b [] le rise short = omega (arith, le)
 few_from a b (r ∷ rs) le rise short = omega (arith, rise.0, rise.1, few_from (end_of r) (new_end_of r) rs short.0.1 rise.3 short.1)
 
-pub few_runs : (rs : List Run) → AreRuns rs → length rs ≤ OFFSETS
+pub few_runs : (rs : List Run) → AreRuns rs → length rs ≤ MAX_OFFSET
 few_runs rs are = omega (arith, few_from 0 0 rs (omega arith) are.rise are.short)
 
 -- ---- one run more

@@ -11,7 +11,7 @@ use Rattle.ppdb_maps.specs.Forms.{Crosses}
 use Rattle.ppdb_maps.specs.Map.{Map, count_of, row_line, cross_line, has_gone_line, told_image, line_image, row_within, row_image, is_dropped}
 use Rattle.ppdb_maps.specs.Readable.{IsReadable, IsRow}
 use Rattle.ppdb_maps_text.proofs.OneLine.{has_line, cross_found, gone_found, leaves_table}
-use Rattle.map_compose.specs.Composed.{image_then, own_assembly, composed_image, composed_row, row_lined, cross_lined, gone_lined}
+use Rattle.map_compose.specs.Composed.{image_then, own_assembly, composed_image, row_lined, cross_lined, gone_lined}
 
 -- the row of the same table
 abbrev pub within : ℕ → RowImage → Option ℕ
@@ -161,11 +161,11 @@ own_other table (Row to row) is =
     last false false false d is = is
 
 pub image_kept : (f s : Map) → IsReadable f → IsReadable s → (table old : ℕ) → may_cross table ≡ false
-    → within table (composed_image f s table old) ≡ composed_row f s table old
+    → within table (composed_image f s table old) ≡ option_and_then (row_within s table) (row_within f table old)
 image_kept f s f_readable s_readable table old stays =
     ap (within table) (own_other table (image_then s (row_image f table old)) stays) ∙ of (row_image f table old) (reaches f f_readable table old)
   where
-    of : (image : RowImage) → Reaches f table old image → within table (image_then s image) ≡ composed_row f s table old
+    of : (image : RowImage) → Reaches f table old image → within table (image_then s image) ≡ option_and_then (row_within s table) (row_within f table old)
     of _ (stayed {row = row} is) = sym (within_is s s_readable table row) ∙ sym (ap (option_and_then (row_within s table)) is)
     of _ (crossed line is at crosses row) = absurd (false≢true (sym stays ∙ crossing line table crosses at))
     of _ (ended is six) = sym (ap (option_and_then (row_within s table)) is)

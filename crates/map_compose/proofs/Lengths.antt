@@ -12,13 +12,13 @@ use Rattle.ppdb_maps.specs.declared.entries.NameLine.{NameLine}
 use Rattle.ppdb_base.specs.Escaped.{is_plain, code_of, escaped_byte, escaped}
 use Rattle.ppdb_maps.specs.declared.line.Line.{Line}
 use Rattle.ppdb_maps.specs.declared.line.Line.TheVariants.{Silent, Rows, Row, Cross, Gone, Method, Kept, Dropped, Slots, Slot, Signature, Document, Link, Shares}
-use Rattle.ppdb_maps.specs.Forms.{ROWS, OFFSETS, SLOTS}
+use Rattle.ppdb_maps.specs.Forms.{SLOTS}
 use Rattle.ppdb_maps.specs.Map.{Map, MethodLine, count_of, line_image, slots_of}
 use Rattle.ppdb_maps.specs.Readable.{IsReadable, IsRow, IsCount, IsLineOf, IsSlottedOf, IsSlotOf, IsSignatureOf}
 use Rattle.ppdb_maps.proofs.Numbers.{may_spell_decimal, length_may_spell}
 use Rattle.ppdb_maps.proofs.Spelled.{code_is}
-use Rattle.ppdb_maps_text.specs.MapTexts.{spaced, table_word, line_text, ended, slot_says, signature_says, count_says, slots_say, method_says, map_says, map_text}
-use Rattle.ppdb_maps_text.specs.MapTexts.{version_of, head_text, shares_says, link_says, image_says, olds_of}
+use Rattle.ppdb_maps_text.specs.MapTexts.{spaced, table_word, line_text, ended, count_says, slots_say, method_says, map_says, map_text}
+use Rattle.ppdb_maps_text.specs.MapTexts.{version_of, head_text, image_says, olds_of}
 use Rattle.map_compose.proofs.Putting.{lines_join}
 use Rattle.map_compose.specs.Says.{lines_text}
 use Rattle.std.proofs.lemmas.Bool.{eqb-true}
@@ -31,25 +31,27 @@ use Rattle.ppdb_maps_text.proofs.Orders.{Up}
 use Rattle.ppdb_maps_text.proofs.Starting.{olds_lined, olds_up}
 use Rattle.map_compose.proofs.Places.{line_runs}
 use Rattle.map_compose.proofs.Readable.{line_numbers, olds_rows, slots_up, slots_hold, slotted_rows, signed_rows, filter_hold}
+use Rattle.ppdb_base.specs.declared.limits.TheConstants.{MAX_ROWS, MAX_OFFSET}
+use Rattle.ppdb_maps_text.proofs.Parts.{slot_says, signature_says, link_says, shares_says}
 
-digits_few : (n : ℕ) → n ≤ OFFSETS → length (decimal n) ≤ 10
+digits_few : (n : ℕ) → n ≤ MAX_OFFSET → length (decimal n) ≤ 10
 digits_few n le = length_may_spell (decimal n) (may_spell_decimal n (omega (arith, le)))
 
 -- the numbers of a line
 abbrev IsSmall : Line → Type 0
 IsSmall Silent = Unit {0}
-IsSmall (Rows t n) = n ≤ OFFSETS
-IsSmall (Row t o n) = (o ≤ OFFSETS) × (n ≤ OFFSETS)
-IsSmall (Method m o n) = (m ≤ OFFSETS) × (o ≤ OFFSETS) × (n ≤ OFFSETS)
-IsSmall (Kept r) = (r.old ≤ OFFSETS) × (r.new ≤ OFFSETS) × (r.length ≤ OFFSETS)
-IsSmall (Dropped m) = m ≤ OFFSETS
-IsSmall (Slots m) = m ≤ OFFSETS
-IsSmall (Slot m o n) = (m ≤ OFFSETS) × (o ≤ OFFSETS) × (n ≤ OFFSETS)
-IsSmall (Signature m n) = (m ≤ OFFSETS) × (n ≤ OFFSETS)
+IsSmall (Rows t n) = n ≤ MAX_OFFSET
+IsSmall (Row t o n) = (o ≤ MAX_OFFSET) × (n ≤ MAX_OFFSET)
+IsSmall (Method m o n) = (m ≤ MAX_OFFSET) × (o ≤ MAX_OFFSET) × (n ≤ MAX_OFFSET)
+IsSmall (Kept r) = (r.old ≤ MAX_OFFSET) × (r.new ≤ MAX_OFFSET) × (r.length ≤ MAX_OFFSET)
+IsSmall (Dropped m) = m ≤ MAX_OFFSET
+IsSmall (Slots m) = m ≤ MAX_OFFSET
+IsSmall (Slot m o n) = (m ≤ MAX_OFFSET) × (o ≤ MAX_OFFSET) × (n ≤ MAX_OFFSET)
+IsSmall (Signature m n) = (m ≤ MAX_OFFSET) × (n ≤ MAX_OFFSET)
 IsSmall (Document d) = ⊥
 IsSmall (Link value) = ⊥
-IsSmall (Cross line) = (line.old ≤ OFFSETS) × (line.new ≤ OFFSETS)
-IsSmall (Gone t o) = o ≤ OFFSETS
+IsSmall (Cross line) = (line.old ≤ MAX_OFFSET) × (line.new ≤ MAX_OFFSET)
+IsSmall (Gone t o) = o ≤ MAX_OFFSET
 IsSmall Shares = Unit {0}
 
 words_long : (ws : List (List ℕ)) (most : ℕ) → AllByRecursion (λ w. length w ≤ 10) ws → length ws ≤ most → length (flat_map (λ w. 32 ∷ w) ws) ≤ most * 11
@@ -190,11 +192,11 @@ short_sum : (all head says first rest value others names lines few : ℕ) → al
 short_sum all head says first rest value others names lines few a b c d e f g h i j = omega (arith, a, b, c, d, e, f, g, h, i, j)
 
 module _ (m : Map) (readable : IsReadable m) where
-  row_most : (ns : List ℕ) → AllByRecursion IsRow ns → AllByRecursion (λ k. k ≤ ROWS) ns
-  row_most ns all = each IsRow (λ k. k ≤ ROWS) (λ k is. is.1) ns all
+  row_most : (ns : List ℕ) → AllByRecursion IsRow ns → AllByRecursion (λ k. k ≤ MAX_ROWS) ns
+  row_most ns all = each IsRow (λ k. k ≤ MAX_ROWS) (λ k is. is.1) ns all
 
   few_rows : (ns : List ℕ) → Up ns → AllByRecursion IsRow ns → length ns ≤ 16777216
-  few_rows ns up all = few ROWS ns up (row_most ns all)
+  few_rows ns up all = few MAX_ROWS ns up (row_most ns all)
 
   -- a row says one line at most
   one_says : (ls : List Line) (x : Line) → ls ≡ x ∷ [] → IsSmall x → (length ls ≤ 1) × AllByRecursion IsSmall ls

@@ -9,7 +9,7 @@ use Rattle.ppdb_base.specs.declared.offsets.Run.{Run}
 use Rattle.ppdb_base.specs.Offsets.{lined, Rise, kept_runs}
 use Rattle.ppdb_base.proofs.Moved.{rise_prefix}
 use Rattle.ppdb_maps.specs.declared.line.Line.TheVariants.{Method, Kept}
-use Rattle.ppdb_maps.specs.Map.{Map, MethodLine, method_line, line_offsets, offsets_in}
+use Rattle.ppdb_maps.specs.Map.{Map, MethodLine, method_line, offsets_in}
 use Rattle.ppdb_maps.specs.Readable.{IsReadable, IsLineOf}
 use Rattle.ppdb_maps.specs.Says.{sizes_of}
 use Rattle.map_compose.specs.Runs.{met, longest}
@@ -29,6 +29,7 @@ use Rattle.map_compose.proofs.Merging.{few_own}
 use Rattle.map_compose.proofs.Places.{long, line_short, no_runs}
 use Rattle.map_compose.proofs.Readable.{found_holds, met_all, all_met}
 use Rattle.map_compose.proofs.Rising.{met_rises, longest_rises, longest_apart, one_longest, size_run}
+use Rattle.ppdb_maps.proofs.Parts.{line_offsets}
 
 -- ---- longest runs
 

@@ -6,10 +6,10 @@ use Rattle.ppdb_maps.specs.declared.line.Line.{Line}
 use Rattle.ppdb_maps.specs.declared.entries.SlotImage.{SlotImage}
 use Rattle.ppdb_maps.specs.Map.{Map}
 use Rattle.ppdb_maps_text.specs.declared.counted.Counted.{Counted}
-use Rattle.ppdb_maps_text.specs.MapTexts.{slot_says}
 use Rattle.map_compose.specs.Composed.{slot_entry, composed_slot}
 use Rattle.map_compose.specs.Says.{PutsLines, slot_image_says}
 use Rattle.map_compose.proofs.Putting.{says_then, says_same, map_join, take_more, take_past, within}
+use Rattle.ppdb_maps_text.proofs.Parts.{slot_says}
 
 pub made_join : {X Y : Type 0} (make : X → Option Y) (xs ys : List X) → filter_map make (xs ++ ys) ≡ filter_map make xs ++ filter_map make ys
 made_join make [] ys = refl

@@ -7,7 +7,6 @@ use Rattle.std.specs.List.Sorted.{IsStrictlySortedBy}
 use Rattle.std.specs.Ordering.{nat_cmp}
 use Rattle.std.specs.declared.cmp.Ordering.TheVariants.{Less}
 use Rattle.std.proofs.lemmas.Bool.{eq-eqb, ne_eqb, eqb-true, false≢true}
-use Rattle.ppdb_maps.specs.Forms.{ROWS}
 use Rattle.ppdb_maps.specs.Map.{Map, count_of}
 use Rattle.ppdb_maps.specs.Readable.{IsReadable, IsRow}
 use Rattle.map_compose.specs.declared.part.Part.{Part}
@@ -20,6 +19,7 @@ use Rattle.map_compose.proofs.Bounds.{few}
 use Rattle.map_compose.proofs.Putting.{drop_at, drop_past}
 use Rattle.map_compose.proofs.Equations.{olds}
 use Rattle.map_compose.proofs.Readable.{ascending_hold, row_olds, line_numbers, slotted_rows, signed_rows, rows_up}
+use Rattle.ppdb_base.specs.declared.limits.TheConstants.{MAX_ROWS}
 
 -- ---- lists that ascend are determined by their numbers
 
@@ -191,14 +191,14 @@ others_rows part f s f_readable s_readable = of (is_some (count_of f 0x06))
     of true = row_olds f f_readable
     of false = part_rows part s s_readable
 
-row_most : (ns : List ℕ) → AllByRecursion IsRow ns → AllByRecursion (λ k. k ≤ ROWS) ns
+row_most : (ns : List ℕ) → AllByRecursion IsRow ns → AllByRecursion (λ k. k ≤ MAX_ROWS) ns
 row_most [] all = tt
 row_most (n ∷ ns) all = (all.0.1, row_most ns all.1)
 
 pub few_own : (part : Part) (m : Map) → IsReadable m → length (part_numbers part m) ≤ 16777216
-few_own part m readable = few ROWS (part_numbers part m) (part_up part m readable) (row_most (part_numbers part m) (part_rows part m readable))
+few_own part m readable = few MAX_ROWS (part_numbers part m) (part_up part m readable) (row_most (part_numbers part m) (part_rows part m readable))
 
 pub few_others : (part : Part) (f s : Map) → IsReadable f → IsReadable s → length (other_numbers part f s) ≤ 16777216
 few_others part f s f_readable s_readable =
-    few ROWS (other_numbers part f s) (others_up part f s f_readable s_readable)
+    few MAX_ROWS (other_numbers part f s) (others_up part f s f_readable s_readable)
     (row_most (other_numbers part f s) (others_rows part f s f_readable s_readable))

@@ -7,7 +7,7 @@ use Rattle.ppdb_base.proofs.Moved.{moves_left, moves_right, moved_is, moved_kept
 use Rattle.ppdb_base.proofs.Stops.{is_next, moves_rise, moves_same}
 use Rattle.map_compose.specs.Runs.{met, longest}
 use Rattle.map_compose.specs.Composition.{NextComposes, Follows}
-use Rattle.ppdb_maps.specs.Map.{Map, MethodLine, method_line, line_offsets, offsets_in}
+use Rattle.ppdb_maps.specs.Map.{Map, MethodLine, method_line, offsets_in}
 use Rattle.ppdb_maps.specs.Readable.{IsReadable}
 use Rattle.map_compose.specs.Composed.{composed, composed_runs, sized}
 use Rattle.map_compose.specs.Sizes.{SizesAgree}
@@ -16,6 +16,7 @@ use Rattle.map_compose.proofs.Rising.{size_run, met_rises, longest_rises}
 use Rattle.map_compose.proofs.Equations.{composed_composes, offsets_are, first_offsets, second_are}
 use Rattle.map_compose.proofs.Lined.{line_fits, runs_by}
 use Rattle.map_compose.proofs.Readable.{composed_is_readable, offsets_rise, met_all, all_met}
+use Rattle.ppdb_maps.proofs.Parts.{line_offsets}
 
 -- a stop of a line is a kept offset, or the old size
 data StopIs (runs : List Run) (old new x y : ℕ) : Type 0 where

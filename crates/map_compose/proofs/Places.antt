@@ -12,8 +12,7 @@ use Rattle.std.proofs.lemmas.List.{append_assoc, append-nil}
 use Rattle.ppdb_base.specs.declared.offsets.Run.{Run}
 use Rattle.ppdb_base.specs.Offsets.{gone, RiseFrom, end_of, new_end_of}
 use Rattle.ppdb_base.proofs.Moved.{rise_prefix}
-use Rattle.ppdb_maps.specs.Forms.{OFFSETS}
-use Rattle.ppdb_maps.specs.Map.{Map, MethodLine, method_line, is_dropped, line_offsets, offsets_in}
+use Rattle.ppdb_maps.specs.Map.{Map, MethodLine, method_line, is_dropped, offsets_in}
 use Rattle.ppdb_maps.specs.Readable.{IsReadable, IsLineOf}
 use Rattle.ppdb_maps.specs.Says.{lined_runs}
 use Rattle.ppdb_maps.proofs.OneList.{each_found}
@@ -30,6 +29,8 @@ use Rattle.map_compose.proofs.Gathering.{all_get}
 use Rattle.map_compose.proofs.Putting.{take_more, take_past, flat_join}
 use Rattle.map_compose.proofs.Readable.{found_holds}
 use Rattle.map_compose.proofs.Sums.{sums_range}
+use Rattle.ppdb_base.specs.declared.limits.TheConstants.{MAX_OFFSET}
+use Rattle.ppdb_maps.proofs.Parts.{line_offsets}
 
 abbrev pub long : MethodLine → List Run
 long line = longest line.runs
@@ -39,7 +40,7 @@ number line = line.method
 
 -- ---- the runs of a readable map
 
-pub line_short : (a b c d : ℕ) (rs : List Run) → c ≤ OFFSETS → d ≤ OFFSETS → RiseFrom a b (rs ++ record { old = c; new = d; length = 1 } ∷ [])
+pub line_short : (a b c d : ℕ) (rs : List Run) → c ≤ MAX_OFFSET → d ≤ MAX_OFFSET → RiseFrom a b (rs ++ record { old = c; new = d; length = 1 } ∷ [])
     → AllByRecursion IsShort rs
 line_short a b c d [] p q rise = tt
 line_short a b c d (r ∷ rs) p q rise = (
@@ -47,11 +48,11 @@ line_short a b c d (r ∷ rs) p q rise = (
   line_short (end_of r) (new_end_of r) c d rs p q rise.3,
 )
   where
-    old : (a b : ℕ) (xs : List Run) → RiseFrom a b (xs ++ record { old = c; new = d; length = 1 } ∷ []) → a ≤ OFFSETS
+    old : (a b : ℕ) (xs : List Run) → RiseFrom a b (xs ++ record { old = c; new = d; length = 1 } ∷ []) → a ≤ MAX_OFFSET
     old a b [] rise = omega (arith, p, rise.1)
     old a b (x ∷ xs) rise = omega (arith, rise.1, old (end_of x) (new_end_of x) xs rise.3)
 
-    new : (a b : ℕ) (xs : List Run) → RiseFrom a b (xs ++ record { old = c; new = d; length = 1 } ∷ []) → b ≤ OFFSETS
+    new : (a b : ℕ) (xs : List Run) → RiseFrom a b (xs ++ record { old = c; new = d; length = 1 } ∷ []) → b ≤ MAX_OFFSET
     new a b [] rise = omega (arith, q, rise.2)
     new a b (x ∷ xs) rise = omega (arith, rise.2, new (end_of x) (new_end_of x) xs rise.3)
 

@@ -15,9 +15,9 @@ use Rattle.ppdb_maps.specs.declared.image.RowImage.{RowImage}
 use Rattle.ppdb_maps.specs.declared.image.RowImage.TheVariants.{Row as RowOf, Gone, Missing}
 use Rattle.ppdb_maps.specs.declared.entries.SlotImage.{SlotImage}
 use Rattle.ppdb_maps.specs.declared.entries.SignatureImage.{SignatureImage}
-use Rattle.ppdb_maps.specs.Forms.{AreBytes, Crosses, IsTypeTable, ROWS, OFFSETS, SLOTS}
+use Rattle.ppdb_maps.specs.Forms.{AreBytes, Crosses, IsTypeTable, SLOTS}
 use Rattle.ppdb_maps.specs.Map.{Map, MethodLine, Ascends, count_of, row_line, cross_line, row_within, row_image, method_line, is_dropped, has_slots, slot_line, slot_image}
-use Rattle.ppdb_maps.specs.Map.{offsets_in, line_offsets, rows_of, slots_of, moved_row, signature_line, moved_signature}
+use Rattle.ppdb_maps.specs.Map.{offsets_in, rows_of, slots_of, moved_row, signature_line, moved_signature}
 use Rattle.ppdb_maps.specs.Readable.{IsReadable, IsRow, IsCount, IsRowOf, IsCrossOf, IsGoneOf, IsLineOf, IsSlottedOf, IsSlotOf, IsSignatureOf}
 use Rattle.map_compose.specs.Runs.{meet, met, longest}
 use Rattle.ppdb_maps_text.specs.Ascending.{put_once, ascending}
@@ -42,6 +42,8 @@ use Rattle.map_compose.proofs.Equations.{row_of_table, cross_of_table, gone_of_t
 use Rattle.map_compose.proofs.Named.{entries_hold, link_holds, olds_are}
 use Rattle.map_compose.proofs.Names.{ascending_up as names_up}
 use Rattle.map_compose.proofs.Equations.{slot_named, signature_named, olds, numbers, came_by, live_image}
+use Rattle.ppdb_base.specs.declared.limits.TheConstants.{MAX_ROWS, MAX_OFFSET}
+use Rattle.ppdb_maps.proofs.Parts.{line_offsets}
 
 -- ---- each item of a list
 
@@ -131,12 +133,12 @@ module _ (m : Map) (readable : IsReadable m) where
   pub signed_rows : AllByRecursion IsRow (signed m)
   signed_rows = map_hold (IsSignatureOf m) IsRow (λ (x : SignatureImage). x.method) (λ x is. is.0) m.signatures readable.signatures
 
-  pub counted : (table rows : ℕ) → count_of m table ≡ Some rows → rows ≤ ROWS
+  pub counted : (table rows : ℕ) → count_of m table ≡ Some rows → rows ≤ MAX_ROWS
   counted table rows is = of (find (λ (c : Count). nat_eq c.table table) m.counts) refl is
     where
-      of : (o : Option Count) → find (λ (c : Count). nat_eq c.table table) m.counts ≡ o → option_map (λ (c : Count). c.rows) o ≡ Some rows → rows ≤ ROWS
+      of : (o : Option Count) → find (λ (c : Count). nat_eq c.table table) m.counts ≡ o → option_map (λ (c : Count). c.rows) o ≡ Some rows → rows ≤ MAX_ROWS
       of None at is = absurd (cc)
-      of (Some c) at is = let e : c.rows ≡ rows = cc in subst (λ n. n ≤ ROWS) e
+      of (Some c) at is = let e : c.rows ≡ rows = cc in subst (λ n. n ≤ MAX_ROWS) e
           (found_holds IsCount (λ (c : Count). nat_eq c.table table) m.counts c readable.counts at).1
 
   lined_row : (table old new : ℕ) → row_line m table old ≡ Some new → IsRow new
@@ -178,10 +180,10 @@ module _ (m : Map) (readable : IsReadable m) where
       of _ _ (by_gone line holds some row cross ends) = holds.0
 
   -- and so is that of a number that may be 0 for no row, or it is 0
-  image_or_none : (table old : ℕ) → old ≤ ROWS → moved_row m table old ≤ ROWS
+  image_or_none : (table old : ℕ) → old ≤ MAX_ROWS → moved_row m table old ≤ MAX_ROWS
   image_or_none table old le = of (nat_eq old 0) refl
     where
-      by : (o : Option ℕ) → row_within m table old ≡ o → 1 ≤ old → unwrap_or o 0 ≤ ROWS
+      by : (o : Option ℕ) → row_within m table old ≡ o → 1 ≤ old → unwrap_or o 0 ≤ MAX_ROWS
       by None at some = omega arith
       by (Some new) at some = (image_row table old new (some, le) at).1
 
@@ -191,24 +193,24 @@ module _ (m : Map) (readable : IsReadable m) where
         | inr none ↦ absurd (false≢true (sym apart ∙ eq-eqb old 0 (omega (arith, none))))
       ]
 
-      of : (b : Bool) → nat_eq old 0 ≡ b → cond b 0 (unwrap_or (row_within m table old) 0) ≤ ROWS
+      of : (b : Bool) → nat_eq old 0 ≡ b → cond b 0 (unwrap_or (row_within m table old) 0) ≤ MAX_ROWS
       of true is = omega arith
       of false is = by (row_within m table old) refl (some is)
 
-  lined_signature : (method new : ℕ) → signature_line m method ≡ Some new → new ≤ ROWS
+  lined_signature : (method new : ℕ) → signature_line m method ≡ Some new → new ≤ MAX_ROWS
   lined_signature method new is = of (find (λ (x : SignatureImage). nat_eq x.method method) m.signatures) refl is
     where
       of : (o : Option SignatureImage) → find (λ (x : SignatureImage). nat_eq x.method method) m.signatures ≡ o
-          → option_map (λ (x : SignatureImage). x.new) o ≡ Some new → new ≤ ROWS
+          → option_map (λ (x : SignatureImage). x.new) o ≡ Some new → new ≤ MAX_ROWS
       of None at is = absurd (cc)
-      of (Some x) at is = let e : x.new ≡ new = cc in subst (λ n. n ≤ ROWS) e
+      of (Some x) at is = let e : x.new ≡ new = cc in subst (λ n. n ≤ MAX_ROWS) e
           (found_holds (IsSignatureOf m) (λ (x : SignatureImage). nat_eq x.method method) m.signatures x readable.signatures at).1
 
   -- a local signature goes to a row, or to none
-  signature_fits : (method stored : ℕ) → stored ≤ ROWS → moved_signature m method stored ≤ ROWS
+  signature_fits : (method stored : ℕ) → stored ≤ MAX_ROWS → moved_signature m method stored ≤ MAX_ROWS
   signature_fits method stored le = of (signature_line m method) refl
     where
-      of : (o : Option ℕ) → signature_line m method ≡ o → unwrap_or o (moved_row m 0x11 stored) ≤ ROWS
+      of : (o : Option ℕ) → signature_line m method ≡ o → unwrap_or o (moved_row m 0x11 stored) ≤ MAX_ROWS
       of None at = image_or_none 0x11 stored le
       of (Some new) at = lined_signature method new at
 
@@ -550,7 +552,7 @@ module _ (f s : Map) (f_readable : IsReadable f) (s_readable : IsReadable s) whe
           step true is h rest = let e = eqb-true table a is in omega (arith, e)
           step false is h rest = let less = rest h in omega (arith, less)
 
-      fits : (rows : ℕ) → rows ≤ ROWS → (o : Count) → record { table = table; rows = rows } ≡ o → IsCount o
+      fits : (rows : ℕ) → rows ≤ MAX_ROWS → (o : Count) → record { table = table; rows = rows } ≡ o → IsCount o
       fits rows le o e = subst IsCount e (omega (arith, small 0x2d 0 there), le)
 
       of : (b a : Option ℕ) → count_of s table ≡ b → count_of f table ≡ a
@@ -594,7 +596,7 @@ module _ (f s : Map) (f_readable : IsReadable f) (s_readable : IsReadable s) whe
           ap (λ o. longest (met (kept_runs o) (kept_runs (of_image every (offsets_in s) (row_within f 0x06 k))))) (first_runs there a at)
           ∙ ap (λ o. longest (met (kept_runs (line_offsets a)) (kept_runs o))) (second_runs there b also)
 
-      rises : has_image f s k ≡ true → (old new : ℕ) (runs : List Run) → old ≤ OFFSETS → new ≤ OFFSETS → composed_runs f s k ≡ runs → Rise (lined runs old new)
+      rises : has_image f s k ≡ true → (old new : ℕ) (runs : List Run) → old ≤ MAX_OFFSET → new ≤ MAX_OFFSET → composed_runs f s k ≡ runs → Rise (lined runs old new)
           → IsLineOf (composed f s) (record { method = k; old_size = old; new_size = new; runs = composed_runs f s k })
       rises there old new runs p q e rise = (row, p, q, subst (λ rs. Rise (lined rs old new)) (sym e) rise, stays k there)
 
@@ -690,12 +692,12 @@ module _ (f s : Map) (f_readable : IsReadable f) (s_readable : IsReadable s) whe
   signature_holds : (k : ℕ) (x : SignatureImage) → IsRow k → signature_entry f s k ≡ Some x → IsSignatureOf (composed f s) x
   signature_holds k x row is = of (has_image f s k) refl is
     where
-      small : (image new : ℕ) (o : Option ℕ) → signature_line f k ≡ o → signature_then s image o ≡ Some new → new ≤ ROWS
+      small : (image new : ℕ) (o : Option ℕ) → signature_line f k ≡ o → signature_then s image o ≡ Some new → new ≤ MAX_ROWS
       small image new None at is = lined_signature s s_readable image new is
-      small image new (Some mid) at is = let e : moved_signature s image mid ≡ new = cc in subst (λ n. n ≤ ROWS) e
+      small image new (Some mid) at is = let e : moved_signature s image mid ≡ new = cc in subst (λ n. n ≤ MAX_ROWS) e
           (signature_fits s s_readable image mid (lined_signature f f_readable k mid at))
 
-      by : (new : ℕ) (o : Option ℕ) → of_image None (λ image. signature_then s image (signature_line f k)) o ≡ Some new → new ≤ ROWS
+      by : (new : ℕ) (o : Option ℕ) → of_image None (λ image. signature_then s image (signature_line f k)) o ≡ Some new → new ≤ MAX_ROWS
       by new None is = absurd (cc)
       by new (Some image) is = small image new (signature_line f k) refl is
 

@@ -19,7 +19,7 @@ use Rattle.ppdb_maps.specs.declared.line.Line.TheVariants.{Rows, Dropped, Slots}
 use Rattle.ppdb_maps.specs.Map.{Map, MethodLine, row_line, cross_line, has_gone_line, told_image, line_image, method_line, count_of, is_dropped, row_within, rows_of}
 use Rattle.ppdb_maps.specs.Map.{signature_line}
 use Rattle.ppdb_maps.specs.Readable.{IsReadable, IsRow}
-use Rattle.ppdb_maps_text.specs.MapTexts.{count_says, slots_say, method_says, slot_says, signature_says, shares_says, link_says, map_text, ended, version_of, head_text}
+use Rattle.ppdb_maps_text.specs.MapTexts.{count_says, slots_say, method_says, map_text, ended, version_of, head_text}
 use Rattle.ppdb_maps_text.specs.MapTexts.{image_says, olds_of}
 use Rattle.map_compose.specs.declared.part.Part.{Part}
 use Rattle.map_compose.specs.declared.part.Part.TheVariants.{Drops, Slots as SlotLines, Signatures, Methods}
@@ -39,6 +39,7 @@ use Rattle.map_compose.proofs.Imaging.{within}
 use Rattle.map_compose.proofs.Readable.{rows_hold, sources_up}
 use Rattle.ppdb_maps_text.proofs.OneLine.{has_line}
 use Rattle.ppdb_maps_text.proofs.Starting.{olds_have, olds_up}
+use Rattle.ppdb_maps_text.proofs.Parts.{slot_says, signature_says, link_says, shares_says}
 
 -- ---- those of one key
 

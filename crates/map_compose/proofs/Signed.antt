@@ -8,13 +8,14 @@ use Rattle.ppdb_maps.specs.declared.line.Line.{Line}
 use Rattle.ppdb_maps.specs.declared.line.Line.TheVariants.{Signature}
 use Rattle.ppdb_maps.specs.Map.{Map, row_within, signature_line}
 use Rattle.ppdb_maps.specs.Readable.{IsReadable}
-use Rattle.ppdb_maps_text.specs.MapTexts.{signature_says, has_items, version_of}
+use Rattle.ppdb_maps_text.specs.MapTexts.{has_items, version_of}
 use Rattle.map_compose.specs.declared.part.Part.TheVariants.{Signatures}
 use Rattle.map_compose.specs.Composed.{composed, has_image, of_image, signature_then, composed_signature}
 use Rattle.map_compose.specs.Parts.{part_says, all_numbers}
 use Rattle.map_compose.specs.Says.{signed_says, has_names}
 use Rattle.map_compose.proofs.Named.{both_named}
 use Rattle.map_compose.proofs.Saying.{signatures_told}
+use Rattle.ppdb_maps_text.proofs.Parts.{signature_says}
 
 -- what the `signature` lines of these methods say
 abbrev pub signed_lines : Map → Map → List ℕ → List Line

@@ -18,7 +18,7 @@ use Rattle.ppdb_maps.specs.Map.{Map, row_within, has_slots, slot_line, slot_imag
 use Rattle.ppdb_maps.specs.Readable.{IsReadable, IsSlotOf}
 use Rattle.ppdb_maps.proofs.Halving.{found_lent, by_number, if_passes}
 use Rattle.ppdb_maps.proofs.OneList.{each_found}
-use Rattle.ppdb_maps_text.specs.MapTexts.{ended, line_text, slot_says}
+use Rattle.ppdb_maps_text.specs.MapTexts.{ended, line_text}
 use Rattle.map_compose.specs.declared.slot_blocks.SlotBlock.{SlotBlock}
 use Rattle.map_compose.specs.declared.slot_blocks.SlotBlocks.{SlotBlocks}
 use Rattle.map_compose.specs.Composed.{composed_slot, slot_entry, slot_sources, of_image}
@@ -29,6 +29,7 @@ use Rattle.map_compose.proofs.Following.{follows_image, slot_follows}
 use Rattle.ppdb_maps_text.proofs.Found.{find_filter}
 use Rattle.map_compose.proofs.Putting.{map_join, take_more, take_past, within}
 use Rattle.map_compose.proofs.Readable.{filter_hold, slots_up}
+use Rattle.ppdb_maps_text.proofs.Parts.{slot_says}
 
 -- ---- the length of lines
 

@@ -8,7 +8,6 @@ use Rattle.std.proofs.lemmas.Bool.{eq-eqb, ne_eqb, eqb-true, false≢true, cases
 use Rattle.ppdb_maps.specs.declared.entries.RowLine.{RowLine}
 use Rattle.ppdb_maps.specs.declared.entries.CrossLine.{CrossLine}
 use Rattle.ppdb_maps.specs.declared.entries.GoneLine.{GoneLine}
-use Rattle.ppdb_maps.specs.Forms.{ROWS}
 use Rattle.ppdb_maps.specs.Map.{Map, rows_of, crossed_of, gone_of}
 use Rattle.ppdb_maps.specs.Readable.{IsReadable, IsRowOf, IsCrossOf, IsGoneOf}
 use Rattle.ppdb_maps_text.specs.Ascending.{ascending}
@@ -19,6 +18,7 @@ use Rattle.map_compose.proofs.Bounds.{few}
 use Rattle.map_compose.proofs.Merging.{first_of, above_both, above_less, up_drop}
 use Rattle.map_compose.proofs.Putting.{drop_at, drop_past, within}
 use Rattle.map_compose.proofs.Readable.{map_hold, filter_hold}
+use Rattle.ppdb_base.specs.declared.limits.TheConstants.{MAX_ROWS}
 
 -- ---- the least
 
@@ -204,24 +204,24 @@ module _ (m : Map) (readable : IsReadable m) (table : ℕ) where
   pub gone_rise : Up (map (λ (r : GoneLine). r.old) (gone_of m table))
   gone_rise = key_up (λ (r : GoneLine). r.table) (λ (r : GoneLine). r.old) table m.gone readable.ascends.gone
 
-  index_few : (ns : List ℕ) → Up ns → AllByRecursion (λ k. k ≤ ROWS) ns → (i : ℕ) → is_some (slice_get ns i) ≡ true → i ≤ 16777216
+  index_few : (ns : List ℕ) → Up ns → AllByRecursion (λ k. k ≤ MAX_ROWS) ns → (i : ℕ) → is_some (slice_get ns i) ≡ true → i ≤ 16777216
   index_few ns up all i some = of (slice_get ns i) refl some
     where
       of : (o : Option ℕ) → slice_get ns i ≡ o → is_some o ≡ true → i ≤ 16777216
       of None at some = absurd (false≢true some)
-      of (Some x) at some = let less = within ns i x at in let most = few ROWS ns up all in omega (arith, less, most)
+      of (Some x) at some = let less = within ns i x at in let most = few MAX_ROWS ns up all in omega (arith, less, most)
 
   pub rows_few : (i : ℕ) → is_some (slice_get (map (λ (r : RowLine). r.old) (rows_of m table)) i) ≡ true → i ≤ 16777216
   rows_few i some = index_few (map (λ (r : RowLine). r.old) (rows_of m table)) rows_rise
-      (map_hold (IsRowOf m) (λ k. k ≤ ROWS) (λ (r : RowLine). r.old) (λ r is. is.0.1) (rows_of m table)
+      (map_hold (IsRowOf m) (λ k. k ≤ MAX_ROWS) (λ (r : RowLine). r.old) (λ r is. is.0.1) (rows_of m table)
       (filter_hold (IsRowOf m) (IsRowOf m) (λ r. nat_eq r.table table) (λ r is at. is) m.rows readable.rows)) i some
 
   pub crossed_few : (i : ℕ) → is_some (slice_get (map (λ (r : CrossLine). r.old) (crossed_of m table)) i) ≡ true → i ≤ 16777216
   crossed_few i some = index_few (map (λ (r : CrossLine). r.old) (crossed_of m table)) crossed_rise
-      (map_hold (IsCrossOf m) (λ k. k ≤ ROWS) (λ (r : CrossLine). r.old) (λ r is. is.0.1) (crossed_of m table)
+      (map_hold (IsCrossOf m) (λ k. k ≤ MAX_ROWS) (λ (r : CrossLine). r.old) (λ r is. is.0.1) (crossed_of m table)
       (filter_hold (IsCrossOf m) (IsCrossOf m) (λ r. nat_eq r.table table) (λ r is at. is) m.crossed readable.crossed)) i some
 
   pub gone_few : (i : ℕ) → is_some (slice_get (map (λ (r : GoneLine). r.old) (gone_of m table)) i) ≡ true → i ≤ 16777216
   gone_few i some = index_few (map (λ (r : GoneLine). r.old) (gone_of m table)) gone_rise
-      (map_hold (IsGoneOf m) (λ k. k ≤ ROWS) (λ (r : GoneLine). r.old) (λ r is. is.0.1) (gone_of m table)
+      (map_hold (IsGoneOf m) (λ k. k ≤ MAX_ROWS) (λ (r : GoneLine). r.old) (λ r is. is.0.1) (gone_of m table)
       (filter_hold (IsGoneOf m) (IsGoneOf m) (λ r. nat_eq r.table table) (λ r is at. is) m.gone readable.gone)) i some

@@ -1,7 +1,7 @@
 -- The map of two maps (docs/FORMAT.md, "Two maps made into one"): what the first makes of a row, an offset or a slot, the second takes on.
 use Rattle.std.specs.Prelude.{ℕ, ◌&&◌, ◌||◌, not, Bool, false, cond, nat_eq, List, [], ◌++◌, Option, Some, None, is_some, map, filter, filter_map, flat_map, option_map, option_and_then}
 use Rattle.std.specs.{List.range_with_len}
-use Rattle.std.specs.Option.{option_or}
+use Rattle.std.specs.Option.{option_map_or, option_or}
 use Rattle.ppdb_base.specs.{declared.offsets.Run.Run, Offsets.{every, kept_runs}}
 use Rattle.ppdb_maps.specs.declared.entries.{Count.Count, RowLine.RowLine, CrossLine.CrossLine, GoneLine.GoneLine, SlotImage.SlotImage, SignatureImage.SignatureImage, NameLine.NameLine}
 use Rattle.ppdb_maps.specs.declared.image.RowImage.{RowImage, TheVariants.{Row, Gone, Missing}}
@@ -35,10 +35,6 @@ own_assembly table image = image
 -- the image of the image
 abbrev pub composed_image : Map → Map → ℕ → ℕ → RowImage
 composed_image f s table old = own_assembly table (image_then s (row_image f table old))
-
--- the row of the same table that a row becomes by both maps, one after the other
-abbrev pub composed_row : Map → Map → ℕ → ℕ → Option ℕ
-composed_row f s table old = option_and_then (row_within s table) (row_within f table old)
 
 -- the rows of which a line may speak: those with a line of the first map, or, where it keeps each row, of the second
 abbrev pub sources : Option ℕ → Option ℕ → Map → Map → ℕ → List ℕ
@@ -79,12 +75,11 @@ spoken_of f own others = ascending (own ++ (map (λ (r : RowLine). r.old) (rows_
 
 -- what the second map says of the method that a method became
 abbrev pub of_image : {A : Type 0} → A → (ℕ → A) → Option ℕ → A
-of_image none says None = none
-of_image none says (Some image) = says image
+of_image none says image = option_map_or says image none
 
 -- the first map drops the method, or the second its image
 abbrev pub drops_one : Map → Map → ℕ → Bool
-drops_one f s method = is_dropped f method || of_image false (is_dropped s) (row_within f 0x06 method)
+drops_one f s method = is_dropped f method || option_map_or (is_dropped s) (row_within f 0x06 method) false
 
 -- the method is there after both
 abbrev pub has_image : Map → Map → ℕ → Bool

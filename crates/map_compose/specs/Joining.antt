@@ -2,13 +2,14 @@
 use Rattle.std.specs.{Prelude.{◌≡◌, ◌⊎◌, ℕ, ◌+◌, ◌<◌, ◌≤◌, ◌++◌, nat_eq, List, [], ◌∷◌, Option, Some, None, option_to_list, option_copied, map, length, flat_map, find, option_map}, Borrow.Bor}
 use Rattle.std.specs.List.{AllByRecursion}
 use Rattle.ppdb_base.specs.{declared.offsets.Run.Run, Offsets.{Offsets, every, gone, lined, RiseFrom, end_of, new_end_of}}
-use Rattle.ppdb_maps.specs.{declared.line.Line.TheVariants.Kept, Forms.OFFSETS, Map.{Map, MethodLine, method_line}, Readable.IsReadable}
+use Rattle.ppdb_maps.specs.{declared.line.Line.TheVariants.Kept, Map.{Map, MethodLine, method_line}, Readable.IsReadable}
 use Rattle.ppdb_maps_text.specs.declared.counted.Counted.{Counted}
 use Rattle.map_compose.specs.{declared.joined.{JoinedRuns.JoinedRuns, JoinedLine.JoinedLine}, Runs.{met, longest}, Lengths.{SumsOf, sums_from}, Says.PutsLines}
+use Rattle.ppdb_base.specs.declared.limits.TheConstants.{MAX_OFFSET}
 
 -- a run of a map that a text has
 abbrev pub IsShort : Run → Type 0
-IsShort run = (0 < run.length) × (end_of run ≤ OFFSETS) × (new_end_of run ≤ OFFSETS)
+IsShort run = (0 < run.length) × (end_of run ≤ MAX_OFFSET) × (new_end_of run ≤ MAX_OFFSET)
 
 -- the runs of a line
 pub record AreRuns (runs : List Run) : Type 0 where

@@ -1,7 +1,7 @@
 -- Where two maps do not follow one another (docs/FORMAT.md, "Two maps made into one"): a method's size after the first is not that before the second.
-use Rattle.std.specs.Prelude.{◌≡◌, ◌≢◌, ℕ, ◌≤◌, ◌⊎◌, true, Some, None}
+use Rattle.std.specs.{Prelude.{◌≡◌, ◌≢◌, ℕ, ◌≤◌, ◌⊎◌, true, Some, None}, Option.option_map_or}
 use Rattle.ppdb_maps.specs.{Map.{Map, MethodLine, method_line, row_within}, Readable.IsReadable}
-use Rattle.map_compose.specs.Composed.{has_image, of_image}
+use Rattle.map_compose.specs.Composed.{has_image}
 
 -- the method is there after both, both maps have a line for it, and its size after the first and before the second are these two and differ
 pub record SizesDiffer (f s : Map) (method first second : ℕ) : Type 0 where
@@ -9,7 +9,7 @@ pub record SizesDiffer (f s : Map) (method first second : ℕ) : Type 0 where
   pub b : MethodLine
   pub there : has_image f s method ≡ true
   pub before : method_line f method ≡ Some a
-  pub after : of_image None (method_line s) (row_within f 0x06 method) ≡ Some b
+  pub after : option_map_or (method_line s) (row_within f 0x06 method) None ≡ Some b
   pub sizes : (a.new_size ≡ first) × (b.old_size ≡ second) × (first ≢ second)
 
 -- the least method whose sizes differ

@@ -1,7 +1,7 @@
 // The `shares` and the `link` line and the `document` lines of the map of two maps.
-ghost use Rattle.std.specs.Prelude.{◌≡◌, ◌≤◌, ◌<◌, ◌||◌, [], ◌∷◌, length, MatchOption, OnOk, option_copied, slice_get};
-ghost use Rattle.ppdb_maps.specs.declared.line.Line.TheVariants.{Document};
-ghost use Rattle.ppdb_maps_text.specs.MapTexts.{ended, line_text, link_says, shares_says};
+ghost use Rattle.std.specs.Prelude.{◌≡◌, ◌≤◌, ◌<◌, ◌||◌, cond, [], ◌∷◌, length, map, option_to_list, MatchOption, OnOk, option_copied, slice_get};
+ghost use Rattle.ppdb_maps.specs.declared.line.Line.TheVariants.{Document, Link, Shares};
+ghost use Rattle.ppdb_maps_text.specs.MapTexts.{ended, line_text};
 ghost use Rattle.ppdb_maps_text.specs.Putting.{Puts};
 ghost use Rattle.map_compose.specs.Composed.{named, document_entry, composed_link};
 ghost use Rattle.map_compose.specs.Fits.{IsShort, NamesFit};
@@ -121,7 +121,7 @@ fn link_by_both<'a>(first: &'a MapText, second: &'a MapText) -> Option<&'a [u8]>
 
 /// Puts the `link` line, where one of the maps has one.
 pub fn put_link(first: &MapText, second: &MapText, text: &mut Counted) -> Result<(), Memory>
-    ensures { OnOk result (PutsLines text.old text.new (link_says (composed_link first.now second.now))) }
+    ensures { OnOk result (PutsLines text.old text.new (map Link (option_to_list (composed_link first.now second.now)))) }
 {
     match link_by_both(first, second) {
         None => Ok(()),
@@ -131,7 +131,7 @@ pub fn put_link(first: &MapText, second: &MapText, text: &mut Counted) -> Result
 
 /// Puts the `shares` line, where one of the maps has it.
 pub fn put_shares(first: &MapText, second: &MapText, text: &mut Counted) -> Result<(), Memory>
-    ensures { OnOk result (PutsLines text.old text.new (shares_says (first.now.shares || second.now.shares))) }
+    ensures { OnOk result (PutsLines text.old text.new (cond (first.now.shares || second.now.shares) (Shares ∷ []) [])) }
 {
     if first.shares() || second.shares() {
         text.put_shares()

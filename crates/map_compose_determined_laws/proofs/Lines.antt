@@ -11,13 +11,14 @@ use Rattle.ppdb_maps.specs.declared.entries.SlotImage.{SlotImage}
 use Rattle.ppdb_maps.specs.Forms.{SLOTS}
 use Rattle.ppdb_maps.specs.Map.{Map, MethodLine, count_of, row_line, cross_line, has_gone_line, told_image, line_image, row_within, row_image, method_line, is_dropped}
 use Rattle.ppdb_maps.specs.Map.{has_slots, slot_line, slot_image}
-use Rattle.ppdb_maps.specs.Map.{line_offsets, offsets_in}
+use Rattle.ppdb_maps.specs.Map.{offsets_in}
 use Rattle.ppdb_maps.specs.Readable.{IsReadable, IsRowOf, IsLineOf, IsSlotOf}
 use Rattle.ppdb_maps.specs.Says.{sizes_of}
 use Rattle.ppdb_maps_text.proofs.OneLine.{cross_found, gone_found, cross_none, gone_none, gone_crossed, leaves_table, methods_stay}
 use Rattle.map_compose.specs.Composed.{cross_lined, gone_lined}
 use Rattle.map_compose.proofs.Imaging.{by_image}
 use Rattle.map_compose.proofs.Readable.{found_holds}
+use Rattle.ppdb_maps.proofs.Parts.{line_offsets}
 
 -- what is found passes
 found_passes : {X : Type 0} (p : X → Bool) (xs : List X) (x : X) → find p xs ≡ Some x → p x ≡ true

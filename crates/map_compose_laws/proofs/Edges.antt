@@ -5,7 +5,7 @@ use Rattle.std.specs.List.{AllByRecursion, find}
 use Rattle.std.specs.Option.{option_and_then}
 use Rattle.std.proofs.lemmas.Bool.{cases_lt}
 use Rattle.ppdb_base.specs.Offsets.{Kept, Rise, kept_runs, lined, moved, old_size}
-use Rattle.ppdb_maps.specs.Map.{Map, MethodLine, line_offsets, method_line, offsets_in, row_within}
+use Rattle.ppdb_maps.specs.Map.{Map, MethodLine, method_line, offsets_in, row_within}
 use Rattle.ppdb_maps.specs.Readable.{IsReadable, IsLineOf}
 use Rattle.map_compose.specs.Composed.{composed, composed_runs, of_image, sized}
 use Rattle.map_compose.specs.Composition.{Follows}
@@ -14,6 +14,7 @@ use Rattle.map_compose.specs.Sizes.{SizesAgree}
 use Rattle.map_compose.proofs.Equations.{first_offsets, offsets_are, runs_are, second_are}
 use Rattle.map_compose.proofs.Next.{next_composes}
 use Rattle.map_compose_laws.specs.Images.{EdgeComposes, EdgesAreComposed, KeepsImages}
+use Rattle.ppdb_maps.proofs.Parts.{line_offsets}
 
 -- a line of a readable map rises within its sizes
 line_rises : (m : Map) (k : ℕ) (lines : List MethodLine) → AllByRecursion (IsLineOf m) lines → (line : MethodLine)

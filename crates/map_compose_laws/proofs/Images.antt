@@ -14,9 +14,9 @@ use Rattle.ppdb_values.specs.Meaning.{ScopeMeaning, SlotMeaning, PointMeaning, M
 use Rattle.ppdb_merge_items.specs.Each.{Each}
 use Rattle.ppdb_merge_items.specs.Annotated.{with_item}
 use Rattle.ppdb_merge_moved.specs.Images.{point_image, scope_image, slot_meaning_image, meaning_image}
-use Rattle.ppdb_merge_items.specs.NamedRows.{live_constants, live_imports}
+use Rattle.ppdb_merge_items.specs.NamedRows.{live_constants}
 use Rattle.ppdb_merge_moved.specs.Moved.{moved_constant, moved_import, moved_variable, moved_range, moved_document}
-use Rattle.map_compose.specs.Composed.{composed, composed_row, signature_then}
+use Rattle.map_compose.specs.Composed.{composed, signature_then}
 use Rattle.map_compose.specs.Composition.{Follows, IsComposition}
 use Rattle.map_compose.proofs.Equations.{composed_composes, kept_row}
 use Rattle.map_compose_laws.specs.Images.{no_range, without_edges, SlotsStay, RangeComposes, PointComposes, EdgesCompose, KeepsOwnAssembly}
@@ -24,6 +24,7 @@ use Rattle.map_compose_laws.specs.Images.{ImagesCompose}
 use Rattle.map_compose_laws.proofs.Renamed.{documents_on}
 use Rattle.map_compose_laws.proofs.Rows.{KeepsRows, keeps_rows}
 use Rattle.map_compose_laws.proofs.RowsOn.{constants_on, imports_on}
+use Rattle.ppdb_merge_items.proofs.Parts.{live_imports}
 
 -- ---- lists
 
@@ -45,7 +46,8 @@ pub row_there : (m : Map) (table n : ℕ) → moved_row m table (suc n) ≡ unwr
 row_there m table n = rw (ne_eqb (suc n) 0 (λ e. omega (arith, e))) refl
 
 -- a row of a table that both maps take on within it
-pub row_on : (f s : Map) (table : ℕ) → ((old : ℕ) → row_within (composed f s) table old ≡ composed_row f s table old) → KeepsRows f → (old : ℕ)
+pub row_on : (f s : Map) (table : ℕ)
+    → ((old : ℕ) → row_within (composed f s) table old ≡ option_and_then (row_within s table) (row_within f table old)) → KeepsRows f → (old : ℕ)
     → moved_row s table (moved_row f table old) ≡ moved_row (composed f s) table old
 row_on f s table within keeps zero = refl
 row_on f s table within keeps (suc n) =

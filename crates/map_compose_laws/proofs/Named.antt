@@ -14,9 +14,9 @@ use Rattle.ppdb_values.specs.declared.annotation.Annotation.{Annotation}
 use Rattle.ppdb_merge_items.specs.declared.file.AnnotatedScope.{AnnotatedScope}
 use Rattle.ppdb_merge_items.specs.declared.file.AnnotatedFile.{AnnotatedFile}
 use Rattle.ppdb_merge_items.specs.Each.{Each}
-use Rattle.ppdb_merge_items.specs.NamedRows.{Named, names, names_some, named_rows, in_entry, in_constant, in_import, in_steps, all_named, live_file, live_method}
-use Rattle.ppdb_merge_items.specs.NamedRows.{live_scope, live_machine, live_custom, live_signature, with_live_signature}
-use Rattle.ppdb_merge_items.specs.NamedRows.{live_constants, live_imports, with_live_constants, with_live_imports}
+use Rattle.ppdb_merge_items.specs.NamedRows.{Named, names, names_some, named_rows, in_constant, in_import, in_steps, all_named, live_file}
+use Rattle.ppdb_merge_items.specs.NamedRows.{live_scope, live_machine, live_custom, live_signature}
+use Rattle.ppdb_merge_items.specs.NamedRows.{live_constants}
 use Rattle.ppdb_merge_items.specs.Annotated.{with_item}
 use Rattle.ppdb_merge_items.specs.SoundParts.{SoundMoved}
 use Rattle.ppdb_merge_items.specs.Unannotated.{value_of_annotated}
@@ -27,6 +27,8 @@ use Rattle.ppdb_merge_moved.proofs.ImageRows.{lives_on_method}
 use Rattle.ppdb_merge_moved.proofs.NamedParts.{NamedParts}
 use Rattle.ppdb_merge_moved.proofs.SoundItems.{most}
 use Rattle.map_compose_laws.proofs.Others.{IsNoMethod, constants_other, imports_other, no_drop, no_steps}
+use Rattle.ppdb_merge_items.proofs.Parts.{live_method, with_live_signature, with_live_constants, with_live_imports, in_entry}
+use Rattle.ppdb_merge_items.proofs.Parts.{live_imports}
 
 -- ---- from the parts to the rows
 

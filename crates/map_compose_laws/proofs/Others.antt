@@ -32,13 +32,15 @@ use Rattle.ppdb_merge_items.specs.declared.file.AnnotatedScope.{AnnotatedScope}
 use Rattle.ppdb_merge_items.specs.declared.file.AnnotatedFile.{AnnotatedFile}
 use Rattle.ppdb_merge_items.specs.Annotated.{items_of, with_item}
 use Rattle.ppdb_merge_items.specs.Each.{Each}
-use Rattle.ppdb_merge_items.specs.NamedRows.{Named, in_token, in_body, in_constant, in_import, in_steps, is_gone_type, leaves_types, live_body, live_constant}
-use Rattle.ppdb_merge_items.specs.NamedRows.{live_constants, live_custom, live_import, live_imports, with_live_body}
+use Rattle.ppdb_merge_items.specs.NamedRows.{Named, in_token, in_body, in_constant, in_import, in_steps, is_gone_type, leaves_types, live_body}
+use Rattle.ppdb_merge_items.specs.NamedRows.{live_constants, live_custom, live_import, with_live_body}
 use Rattle.ppdb_merge_items.specs.SoundParts.{SoundMoved}
 use Rattle.ppdb_merge_items.specs.Unannotated.{value_of_annotated}
 use Rattle.ppdb_merge_items.proofs.Lists.{Each-append, Each-filter, Each-map, Each-weaker, each_row}
 use Rattle.ppdb_merge_moved.proofs.Elements.{each_parts}
 use Rattle.ppdb_merge_moved.proofs.SoundItems.{most, each_all}
+use Rattle.ppdb_merge_items.proofs.Parts.{live_constant}
+use Rattle.ppdb_merge_items.proofs.Parts.{live_imports}
 
 abbrev pub IsNoMethod : Named → Type 0
 IsNoMethod n = n.table ≢ 0x06

@@ -14,7 +14,7 @@ use Rattle.ppdb_merge_items.specs.declared.file.AnnotatedScope.{AnnotatedScope}
 use Rattle.ppdb_merge_items.specs.declared.file.AnnotatedFile.{AnnotatedFile}
 use Rattle.ppdb_merge_items.specs.Each.{Each}
 use Rattle.ppdb_merge_items.specs.NamedRows.{Named, names, names_some, in_constant, in_import, in_steps, live_machine, live_custom, live_signature}
-use Rattle.ppdb_merge_items.specs.NamedRows.{is_type_documents, live_constants, live_imports}
+use Rattle.ppdb_merge_items.specs.NamedRows.{is_type_documents, live_constants}
 use Rattle.ppdb_merge_items.specs.Annotated.{with_item}
 use Rattle.ppdb_merge_items.proofs.Lists.{Each-append, Each-map, Each-weaker}
 use Rattle.ppdb_merge_items.proofs.Orders.{in_order_each}
@@ -23,6 +23,7 @@ use Rattle.ppdb_merge_joined.specs.Joined.{renumbered_import, renumbered_custom}
 use Rattle.ppdb_merge_joined.specs.Same.{same_record}
 use Rattle.ppdb_merge_joined.proofs.Kept.{fresh_each}
 use Rattle.ppdb_merge_moved.proofs.NamedParts.{NamedParts}
+use Rattle.ppdb_merge_items.proofs.Parts.{live_imports}
 
 -- documents are no rows of methods
 same_steps : (row : ℕ → ℕ) (b : CustomBody) → in_steps (with_documents row b) ≡ in_steps b

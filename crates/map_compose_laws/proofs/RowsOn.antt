@@ -24,13 +24,15 @@ use Rattle.ppdb_values.specs.declared.import.ImportValue.{ImportValue}
 use Rattle.ppdb_values.specs.declared.import.ImportValue.TheVariants.{Namespace, AssemblyNamespace, Target, Xml, Alias, AssemblyAlias, NamespaceAlias}
 use Rattle.ppdb_values.specs.declared.import.ImportValue.TheVariants.{AssemblyNamespaceAlias, TargetAlias}
 use Rattle.ppdb_merge_items.specs.Annotated.{with_item}
-use Rattle.ppdb_merge_items.specs.NamedRows.{is_gone_type, names_gone_class, goes_constant, live_body, with_live_body, live_constant}
-use Rattle.ppdb_merge_items.specs.NamedRows.{live_constants, live_import, live_imports}
+use Rattle.ppdb_merge_items.specs.NamedRows.{is_gone_type, names_gone_class, goes_constant, live_body, with_live_body}
+use Rattle.ppdb_merge_items.specs.NamedRows.{live_constants, live_import}
 use Rattle.ppdb_merge_moved.specs.Moved.{table_in, row_in, moved_token, moved_modifier, moved_constant_body, moved_constant, of_assembly, moved_import}
 use Rattle.ppdb_merge_moved.proofs.ImageRows.{IsCrossed, image_cases}
 use Rattle.map_compose.specs.Composed.{composed, image_then, own_assembly}
 use Rattle.map_compose.specs.Composition.{IsComposition}
 use Rattle.map_compose_laws.specs.Images.{KeepsOwnAssembly}
+use Rattle.ppdb_merge_items.proofs.Parts.{live_constant}
+use Rattle.ppdb_merge_items.proofs.Parts.{live_imports}
 
 -- ---- row 0
 

@@ -1,5 +1,5 @@
 -- The row counts of a file: those of the type system before those of the debug tables.
-use Rattle.std.proofs.Common.{◌≡◌, ℕ, zero, suc, ◌+◌, ◌<◌, List, [], ◌∷◌, ◌++◌, length, take, drop, replicate, get_or, refl, sym, ap, ◌∙◌, arith, append_assoc}
+use Rattle.std.proofs.Common.{◌≡◌, ℕ, zero, suc, ◌<◌, List, [], ◌∷◌, ◌++◌, length, take, drop, replicate, get_or, refl, sym, ap, ◌∙◌, arith, append_assoc}
 use Rattle.std.specs.Prelude.{set}
 use Rattle.ppdb_build_layout.specs.declared.rows.Rows.{Rows}
 use Rattle.ppdb_build_items.specs.Interned.{cell}

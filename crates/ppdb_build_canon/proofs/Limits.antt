@@ -15,7 +15,11 @@ use Rattle.ppdb_values.specs.declared.file.MethodValue.{MethodValue}
 use Rattle.ppdb_values.specs.declared.scope.ScopeValue.{ScopeValue}
 use Rattle.ppdb_base.specs.Told.{told}
 use Rattle.ppdb_build_canon.specs.Canonical.{counts}
-use Rattle.ppdb_build_canon.specs.Limits.{above, met, too_many_rows, tables, owns_none, list_past_end, large_offset, large_step_of, ValuesWithoutLimits}
+use Rattle.ppdb_build_canon.specs.Limits.{above, too_many_rows, tables, owns_none, list_past_end, large_offset, large_step_of, ValuesWithoutLimits}
+
+-- a limit is met
+abbrev pub met : Bool → Limit → Option Limit
+met is limit = if is then Some limit else None
 
 -- ---- nothing is met
 

@@ -10,10 +10,14 @@ use Rattle.ppdb_values.specs.declared.scope.VariableValue.{VariableValue}
 use Rattle.ppdb_values.specs.declared.scope.ConstantValue.{ConstantValue}
 use Rattle.ppdb_values.specs.declared.import.ImportScopeValue.{ImportScopeValue}
 use Rattle.ppdb_values.specs.declared.custom.CustomValue.{CustomValue}
-use Rattle.ppdb_build_heaps.specs.Uses.{Piece, plain, held_in, with_held}
-use Rattle.ppdb_build_canon.specs.Uses.{name_pieces, document_blobs, method_blob, constant_blob, import_blob, custom_blob, variables_of, constants_of, text_uses}
+use Rattle.ppdb_build_heaps.specs.Uses.{Piece, plain, held_by, with_held}
+use Rattle.ppdb_build_canon.specs.Uses.{name_pieces, method_blob, constant_blob, import_blob, custom_blob, variables_of, constants_of, text_uses}
 use Rattle.ppdb_build_canon.specs.Uses.{guid_uses, cell_blobs, blob_uses}
 use Rattle.ppdb_build_canon.proofs.Among.{among_first, among_later, among_map, among_flat_map}
+
+-- the blobs of a document: its name and its hash
+abbrev pub document_blobs : DocumentValue → List (List Piece)
+document_blobs document = name_pieces document.name ∷ plain document.hash ∷ []
 
 module _ (value : FileValue) where
   -- ---- texts
@@ -119,10 +123,10 @@ module _ (value : FileValue) where
 
   -- a blob that a cell names, and each blob whose index it holds
   pub named_used : (pieces : List Piece) → Contains (cell_blobs value) pieces → Contains (blob_uses value) pieces
-  named_used pieces is = among_flat_map with_held (cell_blobs value) pieces pieces is (Contains-push (map plain (held_in pieces)) pieces)
+  named_used pieces is = among_flat_map with_held (cell_blobs value) pieces pieces is (Contains-push (map plain (flat_map held_by pieces)) pieces)
 
-  pub held_used : (pieces : List Piece) (content : List ℕ) → Contains (cell_blobs value) pieces → Contains (held_in pieces) content
+  pub held_used : (pieces : List Piece) (content : List ℕ) → Contains (cell_blobs value) pieces → Contains (flat_map held_by pieces) content
       → Contains (blob_uses value) (plain content)
   held_used pieces content is held =
       among_flat_map with_held (cell_blobs value) pieces (plain content) is
-      (Contains-append_left (map plain (held_in pieces)) (pieces ∷ []) (plain content) (among_map plain (held_in pieces) content held))
+      (Contains-append_left (map plain (flat_map held_by pieces)) (pieces ∷ []) (plain content) (among_map plain (flat_map held_by pieces) content held))

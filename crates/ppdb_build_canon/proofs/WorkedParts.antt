@@ -15,7 +15,8 @@ use Rattle.ppdb_base.specs.Told.{told}
 use Rattle.ppdb_values.specs.declared.file.FileValue.{FileValue}
 use Rattle.ppdb_values.specs.WorkedSmall.{variable_x}
 use Rattle.ppdb_build_canon.specs.Canonical.{canonical_tables, counts}
-use Rattle.ppdb_build_canon.specs.Limits.{first_limit, above, met, too_many_rows, tables, list_past_end}
+use Rattle.ppdb_build_canon.specs.Limits.{first_limit, above, too_many_rows, tables, list_past_end}
+use Rattle.ppdb_build_canon.proofs.Limits.{met}
 use Rattle.ppdb_build_canon.specs.WorkedParts.{WorkedNames, WorkedPoints, WorkedLists, with_variables}
 
 pub names_are : WorkedNames

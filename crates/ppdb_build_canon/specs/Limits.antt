@@ -10,10 +10,6 @@ use Rattle.ppdb_build_canon.specs.{Uses.{blobs, blob_uses, text_uses}, Canonical
 abbrev pub above : ℕ → (ℕ → Limit) → ℕ → Option Limit
 above most limit number = if nat_lt most number then Some (limit (told number)) else None
 
--- a limit is met
-abbrev pub met : Bool → Limit → Option Limit
-met is limit = if is then Some limit else None
-
 -- L1: the first table with too many rows
 abbrev pub too_many_rows : FileValue → ℕ → Option Limit
 too_many_rows value table = above 16777215 (TableRows table) (slice_index (counts value) table)
@@ -24,7 +20,7 @@ owns_none items (Some scope) = items scope == 0
 owns_none items None = false
 
 abbrev pub list_past_end : FileValue → ℕ → (ScopeValue → ℕ) → Option Limit
-list_past_end value table items = met ((sum_by items value.scopes == 65535) && owns_none items (last_of value.scopes)) (ListPastEnd table 65535)
+list_past_end value table items = if (sum_by items value.scopes == 65535) && owns_none items (last_of value.scopes) then Some (ListPastEnd table 65535) else None
 
 -- L3: the first point with an offset that no points blob can hold
 abbrev pub large_offset : MethodValue → Option Limit

@@ -1,9 +1,9 @@
 -- Which texts, GUIDs and blobs the file of a value names, in the order of table, row and column (Portable PDB v1.0, "Metadata
 -- Tables" and the formats of its blobs; ECMA-335 II.24.2.3 to II.24.2.5).
-use Rattle.ppdb_values.specs.Names.{list_any, slice_split, short_unsigned, points_blob, TypeToken, constant_spelling, async_spelling, slot_spelling}
+use Rattle.ppdb_values.specs.Names.{list_any, slice_split, short_unsigned, points_blob, constant_spelling, async_spelling, slot_spelling}
 use Rattle.std.specs.Prelude.{ℕ, List, [], ◌∷◌, ◌++◌, map, flat_map, option_to_list, ◌==◌, if◌then◌else◌}
 use Rattle.type_blobs.specs.Types.{number_of}
-use Rattle.ppdb_values.specs.{declared.file.{FileValue.FileValue, DocumentValue.DocumentValue, MethodValue.MethodValue}, declared.scope.{ConstantValue.ConstantValue, VariableValue.VariableValue}}
+use Rattle.ppdb_values.specs.{declared.file.{FileValue.FileValue, MethodValue.MethodValue}, declared.scope.{ConstantValue.ConstantValue, VariableValue.VariableValue}}
 use Rattle.ppdb_values.specs.declared.import.{ImportScopeValue.ImportScopeValue, ImportValue.ImportValue}
 use Rattle.ppdb_values.specs.declared.import.ImportValue.TheVariants.{Namespace, AssemblyNamespace, Target, Xml, Alias, AssemblyAlias, NamespaceAlias, AssemblyNamespaceAlias, TargetAlias}
 use Rattle.ppdb_values.specs.declared.custom.{CustomBody.{CustomBody, TheVariants.{Async, Hoisted, TypeDocuments, Unread}}, CustomValue.CustomValue}
@@ -27,21 +27,17 @@ parts_of name =
 abbrev pub number : ℕ → Piece
 number n = octets (short_unsigned n)
 
--- a type, by its number
-abbrev pub type : TypeToken → Piece
-type target = number (number_of target)
-
--- an import: its kind, and its fields, of which texts are the indexes of blobs
+-- an import: its kind, and its fields, of which texts are the indexes of blobs, and a type is its number
 abbrev pub import_pieces : ImportValue → List Piece
 import_pieces (Namespace namespace) = number 1 ∷ index namespace ∷ []
 import_pieces (AssemblyNamespace assembly namespace) = number 2 ∷ number assembly ∷ index namespace ∷ []
-import_pieces (Target target) = number 3 ∷ type target ∷ []
+import_pieces (Target target) = number 3 ∷ number (number_of target) ∷ []
 import_pieces (Xml alias namespace) = number 4 ∷ index alias ∷ index namespace ∷ []
 import_pieces (Alias alias) = number 5 ∷ index alias ∷ []
 import_pieces (AssemblyAlias alias assembly) = number 6 ∷ index alias ∷ number assembly ∷ []
 import_pieces (NamespaceAlias alias namespace) = number 7 ∷ index alias ∷ index namespace ∷ []
 import_pieces (AssemblyNamespaceAlias alias assembly namespace) = number 8 ∷ index alias ∷ number assembly ∷ index namespace ∷ []
-import_pieces (TargetAlias alias target) = number 9 ∷ index alias ∷ type target ∷ []
+import_pieces (TargetAlias alias target) = number 9 ∷ index alias ∷ number (number_of target) ∷ []
 
 -- ---- blobs
 
@@ -49,30 +45,20 @@ import_pieces (TargetAlias alias target) = number 9 ∷ index alias ∷ type tar
 abbrev pub name_pieces : List ℕ → List Piece
 name_pieces name = octets (separator_of name ∷ []) ∷ map index (parts_of name)
 
-abbrev pub imports_pieces : List ImportValue → List Piece
-imports_pieces imports = flat_map import_pieces imports
-
 abbrev pub body_spelling : CustomBody → List ℕ
 body_spelling (Async handler steps) = async_spelling handler steps
 body_spelling (Hoisted slots) = flat_map slot_spelling slots
 body_spelling (TypeDocuments documents) = flat_map short_unsigned documents
 body_spelling (Unread content) = content
 
-abbrev pub signature_of : ConstantValue → List ℕ
-signature_of constant = constant_spelling constant.modifiers (stored_body constant.body)
-
--- the blobs of a document: its name and its hash
-abbrev pub document_blobs : DocumentValue → List (List Piece)
-document_blobs document = name_pieces document.name ∷ plain document.hash ∷ []
-
 abbrev pub method_blob : MethodValue → List Piece
 method_blob method = plain (points_blob method.signature method.points)
 
 abbrev pub constant_blob : ConstantValue → List Piece
-constant_blob constant = plain (signature_of constant)
+constant_blob constant = plain (constant_spelling constant.modifiers (stored_body constant.body))
 
 abbrev pub import_blob : ImportScopeValue → List Piece
-import_blob scope = imports_pieces scope.imports
+import_blob scope = flat_map import_pieces scope.imports
 
 abbrev pub custom_blob : CustomValue → List Piece
 custom_blob custom = plain (body_spelling custom.value)
@@ -97,8 +83,8 @@ guid_uses value =
 -- the blobs that cells name
 abbrev pub cell_blobs : FileValue → List (List Piece)
 cell_blobs value =
-    flat_map document_blobs value.documents ++ map method_blob value.methods ++ map constant_blob (constants_of value)
-    ++ map import_blob value.imports ++ map custom_blob value.customs
+    flat_map (λ document. name_pieces document.name ∷ plain document.hash ∷ []) value.documents ++ map method_blob value.methods
+    ++ map constant_blob (constants_of value) ++ map import_blob value.imports ++ map custom_blob value.customs
 
 -- what a blob holds comes before it
 abbrev pub blob_uses : FileValue → List (List Piece)

@@ -6,7 +6,7 @@ use Rattle.std.proofs.lemmas.List.Sums.{fold-append, sum_by-append, sum_by-cons}
 use Rattle.std.specs.List.{position_or_len}
 use Rattle.ppdb_base.specs.Told.{told}
 use Rattle.ppdb_build_heaps.specs.Items.{IsIn, first_uses, with_use, index_of, as_text, as_blob}
-use Rattle.ppdb_build_heaps.specs.Uses.{Piece, plain, held_in, with_held, blob_bytes, blobs_after}
+use Rattle.ppdb_build_heaps.specs.Uses.{Piece, plain, held_by, with_held, blob_bytes, blobs_after}
 use Rattle.ppdb_build_heaps.proofs.Items.{index-stable, with_use-adds, used-there}
 use Rattle.ppdb_build_heaps.proofs.Stable.{AreIn, AreUsed, after-adds, spelled-stable, after-used, all-ready}
 use Rattle.ppdb_build_heaps.proofs.Stays.{items-stay}
@@ -53,7 +53,7 @@ guid_stays guids (Some guid) final grows =
 
 -- a blob that was noted is there, and so is what it holds
 pub record IsThere (items : List (List ℕ)) (pieces : List Piece) : Type 0 where
-  pub held : AreIn items (held_in pieces)
+  pub held : AreIn items (flat_map held_by pieces)
   pub blob : IsIn items (blob_bytes items pieces)
 
 plain_there : (items : List (List ℕ)) (contents : List (List ℕ)) (pieces : List Piece) → AreUsed items (map plain contents ++ pieces ∷ [])
@@ -69,10 +69,10 @@ blob_there interned pieces =
     let used : AreUsed (blobs_after interned.items (with_held pieces)) (with_held pieces) =
     subst (λ uses. AreUsed (blobs_after interned.items uses) uses) (append-nil (with_held pieces))
     (after-used interned.items (with_held pieces ++ []) (all-ready interned.items (pieces ∷ []))) in
-    let there = plain_there (blobs_after interned.items (with_held pieces)) (held_in pieces) pieces used in
+    let there = plain_there (blobs_after interned.items (with_held pieces)) (flat_map held_by pieces) pieces used in
     record { held = there.0; blob = there.1 }
 
-spelled_stays : (items : List (List ℕ)) (pieces : List Piece) (final : List (List ℕ)) → AreIn items (held_in pieces) → Grows items final
+spelled_stays : (items : List (List ℕ)) (pieces : List Piece) (final : List (List ℕ)) → AreIn items (flat_map held_by pieces) → Grows items final
     → blob_bytes final pieces ≡ blob_bytes items pieces
 spelled_stays items pieces final held grows = ap (λ now. blob_bytes now pieces) grows.is ∙ spelled-stable items grows.more pieces held
 
@@ -113,12 +113,12 @@ pub record BlobsInterned (interned : Annotation) (blobs : List (List Piece)) (af
       → told (after.total + more) ≡ told (interned.total + (sum_by (λ used. length (blob_bytes final used)) (flat_map with_held blobs) + more))
 
 -- a blob counts as much as it does in every later heap
-same_sum : (items final : List (List ℕ)) (pieces : List Piece) → AreIn items (held_in pieces) → Grows items final
+same_sum : (items final : List (List ℕ)) (pieces : List Piece) → AreIn items (flat_map held_by pieces) → Grows items final
     → sum_by (λ used. length (blob_bytes items used)) (with_held pieces) ≡ sum_by (λ used. length (blob_bytes final used)) (with_held pieces)
 same_sum items final pieces held grows =
-    sum-plain items (held_in pieces) pieces
-    ∙ ap (λ bytes. sum_by length (held_in pieces) + length bytes) (sym (spelled_stays items pieces final held grows))
-    ∙ sym (sum-plain final (held_in pieces) pieces)
+    sum-plain items (flat_map held_by pieces) pieces
+    ∙ ap (λ bytes. sum_by length (flat_map held_by pieces) + length bytes) (sym (spelled_stays items pieces final held grows))
+    ∙ sym (sum-plain final (flat_map held_by pieces) pieces)
 
 pub blobs_interned : (interned : Annotation) (blobs : List (List Piece)) → BlobsInterned interned blobs (fold with_blob interned blobs)
 unfolding blobs_after with_blob

@@ -29,7 +29,8 @@ use Rattle.ppdb_base.specs.Told.{told}
 use Rattle.ppdb_build_heaps.specs.Items.{first_uses, with_use}
 use Rattle.ppdb_build_heaps.specs.Uses.{Piece, blob_bytes}
 use Rattle.ppdb_build_layout.specs.declared.rows.Rows.{Rows}
-use Rattle.ppdb_build_canon.specs.Uses.{texts, guids, blobs, document_blobs, method_blob, constant_blob, import_blob, custom_blob}
+use Rattle.ppdb_build_canon.specs.Uses.{texts, guids, blobs, method_blob, constant_blob, import_blob, custom_blob}
+use Rattle.ppdb_build_canon.proofs.Uses.{document_blobs}
 use Rattle.ppdb_build_canon.specs.Uses.{variables_of, constants_of, text_uses, guid_uses, cell_blobs, blob_uses}
 use Rattle.ppdb_build_canon.specs.Canonical.{guid_cell, document_row, method_row_of, method_rows, scope_row, variable_row, constant_row}
 use Rattle.ppdb_build_canon.specs.Canonical.{import_row, custom_row, canonical_tables}

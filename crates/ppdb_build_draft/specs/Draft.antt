@@ -1,13 +1,13 @@
 -- A file that is drafted part by part: the items that its heaps have so far, and its rows, whose cells hold the places that the
 -- items got when they were noted (Portable PDB v1.0, "Metadata Tables").
-use Rattle.ppdb_values.specs.Names.{Range, common_document, MachineRow, MethodDebugRow, told}
+use Rattle.ppdb_values.specs.Names.{constant_spelling, Range, common_document, MachineRow, MethodDebugRow, told}
 use Rattle.std.specs.Prelude.{ℕ, ◌+◌, ◌-◌, List, [], ◌∷◌, ◌++◌, length, fold, replicate, Some}
 use Rattle.ppdb_values.specs.{declared.file.{DocumentValue.DocumentValue, MethodValue.MethodValue}, declared.scope.{ScopeValue.ScopeValue, VariableValue.VariableValue, ConstantValue.ConstantValue}}
 use Rattle.ppdb_values.specs.{declared.import.ImportScopeValue.ImportScopeValue, declared.custom.CustomValue.CustomValue}
-use Rattle.ppdb_values_sound_laws.specs.Customs.{coded_of}
+use Rattle.ppdb_values_sound_laws.specs.{Customs.{coded_of}, Scopes.{stored_body}}
 use Rattle.ppdb_build_heaps.specs.Uses.{plain}
 use Rattle.ppdb_build_layout.specs.declared.rows.Rows.{Rows}
-use Rattle.ppdb_build_canon.specs.Uses.{name_pieces, method_blob, signature_of, import_blob, custom_blob}
+use Rattle.ppdb_build_canon.specs.Uses.{name_pieces, method_blob, import_blob, custom_blob}
 use Rattle.ppdb_build_items.specs.Interned.{Annotation, none_interned, with_text, with_blob, with_guid, text_place, blob_place, guid_place, cell}
 
 pub record Draft : Type 0 where
@@ -118,7 +118,7 @@ with_signature draft name signature =
     }
 
 abbrev pub with_constant : Draft → ConstantValue → Draft
-with_constant draft constant = with_signature draft constant.name (signature_of constant)
+with_constant draft constant = with_signature draft constant.name (constant_spelling constant.modifiers (stored_body constant.body))
 
 -- the constants of a scope
 abbrev pub with_constants : Draft → ScopeValue → Draft

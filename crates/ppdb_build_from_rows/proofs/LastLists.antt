@@ -20,7 +20,8 @@ use Rattle.ppdb_values.specs.declared.scope.ScopeValue.{ScopeValue}
 use Rattle.ppdb_values_sound_laws.proofs.Listed.{row_of_map, row_of_numbered}
 use Rattle.ppdb_build_canon.specs.Uses.{variables_of, constants_of}
 use Rattle.ppdb_build_canon.specs.Canonical.{scope_row, variable_row, constant_row, canonical_tables}
-use Rattle.ppdb_build_canon.specs.Limits.{met, owns_none, list_past_end}
+use Rattle.ppdb_build_canon.specs.Limits.{owns_none, list_past_end}
+use Rattle.ppdb_build_canon.proofs.Limits.{met}
 use Rattle.ppdb_build_draft.specs.Draft.{Draft}
 use Rattle.ppdb_build_draft.specs.Drafted.{held_scope, held_variable, held_constant, IsDraftOf}
 

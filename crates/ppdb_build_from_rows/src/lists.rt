@@ -1,9 +1,9 @@
 // The limit that the lists of a draft report: L2.
-ghost use Rattle.std.specs.Prelude.{◌≡◌, ◌==◌, ◌&&◌, length};
+ghost use Rattle.std.specs.Prelude.{◌≡◌, ◌==◌, ◌&&◌, length, if◌then◌else◌, Some, None};
 ghost use Rattle.std.specs.Option.{option_or};
 ghost use Rattle.ppdb_values.specs.declared.FileValue.{FileValue};
 ghost use Rattle.ppdb_base.specs.declared.limits.Limit.TheVariants as limits;
-ghost use Rattle.ppdb_build_canon.specs.Limits.{met, list_past_end};
+ghost use Rattle.ppdb_build_canon.specs.Limits.{list_past_end};
 ghost use Rattle.ppdb_build_draft.specs.Drafted.{IsDraftOf};
 
 use ppdb_base::Limit;
@@ -12,7 +12,7 @@ use ppdb_tables::{LOCAL_CONSTANT, LOCAL_VARIABLE};
 
 /// The limit on a list of a table of so many rows, where the list of the last scope begins at a row.
 fn past_end(table: u8, rows: usize, last: u32) -> Option<Limit>
-    ensures { result ≡ met ((rows == 65535) && (last == 65536)) (limits.ListPastEnd table 65535) }
+    ensures { result ≡ if (rows == 65535) && (last == 65536) then Some (limits.ListPastEnd table 65535) else None }
 {
     if rows == 65535 && last == 65536 {
         Some(Limit::ListPastEnd { table, rows: 65535 })

@@ -1,10 +1,10 @@
 -- Blobs that are put together from pieces, one after another.
-use Rattle.std.proofs.Common.{◌≡◌, ℕ, List, [], ◌∷◌, ◌++◌, map, refl, sym, ap, subst, ◌∙◌}
+use Rattle.std.proofs.Common.{◌≡◌, ℕ, List, [], ◌∷◌, ◌++◌, map, refl, sym, ap, subst, ◌∙◌, flat_map}
 use Rattle.std.proofs.lemmas.List.{append-nil, map_push}
 use Rattle.std.proofs.lemmas.List.Sums.{fold_push}
 use Rattle.std.proofs.lemmas.List.Concat.{flat_map-append}
 use Rattle.ppdb_build_heaps.specs.Items.{IsIn, with_use, index_of, as_blob, shortest}
-use Rattle.ppdb_build_heaps.specs.Uses.{Piece, octets, index, held_by, held_in, piece_bytes, plain, with_held, blobs_after, blob_bytes}
+use Rattle.ppdb_build_heaps.specs.Uses.{Piece, octets, index, held_by, piece_bytes, plain, with_held, blobs_after, blob_bytes}
 use Rattle.ppdb_build_heaps.specs.Drafts.{IsDraft}
 use Rattle.ppdb_build_heaps.proofs.Items.{with_use-adds}
 use Rattle.ppdb_build_heaps.proofs.Stable.{AreIn, AreReady, AreUsed, after-used, spelled-stable}
@@ -22,8 +22,8 @@ used-in items (content ∷ contents) used = (subst (IsIn items) (append-nil cont
 pub plains-in : (before contents : List (List ℕ)) → AreIn (blobs_after before (map plain contents)) contents
 plains-in before contents = used-in (blobs_after before (map plain contents)) contents (after-used before (map plain contents) (ready-plain before contents))
 
-held-push : (pieces : List Piece) (piece : Piece) → held_in (pieces ++ piece ∷ []) ≡ held_in pieces ++ held_by piece
-held-push pieces piece = flat_map-append held_by pieces (piece ∷ []) ∙ ap (λ rest. held_in pieces ++ rest) (append-nil (held_by piece))
+held-push : (pieces : List Piece) (piece : Piece) → flat_map held_by (pieces ++ piece ∷ []) ≡ flat_map held_by pieces ++ held_by piece
+held-push pieces piece = flat_map-append held_by pieces (piece ∷ []) ∙ ap (λ rest. flat_map held_by pieces ++ rest) (append-nil (held_by piece))
 
 bytes-push : (items : List (List ℕ)) (pieces : List Piece) (piece : Piece)
     → blob_bytes items (pieces ++ piece ∷ []) ≡ blob_bytes items pieces ++ piece_bytes items piece
@@ -39,8 +39,8 @@ none-drafted before = record { interned = refl; spelled = refl }
 
 module _ (before : List (List ℕ)) (pieces : List Piece) (items : List (List ℕ)) (bytes : List ℕ) (draft : IsDraft before pieces items bytes) where
   -- what the pieces hold stands among the items
-  pub held-there : AreIn items (held_in pieces)
-  held-there = subst (λ now. AreIn now (held_in pieces)) (sym draft.interned) (plains-in before (held_in pieces))
+  pub held-there : AreIn items (flat_map held_by pieces)
+  held-there = subst (λ now. AreIn now (flat_map held_by pieces)) (sym draft.interned) (plains-in before (flat_map held_by pieces))
 
   -- the bytes stay theirs once more items are there
   pub spelled-later : (more : List (List ℕ)) → blob_bytes (items ++ more) pieces ≡ bytes
@@ -49,7 +49,7 @@ module _ (before : List (List ℕ)) (pieces : List Piece) (items : List (List �
   -- some bytes more
   pub octets-drafted : (more : List ℕ) → IsDraft before (pieces ++ octets more ∷ []) items (bytes ++ more)
   octets-drafted more = record {
-    interned = draft.interned ∙ ap (λ contents. blobs_after before (map plain contents)) (sym (held-push pieces (octets more) ∙ append-nil (held_in pieces)));
+    interned = draft.interned ∙ ap (λ contents. blobs_after before (map plain contents)) (sym (held-push pieces (octets more) ∙ append-nil (flat_map held_by pieces)));
     spelled = ap (λ b. b ++ more) draft.spelled ∙ sym (bytes-push items pieces (octets more));
   }
 
@@ -61,9 +61,9 @@ module _ (before : List (List ℕ)) (pieces : List Piece) (items : List (List �
       let adds = with_use-adds items content in
       let spelled : blob_bytes (with_use items content) pieces ≡ bytes = ap (λ now. blob_bytes now pieces) adds.1 ∙ spelled-later adds.0 in record {
         interned = ap (λ now. with_use now content) draft.interned
-            ∙ ap (with_use (blobs_after before (map plain (held_in pieces)))) (sym (append-nil content))
-            ∙ sym (fold_push (λ now used. with_use now (blob_bytes now used)) before (map plain (held_in pieces)) (plain content))
-            ∙ ap (λ uses. blobs_after before uses) (sym (map_push plain (held_in pieces) content))
+            ∙ ap (with_use (blobs_after before (map plain (flat_map held_by pieces)))) (sym (append-nil content))
+            ∙ sym (fold_push (λ now used. with_use now (blob_bytes now used)) before (map plain (flat_map held_by pieces)) (plain content))
+            ∙ ap (λ uses. blobs_after before uses) (sym (map_push plain (flat_map held_by pieces) content))
             ∙ ap (λ contents. blobs_after before (map plain contents)) (sym (held-push pieces (index content)));
         spelled = ap (λ b. b ++ shortest (index_of as_blob (with_use items content) content)) (sym spelled)
             ∙ sym (bytes-push (with_use items content) pieces (index content));
@@ -75,7 +75,7 @@ module _ (before : List (List ℕ)) (pieces : List Piece) (items : List (List �
   draft-interned =
       ap (with_use items) draft.spelled
       ∙ ap (λ now. with_use now (blob_bytes now pieces)) draft.interned
-      ∙ sym (fold_push (λ now used. with_use now (blob_bytes now used)) before (map plain (held_in pieces)) pieces)
+      ∙ sym (fold_push (λ now used. with_use now (blob_bytes now used)) before (map plain (flat_map held_by pieces)) pieces)
 
   -- and the heap that has it spells it so
   pub draft-spelled : blob_bytes (with_use items bytes) pieces ≡ bytes

@@ -1,8 +1,8 @@
 -- What the map of a heap's GUIDs says of them.
-use Rattle.std.proofs.Common.{◌≡◌, ℕ, ◌+◌, Bool, true, false, cond, List, [], ◌∷◌, ◌++◌, length, sym, ap, subst, refl, ◌∙◌}
-use Rattle.std.proofs.Common.{bytes_eq, min, Option, Some, None, IfNone, if◌then◌else◌}
+use Rattle.std.proofs.Common.{◌≡◌, ℕ, ◌+◌, Bool, true, false, cond, List, [], ◌∷◌, ◌++◌, length, sym, ap, refl, ◌∙◌}
+use Rattle.std.proofs.Common.{bytes_eq, min, Some, None, if◌then◌else◌}
 use Rattle.std.proofs.lemmas.Map.Text.{is_eq-slice_cmp}
-use Rattle.std.specs.{List.{list_any, position_or_len}, Map.lookup, BTreeMap.{BTreeMap, get, is_at}, Cmp.Lexicographic.slice_cmp, Ordering.nat_cmp}
+use Rattle.std.specs.{List.{list_any, position_or_len}, Map.lookup, BTreeMap.{BTreeMap, is_at}, Cmp.Lexicographic.slice_cmp, Ordering.nat_cmp}
 use Rattle.ppdb_build_heaps.specs.Guids.{number_of, AreNumbers}
 use Rattle.ppdb_build_heaps.specs.Items.{with_use}
 use Rattle.ppdb_build_heaps.proofs.Items.{before-new, itself}
@@ -17,27 +17,22 @@ last_place : (guids : List (List ℕ)) (guid : List ℕ) → list_any (bytes_eq 
     → position_or_len (bytes_eq guid) (guids ++ guid ∷ []) ≡ length guids
 last_place guids guid none = sym (before-length (guids ++ guid ∷ []) guid) ∙ ap length (before-new (bytes_eq guid) guids guid [] none (itself guid))
 
--- the map of one more GUID
-pub numbers_push : (guids : List (List ℕ)) (new : List ℕ) (old now : BTreeMap (List ℕ) ℕ) (last : ℕ) → AreNumbers guids old
-    → list_any (bytes_eq new) guids ≡ false → last ≡ min (1 + length guids) 0xffffffff
-    → ((q : List ℕ) → get (slice_cmp nat_cmp) now q ≡ cond (is_at (slice_cmp nat_cmp new) q) (Some last) (get (slice_cmp nat_cmp) old q))
-    → AreNumbers (guids ++ new ∷ []) now
-numbers_push guids new old now last are none at updates guid =
-    updates guid
-    ∙ ap (λ b. cond b (Some last) (get (slice_cmp nat_cmp) old guid)) (is_eq-slice_cmp new guid)
-    ∙ ap (λ was. cond (bytes_eq new guid) (Some last) was) (are guid)
+-- the numbers of one more GUID
+pub number_more : (guids : List (List ℕ)) (new guid : List ℕ) (last : ℕ) → list_any (bytes_eq new) guids ≡ false → last ≡ min (1 + length guids) 0xffffffff
+    → cond (is_at (slice_cmp nat_cmp new) guid) (Some last) (number_of guid guids) ≡ number_of guid (guids ++ new ∷ [])
+number_more guids new guid last none at =
+    ap (λ b. cond b (Some last) (number_of guid guids)) (is_eq-slice_cmp new guid)
     ∙ sym (said_more told_number guids new guid last
     (λ there. ap (λ n. min (1 + n) 0xffffffff) (number guids (new ∷ []) guid there))
     (ap (λ n. min (1 + n) 0xffffffff) (last_place guids new none) ∙ sym at))
 
--- a GUID that is not found is not there
-pub no_number : (guids : List (List ℕ)) (guid : List ℕ) (o : Option ℕ) → o ≡ number_of guid guids → IfNone o (list_any (bytes_eq guid) guids ≡ false)
-no_number guids guid o is = subst (λ found. IfNone found (list_any (bytes_eq guid) guids ≡ false)) (sym is) (by (list_any (bytes_eq guid) guids) refl)
+-- a GUID without a number is not there
+pub no_number : (guids : List (List ℕ)) (guid : List ℕ) → number_of guid guids ≡ None → list_any (bytes_eq guid) guids ≡ false
+no_number guids guid is = by (list_any (bytes_eq guid) guids) refl is
   where
-    by : (b : Bool) → list_any (bytes_eq guid) guids ≡ b
-        → IfNone (if b then Some (told_number guids guid) else None) (list_any (bytes_eq guid) guids ≡ false)
-    by true there = tt
-    by false none = none
+    by : (b : Bool) → list_any (bytes_eq guid) guids ≡ b → (if b then Some (told_number guids guid) else None) ≡ None → list_any (bytes_eq guid) guids ≡ false
+    by true there e = absurd (cc (e))
+    by false none e = none
 
 -- the number of a new GUID
 pub number_new : (guids : List (List ℕ)) (guid : List ℕ) → list_any (bytes_eq guid) guids ≡ false

@@ -2,7 +2,7 @@
 use Rattle.std.proofs.Common.{◌≡◌, ℕ, List, [], ◌∷◌, ◌++◌, map, flat_map, refl, sym, ap, subst, ◌∙◌, append_assoc}
 use Rattle.std.proofs.lemmas.List.{append-nil}
 use Rattle.ppdb_build_heaps.specs.Items.{IsIn, with_use, index_of, as_blob, shortest}
-use Rattle.ppdb_build_heaps.specs.Uses.{Piece, octets, index, held_in, blob_bytes, plain, with_held, blobs_after, heap_of}
+use Rattle.ppdb_build_heaps.specs.Uses.{Piece, octets, index, held_by, blob_bytes, plain, with_held, blobs_after, heap_of}
 use Rattle.ppdb_build_heaps.proofs.Items.{index-stable, with_use-adds, used-there, stays-there}
 
 -- each of some contents is one of the items
@@ -13,7 +13,7 @@ AreIn items (content ∷ contents) = IsIn items content × AreIn items contents
 -- each blob comes after those whose indexes it holds
 abbrev pub AreReady : List (List ℕ) → List (List Piece) → Type 0
 AreReady items [] = Unit {0}
-AreReady items (used ∷ uses) = AreIn items (held_in used) × AreReady (with_use items (blob_bytes items used)) uses
+AreReady items (used ∷ uses) = AreIn items (flat_map held_by used) × AreReady (with_use items (blob_bytes items used)) uses
 
 -- each blob stands in the heap, as the heap spells it
 abbrev pub AreUsed : List (List ℕ) → List (List Piece) → Type 0
@@ -30,7 +30,7 @@ after-adds items (used ∷ uses) =
     (one.0 ++ rest.0, rest.1 ∙ ap (λ now. now ++ rest.0) one.1 ∙ append_assoc items one.0 rest.0)
 
 -- more items spell a blob in the same way, once what it holds is there
-pub spelled-stable : (items more : List (List ℕ)) (pieces : List Piece) → AreIn items (held_in pieces)
+pub spelled-stable : (items more : List (List ℕ)) (pieces : List Piece) → AreIn items (flat_map held_by pieces)
     → blob_bytes (items ++ more) pieces ≡ blob_bytes items pieces
 spelled-stable items more [] are = refl
 spelled-stable items more (octets bytes ∷ pieces) are = ap (λ rest. bytes ++ rest) (spelled-stable items more pieces are)
@@ -79,8 +79,8 @@ pub ready-all : (items : List (List ℕ)) (blobs : List (List Piece)) (later : L
 ready-all items [] later go = go items
 ready-all items (pieces ∷ blobs) later go =
     subst (AreReady items) (sym (append_assoc (with_held pieces) (flat_map with_held blobs) later
-    ∙ append_assoc (map plain (held_in pieces)) (pieces ∷ []) (flat_map with_held blobs ++ later)))
-    (ready-held items (held_in pieces) (pieces ∷ (flat_map with_held blobs ++ later)) (λ now are keep. (
+    ∙ append_assoc (map plain (flat_map held_by pieces)) (pieces ∷ []) (flat_map with_held blobs ++ later)))
+    (ready-held items (flat_map held_by pieces) (pieces ∷ (flat_map with_held blobs ++ later)) (λ now are keep. (
       are,
       ready-all (with_use now (blob_bytes now pieces)) blobs later go,
     )))

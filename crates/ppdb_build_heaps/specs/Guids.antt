@@ -6,6 +6,6 @@ use Rattle.std.specs.{BTreeMap.{BTreeMap, get}, Cmp.Lexicographic.slice_cmp, Ord
 abbrev pub number_of : List ℕ → List (List ℕ) → Option ℕ
 number_of guid guids = if list_any (bytes_eq guid) guids then Some (min (1 + position_or_len (bytes_eq guid) guids) 0xffffffff) else None
 
--- the map has each GUID's number
+-- the map has the number of each GUID, and no other
 abbrev pub AreNumbers : List (List ℕ) → BTreeMap (List ℕ) ℕ → Type 0
 AreNumbers guids numbers = (guid : List ℕ) → get (slice_cmp nat_cmp) numbers guid ≡ number_of guid guids

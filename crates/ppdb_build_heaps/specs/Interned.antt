@@ -24,6 +24,6 @@ index_in kind items item = if list_any (bytes_eq item) items then Some (told (in
 abbrev pub bytes_of : List (Bor (List ℕ)) → List (List ℕ)
 bytes_of items = map (λ item. item.now) items
 
--- the map has each item's index
+-- the map has the index of each item, and no other
 abbrev pub AreIndexes : HeapKind → List (List ℕ) → BTreeMap (Bor (List ℕ)) ℕ → Type 0
 AreIndexes kind items indexes = (item : List ℕ) → get_by (λ (key : Bor (List ℕ)). slice_cmp nat_cmp item key.now) indexes ≡ index_in kind items item

@@ -12,9 +12,6 @@ abbrev pub held_by : Piece → List (List ℕ)
 held_by (octets bytes) = []
 held_by (index content) = content ∷ []
 
-abbrev pub held_in : List Piece → List (List ℕ)
-held_in pieces = flat_map held_by pieces
-
 -- the bytes, where the heap has these items
 abbrev pub piece_bytes : List (List ℕ) → Piece → List ℕ
 piece_bytes items (octets bytes) = bytes
@@ -29,7 +26,7 @@ plain bytes = octets bytes ∷ []
 
 -- a blob, and before it the blobs whose indexes it holds
 abbrev pub with_held : List Piece → List (List Piece)
-with_held pieces = map plain (held_in pieces) ++ pieces ∷ []
+with_held pieces = map plain (flat_map held_by pieces) ++ pieces ∷ []
 
 -- the items of a heap once some more blobs are used, each spelled by the indexes of the items before it
 unfoldable pub blobs_after : List (List ℕ) → List (List Piece) → List (List ℕ)

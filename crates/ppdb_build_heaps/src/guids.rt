@@ -2,6 +2,7 @@
 use ppdb_base::{Bytes, Memory};
 use std::alloc::{AllocFailed, Global};
 use std::collections::BTreeMap;
+use std::collections::btree_map::Entry;
 use std::marker::Model;
 
 /// The GUIDs of a heap, each of which is kept once. Contracts see it as the list of its GUIDs.
@@ -25,11 +26,10 @@ impl Model for GuidHeap {
 }
 
 impl GuidHeap {
-    ghost use Rattle.std.specs.Prelude.{◌≡◌, ◌+◌, ◌*◌, false, [], ◌∷◌, ◌++◌, length, flat_map, bytes_eq, min, OnOk, OnErr, IfOk};
-    ghost use Rattle.std.specs.List.{list_any, position_or_len};
+    ghost use Rattle.std.specs.Prelude.{◌≡◌, ◌+◌, ◌*◌, [], ◌++◌, length, flat_map, bytes_eq, min, OnOk, OnErr, IfOk};
+    ghost use Rattle.std.specs.List.{position_or_len};
     ghost use Rattle.ppdb_base.specs.Told.{told};
     ghost use Rattle.ppdb_build_heaps.specs.Items.{with_use};
-    ghost use Rattle.ppdb_build_heaps.specs.Guids.{number_of};
 
     /// A heap without GUIDs.
     pub fn new(alloc: Global) -> GuidHeap
@@ -48,40 +48,20 @@ impl GuidHeap {
         (self.guids.len() as u64).saturating_mul(16)
     }
 
-    /// Adds a GUID that is not there, under its number.
-    fn add(&mut self, guid: &[u8; 16], number: u32) -> Result<(), Memory>
-        requires new { list_any (bytes_eq guid.now) self.old ≡ false }
-        requires number { number ≡ min (1 + length self.old) 0xffffffff }
-        ensures ok { OnOk result (self.new ≡ self.old ++ guid.now ∷ []) }
-        ensures err { OnErr result (self.new ≡ self.old) }
-    {
-        self.guids.push(*guid)?;
-        if self.numbers.insert(*guid, number).is_err() {
-            let _guid = self.guids.pop();
-            return Err(Memory);
-        }
-        Ok(())
-    }
-
-    /// The number of a GUID; none of one that is not there.
-    fn find(&self, guid: &[u8; 16]) -> Option<u32>
-        ensures { result ≡ number_of guid.now self.now }
-    {
-        self.numbers.get(guid).copied()
-    }
-
     /// Notes a use of a GUID, and answers its number, from 1. A number of 2 ^ 32 or more is reported as the greatest below.
     pub fn use_guid(&mut self, guid: &[u8; 16]) -> Result<u32, Memory>
         ensures guids { OnOk result (self.new ≡ with_use self.old guid.now) }
         ensures number { IfOk result (λ number. number ≡ min (1 + position_or_len (bytes_eq guid.now) (with_use self.old guid.now)) 0xffffffff) }
         ensures err { OnErr result (self.new ≡ self.old) }
     {
-        if let Some(number) = self.find(guid) {
-            return Ok(number);
+        let next = (self.guids.len() as u64).saturating_add(1).min(0xffff_ffff) as u32;
+        match self.numbers.entry(*guid)? {
+            Entry::Occupied(entry) => Ok(*entry.get()),
+            Entry::Vacant(entry) => {
+                self.guids.push(*guid)?;
+                Ok(*entry.insert(next))
+            }
         }
-        let number = (self.guids.len() as u64).saturating_add(1).min(0xffff_ffff) as u32;
-        self.add(guid, number)?;
-        Ok(number)
     }
 
     /// Appends the GUIDs, one after another.

@@ -1,12 +1,12 @@
 -- A blob that is made piece by piece is the blob of its pieces, with what it holds before it.
-use Rattle.std.proofs.Common.{◌≡◌, ℕ, ◌+◌, List, [], ◌∷◌, ◌++◌, length, min, map, fold, sum_by, refl, sym, ap, subst, ◌∙◌, append_assoc, arith}
+use Rattle.std.proofs.Common.{◌≡◌, ℕ, ◌+◌, List, [], ◌∷◌, ◌++◌, length, min, map, fold, sum_by, refl, sym, ap, subst, ◌∙◌, append_assoc, arith, flat_map}
 use Rattle.std.proofs.lemmas.List.{append-nil, map_push}
 use Rattle.std.proofs.lemmas.List.Sums.{fold_push, sum_by-append, sum_by-cons}
 use Rattle.std.proofs.lemmas.List.Concat.{flat_map-append}
 use Rattle.cli_ints.specs.Shortest.{short_unsigned}
 use Rattle.ppdb_base.specs.Told.{told}
 use Rattle.ppdb_build_heaps.specs.Items.{IsIn, with_use, index_of, as_blob, shortest}
-use Rattle.ppdb_build_heaps.specs.Uses.{Piece, octets, index, plain, held_by, held_in, piece_bytes, blob_bytes, with_held, blobs_after}
+use Rattle.ppdb_build_heaps.specs.Uses.{Piece, octets, index, plain, held_by, piece_bytes, blob_bytes, with_held, blobs_after}
 use Rattle.ppdb_build_heaps.proofs.Items.{with_use-adds, used-there, stays-there}
 use Rattle.ppdb_build_heaps.proofs.Stable.{AreIn, spelled-stable}
 use Rattle.ppdb_build_items.specs.Interned.{with_blob, blob_place}
@@ -14,10 +14,10 @@ use Rattle.ppdb_build_items.specs.Making.{Making, interned_of, begun, with_piece
 
 -- so many pieces were put, and what they hold was noted
 pub record IsMade (before : Making) (pieces : List Piece) (now : Making) : Type 0 where
-  pub items_are : now.items ≡ blobs_after before.items (map plain (held_in pieces))
-  pub held : AreIn now.items (held_in pieces)
+  pub items_are : now.items ≡ blobs_after before.items (map plain (flat_map held_by pieces))
+  pub held : AreIn now.items (flat_map held_by pieces)
   pub blob_is : now.blob ≡ blob_bytes now.items pieces
-  pub total_is : (more : ℕ) → told (now.total + more) ≡ told (before.total + (sum_by length (held_in pieces) + more))
+  pub total_is : (more : ℕ) → told (now.total + more) ≡ told (before.total + (sum_by length (flat_map held_by pieces) + more))
 
 pub told-shortest : (n : ℕ) → shortest (told n) ≡ shortest n
 told-shortest n = ap short_unsigned (capped n)
@@ -37,12 +37,12 @@ in-push items [] content are is = (is, tt)
 in-push items (first ∷ contents) content are is = (are.0, in-push items contents content are.1 is)
 
 -- more uses spell a blob in the same way, once what it holds is there
-spelled-with : (items : List (List ℕ)) (item : List ℕ) (pieces : List Piece) → AreIn items (held_in pieces)
+spelled-with : (items : List (List ℕ)) (item : List ℕ) (pieces : List Piece) → AreIn items (flat_map held_by pieces)
     → blob_bytes (with_use items item) pieces ≡ blob_bytes items pieces
 spelled-with items item pieces are = let adds = with_use-adds items item in ap (λ now. blob_bytes now pieces) adds.1 ∙ spelled-stable items adds.0 pieces are
 
-held-push : (pieces : List Piece) (piece : Piece) → held_in (pieces ++ piece ∷ []) ≡ held_in pieces ++ held_by piece
-held-push pieces piece = flat_map-append held_by pieces (piece ∷ []) ∙ ap (λ held. held_in pieces ++ held) (append-nil (held_by piece))
+held-push : (pieces : List Piece) (piece : Piece) → flat_map held_by (pieces ++ piece ∷ []) ≡ flat_map held_by pieces ++ held_by piece
+held-push pieces piece = flat_map-append held_by pieces (piece ∷ []) ∙ ap (λ held. flat_map held_by pieces ++ held) (append-nil (held_by piece))
 
 bytes-push : (items : List (List ℕ)) (pieces : List Piece) (piece : Piece) → blob_bytes items (pieces ++ piece ∷ []) ≡ blob_bytes items pieces
     ++ piece_bytes items piece
@@ -60,7 +60,7 @@ one-made : (before : Making) (pieces : List Piece) (now : Making) (piece : Piece
     → IsMade before (pieces ++ piece ∷ []) (with_piece now piece)
 unfolding blobs_after
 one-made before pieces now (octets bytes) is =
-    let held : held_in (pieces ++ octets bytes ∷ []) ≡ held_in pieces = held-push pieces (octets bytes) ∙ append-nil (held_in pieces) in
+    let held : flat_map held_by (pieces ++ octets bytes ∷ []) ≡ flat_map held_by pieces = held-push pieces (octets bytes) ∙ append-nil (flat_map held_by pieces) in
     record {
       items_are = is.items_are ∙ ap (λ contents. blobs_after before.items (map plain contents)) (sym held);
       held = subst (AreIn now.items) (sym held) is.held;
@@ -68,19 +68,19 @@ one-made before pieces now (octets bytes) is =
       total_is = λ more. is.total_is more ∙ ap (λ contents. told (before.total + (sum_by length contents + more))) (sym held);
     }
 one-made before pieces now (index content) is =
-    let held : held_in (pieces ++ index content ∷ []) ≡ held_in pieces ++ content ∷ [] = held-push pieces (index content) in
+    let held : flat_map held_by (pieces ++ index content ∷ []) ≡ flat_map held_by pieces ++ content ∷ [] = held-push pieces (index content) in
     let next = with_use now.items content in
     record {
       items_are = ap (λ items. with_use items content) is.items_are
-          ∙ ap (with_use (blobs_after before.items (map plain (held_in pieces)))) (sym (append-nil content))
-          ∙ sym (fold_push (λ items used. with_use items (blob_bytes items used)) before.items (map plain (held_in pieces)) (plain content))
-          ∙ ap (blobs_after before.items) (sym (map_push plain (held_in pieces) content) ∙ ap (map plain) (sym held));
-      held = subst (AreIn next) (sym held) (in-push next (held_in pieces) content (in-with now.items content (held_in pieces) is.held)
+          ∙ ap (with_use (blobs_after before.items (map plain (flat_map held_by pieces)))) (sym (append-nil content))
+          ∙ sym (fold_push (λ items used. with_use items (blob_bytes items used)) before.items (map plain (flat_map held_by pieces)) (plain content))
+          ∙ ap (blobs_after before.items) (sym (map_push plain (flat_map held_by pieces) content) ∙ ap (map plain) (sym held));
+      held = subst (AreIn next) (sym held) (in-push next (flat_map held_by pieces) content (in-with now.items content (flat_map held_by pieces) is.held)
           (used-there now.items content));
       blob_is = ap (λ blob. blob ++ shortest (index_of as_blob next content)) (is.blob_is ∙ sym (spelled-with now.items content pieces is.held))
           ∙ sym (bytes-push next pieces (index content));
       total_is = λ more. let was = is.total_is (length content + more) in
-          omega (arith, was, sum-push (held_in pieces) content, ap (sum_by length) held);
+          omega (arith, was, sum-push (flat_map held_by pieces) content, ap (sum_by length) held);
     }
 
 all-made : (before : Making) (pieces : List Piece) (now : Making) (todo : List Piece) → IsMade before pieces now
@@ -112,11 +112,11 @@ interned-is before pieces now after put is =
     let whole : with_use now.items now.blob ≡ blobs_after before.items (with_held pieces) =
     ap (with_use now.items) done.blob_is
     ∙ ap (λ now. with_use now (blob_bytes now pieces)) done.items_are
-    ∙ sym (fold_push (λ items used. with_use items (blob_bytes items used)) before.items (map plain (held_in pieces)) pieces) in
+    ∙ sym (fold_push (λ items used. with_use items (blob_bytes items used)) before.items (map plain (flat_map held_by pieces)) pieces) in
     let final = blobs_after before.items (with_held pieces) in
     let total : told (now.total + length now.blob) ≡ told (before.total + sum_by (λ used. length (blob_bytes final used)) (with_held pieces)) =
     done.total_is (length now.blob)
-    ∙ ap told (omega (arith, sum-plain final (held_in pieces) pieces, ap length (sym spelled ∙ ap (λ items. blob_bytes items pieces) whole))) in
+    ∙ ap told (omega (arith, sum-plain final (flat_map held_by pieces) pieces, ap length (sym spelled ∙ ap (λ items. blob_bytes items pieces) whole))) in
     record {
       interned = ap interned_of is
           ∙ ap (λ (items : List (List ℕ)). record { items = items; total = told (now.total + length now.blob) }) whole

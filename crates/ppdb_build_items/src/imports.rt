@@ -1,8 +1,8 @@
 // What import scopes import, as blobs.
-ghost use Rattle.std.specs.Prelude.{◌≡◌, ◌<◌, ◌^◌, ◌∷◌, [], All, fold, OnOk};
+ghost use Rattle.std.specs.Prelude.{◌≡◌, ◌<◌, ◌^◌, ◌∷◌, [], All, flat_map, fold, OnOk};
 ghost use Rattle.ppdb_build_heaps.specs.Uses.{index};
 ghost use Rattle.type_blobs.specs.Types as types;
-ghost use Rattle.ppdb_build_canon.specs.Uses.{import_pieces, imports_pieces, number, type};
+ghost use Rattle.ppdb_build_canon.specs.Uses.{import_pieces, number};
 ghost use Rattle.ppdb_values_sound_laws.specs.Writing.{HasSpelling};
 ghost use Rattle.ppdb_build_items.specs.Making.{with_piece};
 
@@ -26,7 +26,7 @@ fn tag_of(table: u8) -> u32
 /// Puts the number of a type after the blob that is being made.
 fn put_type(blobs: &mut BlobHeap<'_>, target: &TypeToken) -> Result<(), Memory>
     requires { types.IsToken target.now }
-    ensures { OnOk result (blobs.new ≡ with_piece blobs.old (type target.now)) }
+    ensures { OnOk result (blobs.new ≡ with_piece blobs.old (number (types.number_of target.now))) }
 {
     blobs.put_number(4 * target.row + tag_of(target.table))
 }
@@ -98,7 +98,7 @@ fn put_import(blobs: &mut BlobHeap<'_>, import: &ImportValue) -> Result<(), Memo
 /// Puts all imports after it, in order.
 fn put_imports(blobs: &mut BlobHeap<'_>, imports: &[ImportValue]) -> Result<(), Memory>
     requires { All HasSpelling imports.now }
-    ensures { OnOk result (blobs.new ≡ fold with_piece blobs.old (imports_pieces imports.now)) }
+    ensures { OnOk result (blobs.new ≡ fold with_piece blobs.old (flat_map import_pieces imports.now)) }
 {
     for import in imports {
         put_import(blobs, import)?;
@@ -107,8 +107,8 @@ fn put_imports(blobs: &mut BlobHeap<'_>, imports: &[ImportValue]) -> Result<(), 
 }
 
 impl BlobHeap<'_> {
-    ghost use Rattle.std.specs.Prelude.{◌≡◌, All, OnOk, IfOk};
-    ghost use Rattle.ppdb_build_canon.specs.Uses.{imports_pieces};
+    ghost use Rattle.std.specs.Prelude.{◌≡◌, All, flat_map, OnOk, IfOk};
+    ghost use Rattle.ppdb_build_canon.specs.Uses.{import_pieces};
     ghost use Rattle.ppdb_values_sound_laws.specs.Writing.{HasSpelling};
     ghost use Rattle.ppdb_build_items.specs.Interned.{with_blob, blob_place, cell};
     ghost use Rattle.ppdb_build_items.specs.Making.{interned_of};
@@ -116,8 +116,8 @@ impl BlobHeap<'_> {
     /// Notes what an import scope imports, its texts first, and answers the index of its blob.
     pub fn note_imports(&mut self, imports: &[ImportValue]) -> Result<u32, Memory>
         requires { All HasSpelling imports.now }
-        ensures interned { OnOk result (interned_of self.new ≡ with_blob (interned_of self.old) (imports_pieces imports.now)) }
-        ensures index { IfOk result (λ index. index ≡ cell (blob_place self.new.items (imports_pieces imports.now))) }
+        ensures interned { OnOk result (interned_of self.new ≡ with_blob (interned_of self.old) (flat_map import_pieces imports.now)) }
+        ensures index { IfOk result (λ index. index ≡ cell (blob_place self.new.items (flat_map import_pieces imports.now))) }
     {
         self.begin();
         put_imports(self, imports)?;

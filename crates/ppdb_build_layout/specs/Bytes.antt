@@ -96,20 +96,10 @@ tables_stream counts rows heaps =
 
 -- ---- the file
 
--- a stream as its header has it: its name, and how many bytes it has
-pub record Header : Type 0 where
-  pub name : List ℕ
-  pub size : ℕ
-
--- the streams, in order
-abbrev pub stream_headers : ℕ → ℕ → HeapLens → List Header
+-- the streams, in order, as their headers have them: the name and the number of bytes of each
+abbrev pub stream_headers : ℕ → ℕ → HeapLens → List (List ℕ × ℕ)
 stream_headers pdb tables heaps =
-    record { name = codes "#Pdb"; size = pdb }
-    ∷ record { name = codes "#~"; size = tables }
-    ∷ record { name = codes "#Strings"; size = heaps.texts }
-    ∷ record { name = codes "#GUID"; size = heaps.guids }
-    ∷ record { name = codes "#Blob"; size = heaps.blobs }
-    ∷ []
+    (codes "#Pdb", pdb) ∷ (codes "#~", tables) ∷ (codes "#Strings", heaps.texts) ∷ (codes "#GUID", heaps.guids) ∷ (codes "#Blob", heaps.blobs) ∷ []
 
 -- signature, version 1.1, reserved, version text, flags, and the count of the streams (II.24.2.1)
 abbrev pub root_prefix : List ℕ
@@ -118,10 +108,9 @@ root_prefix =
     ++ codes "PDB v1.0" ++ replicate 4 0 ++ little_bytes 2 0 ++ little_bytes 2 5
 
 -- the headers of streams that stand one after another from a place on: offset, size, and the name with its zero (II.24.2.2)
-abbrev pub headers : ℕ → List Header → List ℕ
+abbrev pub headers : ℕ → List (List ℕ × ℕ) → List ℕ
 headers at [] = []
-headers at (stream ∷ streams) =
-    little_bytes 4 at ++ little_bytes 4 stream.size ++ padded (stream.name ++ 0 ∷ []) ++ headers (at + stream.size) streams
+headers at ((name, size) ∷ streams) = little_bytes 4 at ++ little_bytes 4 size ++ padded (name ++ 0 ∷ []) ++ headers (at + size) streams
 
 -- all bytes before the heaps: the root, which ends at byte 112, #Pdb and #~
 unfoldable pub prefix_bytes : List ℕ → ℕ → List ℕ → Rows → HeapLens → List ℕ

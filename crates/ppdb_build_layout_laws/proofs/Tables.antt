@@ -15,7 +15,7 @@ use Rattle.row_layout.specs.declared.column.Sizes.{Sizes}
 use Rattle.row_layout.specs.declared.column.Column.{Column}
 use Rattle.ppdb_tables.specs.declared.head.PdbHead.{PdbHead}
 use Rattle.ppdb_tables.specs.Counts.{counts_below}
-use Rattle.ppdb_tables.specs.Layouts.{debug_tables, row_fields, row_fields_of, row_len}
+use Rattle.ppdb_tables.specs.Layouts.{debug_tables, row_fields, row_len}
 use Rattle.ppdb_tables.specs.Tables.{TableFieldFaults, BoundFaults, TablesFaults, heap_sizes, valid, table_fields, table_rows, rows_start, count_in, sizes_in}
 use Rattle.ppdb_tables.specs.Tables.TableFieldFaults.{short, heap_bits, foreign, rows, method_rows}
 use Rattle.ppdb_tables.specs.Tables.BoundFaults.{bounds}
@@ -45,7 +45,7 @@ total sizes (table ∷ tables) = row_len sizes table * slice_index sizes.rows ta
 pub sum-rows : (sizes : Sizes) (tables : List (ℕ × List Column)) → sum (row_fields sizes tables) ≡ total sizes tables
 sum-rows sizes [] = refl
 sum-rows sizes (table ∷ tables) =
-    sum_append (row_fields_of sizes table) (row_fields sizes tables)
+    sum_append (replicate (slice_index sizes.rows table.0) (row_len sizes table)) (row_fields sizes tables)
     ∙ ap (λ n. n + sum (row_fields sizes tables)) (sum-replicate (slice_index sizes.rows table.0) (row_len sizes table))
     ∙ ap (λ n. row_len sizes table * slice_index sizes.rows table.0 + n) (sum-rows sizes tables)
 

@@ -1,11 +1,11 @@
 // The limits that the lengths of lists report: L1 and L2.
-ghost use Rattle.std.specs.Prelude.{◌≡◌, ℕ, ◌==◌, ◌&&◌, [], ◌∷◌, length, sum_by};
+ghost use Rattle.std.specs.Prelude.{◌≡◌, ℕ, ◌==◌, ◌&&◌, [], ◌∷◌, length, sum_by, if◌then◌else◌, Some, None};
 ghost use Rattle.sequence_points.specs.Written.{last_of, first_of};
 ghost use Rattle.std.specs.List.{filter_map};
 ghost use Rattle.ppdb_base.specs.Told.{told};
 ghost use Rattle.ppdb_base.specs.declared.limits.Limit.TheVariants as limits;
 ghost use Rattle.ppdb_build_canon.specs.Canonical.{method_rows};
-ghost use Rattle.ppdb_build_canon.specs.Limits.{above, met, owns_none, too_many_rows as many_rows, list_past_end, tables, first_met};
+ghost use Rattle.ppdb_build_canon.specs.Limits.{above, owns_none, too_many_rows as many_rows, list_past_end, tables, first_met};
 
 use ppdb_base::Limit;
 use ppdb_tables::{
@@ -63,7 +63,7 @@ fn count_methods(value: &FileValue) -> u64
 
 /// The limit on a list of so many items, where the last scope owns none of them, or some.
 fn list_limit(table: u8, items: u64, none: bool) -> Option<Limit>
-    ensures { (exact : ℕ) → items ≡ told exact → result ≡ met ((exact == 65535) && none) (limits.ListPastEnd table 65535) }
+    ensures { (exact : ℕ) → items ≡ told exact → result ≡ if (exact == 65535) && none then Some (limits.ListPastEnd table 65535) else None }
 {
     if items == 65535 && none {
         Some(Limit::ListPastEnd { table, rows: 65535 })

@@ -8,7 +8,8 @@ use Rattle.sequence_points.specs.Written.{last_of}
 use Rattle.ppdb_base.specs.declared.limits.Limit.TheVariants.{ListPastEnd}
 use Rattle.ppdb_values.specs.declared.file.FileValue.{FileValue}
 use Rattle.ppdb_values.specs.declared.scope.ScopeValue.{ScopeValue}
-use Rattle.ppdb_build_canon.specs.Limits.{list_past_end, met, owns_none}
+use Rattle.ppdb_build_canon.specs.Limits.{list_past_end, owns_none}
+use Rattle.ppdb_build_canon.proofs.Limits.{met}
 
 module _ (value : FileValue) (table : ℕ) (items : ScopeValue → ℕ) where
   -- the last scope, if there is one, owns some

@@ -15,10 +15,11 @@ use Rattle.custom_info.specs.declared.stepping.AsyncStep.{AsyncStep}
 use Rattle.ppdb_values.specs.declared.custom.CustomBody.{CustomBody}
 use Rattle.ppdb_values.specs.declared.custom.CustomBody.TheVariants.{Async, Hoisted, TypeDocuments, Unread}
 use Rattle.ppdb_values.specs.declared.custom.CustomValue.{CustomValue}
-use Rattle.ppdb_merge_joined.specs.Same.{same_body, same_option, same_record, same_slot, same_step}
+use Rattle.ppdb_merge_joined.specs.Same.{same_body, same_record, same_slot, same_step}
 use Rattle.ppdb_build_merged.specs.declared.customs_said.RecordKey.{RecordKey}
 use Rattle.ppdb_build_merged.specs.contracts.customs_said.RecordKeyOrd.TheImpl as key_ord
 use Rattle.ppdb_build_merged.specs.Said.{Said, bytes_in, form_of, handler_numbers, numbers_in, said, same_said, shown, slot_numbers, step_numbers}
+use Rattle.std.specs.Option.{option_eq}
 
 -- ---- tests
 
@@ -77,7 +78,7 @@ steps_same (x ∷ xs) (y ∷ ys) =
     ∙ three (nat_eq x.pause y.pause) (nat_eq x.resume y.resume) (nat_eq x.method y.method) (pointwise same_step xs ys)
 
 async_same : (a b : Option ℕ) (xs ys : List AsyncStep)
-    → bytes_eq (handler_numbers a ++ flat_map step_numbers xs) (handler_numbers b ++ flat_map step_numbers ys) ≡ (same_option a b && pointwise same_step xs ys)
+    → bytes_eq (handler_numbers a ++ flat_map step_numbers xs) (handler_numbers b ++ flat_map step_numbers ys) ≡ (option_eq nat_eq a b && pointwise same_step xs ys)
 async_same None None xs ys = steps_same xs ys
 async_same None (Some b) xs ys = refl
 async_same (Some a) None xs ys = refl

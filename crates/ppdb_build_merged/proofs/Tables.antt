@@ -13,7 +13,7 @@ use Rattle.ppdb_tables.specs.declared.rows.MachineRow.{MachineRow}
 use Rattle.ppdb_tables.specs.declared.rows.MethodDebugRow.{MethodDebugRow}
 use Rattle.ppdb_tables.specs.declared.rows.ScopeRow.{ScopeRow}
 use Rattle.ppdb_tables.specs.RawTables.{row_at, numbered}
-use Rattle.ppdb_maps.specs.Map.{Map, moved_row, output_count}
+use Rattle.ppdb_maps.specs.Map.{Map, moved_row, count_of}
 use Rattle.ppdb_values.specs.declared.file.DocumentValue.{DocumentValue}
 use Rattle.ppdb_values.specs.declared.file.FileValue.{FileValue}
 use Rattle.ppdb_values.specs.declared.file.MethodValue.{MethodValue}
@@ -208,16 +208,16 @@ module _ (flat : JoinedPartsAreFlat) (inputs : List RowInput) (placed : List Pla
 
 -- ---- how many methods there are
 
-counted_at : (m : Map) (table : ℕ) (rows : List ℕ) (i : ℕ) → i < length rows → get_or (moved_counts m table rows) i 0 ≡ output_count m (table + i) (get_or rows i 0)
+counted_at : (m : Map) (table : ℕ) (rows : List ℕ) (i : ℕ) → i < length rows → get_or (moved_counts m table rows) i 0 ≡ unwrap_or (count_of m (table + i)) (get_or rows i 0)
 counted_at m table [] i within = absurd (omega (arith, within))
-counted_at m table (n ∷ ns) zero within = let e : table ≡ table + 0 = omega arith in ap (λ t. output_count m t n) e
+counted_at m table (n ∷ ns) zero within = let e : table ≡ table + 0 = omega arith in ap (λ t. unwrap_or (count_of m t) n) e
 counted_at m table (n ∷ ns) (suc i) within =
-    let e : table + 1 + i ≡ table + suc i = omega arith in counted_at m (table + 1) ns i (omega (arith, within)) ∙ ap (λ t. output_count m t (get_or ns i 0)) e
+    let e : table + 1 + i ≡ table + suc i = omega arith in counted_at m (table + 1) ns i (omega (arith, within)) ∙ ap (λ t. unwrap_or (count_of m t) (get_or ns i 0)) e
 
 pub method_count : (flat : JoinedPartsAreFlat) (inputs : List RowInput) (d : RowInput) → 0 < length inputs
     → 6 < length (moved_by (get_or inputs 0 d)).value.rows
     → slice_index (joined_inputs (moved_inputs inputs)).rows 6
-    ≡ output_count (get_or inputs 0 d).map 6 (slice_index (moved_by (get_or inputs 0 d)).value.rows 6)
+    ≡ unwrap_or (count_of (get_or inputs 0 d).map 6) (slice_index (moved_by (get_or inputs 0 d)).value.rows 6)
 method_count flat [] d some many = absurd (omega (arith, some))
 method_count flat (first ∷ others) d some many =
     ap (λ rows. get_or rows 6 0) (flat.heads (moved_by first) (moved_inputs others)).rows ∙ counted_at first.map 0 (moved_by first).value.rows 6 many

@@ -20,7 +20,7 @@ use Rattle.ppdb_tables.specs.Layouts.{document_columns, method_columns, scope_co
 use Rattle.ppdb_tables.specs.Layouts.{custom_columns}
 use Rattle.ppdb_tables.specs.Parents.{parent_in}
 use Rattle.ppdb_tables.specs.RawTables.{RawTables, HasShape, count}
-use Rattle.ppdb_values.specs.Customs.{parent_of, no_parent}
+use Rattle.ppdb_values.specs.Customs.{parent_of}
 use Rattle.ppdb_values.specs.RawFile.{text, blob}
 use Rattle.ppdb_values.specs.Rules.{HasText, HasBlob, HasGuidOrNone, HasRow, HasRowOrNone, KeepsDocuments, KeepsMethods, KeepsScopes, KeepsVariables}
 use Rattle.ppdb_values.specs.Rules.{KeepsConstants, KeepsImports, KeepsMachines, KeepsCustoms}
@@ -139,7 +139,7 @@ module _ (raw : RawTables) (shape : HasShape raw) where
       by None there = absurd (none-some (parent_of coded) (sym (ap (option_map (λ table. record { table = table; row = coded / 32 })) there) ∙ tag))
       by (Some table) there =
           let is : parent_of coded ≡ record { table = table; row = coded / 32 } =
-          ap (λ o. unwrap_or (option_map (λ table. record { table = table; row = coded / 32 }) o) no_parent) there in
+          ap (λ o. unwrap_or (option_map (λ table. record { table = table; row = coded / 32 }) o) (record { table = 0; row = 0 })) there in
           let within : coded / 32 ≤ count raw table = subst (λ (parent : ParentRow). parent.row ≤ count raw parent.table) is has.1 in
           wide (list_any (has_rows sizes 2048) parent_tables) refl within
         where

@@ -30,7 +30,7 @@ use Rattle.ppdb_values.proofs.StoredImports.{numbers_stand, kind_from, kind_to}
 use Rattle.ppdb_values_sound_laws.specs.Imports.{SoundImport}
 use Rattle.ppdb_values_sound_laws.specs.Named.{type_limits, HasRow, count}
 use Rattle.ppdb_build_canon.specs.Canonical.{canonical_tables, blob_cell}
-use Rattle.ppdb_build_canon.specs.Uses.{import_pieces, imports_pieces, blobs, blob_uses}
+use Rattle.ppdb_build_canon.specs.Uses.{import_pieces, blobs, blob_uses}
 use Rattle.ppdb_build_canon.proofs.Among.{among_first, among_later}
 use Rattle.ppdb_build_canon.proofs.Stand.{blob_stands, blob_within}
 
@@ -165,11 +165,11 @@ module _ (value : FileValue) (small : length (canonical_tables value).blobs ≤ 
   AllThere imports = (import : ImportValue) → Contains imports import → AreThere import
 
   imports_bytes : (imports : List ImportValue) → AllThere imports
-      → blob_bytes (blobs value) (imports_pieces imports) ≡ flat_map import_spelling (map numbers_of imports)
+      → blob_bytes (blobs value) (flat_map import_pieces imports) ≡ flat_map import_spelling (map numbers_of imports)
   imports_bytes [] are = refl
   imports_bytes (import ∷ imports) are =
-      flat_map-append (piece_bytes (blobs value)) (import_pieces import) (imports_pieces imports)
-      ∙ ap (λ bytes. bytes ++ blob_bytes (blobs value) (imports_pieces imports)) (import_bytes import (are import (among_first import imports)))
+      flat_map-append (piece_bytes (blobs value)) (import_pieces import) (flat_map import_pieces imports)
+      ∙ ap (λ bytes. bytes ++ blob_bytes (blobs value) (flat_map import_pieces imports)) (import_bytes import (are import (among_first import imports)))
       ∙ ap (λ rest. import_spelling (numbers_of import) ++ rest) (imports_bytes imports (λ other is. are other (among_later import other imports is)))
 
   abbrev heap : ℕ → Option (List ℕ)
@@ -250,7 +250,7 @@ module _ (value : FileValue) (small : length (canonical_tables value).blobs ≤ 
       (all_stand imports (λ other is. sound other (among_later import other imports is)) (λ other is. are other (among_later import other imports is)))
 
   pub imports_reading : ((table : ℕ) → count value table ≤ 16777215) → (all : List ImportValue) → AllSound all → AllThere all
-      → Reading (imports (type_limits value) heap) (blob_bytes (blobs value) (imports_pieces all)) (map stored_import all) None
+      → Reading (imports (type_limits value) heap) (blob_bytes (blobs value) (flat_map import_pieces all)) (map stored_import all) None
   imports_reading most all sound are =
       subst (λ bytes. Reading (imports (type_limits value) heap) bytes (map stored_import all) None) (sym (imports_bytes all are))
       (written_imports (type_limits value) heap (map numbers_of all) (map stored_import all) (all_imports most all sound are) (all_parts all sound are)

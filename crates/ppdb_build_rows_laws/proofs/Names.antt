@@ -11,7 +11,7 @@ use Rattle.ppdb_heaps.specs.Heaps.{blob_at}
 use Rattle.ppdb_heaps.specs.Names.{without_zero, IsName, IsWritable, name_spelling}
 use Rattle.ppdb_heaps.proofs.WrittenNames.{written_text}
 use Rattle.ppdb_build_heaps.specs.Items.{index_of, as_blob}
-use Rattle.ppdb_build_heaps.specs.Uses.{index, plain, piece_bytes, held_in, blob_bytes}
+use Rattle.ppdb_build_heaps.specs.Uses.{index, plain, piece_bytes, held_by, blob_bytes}
 use Rattle.ppdb_values.specs.declared.file.FileValue.{FileValue}
 use Rattle.ppdb_build_canon.specs.Uses.{separator_of, parts_of, name_pieces, blobs, blob_uses, cell_blobs}
 use Rattle.ppdb_build_canon.specs.Canonical.{blob_cell, canonical_tables}
@@ -63,7 +63,7 @@ one_byte name = small_byte (list_any (λ b. b == 0x2f) name) (list_any (λ b. b 
 
 -- ---- the indexes of the parts
 
-held : (parts : List (List ℕ)) → held_in (map index parts) ≡ parts
+held : (parts : List (List ℕ)) → flat_map held_by (map index parts) ≡ parts
 held [] = refl
 held (part ∷ parts) = ap (λ rest. part ∷ rest) (held parts)
 

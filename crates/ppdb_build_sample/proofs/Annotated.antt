@@ -1,8 +1,13 @@
 -- The sample with its records at their items.
 use Rattle.std.proofs.Common.{◌≡◌, ℕ, zero, suc, ◌+◌, ◌*◌, ◌≤◌, ◌<◌, ◌++◌, Bool, true, false, cond, List, [], ◌∷◌, map, flat_map}
 use Rattle.std.proofs.Common.{refl, sym, ◌∙◌, ap, arith, append-nil}
+use Rattle.std.specs.Prelude.{◌%◌, nat_eq, codes}
 use Rattle.std.specs.List.{filter, range_with_len}
+use Rattle.custom_info.specs.declared.slots.Range.{Range}
 use Rattle.ppdb_values.specs.declared.custom.CustomValue.{CustomValue}
+use Rattle.ppdb_values.specs.declared.import.ImportScopeValue.{ImportScopeValue}
+use Rattle.ppdb_values.specs.declared.import.ImportValue.TheVariants.{Namespace}
+use Rattle.ppdb_values.specs.declared.scope.ScopeValue.{ScopeValue}
 use Rattle.ppdb_values.specs.declared.file.DocumentValue.{DocumentValue}
 use Rattle.ppdb_values.specs.declared.file.MethodValue.{MethodValue}
 use Rattle.ppdb_values.specs.declared.annotation.Custom.{Custom}
@@ -21,8 +26,8 @@ use Rattle.ppdb_merge_items.proofs.Lists.{Each-filter, Each-map, Pairs-map, each
 use Rattle.ppdb_merge_items.proofs.Mapped.{map_map_both}
 use Rattle.ppdb_merge_items.proofs.Orders.{in_order_is, rises_of}
 use Rattle.ppdb_merge_joined.proofs.Each.{Each-flat}
-use Rattle.ppdb_build_sample.specs.Sample.{counted, document_of, sample_document, sample_method, outer_scope, inner_scope, inner_range, sample_constant}
-use Rattle.ppdb_build_sample.specs.Sample.{sample_import, is_fourth, sample_custom, sample_rows, sample_of}
+use Rattle.ppdb_build_sample.specs.Sample.{counted, document_of, sample_document, sample_method, sample_scope, sample_constant}
+use Rattle.ppdb_build_sample.specs.Sample.{sample_custom, sample_of}
 
 -- ---- numbers from 1 on
 
@@ -56,6 +61,24 @@ pairs_left R p (x ∷ xs) pairs = step (p x) (pairs_left R p xs pairs.1)
     step false rest = rest
 
 -- ---- the sample's parts, none of which has records on it
+
+abbrev pub sample_rows : ℕ → List ℕ
+sample_rows n = (sample_of n).rows
+
+abbrev pub inner_range : Range
+inner_range = record { start = 4; end = 12 }
+
+abbrev pub outer_scope : ℕ → ScopeValue
+outer_scope i = sample_scope i (record { start = 0; end = 16 }) 0 (codes "a") []
+
+abbrev pub inner_scope : ℕ → ScopeValue
+inner_scope i = sample_scope i inner_range 1 (codes "b") (sample_constant i ∷ [])
+
+abbrev pub sample_import : ImportScopeValue
+sample_import = record { parent = 0; imports = Namespace (codes "System") ∷ [] }
+
+abbrev pub is_fourth : ℕ → Bool
+is_fourth i = nat_eq (i % 4) 0
 
 abbrev pub outer_annotated : ℕ → AnnotatedScope
 outer_annotated i = record {

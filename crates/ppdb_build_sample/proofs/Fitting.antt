@@ -10,9 +10,9 @@ use Rattle.sequence_points.specs.declared.point.Point.{Point}
 use Rattle.custom_info.specs.Kinds.{kind_of}
 use Rattle.custom_info.specs.declared.kinds.Kind.TheVariants.{Hoisted, Unknown}
 use Rattle.ppdb_maps.specs.declared.entries.RowLine.{RowLine}
-use Rattle.ppdb_maps.specs.Map.{Map, MethodLine, row_image, offsets_in, line_offsets}
+use Rattle.ppdb_maps.specs.Map.{Map, MethodLine, row_image, offsets_in}
 use Rattle.ppdb_maps.specs.declared.image.RowImage.TheVariants.{Row}
-use Rattle.ppdb_maps.specs.Sample.{sample_row, sample_runs, sample_map_of, sample_method as sample_line}
+use Rattle.ppdb_maps.specs.Sample.{sample_runs, sample_map_of, sample_method as sample_line}
 use Rattle.ppdb_maps.proofs.SampleMap.{sample_readable}
 use Rattle.ppdb_values.specs.declared.custom.CustomValue.{CustomValue}
 use Rattle.ppdb_values.specs.declared.file.MethodValue.{MethodValue}
@@ -21,8 +21,7 @@ use Rattle.ppdb_merge_items.specs.declared.file.AnnotatedScope.{AnnotatedScope}
 use Rattle.ppdb_merge_items.specs.declared.file.AnnotatedFile.{AnnotatedFile}
 use Rattle.ppdb_merge_items.specs.Each.{Each, Pairs}
 use Rattle.ppdb_merge_items.specs.Laws.{SoundnessIsAnnotated}
-use Rattle.ppdb_merge_items.specs.NamedRows.{Named, names, names_some, named_rows, in_constant, in_steps, live_method, live_scope, live_custom}
-use Rattle.ppdb_merge_items.specs.NamedRows.{with_live_constants, with_live_signature}
+use Rattle.ppdb_merge_items.specs.NamedRows.{Named, names, names_some, named_rows, in_constant, in_steps, live_scope, live_custom}
 use Rattle.ppdb_merge_moved.proofs.ImageRows.{within_is}
 use Rattle.ppdb_merge_items.specs.Annotated.{annotated_file}
 use Rattle.ppdb_merge_items.proofs.Lists.{Each-append, Each-filter, Each-map, Each-weaker}
@@ -32,9 +31,12 @@ use Rattle.ppdb_merge_moved.proofs.Elements.{in_each}
 use Rattle.ppdb_values_sound_laws.specs.Sound.{IsSound}
 use Rattle.ppdb_merge_meaning_laws.specs.Kept.{InputsFit}
 use Rattle.ppdb_build_sample.specs.Laws.{SamplesFit, sample_input}
-use Rattle.ppdb_build_sample.specs.Sample.{sample, sample_of, sample_rows}
-use Rattle.ppdb_build_sample.proofs.Annotated.{IsIn, sample_annotated, each_method, each_scope, each_custom, annotated_is}
+use Rattle.ppdb_build_sample.specs.Sample.{sample, sample_of}
+use Rattle.ppdb_build_sample.proofs.Annotated.{IsIn, sample_rows, sample_annotated, each_method, each_scope, each_custom, annotated_is}
 use Rattle.ppdb_build_sample.proofs.Sound.{sample_is_sound}
+use Rattle.ppdb_merge_items.proofs.Parts.{live_method, with_live_signature, with_live_constants}
+use Rattle.ppdb_maps.proofs.Parts.{line_offsets}
+use Rattle.ppdb_maps.proofs.Parts.{sample_row}
 
 -- ---- what the map says
 

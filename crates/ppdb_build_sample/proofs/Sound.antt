@@ -39,10 +39,10 @@ use Rattle.ppdb_merge_items.specs.SoundParts.{SoundIn, SoundNote, SoundAnnotated
 use Rattle.ppdb_merge_items.specs.Worked.{bare}
 use Rattle.ppdb_merge_items.proofs.Lists.{Each-append, Each-map, Pairs-map, each_of, row_each, row_pairs}
 use Rattle.ppdb_merge_joined.proofs.Each.{Pairs-flat, all_each, all_pairs}
-use Rattle.ppdb_build_sample.specs.Sample.{counted, document_of, sample_document, sample_points, sample_method, inner_range}
-use Rattle.ppdb_build_sample.specs.Sample.{sample_constant, sample_import, sample_custom, sample_rows, sample_of}
+use Rattle.ppdb_build_sample.specs.Sample.{counted, document_of, sample_document, sample_method}
+use Rattle.ppdb_build_sample.specs.Sample.{sample_constant, sample_custom, sample_of}
 use Rattle.ppdb_build_sample.proofs.Annotated.{IsIn, pairs_counted, outer_annotated, inner_annotated, both_annotated, document_annotated, sample_annotated}
-use Rattle.ppdb_build_sample.proofs.Annotated.{each_method, each_scope, each_custom, customs_rise, value_is}
+use Rattle.ppdb_build_sample.proofs.Annotated.{inner_range, sample_import, sample_rows, each_method, each_scope, each_custom, customs_rise, value_is}
 
 -- ---- row counts
 
@@ -123,9 +123,9 @@ module _ (n : ℕ) (some : 1 ≤ n) (few : n ≤ 100000) where
     row = within;
     signature = omega arith;
     some = λ e. absurd (cc);
-    rise = all_pairs (λ (p q : Point). p.offset < q.offset) (sample_points i)
+    rise = all_pairs (λ (p q : Point). p.offset < q.offset) (sample_method i).points
         ((omega arith, (omega arith, (omega arith, tt))), ((omega arith, (omega arith, tt)), ((omega arith, tt), (tt, tt))));
-    points = all_each (SoundPoint v) (sample_points i) (
+    points = all_each (SoundPoint v) (sample_method i).points (
       record { offset = omega arith; document = document_there i within; span = first },
       (
         record { offset = omega arith; document = document_there i within; span = tt },

@@ -21,74 +21,57 @@ sample_document j = record { name = codes "/s/" ++ decimal j ++ codes ".cs"; alg
 
 -- ---- methods: four points, the second hidden
 
-abbrev pub sample_points : ℕ → List Point
-sample_points i =
-    record { offset = 0; document = document_of i; span = Lines (4 * i) 1 (4 * i) 9 }
-    ∷ record { offset = 4; document = document_of i; span = Hidden }
-    ∷ record { offset = 8; document = document_of i; span = Lines (4 * i + 1) 5 (4 * i + 2) 3 }
-    ∷ record { offset = 12; document = document_of i; span = Lines (4 * i + 2) 1 (4 * i + 2) 2 } ∷ []
-
 abbrev pub sample_method : ℕ → MethodValue
-sample_method i = record { method = i; signature = 1; points = sample_points i }
+sample_method i = record {
+  method = i;
+  signature = 1;
+  points = record { offset = 0; document = document_of i; span = Lines (4 * i) 1 (4 * i) 9 }
+      ∷ record { offset = 4; document = document_of i; span = Hidden }
+      ∷ record { offset = 8; document = document_of i; span = Lines (4 * i + 1) 5 (4 * i + 2) 3 }
+      ∷ record { offset = 12; document = document_of i; span = Lines (4 * i + 2) 1 (4 * i + 2) 2 } ∷ [];
+}
 
 -- ---- scopes: one of the whole method with a, and one in it with b and k
 
-abbrev pub inner_range : Range
-inner_range = record { start = 4; end = 12 }
-
-abbrev pub outer_scope : ℕ → ScopeValue
-outer_scope i = record {
+-- a scope with one variable
+abbrev pub sample_scope : ℕ → Range → ℕ → List ℕ → List ConstantValue → ScopeValue
+sample_scope i range slot name constants = record {
   method = i;
   import = 1;
-  range = record { start = 0; end = 16 };
-  variables = record { attributes = 0; slot = 0; name = codes "a" } ∷ [];
-  constants = [];
+  range = range;
+  variables = record { attributes = 0; slot = slot; name = name } ∷ [];
+  constants = constants;
 }
 
 -- the number of the method, as a constant of type int32 (ECMA-335 II.23.1.16: 08)
 abbrev pub sample_constant : ℕ → ConstantValue
 sample_constant i = record { name = codes "k"; modifiers = []; body = Primitive 0x08 (to_le_bytes w32 i) }
 
-abbrev pub inner_scope : ℕ → ScopeValue
-inner_scope i = record {
-  method = i;
-  import = 1;
-  range = inner_range;
-  variables = record { attributes = 0; slot = 1; name = codes "b" } ∷ [];
-  constants = sample_constant i ∷ [];
-}
-
--- ---- one import scope: System
-
-abbrev pub sample_import : ImportScopeValue
-sample_import = record { parent = 0; imports = Namespace (codes "System") ∷ [] }
+abbrev pub sample_scopes : ℕ → List ScopeValue
+sample_scopes i =
+    sample_scope i (record { start = 0; end = 16 }) 0 (codes "a") []
+    ∷ sample_scope i (record { start = 4; end = 12 }) 1 (codes "b") (sample_constant i ∷ []) ∷ []
 
 -- ---- a hoisted local in each fourth method
 
-abbrev pub is_fourth : ℕ → Bool
-is_fourth i = nat_eq (i % 4) 0
-
 abbrev pub sample_custom : ℕ → CustomValue
-sample_custom i = record { parent = record { table = 0x06; row = i }; kind = hoisted_scopes; value = Hoisted (Held inner_range ∷ []) }
+sample_custom i = record { parent = record { table = 0x06; row = i }; kind = hoisted_scopes; value = Hoisted (Held (record { start = 4; end = 12 }) ∷ []) }
 
 -- ---- the file
 
--- one row of TypeRef, n of MethodDef, one of StandAloneSig and one of AssemblyRef
-abbrev pub sample_rows : ℕ → List ℕ
-sample_rows n = 0 ∷ 1 ∷ 0 ∷ 0 ∷ 0 ∷ 0 ∷ n ∷ zeros 10 ++ (1 ∷ zeros 17 ++ (1 ∷ zeros 28))
-
--- the sample of some methods, at least one
+-- The sample of some methods, at least one. It counts a row of TypeRef, n of MethodDef, and one each of StandAloneSig and AssemblyRef;
+-- all scopes import the namespace System.
 abbrev pub sample_of : ℕ → FileValue
 sample_of n = record {
   id = zeros 20;
   entry = 1;
-  rows = sample_rows n;
+  rows = 0 ∷ 1 ∷ 0 ∷ 0 ∷ 0 ∷ 0 ∷ n ∷ zeros 10 ++ (1 ∷ zeros 17 ++ (1 ∷ zeros 28));
   documents = map sample_document (counted (document_of n));
   methods = map sample_method (counted n);
-  scopes = flat_map (λ i. outer_scope i ∷ inner_scope i ∷ []) (counted n);
-  imports = sample_import ∷ [];
+  scopes = flat_map sample_scopes (counted n);
+  imports = record { parent = 0; imports = Namespace (codes "System") ∷ [] } ∷ [];
   machines = [];
-  customs = map sample_custom (filter is_fourth (counted n));
+  customs = map sample_custom (filter (λ i. nat_eq (i % 4) 0) (counted n));
 }
 
 -- The sample of no method is empty.

@@ -1,6 +1,6 @@
 // The hoisted locals of the sample file.
-ghost use Rattle.std.specs.Prelude.{◌≡◌, ◌≤◌, IfOk, map, filter};
-ghost use Rattle.ppdb_build_sample.specs.Sample.{counted, is_fourth, sample_custom};
+ghost use Rattle.std.specs.Prelude.{◌≡◌, ◌≤◌, ◌%◌, IfOk, map, filter, nat_eq};
+ghost use Rattle.ppdb_build_sample.specs.Sample.{counted, sample_custom};
 
 use custom_info::{HOISTED_SCOPES, Range, Slot, kinds_are_their_guids};
 use ppdb_base::{List, Memory};
@@ -29,7 +29,7 @@ fn hoisted(alloc: Global, method: u32) -> Result<CustomValue, Memory>
 /// The records of each fourth of the methods 1 to `n`.
 pub fn customs(alloc: Global, n: u32) -> Result<List<CustomValue>, Memory>
     requires { n ≤ 100000 }
-    ensures { IfOk result (λ customs. customs ≡ map sample_custom (filter is_fourth (counted n))) }
+    ensures { IfOk result (λ customs. customs ≡ map sample_custom (filter (λ i. nat_eq (i % 4) 0) (counted n))) }
 {
     let mut customs = List::new(alloc);
     for before in 0..n {

@@ -1,7 +1,7 @@
 // The methods of the sample file, with their points.
 ghost use Rattle.std.specs.Prelude.{◌≡◌, ◌≤◌, IfOk, map};
 ghost use Rattle.sequence_points.specs.declared.point.Span.TheVariants.{Lines};
-ghost use Rattle.ppdb_build_sample.specs.Sample.{counted, sample_points, sample_method};
+ghost use Rattle.ppdb_build_sample.specs.Sample.{counted, sample_method};
 
 use ppdb_base::{List, Memory};
 use ppdb_values::MethodValue;
@@ -23,7 +23,7 @@ fn lines(start: (u32, u32), end: (u32, u32)) -> Span
 /// The four points of a method, the second of which is hidden.
 fn points(alloc: Global, method: u32) -> Result<List<Point>, Memory>
     requires { method ≤ 100000 }
-    ensures { IfOk result (λ points. points ≡ sample_points method) }
+    ensures { IfOk result (λ points. points ≡ (sample_method method).points) }
 {
     let (line, document) = (4 * method, (method + 7) / 8);
     let points = [

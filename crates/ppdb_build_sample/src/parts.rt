@@ -1,6 +1,7 @@
 // The documents and the import scope of the sample file.
-ghost use Rattle.std.specs.Prelude.{◌≡◌, ◌≤◌, [], ◌∷◌, IfOk, map};
-ghost use Rattle.ppdb_build_sample.specs.Sample.{counted, sample_document, sample_import};
+ghost use Rattle.std.specs.Prelude.{◌≡◌, ◌≤◌, [], ◌∷◌, IfOk, codes, map};
+ghost use Rattle.ppdb_values.specs.declared.import.ImportValue.TheVariants.{Namespace};
+ghost use Rattle.ppdb_build_sample.specs.Sample.{counted, sample_document};
 
 use itoa::Buffer;
 use ppdb_base::{Bytes, List, Memory};
@@ -36,7 +37,7 @@ pub fn documents(alloc: Global, count: u32) -> Result<List<DocumentValue>, Memor
 
 /// One import scope: the namespace System.
 pub fn imports(alloc: Global) -> Result<List<ImportScopeValue>, Memory>
-    ensures { IfOk result (λ imports. imports ≡ sample_import ∷ []) }
+    ensures { IfOk result (λ imports. imports ≡ record { parent = 0; imports = Namespace (codes "System") ∷ [] } ∷ []) }
 {
     let mut imported = List::new(alloc);
     imported.push(ImportValue::Namespace {

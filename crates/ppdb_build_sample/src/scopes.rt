@@ -1,6 +1,6 @@
 // The scopes of the sample file.
-ghost use Rattle.std.specs.Prelude.{◌≡◌, ◌≤◌, [], ◌∷◌, IfOk, flat_map};
-ghost use Rattle.ppdb_build_sample.specs.Sample.{counted, outer_scope, inner_scope, sample_constant};
+ghost use Rattle.std.specs.Prelude.{◌≡◌, ◌≤◌, [], ◌∷◌, IfOk, codes, flat_map};
+ghost use Rattle.ppdb_build_sample.specs.Sample.{counted, sample_scope, sample_constant, sample_scopes};
 
 use crate::hoisted::INNER;
 use custom_info::Range;
@@ -39,7 +39,7 @@ fn constants(alloc: Global, method: u32) -> Result<List<ConstantValue>, Memory>
 
 /// The scope of the whole method.
 fn outer(alloc: Global, method: u32) -> Result<ScopeValue, Memory>
-    ensures { IfOk result (λ scope. scope ≡ outer_scope method) }
+    ensures { IfOk result (λ scope. scope ≡ sample_scope method (record { start = 0; end = 16 }) 0 (codes "a") []) }
 {
     Ok(ScopeValue {
         method,
@@ -52,7 +52,7 @@ fn outer(alloc: Global, method: u32) -> Result<ScopeValue, Memory>
 
 /// The scope in it.
 fn inner(alloc: Global, method: u32) -> Result<ScopeValue, Memory>
-    ensures { IfOk result (λ scope. scope ≡ inner_scope method) }
+    ensures { IfOk result (λ scope. scope ≡ sample_scope method (record { start = 4; end = 12 }) 1 (codes "b") (sample_constant method ∷ [])) }
 {
     Ok(ScopeValue {
         method,
@@ -66,7 +66,7 @@ fn inner(alloc: Global, method: u32) -> Result<ScopeValue, Memory>
 /// The scopes of the methods 1 to `n`, two each.
 pub fn scopes(alloc: Global, n: u32) -> Result<List<ScopeValue>, Memory>
     requires { n ≤ 100000 }
-    ensures { IfOk result (λ scopes. scopes ≡ flat_map (λ i. outer_scope i ∷ inner_scope i ∷ []) (counted n)) }
+    ensures { IfOk result (λ scopes. scopes ≡ flat_map sample_scopes (counted n)) }
 {
     let mut scopes = List::new(alloc);
     for before in 0..n {

@@ -1,6 +1,6 @@
 // The value of the sample file.
 ghost use Rattle.std.specs.Prelude.{◌≡◌, ◌≤◌, IfOk};
-ghost use Rattle.ppdb_build_sample.specs.Sample.{sample, sample_rows};
+ghost use Rattle.ppdb_build_sample.specs.Sample.{sample, sample_of};
 
 use crate::hoisted::customs;
 use crate::methods::methods;
@@ -13,7 +13,7 @@ use std::alloc::Global;
 
 /// The rows of the type system that a sample of `n` methods counts: TypeRef 1, MethodDef `n`, StandAloneSig 1, AssemblyRef 1.
 fn rows(n: u32) -> [u32; 64]
-    ensures { result ≡ sample_rows n }
+    ensures { result ≡ (sample_of n).rows }
 {
     let mut rows = [0; 64];
     rows[0x01] = 1;

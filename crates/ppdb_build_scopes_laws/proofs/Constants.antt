@@ -8,7 +8,7 @@ use Rattle.type_blobs.specs.declared.types.Modifier.{Modifier}
 use Rattle.type_blobs.specs.declared.types.TypeLimits.{TypeLimits}
 use Rattle.type_blobs.specs.Constants.{ConstantBody as StoredBody, constants, body_of}
 use Rattle.type_blobs.specs.ConstantReading.{ConstantReading, body}
-use Rattle.type_blobs.specs.Spelling.{IsBodyThere}
+use Rattle.type_blobs.specs.Spelling.{IsBodyThere, constant_spelling}
 use Rattle.type_blobs.specs.Types.{IsToken, IsThere}
 use Rattle.type_blobs.proofs.WrittenConstants.{written_constant}
 use Rattle.ppdb_heaps.specs.Heaps.{text_at, blob_at}
@@ -29,7 +29,7 @@ use Rattle.ppdb_values.proofs.Readings.{modifiers_are, body_is}
 use Rattle.ppdb_values_sound_laws.specs.Scopes.{SoundConstant, SoundScopes, stored_body}
 use Rattle.ppdb_values_sound_laws.proofs.Listed.{row_of_map}
 use Rattle.ppdb_build_canon.specs.Canonical.{canonical_tables, scope_row, constant_row, text_cell, blob_cell}
-use Rattle.ppdb_build_canon.specs.Uses.{constants_of, constant_blob, signature_of}
+use Rattle.ppdb_build_canon.specs.Uses.{constants_of, constant_blob}
 use Rattle.ppdb_build_canon.proofs.Counts.{type_limits_are}
 use Rattle.ppdb_build_scopes_laws.proofs.Heaps.{HasItems}
 use Rattle.ppdb_build_scopes_laws.proofs.Items.{among_pieces, each_item, read_is, read_there, differ_as}
@@ -42,6 +42,9 @@ part scope = scope.constants
 
 abbrev list : ScopeRow → ℕ
 list scope = scope.constants
+
+abbrev signature_of : ConstantValue → List ℕ
+signature_of constant = constant_spelling constant.modifiers (stored_body constant.body)
 
 -- the body of a value is that of its signature
 body_back : (body : ConstantBody) → body_value (stored_body body) ≡ body

@@ -13,7 +13,7 @@ use Rattle.custom_info.specs.declared.kinds.Kind.TheVariants.{Async as AsyncKind
 use Rattle.custom_info.specs.declared.slots.Slot.{Slot}
 use Rattle.custom_info.specs.declared.stepping.AsyncStep.{AsyncStep}
 use Rattle.custom_info.specs.AsyncStepping.{async_stepping, async_spelling, entries_of, IsStep}
-use Rattle.cli_ints.specs.Shortest.{short_unsigned}
+use Rattle.ppdb_values.specs.Names.{short_unsigned}
 use Rattle.custom_info.specs.HoistedScopes.{hoisted_scopes, slot_spelling}
 use Rattle.custom_info.specs.Kinds.{kind_of}
 use Rattle.custom_info.specs.TypeDocuments.{type_documents, IsRowNumber}
@@ -30,7 +30,7 @@ use Rattle.ppdb_values.specs.declared.custom.CustomBody.{CustomBody}
 use Rattle.ppdb_values.specs.declared.custom.CustomBody.TheVariants.{Async, Hoisted, TypeDocuments, Unread}
 use Rattle.ppdb_values.specs.declared.custom.CustomValue.{CustomValue}
 use Rattle.ppdb_values.specs.declared.file.FileValue.{FileValue}
-use Rattle.ppdb_values.specs.Customs.{custom_body, custom_of, kind_in, no_parent, parent_of}
+use Rattle.ppdb_values.specs.Customs.{custom_body, custom_of, kind_in, parent_of}
 use Rattle.ppdb_values.specs.Ordered.{IsSorted}
 use Rattle.ppdb_values.specs.RawFile.{blob, records_of}
 use Rattle.ppdb_values.specs.Rules.{HasRow, IsCustom, IsWholeOfKind, KeepsCustoms, StandsOn}
@@ -57,7 +57,7 @@ parent_named : CodesAreParents → (parent : Parent) → IsSome (coded_in parent
 parent_named codes parent some = parent_from parent (coded_in parent) refl some (codes.coded parent)
 
 parent_back : CodesAreParents → (parent : Parent) → IsSome (coded_in parent) → parent_of (coded_of parent) ≡ parent
-parent_back codes parent some = read_is (parent_in (coded_of parent)) parent no_parent (parent_named codes parent some)
+parent_back codes parent some = read_is (parent_in (coded_of parent)) parent (record { table = 0; row = 0 }) (parent_named codes parent some)
 
 -- its table stands at the tag
 tag_of_parent : (parent : Parent) (coded : ℕ) (o : Option ℕ) → slice_get parent_tables (coded % 32) ≡ o
@@ -154,7 +154,7 @@ module _ (value : FileValue) (entries : length value.rows ≡ 64) (few : length 
         let table = tag_of_parent custom.parent (coded_of custom.parent) (slice_get parent_tables (coded_of custom.parent % 32)) refl named in
         let counted = parents_counted value entries (coded_of custom.parent % 32) custom.parent.table table in
         record {
-          tag = read_there (parent_in (coded_of custom.parent)) custom.parent no_parent named;
+          tag = read_there (parent_in (coded_of custom.parent)) custom.parent (record { table = 0; row = 0 }) named;
           parent = subst (λ (parent : Parent). HasRow raw parent.table parent.row) (sym back)
               (s.parent.0, subst (λ (n : ℕ). custom.parent.row ≤ n) (sym counted) s.parent.1);
           kind = read_there (guid_at raw.guids (guid_cell value (Some custom.kind))) custom.kind [] (items.kind custom is);

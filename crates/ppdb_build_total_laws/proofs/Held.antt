@@ -1,5 +1,5 @@
 -- What a blob of a canonical file holds: each index is that of a blob that is there.
-use Rattle.std.proofs.Common.{◌≡◌, ℕ, ◌+◌, ◌<◌, ◌≤◌, List, [], ◌∷◌, length, map, refl, ap, subst, ◌∙◌, arith, min, sum_by}
+use Rattle.std.proofs.Common.{◌≡◌, ℕ, ◌+◌, ◌<◌, ◌≤◌, List, [], ◌∷◌, length, map, refl, ap, subst, ◌∙◌, arith, min, sum_by, flat_map}
 use Rattle.std.specs.Prelude.{Some}
 use Rattle.std.specs.List.{Contains}
 use Rattle.std.proofs.lemmas.List.{append-nil}
@@ -9,14 +9,14 @@ use Rattle.ppdb_heaps.specs.Heaps.{blob_at}
 use Rattle.ppdb_values.specs.declared.file.FileValue.{FileValue}
 use Rattle.ppdb_verify_total.specs.HeapUses.{len_of}
 use Rattle.ppdb_build_heaps.specs.Items.{index_of, as_blob, shortest}
-use Rattle.ppdb_build_heaps.specs.Uses.{Piece, index, held_in, plain, with_held, blob_bytes}
+use Rattle.ppdb_build_heaps.specs.Uses.{Piece, index, held_by, plain, with_held, blob_bytes}
 use Rattle.ppdb_build_canon.specs.Uses.{blobs, cell_blobs}
 use Rattle.ppdb_build_canon.specs.Canonical.{blob_cell, canonical_tables}
 use Rattle.ppdb_build_canon.proofs.Stand.{blob_stands, blob_within}
 use Rattle.ppdb_build_canon.proofs.Uses.{held_used, named_used}
 
 -- the contents that some indexes name
-pub held_are : (contents : List (List ℕ)) → held_in (map index contents) ≡ contents
+pub held_are : (contents : List (List ℕ)) → flat_map held_by (map index contents) ≡ contents
 held_are [] = refl
 held_are (content ∷ contents) = ap (λ rest. content ∷ rest) (held_are contents)
 
@@ -38,7 +38,7 @@ module _ (value : FileValue) (small : length (canonical_tables value).blobs ≤ 
       ≡ spelled_len used
   cell_len used is = ap len_of (blob_stands value used (named_used value used is) small)
 
-  module _ (pieces : List Piece) (is : Contains (cell_blobs value) pieces) (content : List ℕ) (held : Contains (held_in pieces) content) where
+  module _ (pieces : List Piece) (is : Contains (cell_blobs value) pieces) (content : List ℕ) (held : Contains (flat_map held_by pieces) content) where
     itself : blob_bytes (blobs value) (plain content) ≡ content
     itself = append-nil content
 
@@ -59,9 +59,9 @@ module _ (value : FileValue) (small : length (canonical_tables value).blobs ≤ 
     held_spelled = least_form (place_of content) held_small
 
   -- what a blob holds, and the blob, by their lengths
-  pub with_held_len : (pieces : List Piece) → sum_by spelled_len (with_held pieces) ≡ sum_by length (held_in pieces) + spelled_len pieces
+  pub with_held_len : (pieces : List Piece) → sum_by spelled_len (with_held pieces) ≡ sum_by length (flat_map held_by pieces) + spelled_len pieces
   with_held_len pieces =
-      sum_by_push spelled_len (map plain (held_in pieces)) pieces ∙ ap (λ n. n + spelled_len pieces) (plains (held_in pieces))
+      sum_by_push spelled_len (map plain (flat_map held_by pieces)) pieces ∙ ap (λ n. n + spelled_len pieces) (plains (flat_map held_by pieces))
     where
       plains : (contents : List (List ℕ)) → sum_by spelled_len (map plain contents) ≡ sum_by length contents
       plains [] = refl

@@ -30,9 +30,9 @@ use Rattle.ppdb_values_sound_laws.specs.Named.{type_limits}
 use Rattle.ppdb_values_sound_laws.specs.Sound.{SoundRows}
 use Rattle.ppdb_verify_total.specs.HeapUses.{HeapUse, blob_in, in_imports, len_of, named_inside, of_import}
 use Rattle.ppdb_build_heaps.specs.Items.{as_blob, index_of, shortest}
-use Rattle.ppdb_build_heaps.specs.Uses.{Piece, held_by, held_in, with_held, blob_bytes, piece_bytes}
+use Rattle.ppdb_build_heaps.specs.Uses.{Piece, held_by, with_held, blob_bytes, piece_bytes}
 use Rattle.ppdb_build_heaps.proofs.Stable.{after-adds}
-use Rattle.ppdb_build_canon.specs.Uses.{blobs, blob_uses, cell_blobs, import_blob, import_pieces, imports_pieces}
+use Rattle.ppdb_build_canon.specs.Uses.{blobs, blob_uses, cell_blobs, import_blob, import_pieces}
 use Rattle.ppdb_build_canon.specs.Canonical.{blob_cell, canonical_tables, import_row}
 use Rattle.ppdb_build_canon.proofs.Among.{among_first, among_flat_map, among_later}
 use Rattle.ppdb_build_canon.proofs.Stand.{blob_stands}
@@ -164,7 +164,7 @@ module _ (value : FileValue) (small : length (canonical_tables value).blobs ≤ 
   -- what an import names
   texts_len : (import : ImportValue) (at : ℕ) → AreTextsThere import
       → named_len (flat_map text_index (parts_at (numbers_of import) at (Kind ∷ parts_of (kind_of_import import))))
-      ≡ sum_by length (held_in (import_pieces import))
+      ≡ sum_by length (flat_map held_by (import_pieces import))
   texts_len (Namespace namespace) at are = let n = text_len namespace are.namespace in omega (arith, n)
   texts_len (AssemblyNamespace assembly namespace) at are = let n = text_len namespace are.namespace in omega (arith, n)
   texts_len (Target target) at are = refl
@@ -185,11 +185,11 @@ module _ (value : FileValue) (small : length (canonical_tables value).blobs ≤ 
   rest_sound import imports all one is = all one (among_later import one imports is)
 
   all_spelled : (imports : List ImportValue) → AreSound imports
-      → blob_bytes (blobs value) (imports_pieces imports) ≡ flat_map import_spelling (map numbers_of imports)
+      → blob_bytes (blobs value) (flat_map import_pieces imports) ≡ flat_map import_spelling (map numbers_of imports)
   all_spelled [] all = refl
   all_spelled (import ∷ imports) all =
-      flat_map-append (piece_bytes (blobs value)) (import_pieces import) (imports_pieces imports)
-      ∙ ap (λ bytes. bytes ++ blob_bytes (blobs value) (imports_pieces imports)) (spelled import (all import (among_first import imports)).0)
+      flat_map-append (piece_bytes (blobs value)) (import_pieces import) (flat_map import_pieces imports)
+      ∙ ap (λ bytes. bytes ++ blob_bytes (blobs value) (flat_map import_pieces imports)) (spelled import (all import (among_first import imports)).0)
       ∙ ap (λ rest. import_spelling (numbers_of import) ++ rest) (all_spelled imports (rest_sound import imports all))
 
   all_writable : (imports : List ImportValue) → SoundRows value.rows → AreSound imports → All IsImport (map numbers_of imports)
@@ -224,7 +224,7 @@ module _ (value : FileValue) (small : length (canonical_tables value).blobs ≤ 
       ∙ ap (λ rest. import_item (blob_at heap) (numbers_of import) ∷ rest) (all_stand imports (rest_sound import imports all))
 
   all_len : (imports : List ImportValue) (at : ℕ) → AreSound imports
-      → named_len (flat_map text_index (fields_at at (map numbers_of imports))) ≡ sum_by length (held_in (imports_pieces imports))
+      → named_len (flat_map text_index (fields_at at (map numbers_of imports))) ≡ sum_by length (flat_map held_by (flat_map import_pieces imports))
   all_len [] at all = refl
   all_len (import ∷ imports) at all =
       let fields = parts_at (numbers_of import) at (Kind ∷ parts_of (kind_of_import import)) in
@@ -233,8 +233,8 @@ module _ (value : FileValue) (small : length (canonical_tables value).blobs ≤ 
       let rest = all_len imports (at + length (import_spelling (numbers_of import))) (rest_sound import imports all) in
       let split = ap (sum_by (index_len heap)) (flat_map-append text_index fields next) in
       let halves = sum_by-append (index_len heap) (flat_map text_index fields) (flat_map text_index next) in
-      let pieces = ap (sum_by length) (flat_map-append held_by (import_pieces import) (imports_pieces imports)) in
-      let contents = sum_by-append length (held_in (import_pieces import)) (held_in (imports_pieces imports)) in
+      let pieces = ap (sum_by length) (flat_map-append held_by (import_pieces import) (flat_map import_pieces imports)) in
+      let contents = sum_by-append length (flat_map held_by (import_pieces import)) (flat_map held_by (flat_map import_pieces imports)) in
       omega (arith, here, rest, split, halves, pieces, contents)
 
   -- ---- the row of a scope
@@ -248,22 +248,22 @@ module _ (value : FileValue) (small : length (canonical_tables value).blobs ≤ 
     named : Contains (cell_blobs value) pieces
     named = import_named value scope is
 
-    readable : (text : List ℕ) → Contains (held_in pieces) text → IsReadable text
+    readable : (text : List ℕ) → Contains (flat_map held_by pieces) text → IsReadable text
     readable text held = record { there = held_there value small pieces named text held; below = held_small value small pieces named text held }
 
     of_import_held : (imports : List ImportValue) (import : ImportValue) (text : List ℕ) → Contains imports import
-        → Contains (held_in (import_pieces import)) text
-        → Contains (held_in (imports_pieces imports)) text
+        → Contains (flat_map held_by (import_pieces import)) text
+        → Contains (flat_map held_by (flat_map import_pieces imports)) text
     of_import_held imports import text among held =
         subst (λ contents. Contains contents text) (sym (held_flat imports))
-        (among_flat_map (λ one. held_in (import_pieces one)) imports import text among held)
+        (among_flat_map (λ one. flat_map held_by (import_pieces one)) imports import text among held)
       where
-        held_flat : (all : List ImportValue) → held_in (imports_pieces all) ≡ flat_map (λ one. held_in (import_pieces one)) all
+        held_flat : (all : List ImportValue) → flat_map held_by (flat_map import_pieces all) ≡ flat_map (λ one. flat_map held_by (import_pieces one)) all
         held_flat [] = refl
         held_flat (one ∷ others) =
-            flat_map-append held_by (import_pieces one) (imports_pieces others) ∙ ap (λ rest. held_in (import_pieces one) ++ rest) (held_flat others)
+            flat_map-append held_by (import_pieces one) (flat_map import_pieces others) ∙ ap (λ rest. flat_map held_by (import_pieces one) ++ rest) (held_flat others)
 
-    texts_there : (import : ImportValue) → ((text : List ℕ) → Contains (held_in (import_pieces import)) text → IsReadable text) → AreTextsThere import
+    texts_there : (import : ImportValue) → ((text : List ℕ) → Contains (flat_map held_by (import_pieces import)) text → IsReadable text) → AreTextsThere import
     texts_there (Namespace namespace) there = record { alias = readable_nothing; namespace = there namespace (among_first namespace []) }
     texts_there (AssemblyNamespace assembly namespace) there = record { alias = readable_nothing; namespace = there namespace (among_first namespace []) }
     texts_there (Target target) there = record { alias = readable_nothing; namespace = readable_nothing }
@@ -312,7 +312,7 @@ module _ (value : FileValue) (small : length (canonical_tables value).blobs ≤ 
         let first = blob_in (canonical_tables value) 0x35 row 1 (blob_cell value pieces) in
         let cell = cell_len value small pieces named in
         let within = inside_len row all in
-        let named_all : named_len all ≡ sum_by length (held_in pieces) = ap named_len indexes ∙ all_len scope.imports 0 all_sound in
+        let named_all : named_len all ≡ sum_by length (flat_map held_by pieces) = ap named_len indexes ∙ all_len scope.imports 0 all_sound in
         omega (
           arith,
           cell,

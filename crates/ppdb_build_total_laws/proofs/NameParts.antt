@@ -14,12 +14,12 @@ use Rattle.ppdb_values.specs.declared.file.DocumentValue.{DocumentValue}
 use Rattle.ppdb_values.specs.declared.file.FileValue.{FileValue}
 use Rattle.ppdb_verify_rules.specs.Blobs.{in_blob}
 use Rattle.ppdb_verify_total.specs.HeapUses.{HeapUse, blob_in, in_name, len_of, named_inside, of_document}
-use Rattle.ppdb_build_heaps.specs.Uses.{Piece, index, held_in, plain, with_held, blob_bytes, piece_bytes}
-use Rattle.ppdb_build_canon.specs.Uses.{blobs, cell_blobs, document_blobs, name_pieces, parts_of, separator_of}
+use Rattle.ppdb_build_heaps.specs.Uses.{Piece, index, held_by, plain, with_held, blob_bytes, piece_bytes}
+use Rattle.ppdb_build_canon.specs.Uses.{blobs, cell_blobs, name_pieces, parts_of, separator_of}
 use Rattle.ppdb_build_canon.specs.Canonical.{blob_cell, canonical_tables, document_row}
 use Rattle.ppdb_build_canon.proofs.Among.{among_first, among_later}
 use Rattle.ppdb_build_canon.proofs.Stand.{blob_stands}
-use Rattle.ppdb_build_canon.proofs.Uses.{hash_named, name_named, named_used}
+use Rattle.ppdb_build_canon.proofs.Uses.{document_blobs, hash_named, name_named, named_used}
 use Rattle.ppdb_build_total_laws.proofs.Held.{cell_len, held_are, held_small, held_spelled, held_there, place_of, spelled_len, with_held_len}
 
 -- ---- the separator and the parts
@@ -76,7 +76,7 @@ module _ (value : FileValue) (small : length (canonical_tables value).blobs ≤ 
 
   -- some of the parts of a name
   abbrev AreHeld : List Piece → List (List ℕ) → Type 0
-  AreHeld pieces parts = (content : List ℕ) → Contains parts content → Contains (held_in pieces) content
+  AreHeld pieces parts = (content : List ℕ) → Contains parts content → Contains (flat_map held_by pieces) content
 
   module _ (pieces : List Piece) (is : Contains (cell_blobs value) pieces) where
     spelled : (parts : List (List ℕ)) → AreHeld pieces parts
@@ -160,7 +160,7 @@ module _ (value : FileValue) (small : length (canonical_tables value).blobs ≤ 
         let name = cell_len value small pieces named in
         let hash = cell_len value small (plain document.hash) (hash_named value document is) in
         let within = parts_len row in
-        let held : sum_by length (held_in pieces) ≡ sum_by length parts = ap (λ contents. sum_by length contents) (held_are parts) in
+        let held : sum_by length (flat_map held_by pieces) ≡ sum_by length parts = ap (λ contents. sum_by length contents) (held_are parts) in
         omega (
           arith,
           name,

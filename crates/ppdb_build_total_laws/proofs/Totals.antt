@@ -18,14 +18,14 @@ use Rattle.ppdb_values_sound_laws.specs.Sound.{IsSound}
 use Rattle.ppdb_verify_total.specs.HeapUses.{HeapUse, blob_in, len_of, of_constant, of_custom, of_document, of_import, of_method}
 use Rattle.ppdb_verify_total.specs.HeapUses.{of_variable, heap_uses, text_in}
 use Rattle.ppdb_build_heaps.specs.Uses.{Piece, with_held}
-use Rattle.ppdb_build_canon.specs.Uses.{cell_blobs, constant_blob, constants_of, custom_blob, document_blobs, import_blob, method_blob, text_uses, variables_of}
+use Rattle.ppdb_build_canon.specs.Uses.{cell_blobs, constant_blob, constants_of, custom_blob, import_blob, method_blob, text_uses, variables_of}
 use Rattle.ppdb_build_canon.specs.Canonical.{blob_cell, canonical_tables, constant_row, custom_row, document_row, import_row, method_row_of}
 use Rattle.ppdb_build_canon.specs.Canonical.{method_rows, text_cell, variable_row}
 use Rattle.ppdb_build_canon.specs.Limits.{span}
 use Rattle.ppdb_build_canon.proofs.Counts.{type_limits_are}
 use Rattle.ppdb_build_canon.proofs.Shape.{blobs_small}
 use Rattle.ppdb_build_canon.proofs.Stand.{text_stands}
-use Rattle.ppdb_build_canon.proofs.Uses.{constant_name_used, constant_named, custom_named, method_named, variable_name_used}
+use Rattle.ppdb_build_canon.proofs.Uses.{document_blobs, constant_name_used, constant_named, custom_named, method_named, variable_name_used}
 use Rattle.ppdb_build_total_laws.specs.HeapUses.{HeapUsesAreFew, HeapUsesAreSummed}
 use Rattle.ppdb_build_total_laws.proofs.Held.{cell_len, spelled_len}
 use Rattle.ppdb_build_total_laws.proofs.ImportTexts.{import_len}

@@ -69,7 +69,7 @@ pub record NameReading (blobs blob sep : List ℕ) (contents : List (List ℕ)) 
   pub separator_is : sep ≡ without_zero bytes
   pub contents_are : contents ≡ contents_of parts
 
--- The text of a name: the parts that the fields of its longest valid prefix make.
+-- The text of a name: the parts that the fields of its longest valid prefix make, joined by its separator.
 unfoldable pub name_of : List ℕ → List ℕ → List ℕ
 name_of blobs blob = joined (cut (names blobs) (prefix_of (names blobs) blob)).whole
 

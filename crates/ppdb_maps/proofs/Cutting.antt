@@ -9,8 +9,8 @@ use Rattle.std.proofs.lemmas.List.{length-drop}
 use Rattle.std.proofs.lemmas.List.Quantifiers.{position-Some}
 use Rattle.std.proofs.lemmas.Bool.{cases_lt, lt-ltb, ne_eqb, false≢true}
 use Rattle.std.specs.Option.{is_some}
-use Rattle.ppdb_maps.specs.Words.{parts_at}
 use Rattle.ppdb_maps.specs.Cuts.{IsLineOf}
+use Rattle.ppdb_maps.specs.Cuts.{parts_at}
 
 parts_at_place : (mark : ℕ) (xs : List ℕ) (i : ℕ) → i < length xs → (get_or xs i 0 == mark) ≡ true → ((k : ℕ) → k < i → (get_or xs k 0 == mark) ≡ false)
     → parts_at mark xs ≡ take i xs ∷ parts_at mark (drop (suc i) xs)

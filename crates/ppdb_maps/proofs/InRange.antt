@@ -8,7 +8,7 @@ use Rattle.ppdb_base.specs.declared.offsets.Run.{Run}
 use Rattle.ppdb_base.specs.Offsets.{Rise, lined}
 use Rattle.ppdb_maps.specs.Before.{count_in, row_in, cross_in, gone_in, has_image_in, method_in, methods_of, with_run, drop_in, slots_in, slot_in, signature_in, document_in}
 use Rattle.ppdb_maps.specs.Before.{link_in}
-use Rattle.ppdb_maps.specs.Forms.{AreBytes, ROWS, OFFSETS, SLOTS, Values, Tells, silent, told, rows_line, row_line, method_line, run_line, drop_line, slots_line}
+use Rattle.ppdb_maps.specs.Forms.{AreBytes, SLOTS, Values, Tells, silent, told, rows_line, row_line, method_line, run_line, drop_line, slots_line}
 use Rattle.ppdb_maps.specs.Forms.{slot_line, signature_line, document_line, link_line, cross_line, gone_line, shares_line, Crosses}
 use Rattle.ppdb_maps.specs.Map.{MethodLine}
 use Rattle.ppdb_maps.specs.Readable.{IsRow}
@@ -25,26 +25,27 @@ use Rattle.ppdb_maps.specs.declared.rule.Rule.TheVariants.{Repeated, Undeclared,
 use Rattle.ppdb_maps.proofs.Finishing.{found_at_number}
 use Rattle.ppdb_maps.proofs.Named.{same_bytes}
 use Rattle.ppdb_maps.proofs.Rising.{rise_with, not_less}
+use Rattle.ppdb_base.specs.declared.limits.TheConstants.{MAX_ROWS, MAX_OFFSET}
 
 -- the numbers of a line
 abbrev InRange : Line → Type 0
 InRange Silent = Unit {0}
-InRange (Rows t n) = (t ≤ 0x2c) × (n ≤ ROWS)
+InRange (Rows t n) = (t ≤ 0x2c) × (n ≤ MAX_ROWS)
 InRange (Row t o n) = IsRow o × IsRow n
 InRange (Cross line) = IsRow line.old × IsRow line.new × Crosses line
 InRange (Gone t o) = IsRow o × (t ≢ 0x06)
-InRange (Method m o n) = IsRow m × (o ≤ OFFSETS) × (n ≤ OFFSETS)
+InRange (Method m o n) = IsRow m × (o ≤ MAX_OFFSET) × (n ≤ MAX_OFFSET)
 InRange (Kept run) = 0 < run.length
 InRange (Dropped m) = IsRow m
 InRange (Slots m) = IsRow m
 InRange (Slot m o n) = (o ≤ SLOTS) × (n ≤ SLOTS)
-InRange (Signature m n) = IsRow m × (n ≤ ROWS)
+InRange (Signature m n) = IsRow m × (n ≤ MAX_ROWS)
 InRange (Document d) = AreBytes d.old × AreBytes d.new
 InRange (Link value) = AreBytes value
 InRange Shares = Unit {0}
 
 values_range : (form : Form) (values : List (List ℕ)) (line : Line) → Values form values line → InRange line
-values_range form values line (rows_line a b) = (a.known, b.to)
+values_range form values line (rows_line a b) = (a.1, b.to)
 values_range form values line (row_line a b d) = ((b.from, b.to), (d.from, d.to))
 values_range form values line (cross_line a b d e f) = ((b.from, b.to), (e.from, e.to), f)
 values_range form values line (gone_line a b d) = ((d.from, d.to), b)
@@ -60,17 +61,17 @@ values_range form values line shares_line = tt
 
 tells_range : (version : ℕ) (text : List ℕ) (line : Line) → Tells version text line → InRange line
 tells_range version text line (silent h) = tt
-tells_range version text line (told loud says) = values_range says.form says.has.values line says.values
+tells_range version text line (told form loud has values) = values_range form has.values line values
 
 -- the numbers of a method's line, with its runs
 abbrev pub FitsLine : List Line → MethodLine → Type 0
 FitsLine said line =
-    IsRow line.method × (line.old_size ≤ OFFSETS) × (line.new_size ≤ OFFSETS)
+    IsRow line.method × (line.old_size ≤ MAX_OFFSET) × (line.new_size ≤ MAX_OFFSET)
     × Rise (lined line.runs line.old_size line.new_size) × (drop_in said line.method ≡ false)
 
 -- the answers of lines
 pub record Fits (said : List Line) : Type 0 where
-  pub counts : (t n : ℕ) → count_in said t ≡ Some n → (t ≤ 0x2c) × (n ≤ ROWS)
+  pub counts : (t n : ℕ) → count_in said t ≡ Some n → (t ≤ 0x2c) × (n ≤ MAX_ROWS)
   pub rows : (t o n : ℕ) → row_in said t o ≡ Some n → IsRow o × IsRow n × (is_some (count_in said t) ≡ true) × (t ≡ 0x06 → drop_in said o ≡ false)
   pub crossed : (t o : ℕ) (line : CrossLine) → cross_in said t o ≡ Some line
       → IsRow o × IsRow line.new × Crosses line × (is_some (count_in said t) ≡ true) × (row_in said t o ≡ None)
@@ -80,7 +81,7 @@ pub record Fits (said : List Line) : Type 0 where
   pub drops : (m : ℕ) → drop_in said m ≡ true → IsRow m
   pub slotted : (m : ℕ) → slots_in said m ≡ true → IsRow m × (drop_in said m ≡ false)
   pub slots : (m o n : ℕ) → slot_in said m o ≡ Some n → (o ≤ SLOTS) × (n ≤ SLOTS) × (slots_in said m ≡ true)
-  pub signatures : (m n : ℕ) → signature_in said m ≡ Some n → IsRow m × (n ≤ ROWS) × (drop_in said m ≡ false)
+  pub signatures : (m n : ℕ) → signature_in said m ≡ Some n → IsRow m × (n ≤ MAX_ROWS) × (drop_in said m ≡ false)
   pub documents : (old new : List ℕ) → document_in said old ≡ Some new → AreBytes old × AreBytes new
   pub link : (value : List ℕ) → link_in said ≡ Some value → AreBytes value
 
@@ -168,7 +169,7 @@ fits_silent before fits = record {
 fits_rows : (before : List Line) (t n : ℕ) → Fits before → InRange (Rows t n) → Fits (Rows t n ∷ before)
 fits_rows before t n fits range = record {
   counts = λ k m is. elim (answer_from (nat_eq t k) n m (count_in before k) is) [
-    | inl (hit, same) ↦ (subst (λ x. x ≤ 0x2c) (eqb-true t k hit) range.0, subst (λ x. x ≤ ROWS) same range.1)
+    | inl (hit, same) ↦ (subst (λ x. x ≤ 0x2c) (eqb-true t k hit) range.0, subst (λ x. x ≤ MAX_ROWS) same range.1)
     | inr (miss, rest) ↦ fits.counts k m rest
   ];
   rows = λ k o m is. let h = fits.rows k o m is in (h.0, h.1, still_some (nat_eq t k) n (count_in before k) h.2, h.3);
@@ -434,7 +435,7 @@ fits_signature before m n fits range keeps = record {
     | inl (hit, same) ↦
         let one : m ≡ k = eqb-true m k hit in (
           subst IsRow one range.0,
-          subst (λ x. x ≤ ROWS) same range.1,
+          subst (λ x. x ≤ MAX_ROWS) same range.1,
           subst (λ x. drop_in before x ≡ false) one (not_true (drop_in before m) (λ drop. keeps NamesDropped (dropped_signature drop))),
         )
     | inr (miss, rest) ↦ fits.signatures k i rest

@@ -23,3 +23,4 @@ pub mod SampleMap
 pub mod TextSteps
 pub mod SampleTexts
 pub mod OnePass
+pub mod Parts

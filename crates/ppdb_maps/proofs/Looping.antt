@@ -38,7 +38,7 @@ values_length form values line shares_line = tt
 
 pub tells_length : (version : ℕ) (text : List ℕ) (line : Line) → Tells version text line → HasLength line
 tells_length version text line (silent h) = tt
-tells_length version text line (told loud says) = values_length says.form says.has.values line says.values
+tells_length version text line (told form loud has values) = values_length form has.values line values
 
 pub text_added : (version : ℕ) (before : List Line) (text : List ℕ) (line : Line) (result : Result (Unit {0}) Refusal) (new : Draft) → Tells version text line
     → AddsLine before line result new → MatchResult result (λ _. TextAdded version before text new) (TextRefused version before text)

@@ -1,14 +1,17 @@
 -- How decimal numbers below 2^32 are spelled, and what a table's two digits say.
-use Rattle.std.proofs.Common.{zero, suc, ◌≡◌, ℕ, ◌<◌, ◌≤◌, ◌^◌, ◌≢◌, List, [], ◌∷◌, length, get_or, sym, ap, subst, inl, inr, arith, Result, Ok, Err, IfSome}
+use Rattle.std.proofs.Common.{zero, suc, ◌≡◌, ℕ, ◌+◌, ◌*◌, ◌<◌, ◌≤◌, ◌^◌, ◌≢◌, List, [], ◌∷◌, length, get_or, sym, ap, ◌∙◌, subst, inl, inr, arith, Result, Ok, Err, IfSome}
 use Rattle.std.proofs.Common.{IfNone}
 use Rattle.std.specs.Fmt.{decimal}
 use Rattle.std.specs.Result.{result_ok, OkIff}
-use Rattle.std.specs.Str.Parse.{AllDigits, digits_value}
+use Rattle.std.specs.Char.{digit_value}
+use Rattle.std.specs.Str.Parse.{AllDigits, IsNumeral, digits_value}
+use Rattle.std.proofs.lemmas.Bool.Decides.{nat_tests}
 use Rattle.std.proofs.lemmas.Str.Parse.{IsNumeralModel, numerals_by_value, tells_digits, digits_value_short}
 use Rattle.std.proofs.lemmas.Fmt.{digits_decimal, digits_value-decimal, length-decimal-le, decimal_nonempty, first_decimal, decimal_digit}
 use Rattle.std.proofs.lemmas.Fmt.{decimal-digits_value, decimal_injective}
 use Rattle.ppdb_maps.specs.Spelling.{MaySpell}
-use Rattle.ppdb_maps.specs.Forms.{IsNumber, IsHexDigit, IsTable}
+use Rattle.ppdb_maps.specs.Forms.{IsNumber, IsTable}
+use Rattle.ppdb_maps.specs.Spelling.{IsHexDigit}
 
 pub numerals : IsNumeralModel (AllDigits 10) (digits_value 10)
 numerals = numerals_by_value (AllDigits 10) tells_digits
@@ -74,15 +77,68 @@ one_digit c x y (inr a) (inr b) = elim a.2 [
   | inr h ↦ elim b.2 [ inl k ↦ absurd (omega (arith, a.0, a.1, b.0, b.1, h, k)) | inr k ↦ omega (arith, h, k) ]
 ]
 
+-- what a digit says is its value
+digit_is : (c d : ℕ) → IsHexDigit c d → digit_value c ≡ d
+digit_is c d h = grind (arith, nat_tests, h)
+
+digit_small : (c d : ℕ) → IsHexDigit c d → digit_value c < 16
+digit_small c d h = grind (arith, nat_tests, h)
+
+digit_from : (c : ℕ) → digit_value c < 16 → IsHexDigit c (digit_value c)
+digit_from c h = grind (arith, nat_tests, h)
+
+-- the two digits of a table
+pub record TableDigits (word : List ℕ) (table : ℕ) : Type 0 where
+  pub high : ℕ
+  pub low : ℕ
+  pub c : ℕ
+  pub d : ℕ
+  pub spelled : word ≡ c ∷ d ∷ []
+  pub digits : IsHexDigit c high × IsHexDigit d low
+  pub is : table ≡ high * 16 + low
+  pub known : table ≤ 0x2c
+
+pub table_of_digits : (word : List ℕ) (table : ℕ) → TableDigits word table → IsTable word table
+table_of_digits word table a = (
+  record {
+    digits = a.c ∷ a.d ∷ [];
+    spelled = a.spelled;
+    from = omega arith;
+    to = omega arith;
+    numeral = (omega arith, (digit_small a.c a.high a.digits.0, (digit_small a.d a.low a.digits.1, tt)));
+    is = value (digit_value a.c) (digit_value a.d) (digit_is a.c a.high a.digits.0) (digit_is a.d a.low a.digits.1);
+  },
+  a.known,
+)
+  where
+    value : (c d : ℕ) → c ≡ a.high → d ≡ a.low → table ≡ (0 * 16 + c) * 16 + d
+    value c d high low = let is = a.is in omega (arith, is, high, low)
+
+pub digits_of_table : (word : List ℕ) (table : ℕ) → IsTable word table → TableDigits word table
+digits_of_table word table is = of is.0.digits is.0.spelled is.0.from is.0.to is.0.numeral is.0.is
+  where
+    value : (c d : ℕ) → table ≡ (0 * 16 + c) * 16 + d → table ≡ c * 16 + d
+    value c d e = omega (arith, e)
+
+    of : (ds : List ℕ) → word ≡ ds → 2 ≤ length ds → length ds ≤ 2 → IsNumeral 16 ds → table ≡ digits_value 16 ds → TableDigits word table
+    of [] e low high numeral says = absurd (omega (arith, low))
+    of (c ∷ []) e low high numeral says = absurd (omega (arith, low))
+    of (c ∷ d ∷ []) e low high numeral says = record {
+      high = digit_value c;
+      low = digit_value d;
+      c = c;
+      d = d;
+      spelled = e;
+      digits = (digit_from c numeral.1.0, digit_from d numeral.1.1.0);
+      is = value (digit_value c) (digit_value d) says;
+      known = is.1;
+    }
+    of (c ∷ d ∷ f ∷ ds) e low high numeral says = absurd (omega (arith, high))
+
 -- a word is one table
 pub one_table : (word : List ℕ) (m n : ℕ) → IsTable word m → IsTable word n → m ≡ n
 one_table word m n a b =
-    let e : a.c ∷ a.d ∷ [] ≡ b.c ∷ b.d ∷ [] = cc (a.spelled, b.spelled) in
-    let ec : b.c ≡ a.c = cc in
-    let ed : b.d ≡ a.d = cc in
-    let high : a.high ≡ b.high = one_digit a.c a.high b.high a.digits.0 (subst (λ c. IsHexDigit c b.high) ec b.digits.0) in
-    let low : a.low ≡ b.low = one_digit a.d a.low b.low a.digits.1 (subst (λ c. IsHexDigit c b.low) ed b.digits.1) in
-    omega (arith, a.is, b.is, high, low)
+    a.0.is ∙ ap (digits_value 16) (sym a.0.spelled ∙ b.0.spelled) ∙ sym b.0.is
 
 -- what `try_from` and `ok` answer of a number that a word spells
 pub spelled_or_none : {E : Type 0} (r : Result ℕ E) (v : ℕ) (word : List ℕ) → OkIff r (v < 2 ^ 32) v → word ≡ decimal v

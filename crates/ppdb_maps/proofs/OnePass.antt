@@ -14,9 +14,8 @@ use Rattle.std.proofs.lemmas.Str.Parse.{digit_from_value, digits_value_short}
 use Rattle.ppdb_base.specs.declared.offsets.Run.{Run}
 use Rattle.ppdb_maps.specs.Cuts.{IsLineOf}
 use Rattle.ppdb_maps.specs.Spelling.{MaySpell}
-use Rattle.ppdb_maps.specs.Words.{parts_at, line_words, IsSilent}
-use Rattle.ppdb_maps.specs.Forms.{told, Values, run_line, method_line, row_line, cross_line, gone_line, signature_line, Crosses, name_of, words_in, since, IsTable, IsHexDigit}
-use Rattle.ppdb_maps.specs.Forms.{OFFSETS, ROWS}
+use Rattle.ppdb_maps.specs.Words.{line_words, IsSilent}
+use Rattle.ppdb_maps.specs.Forms.{told, Values, run_line, method_line, row_line, cross_line, gone_line, signature_line, Crosses, name_of, words_in, since, IsTable}
 use Rattle.ppdb_maps.specs.OnePass.{IsNumberBefore, IsRunBefore, IsLineBefore}
 use Rattle.ppdb_maps.specs.declared.entries.CrossLine.{CrossLine}
 use Rattle.ppdb_maps.specs.declared.line.Form.{Form}
@@ -24,7 +23,10 @@ use Rattle.ppdb_maps.specs.declared.line.Form.TheVariants.{OffsetRun, MethodSize
 use Rattle.ppdb_maps.specs.declared.line.Line.{Line}
 use Rattle.ppdb_maps.specs.declared.line.Line.TheVariants.{Method, Row, Cross, Gone, Signature, Kept}
 use Rattle.ppdb_maps.proofs.Cutting.{line_ended, end_of_slice}
-use Rattle.ppdb_maps.proofs.Numbers.{numerals, decimal_of_digits}
+use Rattle.ppdb_maps.proofs.Numbers.{digits_of_table, numerals, decimal_of_digits}
+use Rattle.ppdb_maps.specs.Cuts.{parts_at}
+use Rattle.ppdb_base.specs.declared.limits.TheConstants.{MAX_ROWS, MAX_OFFSET}
+use Rattle.ppdb_maps.specs.Spelling.{IsHexDigit}
 
 -- nine digits are below 10^9, and eight below 10^8
 pub few_digits : (ds : List ℕ) (count : ℕ) → AllDigits 10 ds → length ds ≤ count → digits_value 10 ds < 10 ^ count
@@ -139,21 +141,17 @@ line_there : (since_form : ℕ) (text w : List ℕ) (words : List (List ℕ)) (r
 line_there since_form text w words rest form said is fw fs named counted there loud values = record {
   line = line_of w words;
   first = line_first text (line_of w words) rest is (line_from w words fw fs);
-  tells = λ version at_least. told loud (record {
-    form = form;
-    has = record {
-      values = words;
-      named = words_are w words fw fs ∙ ap (λ x. x ∷ words) named;
-      counted = ap length (words_are w words fw fs) ∙ counted;
-      there = omega (arith, there, at_least);
-    };
-    values = values;
-  });
+  tells = λ version at_least. told form loud (record {
+    values = words;
+    named = words_are w words fw fs ∙ ap (λ x. x ∷ words) named;
+    counted = ap length (words_are w words fw fs) ∙ counted;
+    there = omega (arith, there, at_least);
+  }) values;
 }
 
 -- a `run` line that was read
 pub run_there : (text v1 v2 v3 rest : List ℕ) (run : Run) → text ≡ codes "run " ++ v1 → IsNumberBefore 32 v1 run.old v2 → IsNumberBefore 32 v2 run.new v3
-    → IsNumberBefore 10 v3 run.length rest → run.old ≤ OFFSETS → run.new ≤ OFFSETS → 1 ≤ run.length → run.length ≤ OFFSETS → IsRunBefore text run rest
+    → IsNumberBefore 10 v3 run.length rest → run.old ≤ MAX_OFFSET → run.new ≤ MAX_OFFSET → 1 ≤ run.length → run.length ≤ MAX_OFFSET → IsRunBefore text run rest
 run_there text v1 v2 v3 rest run is old new long o n some l =
     line_there 1 text (codes "run") (decimal run.old ∷ decimal run.new ∷ decimal run.length ∷ []) rest OffsetRun (Kept run)
     (joined (codes "run") (decimal run.old) (decimal run.new ∷ decimal run.length ∷ []) text v1 rest is
@@ -182,7 +180,7 @@ method_word (x ∷ y ∷ z ∷ w ∷ p ∷ q ∷ r ∷ rest) long a b c d e f g 
 
 -- a `method` line that was read
 pub method_there : (text v1 v2 v3 rest : List ℕ) (m o n : ℕ) → text ≡ codes "method " ++ v1 → IsNumberBefore 32 v1 m v2 → IsNumberBefore 32 v2 o v3
-    → IsNumberBefore 10 v3 n rest → 1 ≤ m → m ≤ ROWS → o ≤ OFFSETS → n ≤ OFFSETS → IsLineBefore 1 text (Method m o n) rest
+    → IsNumberBefore 10 v3 n rest → 1 ≤ m → m ≤ MAX_ROWS → o ≤ MAX_OFFSET → n ≤ MAX_OFFSET → IsLineBefore 1 text (Method m o n) rest
 method_there text v1 v2 v3 rest m o n is first second third some rows old new =
     line_there 1 text (codes "method") (decimal m ∷ decimal o ∷ decimal n ∷ []) rest MethodSizes (Method m o n)
     (joined (codes "method") (decimal m) (decimal o ∷ decimal n ∷ []) text v1 rest is
@@ -213,11 +211,12 @@ digit_above c d (inl h) = omega (arith, h.1)
 digit_above c d (inr h) = elim h.2 [ inl k ↦ omega (arith, h.0, k) | inr k ↦ omega (arith, h.0, k) ]
 
 table_from : (word : List ℕ) (t : ℕ) → IsTable word t → From 33 word
-table_from word t is = subst (From 33) (sym is.spelled) (digit_above is.c is.high is.digits.0, (digit_above is.d is.low is.digits.1, tt))
+table_from word t table =
+    let is = digits_of_table word t table in subst (From 33) (sym is.spelled) (digit_above is.c is.high is.digits.0, (digit_above is.d is.low is.digits.1, tt))
 
 -- a `row` line that was read
 pub row_there : (text word v1 v2 rest : List ℕ) (t o n : ℕ) → text ≡ codes "row " ++ (word ++ 32 ∷ v1) → IsTable word t → IsNumberBefore 32 v1 o v2
-    → IsNumberBefore 10 v2 n rest → 1 ≤ o → o ≤ ROWS → 1 ≤ n → n ≤ ROWS → IsLineBefore 1 text (Row t o n) rest
+    → IsNumberBefore 10 v2 n rest → 1 ≤ o → o ≤ MAX_ROWS → 1 ≤ n → n ≤ MAX_ROWS → IsLineBefore 1 text (Row t o n) rest
 row_there text word v1 v2 rest t o n is table second third old rows new most =
     line_there 1 text (codes "row") (word ∷ decimal o ∷ decimal n ∷ []) rest RowMove (Row t o n)
     (joined (codes "row") word (decimal o ∷ decimal n ∷ []) text (word ++ 32 ∷ v1) rest is
@@ -237,7 +236,7 @@ table_word (x ∷ y ∷ z ∷ rest) long c = ap (λ n. x ∷ y ∷ n ∷ rest) c
 -- a `row` line of five words that was read
 pub cross_there : (text word v1 v2 other v3 rest : List ℕ) (line : CrossLine) → text ≡ codes "row " ++ (word ++ 32 ∷ v1) → IsTable word line.table
     → IsNumberBefore 32 v1 line.old v2 → v2 ≡ other ++ 32 ∷ v3 → IsTable other line.to → IsNumberBefore 10 v3 line.new rest
-    → 1 ≤ line.old → line.old ≤ ROWS → 1 ≤ line.new → line.new ≤ ROWS → Crosses line → IsLineBefore 4 text (Cross line) rest
+    → 1 ≤ line.old → line.old ≤ MAX_ROWS → 1 ≤ line.new → line.new ≤ MAX_ROWS → Crosses line → IsLineBefore 4 text (Cross line) rest
 cross_there text word v1 v2 other v3 rest line is table second parts to third old rows new most crosses =
     line_there 4 text (codes "row") (word ∷ decimal line.old ∷ other ∷ decimal line.new ∷ []) rest CrossMove (Cross line)
     (joined (codes "row") word (decimal line.old ∷ other ∷ decimal line.new ∷ []) text (word ++ 32 ∷ v1) rest is
@@ -282,7 +281,7 @@ gone_word (x0 ∷ x1 ∷ x2 ∷ x3 ∷ x4 ∷ x5 ∷ x6 ∷ x7 ∷ rest) long h0
 
 -- a `gone` line that was read
 pub gone_there : (text word v1 rest : List ℕ) (t o : ℕ) → text ≡ codes "gone " ++ (word ++ 32 ∷ v1) → IsTable word t → t ≢ 0x06
-    → IsNumberBefore 10 v1 o rest → 1 ≤ o → o ≤ ROWS → IsLineBefore 4 text (Gone t o) rest
+    → IsNumberBefore 10 v1 o rest → 1 ≤ o → o ≤ MAX_ROWS → IsLineBefore 4 text (Gone t o) rest
 gone_there text word v1 rest t o is table other number old rows =
     line_there 4 text (codes "gone") (word ∷ decimal o ∷ []) rest RowGone (Gone t o)
     (joined (codes "gone") word (decimal o ∷ []) text (word ++ 32 ∷ v1) rest is (joined word (decimal o) [] (word ++ 32 ∷ v1) v1 rest refl number.spelled))
@@ -319,7 +318,7 @@ signature_word (x0 ∷ x1 ∷ x2 ∷ x3 ∷ x4 ∷ x5 ∷ x6 ∷ x7 ∷ x8 ∷ x
 
 -- a `signature` line that was read
 pub signature_there : (text v1 v2 rest : List ℕ) (m n : ℕ) → text ≡ codes "signature " ++ v1 → IsNumberBefore 32 v1 m v2 → IsNumberBefore 10 v2 n rest
-    → 1 ≤ m → m ≤ ROWS → n ≤ ROWS → IsLineBefore 4 text (Signature m n) rest
+    → 1 ≤ m → m ≤ MAX_ROWS → n ≤ MAX_ROWS → IsLineBefore 4 text (Signature m n) rest
 signature_there text v1 v2 rest m n is first second some rows most =
     line_there 4 text (codes "signature") (decimal m ∷ decimal n ∷ []) rest MethodSignature (Signature m n)
     (joined (codes "signature") (decimal m) (decimal n ∷ []) text v1 rest is (joined (decimal m) (decimal n) [] v1 v2 rest first.spelled second.spelled))

@@ -16,8 +16,9 @@ use Rattle.ppdb_maps.specs.declared.entries.SignatureImage.{SignatureImage}
 use Rattle.ppdb_maps.specs.declared.entries.NameLine.{NameLine}
 use Rattle.ppdb_maps.specs.Map.{MethodLine, pair_cmp, map_of}
 use Rattle.ppdb_maps.specs.Readable.{IsRowOf, IsLineOf, IsReadable}
-use Rattle.ppdb_maps.specs.Sample.{sample_row, sample_method, sample_runs, sample_map_of}
+use Rattle.ppdb_maps.specs.Sample.{sample_method, sample_runs, sample_map_of}
 use Rattle.ppdb_maps.proofs.OneMap.{maps_made}
+use Rattle.ppdb_maps.proofs.Parts.{sample_row}
 
 pub sample_rise : Rise (lined sample_runs 16 20)
 sample_rise = (omega arith, omega arith, omega arith, (omega arith, omega arith, omega arith, (omega arith, omega arith, omega arith, tt)))

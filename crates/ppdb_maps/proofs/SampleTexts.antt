@@ -7,43 +7,44 @@ use Rattle.ppdb_maps.specs.Map.{MethodLine, count_of}
 use Rattle.ppdb_maps.specs.declared.entries.Count.{Count}
 use Rattle.ppdb_maps.specs.declared.entries.RowLine.{RowLine}
 use Rattle.ppdb_maps.specs.Sample.{sample_map_of}
-use Rattle.ppdb_maps.specs.Forms.{IsHead, Tells, ROWS}
+use Rattle.ppdb_maps.specs.Forms.{IsHead, Tells}
 use Rattle.ppdb_maps.specs.Text.{Read, start, further, HoldsWhat}
 use Rattle.ppdb_maps.specs.SampleTexts.{SampleTexts}
 use Rattle.ppdb_maps.specs.declared.line.Line.TheVariants.{Rows, Row, Method, Kept}
 use Rattle.ppdb_maps.proofs.SampleMap.{sample_readable}
 use Rattle.ppdb_maps.proofs.TextSteps.{tells_rows, tells_row, tells_method, keeps_rows, keeps_row, keeps_method, with_runs}
 use Rattle.ppdb_maps.proofs.TextSteps.{number_of_digit, row_of_digit, prefix_run, back_run}
+use Rattle.ppdb_base.specs.declared.limits.TheConstants.{MAX_ROWS}
 
 head_1 : IsHead (codes "ppdbmap 1") 1
 head_1 = record { from = omega arith; to = omega arith; spelled = refl }
 
 rows_0 : Tells 1 (codes "rows 06 0") (Rows 6 0)
-rows_0 = tells_rows (codes "rows 06 0") (codes "0") 0 refl (λ e. omega (arith, e)) (number_of_digit 0 ROWS (omega arith) (omega arith))
+rows_0 = tells_rows (codes "rows 06 0") (codes "0") 0 refl (λ e. omega (arith, e)) (number_of_digit 0 MAX_ROWS (omega arith) (omega arith))
 
 rows_1 : Tells 1 (codes "rows 06 1") (Rows 6 1)
-rows_1 = tells_rows (codes "rows 06 1") (codes "1") 1 refl (λ e. omega (arith, e)) (number_of_digit 1 ROWS (omega arith) (omega arith))
+rows_1 = tells_rows (codes "rows 06 1") (codes "1") 1 refl (λ e. omega (arith, e)) (number_of_digit 1 MAX_ROWS (omega arith) (omega arith))
 
 rows_2 : Tells 1 (codes "rows 06 2") (Rows 6 2)
-rows_2 = tells_rows (codes "rows 06 2") (codes "2") 2 refl (λ e. omega (arith, e)) (number_of_digit 2 ROWS (omega arith) (omega arith))
+rows_2 = tells_rows (codes "rows 06 2") (codes "2") 2 refl (λ e. omega (arith, e)) (number_of_digit 2 MAX_ROWS (omega arith) (omega arith))
 
 row_1_1 : Tells 1 (codes "row 06 1 1") (Row 6 1 1)
 row_1_1 = tells_row (codes "row 06 1 1") (codes "1") (codes "1") 1 1 refl (λ e. omega (arith, e))
-    (row_of_digit 1 ROWS (omega arith) (omega arith) (omega arith)) (row_of_digit 1 ROWS (omega arith) (omega arith) (omega arith))
+    (row_of_digit 1 MAX_ROWS (omega arith) (omega arith) (omega arith)) (row_of_digit 1 MAX_ROWS (omega arith) (omega arith) (omega arith))
 
 row_1_2 : Tells 1 (codes "row 06 1 2") (Row 6 1 2)
 row_1_2 = tells_row (codes "row 06 1 2") (codes "1") (codes "2") 1 2 refl (λ e. omega (arith, e))
-    (row_of_digit 1 ROWS (omega arith) (omega arith) (omega arith)) (row_of_digit 2 ROWS (omega arith) (omega arith) (omega arith))
+    (row_of_digit 1 MAX_ROWS (omega arith) (omega arith) (omega arith)) (row_of_digit 2 MAX_ROWS (omega arith) (omega arith) (omega arith))
 
 row_2_1 : Tells 1 (codes "row 06 2 1") (Row 6 2 1)
 row_2_1 = tells_row (codes "row 06 2 1") (codes "2") (codes "1") 2 1 refl (λ e. omega (arith, e))
-    (row_of_digit 2 ROWS (omega arith) (omega arith) (omega arith)) (row_of_digit 1 ROWS (omega arith) (omega arith) (omega arith))
+    (row_of_digit 2 MAX_ROWS (omega arith) (omega arith) (omega arith)) (row_of_digit 1 MAX_ROWS (omega arith) (omega arith) (omega arith))
 
 method_1 : Tells 1 (codes "method 1 16 20") (Method 1 16 20)
-method_1 = tells_method (codes "method 1 16 20") (codes "1") 1 refl (λ e. omega (arith, e)) (row_of_digit 1 ROWS (omega arith) (omega arith) (omega arith))
+method_1 = tells_method (codes "method 1 16 20") (codes "1") 1 refl (λ e. omega (arith, e)) (row_of_digit 1 MAX_ROWS (omega arith) (omega arith) (omega arith))
 
 method_2 : Tells 1 (codes "method 2 16 20") (Method 2 16 20)
-method_2 = tells_method (codes "method 2 16 20") (codes "2") 2 refl (λ e. omega (arith, e)) (row_of_digit 2 ROWS (omega arith) (omega arith) (omega arith))
+method_2 = tells_method (codes "method 2 16 20") (codes "2") 2 refl (λ e. omega (arith, e)) (row_of_digit 2 MAX_ROWS (omega arith) (omega arith) (omega arith))
 
 -- ---- no method
 

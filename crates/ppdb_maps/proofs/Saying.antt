@@ -2,7 +2,7 @@
 use Rattle.std.proofs.Common.{zero, suc, inl, inr, lit<, lit≤, ℕ, ◌≡◌, ◌<◌, ◌≤◌, List, [], ◌∷◌, Option, Some, length, take, refl, sym, ap, ◌∙◌, subst, arith}
 use Rattle.ppdb_base.specs.declared.offsets.Run.{Run}
 use Rattle.ppdb_maps.specs.Words.{IsSilent, line_words}
-use Rattle.ppdb_maps.specs.Forms.{Crosses, name_of, words_in, HasForm, IsNumber, IsTable, ROWS, Values, Tells, rows_line, row_line, method_line, run_line, drop_line}
+use Rattle.ppdb_maps.specs.Forms.{Crosses, name_of, words_in, HasForm, IsNumber, IsTable, Values, Tells, rows_line, row_line, method_line, run_line, drop_line}
 use Rattle.ppdb_maps.specs.Forms.{slots_line, slot_line, signature_line, document_line, link_line, cross_line, gone_line, shares_line, silent, told}
 use Rattle.ppdb_maps.specs.declared.entries.CrossLine.{CrossLine}
 use Rattle.ppdb_maps.specs.declared.entries.NameLine.{NameLine}
@@ -24,12 +24,13 @@ use Rattle.ppdb_maps.specs.declared.rule.Rule.TheVariants.{UnknownForm, NumberFa
 use Rattle.ppdb_maps.specs.declared.words.Words.{Words}
 use Rattle.ppdb_maps.proofs.Numbers.{one_number, one_table}
 use Rattle.ppdb_maps.proofs.Spelled.{one_spelling}
+use Rattle.ppdb_base.specs.declared.limits.TheConstants.{MAX_ROWS}
 
-pub rows_values : (a b : List ℕ) (line : Line) → Values TableRows (a ∷ b ∷ []) line → ((t : ℕ) × IsTable a t) × ((n : ℕ) × IsNumber b 0 ROWS n)
+pub rows_values : (a b : List ℕ) (line : Line) → Values TableRows (a ∷ b ∷ []) line → ((t : ℕ) × IsTable a t) × ((n : ℕ) × IsNumber b 0 MAX_ROWS n)
 rows_values a b line (rows_line t n) = ((_, t), (_, n))
 
 pub row_values : (a b d : List ℕ) (line : Line) → Values RowMove (a ∷ b ∷ d ∷ []) line
-    → ((t : ℕ) × IsTable a t) × ((n : ℕ) × IsNumber b 1 ROWS n) × ((n : ℕ) × IsNumber d 1 ROWS n)
+    → ((t : ℕ) × IsTable a t) × ((n : ℕ) × IsNumber b 1 MAX_ROWS n) × ((n : ℕ) × IsNumber d 1 MAX_ROWS n)
 row_values a b d line (row_line t o n) = ((_, t), (_, o), (_, n))
 
 same_run : (r s : Run) → r.old ≡ s.old → r.new ≡ s.new → r.length ≡ s.length → r ≡ s
@@ -49,21 +50,21 @@ same_cross d e table old to new =
     ∙ (ap (λ k. make e.table e.old k d.new) to ∙ ap (λ l. make e.table e.old e.to l) new))
 
 -- words say one line of five words
-cross_one : (a b d e : List ℕ) (k l : CrossLine) → IsTable a k.table → IsNumber b 1 ROWS k.old → IsTable d k.to → IsNumber e 1 ROWS k.new
-    → IsTable a l.table → IsNumber b 1 ROWS l.old → IsTable d l.to → IsNumber e 1 ROWS l.new → k ≡ l
-cross_one a b d e k l t o u n t2 o2 u2 n2 = same_cross k l (one_table a k.table l.table t t2) (one_number b 1 ROWS k.old l.old (lit< tt) o o2)
-    (one_table d k.to l.to u u2) (one_number e 1 ROWS k.new l.new (lit< tt) n n2)
+cross_one : (a b d e : List ℕ) (k l : CrossLine) → IsTable a k.table → IsNumber b 1 MAX_ROWS k.old → IsTable d k.to → IsNumber e 1 MAX_ROWS k.new
+    → IsTable a l.table → IsNumber b 1 MAX_ROWS l.old → IsTable d l.to → IsNumber e 1 MAX_ROWS l.new → k ≡ l
+cross_one a b d e k l t o u n t2 o2 u2 n2 = same_cross k l (one_table a k.table l.table t t2) (one_number b 1 MAX_ROWS k.old l.old (lit< tt) o o2)
+    (one_table d k.to l.to u u2) (one_number e 1 MAX_ROWS k.new l.new (lit< tt) n n2)
 
 pub cross_values : (a b d e : List ℕ) (line : Line) → Values CrossMove (a ∷ b ∷ d ∷ e ∷ []) line
-    → ((t : ℕ) × IsTable a t) × ((n : ℕ) × IsNumber b 1 ROWS n) × ((t : ℕ) × IsTable d t) × ((n : ℕ) × IsNumber e 1 ROWS n)
+    → ((t : ℕ) × IsTable a t) × ((n : ℕ) × IsNumber b 1 MAX_ROWS n) × ((t : ℕ) × IsTable d t) × ((n : ℕ) × IsNumber e 1 MAX_ROWS n)
 cross_values a b d e line (cross_line t o u n f) = ((_, t), (_, o), (_, u), (_, n))
 
-pub gone_values : (a b : List ℕ) (line : Line) → Values RowGone (a ∷ b ∷ []) line → ((t : ℕ) × IsTable a t) × ((n : ℕ) × IsNumber b 1 ROWS n)
+pub gone_values : (a b : List ℕ) (line : Line) → Values RowGone (a ∷ b ∷ []) line → ((t : ℕ) × IsTable a t) × ((n : ℕ) × IsNumber b 1 MAX_ROWS n)
 gone_values a b line (gone_line t k o) = ((_, t), (_, o))
 
 -- words that say a line that does not cross have no value
-pub cross_none : (a b d e : List ℕ) (ours : CrossLine) → IsTable a ours.table → IsNumber b 1 ROWS ours.old → IsTable d ours.to
-    → IsNumber e 1 ROWS ours.new → (Crosses ours → ⊥) → (line : Line) → Values CrossMove (a ∷ b ∷ d ∷ e ∷ []) line → ⊥
+pub cross_none : (a b d e : List ℕ) (ours : CrossLine) → IsTable a ours.table → IsNumber b 1 MAX_ROWS ours.old → IsTable d ours.to
+    → IsNumber e 1 MAX_ROWS ours.new → (Crosses ours → ⊥) → (line : Line) → Values CrossMove (a ∷ b ∷ d ∷ e ∷ []) line → ⊥
 cross_none a b d e ours t o u n never line (cross_line {line = k} t2 o2 u2 n2 f) =
     never (subst Crosses (cross_one a b d e k ours t2 o2 u2 n2 t o u n) f)
 
@@ -225,8 +226,8 @@ form_there line words version form are fits =
 pub tells_form : (line : List ℕ) (words : Words) (version : ℕ) (form : Form) (says : Line) → (IsSilent line → ⊥) → AreWordsOf line words
     → FitsForm version words form
     → Values form (values_of form words) says → Tells version line says
-tells_form line words version form says loud are fits values = told loud
-    (record { form = form; has = form_there line words version form are fits; values = values })
+tells_form line words version form says loud are fits values =
+    told form loud (form_there line words version form are fits) values
 
 -- the rules on what lines say have the numbers from 4 on
 pub from_four : (before : List Line) (rule : Rule) (line : Line) → Breaks before rule line → 4 ≤ kind_of rule
@@ -282,26 +283,26 @@ breaks_value line words version form before loud are fits none =
 -- what one text says is one thing
 pub one_said : (version : ℕ) (text : List ℕ) (x y : Line) → Tells version text x → Tells version text y → x ≡ y
 one_said version text x y (silent a) (silent b) = refl
-one_said version text x y (silent a) (told loud b) = absurd (loud a)
-one_said version text x y (told loud a) (silent b) = absurd (loud b)
-one_said version text x y (told loud a) (told loud2 b) =
-    let words : name_of a.form ∷ a.has.values ≡ name_of b.form ∷ b.has.values = sym a.has.named ∙ b.has.named in
-    let names : name_of a.form ≡ name_of b.form = cc in
-    let values : b.has.values ≡ a.has.values = cc in
-    let form : b.form ≡ a.form = one_form b.form a.form (sym names) (sym b.has.counted ∙ a.has.counted) in
-    one_of_form a.form a.has.values x y a.values (subst (λ (f : Form). Values f a.has.values y) form (subst (λ v. Values b.form v y) values b.values))
+one_said version text x y (silent a) (told other loud b says) = absurd (loud a)
+one_said version text x y (told one loud a says) (silent b) = absurd (loud b)
+one_said version text x y (told one loud a says) (told other loud2 b says2) =
+    let words : name_of one ∷ a.values ≡ name_of other ∷ b.values = sym a.named ∙ b.named in
+    let names : name_of one ≡ name_of other = cc in
+    let values : b.values ≡ a.values = cc in
+    let form : other ≡ one = one_form other one (sym names) (sym b.counted ∙ a.counted) in
+    one_of_form one a.values x y says (subst (λ (f : Form). Values f a.values y) form (subst (λ v. Values other v y) values says2))
 
 -- a line that says something breaks rules by what it says
 pub breaks_said : (version : ℕ) (before : List Line) (text : List ℕ) (says : Line) (rule : Rule) → Tells version text says
     → BreaksLine version before text rule → Breaks before rule says
 breaks_said version before text says rule (silent a) (no_form loud none) = absurd (loud a)
-breaks_said version before text says rule (told loud a) (no_form loud2 none) = absurd (none a.form a.has)
+breaks_said version before text says rule (told one loud a values) (no_form loud2 none) = absurd (none one a)
 breaks_said version before text says rule (silent a) (no_value loud has none) = absurd (loud a)
-breaks_said version before text says rule (told loud a) (no_value {form = form} loud2 has none) =
-    let words : name_of a.form ∷ a.has.values ≡ name_of form ∷ has.values = sym a.has.named ∙ has.named in
-    let names : name_of a.form ≡ name_of form = cc in
-    let values : a.has.values ≡ has.values = cc in
-    let same : a.form ≡ form = one_form a.form form names (sym a.has.counted ∙ has.counted) in
-    absurd (none says (subst (λ (f : Form). Values f has.values says) same (subst (λ v. Values a.form v says) values a.values)))
+breaks_said version before text says rule (told one loud a told_values) (no_value {form = form} loud2 has none) =
+    let words : name_of one ∷ a.values ≡ name_of form ∷ has.values = sym a.named ∙ has.named in
+    let names : name_of one ≡ name_of form = cc in
+    let values : a.values ≡ has.values = cc in
+    let same : one ≡ form = one_form one form names (sym a.counted ∙ has.counted) in
+    absurd (none says (subst (λ (f : Form). Values f has.values says) same (subst (λ v. Values one v says) values told_values)))
 breaks_said version before text says rule tells (by_lines {line = other} tells2 breaks) =
     subst (λ l. Breaks before rule l) (one_said version text other says tells2 tells) breaks

@@ -7,7 +7,7 @@ use Rattle.std.proofs.lemmas.Fmt.{decimal_digit, decimal_step}
 use Rattle.ppdb_base.specs.declared.offsets.Run.{Run}
 use Rattle.ppdb_maps.specs.Map.{MethodLine}
 use Rattle.ppdb_maps.specs.Words.{IsSilent, line_words}
-use Rattle.ppdb_maps.specs.Forms.{IsNumber, IsTable, ROWS, OFFSETS, Tells, told, rows_line, row_line, method_line, run_line}
+use Rattle.ppdb_maps.specs.Forms.{IsNumber, IsTable, Tells, told, rows_line, row_line, method_line, run_line}
 use Rattle.ppdb_maps.specs.Before.{count_in, has_image_in, method_in, drop_in, methods_of, follows_method}
 use Rattle.ppdb_maps.specs.Rules.{Breaks, Keeps, BeginsEarly, EndsBeyond, second_rows, second_row, row_alone, dropped_row, second_method}
 use Rattle.ppdb_maps.specs.Rules.{dropped_method, run_alone, run_early, run_long}
@@ -17,6 +17,8 @@ use Rattle.ppdb_maps.specs.declared.line.Line.TheVariants.{Rows, Row, Method, Ke
 use Rattle.ppdb_maps.specs.declared.rule.Rule.{Rule}
 use Rattle.ppdb_maps.proofs.Saying.{breaks_said}
 use Rattle.ppdb_maps.specs.Text.{Read, further}
+use Rattle.ppdb_base.specs.declared.limits.TheConstants.{MAX_ROWS, MAX_OFFSET}
+use Rattle.ppdb_maps.proofs.Numbers.{table_of_digits}
 
 digit : (n : ℕ) → n < 10 → (48 + n) ∷ [] ≡ decimal n
 digit n h = sym (decimal_digit n h)
@@ -40,35 +42,29 @@ ten : decimal 10 ≡ codes "10"
 ten = decimal_step 10 (omega arith) (omega arith) ∙ ap (λ ds. ds ++ 48 ∷ []) (decimal_digit 1 (omega arith))
 
 methods_table : IsTable (codes "06") 6
-methods_table =
-    record { high = 0; low = 6; c = 48; d = 54; spelled = refl; digits = (inl (omega arith, refl), inl (omega arith, refl)); is = refl; known = omega arith }
+methods_table = table_of_digits (codes "06") 6
+    (record { high = 0; low = 6; c = 48; d = 54; spelled = refl; digits = (inl (omega arith, refl), inl (omega arith, refl)); is = refl; known = omega arith })
 
 -- ---- what lines report
 
-pub tells_rows : (text b : List ℕ) (n : ℕ) → line_words text ≡ codes "rows" ∷ codes "06" ∷ b ∷ [] → (IsSilent text → ⊥) → IsNumber b 0 ROWS n
+pub tells_rows : (text b : List ℕ) (n : ℕ) → line_words text ≡ codes "rows" ∷ codes "06" ∷ b ∷ [] → (IsSilent text → ⊥) → IsNumber b 0 MAX_ROWS n
     → Tells 1 text (Rows 6 n)
-tells_rows text b n words loud is_number = told loud (record {
-  form = TableRows;
-  has = record { values = codes "06" ∷ b ∷ []; named = words; counted = ap length words; there = omega arith };
-  values = rows_line methods_table is_number;
-})
+tells_rows text b n words loud is_number = told TableRows loud
+    (record { values = codes "06" ∷ b ∷ []; named = words; counted = ap length words; there = omega arith })
+    (rows_line methods_table is_number)
 
-pub tells_row : (text a b : List ℕ) (o n : ℕ) → line_words text ≡ codes "row" ∷ codes "06" ∷ a ∷ b ∷ [] → (IsSilent text → ⊥) → IsNumber a 1 ROWS o
-    → IsNumber b 1 ROWS n → Tells 1 text (Row 6 o n)
-tells_row text a b o n words loud old new = told loud (record {
-  form = RowMove;
-  has = record { values = codes "06" ∷ a ∷ b ∷ []; named = words; counted = ap length words; there = omega arith };
-  values = row_line methods_table old new;
-})
+pub tells_row : (text a b : List ℕ) (o n : ℕ) → line_words text ≡ codes "row" ∷ codes "06" ∷ a ∷ b ∷ [] → (IsSilent text → ⊥) → IsNumber a 1 MAX_ROWS o
+    → IsNumber b 1 MAX_ROWS n → Tells 1 text (Row 6 o n)
+tells_row text a b o n words loud old new = told RowMove loud
+    (record { values = codes "06" ∷ a ∷ b ∷ []; named = words; counted = ap length words; there = omega arith })
+    (row_line methods_table old new)
 
-pub tells_method : (text a : List ℕ) (m : ℕ) → line_words text ≡ codes "method" ∷ a ∷ codes "16" ∷ codes "20" ∷ [] → (IsSilent text → ⊥) → IsNumber a 1 ROWS m
+pub tells_method : (text a : List ℕ) (m : ℕ) → line_words text ≡ codes "method" ∷ a ∷ codes "16" ∷ codes "20" ∷ [] → (IsSilent text → ⊥) → IsNumber a 1 MAX_ROWS m
     → Tells 1 text (Method m 16 20)
-tells_method text a m words loud is_number = told loud (record {
-  form = MethodSizes;
-  has = record { values = a ∷ codes "16" ∷ codes "20" ∷ []; named = words; counted = ap length words; there = omega arith };
-  values = method_line is_number (record { spelled = sym sixteen; from = omega arith; to = omega arith })
-      (record { spelled = sym twenty; from = omega arith; to = omega arith });
-})
+tells_method text a m words loud is_number = told MethodSizes loud
+    (record { values = a ∷ codes "16" ∷ codes "20" ∷ []; named = words; counted = ap length words; there = omega arith })
+    (method_line is_number (record { spelled = sym sixteen; from = omega arith; to = omega arith })
+    (record { spelled = sym twenty; from = omega arith; to = omega arith }))
 
 abbrev pub prefix_run : Run
 prefix_run = record { old = 0; new = 0; length = 4 }
@@ -77,20 +73,16 @@ abbrev pub back_run : Run
 back_run = record { old = 8; new = 10; length = 8 }
 
 pub tells_prefix : Tells 1 (codes "run 0 0 4") (Kept prefix_run)
-tells_prefix = told (λ e. omega (arith, e)) (record {
-  form = OffsetRun;
-  has = record { values = codes "0" ∷ codes "0" ∷ codes "4" ∷ []; named = refl; counted = refl; there = omega arith };
-  values = run_line (number_of_digit 0 OFFSETS (omega arith) (omega arith)) (number_of_digit 0 OFFSETS (omega arith) (omega arith))
-      (row_of_digit 4 OFFSETS (omega arith) (omega arith) (omega arith));
-})
+tells_prefix = told OffsetRun (λ e. omega (arith, e))
+    (record { values = codes "0" ∷ codes "0" ∷ codes "4" ∷ []; named = refl; counted = refl; there = omega arith })
+    (run_line (number_of_digit 0 MAX_OFFSET (omega arith) (omega arith)) (number_of_digit 0 MAX_OFFSET (omega arith) (omega arith))
+    (row_of_digit 4 MAX_OFFSET (omega arith) (omega arith) (omega arith)))
 
 pub tells_back : Tells 1 (codes "run 8 10 8") (Kept back_run)
-tells_back = told (λ e. omega (arith, e)) (record {
-  form = OffsetRun;
-  has = record { values = codes "8" ∷ codes "10" ∷ codes "8" ∷ []; named = refl; counted = refl; there = omega arith };
-  values = run_line (number_of_digit 8 OFFSETS (omega arith) (omega arith)) (record { spelled = sym ten; from = omega arith; to = omega arith })
-      (row_of_digit 8 OFFSETS (omega arith) (omega arith) (omega arith));
-})
+tells_back = told OffsetRun (λ e. omega (arith, e))
+    (record { values = codes "8" ∷ codes "10" ∷ codes "8" ∷ []; named = refl; counted = refl; there = omega arith })
+    (run_line (number_of_digit 8 MAX_OFFSET (omega arith) (omega arith)) (record { spelled = sym ten; from = omega arith; to = omega arith })
+    (row_of_digit 8 MAX_OFFSET (omega arith) (omega arith) (omega arith)))
 
 -- ---- lines that break no rule
 

@@ -1,6 +1,10 @@
 -- The first line of a text and the words of a line, as slices.
-use Rattle.std.specs.{Prelude.{◌≡◌, ℕ, ◌<◌, ◌≤◌, List, [], ◌∷◌, length, take}, Str.Lines.lines}
-use Rattle.ppdb_maps.specs.{Words.{parts_at, text_lines, line_words}, declared.words.Words.Words}
+use Rattle.std.specs.{Prelude.{◌≡◌, ℕ, ◌<◌, ◌≤◌, ◌==◌, List, [], ◌∷◌, length, take}, List.slice_split, Str.Lines.lines}
+use Rattle.ppdb_maps.specs.{Words.{text_lines, line_words}, declared.words.Words.Words}
+
+-- what stands between a byte, as often as it comes
+abbrev pub parts_at : ℕ → List ℕ → List (List ℕ)
+parts_at mark bytes = slice_split (λ b. b == mark) bytes
 
 -- the mark does not stand in the bytes
 abbrev pub IsUncut : ℕ → List ℕ → List ℕ → Type 0

@@ -1,6 +1,6 @@
 -- The forms of a map text's lines, and what a line of each form says (docs/FORMAT.md, "Map texts").
-use Rattle.std.specs.{Prelude.{◌≡◌, ℕ, ◌+◌, ◌*◌, ◌<◌, ◌≤◌, ◌≢◌, ◌⊎◌, ◌++◌, List, [], ◌∷◌, codes, length, decimal}, List.AllByRecursion}
-use Rattle.ppdb_base.specs.{declared.offsets.Run.Run, Escaped.escaped}
+use Rattle.std.specs.{Prelude.{◌≡◌, ℕ, ◌+◌, ◌<◌, ◌≤◌, ◌≢◌, ◌⊎◌, ◌++◌, List, [], ◌∷◌, codes, length, decimal}, List.AllByRecursion, Str.Parse.{IsNumeral, digits_value}}
+use Rattle.ppdb_base.specs.{declared.{limits.TheConstants.{MAX_ROWS, MAX_OFFSET}, offsets.Run.Run}, Escaped.escaped}
 use Rattle.ppdb_maps.specs.Words.{IsSilent, line_words}
 use Rattle.ppdb_maps.specs.declared.line.Form.{Form}
 use Rattle.ppdb_maps.specs.declared.line.Form.TheVariants.{TableRows, RowMove, MethodSizes, OffsetRun, MethodDrop, MethodSlots, SlotMove, MethodSignature}
@@ -61,20 +61,18 @@ pub record IsNumber (word : List ℕ) (least most n : ℕ) : Type 0 where
   pub from : least ≤ n
   pub to : n ≤ most
 
--- a hexadecimal digit in either case: 0 is 48, a is 97, A is 65
-abbrev pub IsHexDigit : ℕ → ℕ → Type 0
-IsHexDigit c d = ((d < 10) × (c ≡ 48 + d)) ⊎ ((10 ≤ d) × (d < 16) × ((c ≡ 87 + d) ⊎ (c ≡ 55 + d)))
+-- a prefix, and from least to most hexadecimal digits of either case
+pub record IsHexadecimal (prefix : List ℕ) (least most : ℕ) (word : List ℕ) (n : ℕ) : Type 0 where
+  pub digits : List ℕ
+  pub spelled : word ≡ prefix ++ digits
+  pub from : least ≤ length digits
+  pub to : length digits ≤ most
+  pub numeral : IsNumeral 16 digits
+  pub is : n ≡ digits_value 16 digits
 
 -- two hexadecimal digits, 00 to 2c
-pub record IsTable (word : List ℕ) (table : ℕ) : Type 0 where
-  pub high : ℕ
-  pub low : ℕ
-  pub c : ℕ
-  pub d : ℕ
-  pub spelled : word ≡ c ∷ d ∷ []
-  pub digits : IsHexDigit c high × IsHexDigit d low
-  pub is : table ≡ high * 16 + low
-  pub known : table ≤ 0x2c
+abbrev pub IsTable : List ℕ → ℕ → Type 0
+IsTable word table = IsHexadecimal [] 2 2 word table × (table ≤ 0x2c)
 
 -- the tables of types: TypeRef, TypeDef and TypeSpec (ECMA-335 II.22.38, II.22.37, II.22.39)
 abbrev pub IsTypeTable : ℕ → Type 0
@@ -96,45 +94,35 @@ pub record IsEscaped (word bytes : List ℕ) : Type 0 where
   pub spelled : word ≡ escaped bytes
   pub within : AreBytes bytes
 
-abbrev pub ROWS : ℕ
-ROWS = 16777215
-
-abbrev pub OFFSETS : ℕ
-OFFSETS = 2147483647
-
+-- the greatest slot of a local variable
 abbrev pub SLOTS : ℕ
 SLOTS = 65535
 
 -- what the values after the first word say, each in its range
 pub data Values : Form → List (List ℕ) → Line → Type 0 where
-  rows_line : {t n : List ℕ} {table rows : ℕ} → IsTable t table → IsNumber n 0 ROWS rows
+  rows_line : {t n : List ℕ} {table rows : ℕ} → IsTable t table → IsNumber n 0 MAX_ROWS rows
       → Values TableRows (t ∷ n ∷ []) (Rows table rows)
-  row_line : {t o n : List ℕ} {table old new : ℕ} → IsTable t table → IsNumber o 1 ROWS old → IsNumber n 1 ROWS new
+  row_line : {t o n : List ℕ} {table old new : ℕ} → IsTable t table → IsNumber o 1 MAX_ROWS old → IsNumber n 1 MAX_ROWS new
       → Values RowMove (t ∷ o ∷ n ∷ []) (Row table old new)
-  method_line : {m o n : List ℕ} {method old_size new_size : ℕ} → IsNumber m 1 ROWS method
-      → IsNumber o 0 OFFSETS old_size → IsNumber n 0 OFFSETS new_size → Values MethodSizes (m ∷ o ∷ n ∷ []) (Method method old_size new_size)
-  run_line : {o n l : List ℕ} {run : Run} → IsNumber o 0 OFFSETS run.old → IsNumber n 0 OFFSETS run.new
-      → IsNumber l 1 OFFSETS run.length → Values OffsetRun (o ∷ n ∷ l ∷ []) (Kept run)
-  drop_line : {m : List ℕ} {method : ℕ} → IsNumber m 1 ROWS method → Values MethodDrop (m ∷ []) (Dropped method)
-  slots_line : {m : List ℕ} {method : ℕ} → IsNumber m 1 ROWS method → Values MethodSlots (m ∷ []) (Slots method)
-  slot_line : {m o n : List ℕ} {method old new : ℕ} → IsNumber m 1 ROWS method → IsNumber o 0 SLOTS old
+  method_line : {m o n : List ℕ} {method old_size new_size : ℕ} → IsNumber m 1 MAX_ROWS method
+      → IsNumber o 0 MAX_OFFSET old_size → IsNumber n 0 MAX_OFFSET new_size → Values MethodSizes (m ∷ o ∷ n ∷ []) (Method method old_size new_size)
+  run_line : {o n l : List ℕ} {run : Run} → IsNumber o 0 MAX_OFFSET run.old → IsNumber n 0 MAX_OFFSET run.new
+      → IsNumber l 1 MAX_OFFSET run.length → Values OffsetRun (o ∷ n ∷ l ∷ []) (Kept run)
+  drop_line : {m : List ℕ} {method : ℕ} → IsNumber m 1 MAX_ROWS method → Values MethodDrop (m ∷ []) (Dropped method)
+  slots_line : {m : List ℕ} {method : ℕ} → IsNumber m 1 MAX_ROWS method → Values MethodSlots (m ∷ []) (Slots method)
+  slot_line : {m o n : List ℕ} {method old new : ℕ} → IsNumber m 1 MAX_ROWS method → IsNumber o 0 SLOTS old
       → IsNumber n 0 SLOTS new → Values SlotMove (m ∷ o ∷ n ∷ []) (Slot method old new)
-  signature_line : {m n : List ℕ} {method new : ℕ} → IsNumber m 1 ROWS method → IsNumber n 0 ROWS new
+  signature_line : {m n : List ℕ} {method new : ℕ} → IsNumber m 1 MAX_ROWS method → IsNumber n 0 MAX_ROWS new
       → Values MethodSignature (m ∷ n ∷ []) (Signature method new)
   document_line : {o n : List ℕ} {d : NameLine} → IsEscaped o d.old → IsEscaped n d.new → Values DocumentRename (o ∷ n ∷ []) (Document d)
-  cross_line : {t o u n : List ℕ} {line : CrossLine} → IsTable t line.table → IsNumber o 1 ROWS line.old → IsTable u line.to
-      → IsNumber n 1 ROWS line.new → Crosses line → Values CrossMove (t ∷ o ∷ u ∷ n ∷ []) (Cross line)
-  gone_line : {t o : List ℕ} {table old : ℕ} → IsTable t table → table ≢ 0x06 → IsNumber o 1 ROWS old → Values RowGone (t ∷ o ∷ []) (Gone table old)
+  cross_line : {t o u n : List ℕ} {line : CrossLine} → IsTable t line.table → IsNumber o 1 MAX_ROWS line.old → IsTable u line.to
+      → IsNumber n 1 MAX_ROWS line.new → Crosses line → Values CrossMove (t ∷ o ∷ u ∷ n ∷ []) (Cross line)
+  gone_line : {t o : List ℕ} {table old : ℕ} → IsTable t table → table ≢ 0x06 → IsNumber o 1 MAX_ROWS old → Values RowGone (t ∷ o ∷ []) (Gone table old)
   shares_line : Values Sharing [] Shares
   link_line : {v : List ℕ} {value : List ℕ} → IsEscaped v value → Values LinkValue (v ∷ []) (Link value)
 
--- the words say this: they are those of a form of the version, and their values are in range
-pub record Says (version : ℕ) (words : List (List ℕ)) (line : Line) : Type 0 where
-  pub form : Form
-  pub has : HasForm version words form
-  pub values : Values form has.values line
-
--- what a line after the first says
+-- what a line after the first says: its words are those of a form of the version, and their values are in range
 pub data Tells (version : ℕ) (text : List ℕ) : Line → Type 0 where
   silent : IsSilent text → Tells version text Silent
-  told : {line : Line} → (IsSilent text → ⊥) → Says version (line_words text) line → Tells version text line
+  told : {line : Line} (form : Form) → (IsSilent text → ⊥) → (has : HasForm version (line_words text) form) → Values form has.values line
+      → Tells version text line

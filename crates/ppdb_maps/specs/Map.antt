@@ -1,6 +1,6 @@
 -- What a map says: one entry for each of its lines that says something, and the questions that are asked of it.
 use Rattle.std.specs.Prelude.{ℕ, ◌&&◌, not, Bool, true, false, cond, nat_eq, bytes_eq, List, [], Option, Some, None, unwrap_or, filter, map, find, option_map}
-use Rattle.std.specs.{List.list_any, List.Sorted.IsStrictlySortedBy}
+use Rattle.std.specs.{List.list_any, List.Sorted.IsStrictlySortedBy, Option.option_map_or}
 use Rattle.std.specs.{Ordering.{nat_cmp, ordering_then}, Cmp.Lexicographic.slice_cmp, declared.cmp.Ordering.Ordering}
 use Rattle.ppdb_base.specs.{declared.offsets.Run.Run, Offsets.{Offsets, every, gone, lined}}
 use Rattle.ppdb_maps.specs.declared.entries.{Count.Count, RowLine.RowLine, CrossLine.CrossLine, GoneLine.GoneLine, SlotImage.SlotImage, SignatureImage.SignatureImage, NameLine.NameLine}
@@ -174,22 +174,15 @@ moved_row said table old = cond (nat_eq old 0) 0 (unwrap_or (row_within said tab
 abbrev pub moved_signature : Map → ℕ → ℕ → ℕ
 moved_signature said method stored = unwrap_or (signature_line said method) (moved_row said 0x11 stored)
 
--- the runs and the sizes of a line, or that there is none
-abbrev pub line_offsets : Option MethodLine → Offsets
-line_offsets None = every
-line_offsets (Some line) = lined line.runs line.old_size line.new_size
-
--- what the map says of a method's offsets
+-- what the map says of a method's offsets: none is kept where it is dropped; else the runs and the sizes of its line, and each where it has
+-- no line
 abbrev pub offsets_in : Map → ℕ → Offsets
-offsets_in said method = cond (is_dropped said method) gone (line_offsets (method_line said method))
+offsets_in said method =
+    cond (is_dropped said method) gone (option_map_or (λ line. lined line.runs line.old_size line.new_size) (method_line said method) every)
 
 -- the image of a slot: the slot itself where the method has no `slots` line, else that of its line
 abbrev pub slot_image : Map → ℕ → ℕ → Option ℕ
 slot_image said method old = cond (has_slots said method) (slot_line said method old) (Some old)
-
--- the rows of the table in the output
-abbrev pub output_count : Map → ℕ → ℕ → ℕ
-output_count said table rows = unwrap_or (count_of said table) rows
 
 -- the `row` lines of four words and of five, and the `gone` lines, of a table; the `slot` lines of a method
 abbrev pub rows_of : Map → ℕ → List RowLine

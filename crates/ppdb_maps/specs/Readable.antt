@@ -2,16 +2,17 @@
 use Rattle.std.specs.{Prelude.{◌≡◌, ◌≢◌, ℕ, ◌≤◌, false, None, IfSome, IsSome, IsTrue, List}, List.AllByRecursion}
 use Rattle.ppdb_base.specs.Offsets.{Rise, lined}
 use Rattle.ppdb_maps.specs.declared.entries.{Count.Count, RowLine.RowLine, CrossLine.CrossLine, GoneLine.GoneLine, SlotImage.SlotImage, SignatureImage.SignatureImage, NameLine.NameLine}
-use Rattle.ppdb_maps.specs.Forms.{AreBytes, Crosses, ROWS, OFFSETS, SLOTS}
+use Rattle.ppdb_maps.specs.Forms.{AreBytes, Crosses, SLOTS}
 use Rattle.ppdb_maps.specs.{Map.{Map, MethodLine, Ascends, count_of, row_line, cross_line, is_dropped, has_slots}, Text.{IsMapOf, Refused}}
+use Rattle.ppdb_base.specs.declared.limits.TheConstants.{MAX_ROWS, MAX_OFFSET}
 
 -- the number of a row that is there
 abbrev pub IsRow : ℕ → Type 0
-IsRow row = (1 ≤ row) × (row ≤ ROWS)
+IsRow row = (1 ≤ row) × (row ≤ MAX_ROWS)
 
 -- a table from 00 to 2c, and how many rows it may have
 abbrev pub IsCount : Count → Type 0
-IsCount count = (count.table ≤ 0x2c) × (count.rows ≤ ROWS)
+IsCount count = (count.table ≤ 0x2c) × (count.rows ≤ MAX_ROWS)
 
 -- a row and its image; its table has a count, and the row is no dropped method
 abbrev pub IsRowOf : Map → RowLine → Type 0
@@ -31,7 +32,7 @@ IsGoneOf m line =
 -- a method that is not dropped, its sizes, and runs that rise within them
 abbrev pub IsLineOf : Map → MethodLine → Type 0
 IsLineOf m line =
-    IsRow line.method × (line.old_size ≤ OFFSETS) × (line.new_size ≤ OFFSETS)
+    IsRow line.method × (line.old_size ≤ MAX_OFFSET) × (line.new_size ≤ MAX_OFFSET)
     × Rise (lined line.runs line.old_size line.new_size) × (is_dropped m line.method ≡ false)
 
 -- a method with slots that is not dropped
@@ -44,7 +45,7 @@ IsSlotOf m slot = (slot.old ≤ SLOTS) × (slot.new ≤ SLOTS) × IsTrue (has_sl
 
 -- a method that is not dropped, and the row of its local signature, 0 for none
 abbrev pub IsSignatureOf : Map → SignatureImage → Type 0
-IsSignatureOf m signature = IsRow signature.method × (signature.new ≤ ROWS) × (is_dropped m signature.method ≡ false)
+IsSignatureOf m signature = IsRow signature.method × (signature.new ≤ MAX_ROWS) × (is_dropped m signature.method ≡ false)
 
 -- names are bytes
 abbrev pub AreNames : NameLine → Type 0

@@ -6,13 +6,9 @@ abbrev pub text_lines : List ℕ → List (List ℕ)
 text_lines [] = [] ∷ []
 text_lines (b ∷ bs) = lines (b ∷ bs)
 
--- what stands between a byte, as often as it comes
-abbrev pub parts_at : ℕ → List ℕ → List (List ℕ)
-parts_at mark bytes = slice_split (λ b. b == mark) bytes
-
 -- words stand apart by one space
 abbrev pub line_words : List ℕ → List (List ℕ)
-line_words line = parts_at 32 line
+line_words line = slice_split (λ b. b == 32) line
 
 -- an empty line or a comment
 abbrev pub IsSilent : List ℕ → Type 0

@@ -1,6 +1,6 @@
 // The map that a text has.
-ghost use Rattle.std.specs.Prelude.{◌≡◌, ◌||◌, ℕ, List, [], false, None, is_some, option_copied, slice_get, option_map};
-ghost use Rattle.ppdb_maps.specs.Map.{MethodLine, map_of, count_of, output_count, row_line, row_within, moved_row, told_image, cross_line, has_gone_line, row_image};
+ghost use Rattle.std.specs.Prelude.{unwrap_or, ◌≡◌, ◌||◌, ℕ, List, [], false, None, is_some, option_copied, slice_get, option_map};
+ghost use Rattle.ppdb_maps.specs.Map.{MethodLine, map_of, count_of, row_line, row_within, moved_row, told_image, cross_line, has_gone_line, row_image};
 ghost use Rattle.ppdb_maps.specs.Map.{is_dropped, has_slots, slot_line, slot_image, offsets_in, rows_of, crossed_of, gone_of, slots_of};
 ghost use Rattle.ppdb_maps.specs.Map.{signature_line, moved_signature, document_line, moved_name};
 ghost use Rattle.ppdb_maps.specs.Readable.{IsReadable};
@@ -136,7 +136,7 @@ impl MapText {
 
     /// The rows of a table in the output, where the input has so many.
     pub fn output_rows(&self, table: u8, rows: u32) -> u32
-        ensures { result ≡ output_count self.now table rows }
+        ensures { result ≡ unwrap_or (count_of self.now table) rows }
     {
         self.rows(table).unwrap_or(rows)
     }

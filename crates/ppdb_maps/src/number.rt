@@ -2,8 +2,9 @@
 ghost use Rattle.std.specs.Prelude.{◌≡◌, ℕ, ◌<◌, ◌≤◌, ◌^◌, ◌↔◌, length, IsTrue, IfSome, IfNone, MatchOption};
 ghost use Rattle.std.specs.Str.Parse.{AllDigits, digits_value};
 ghost use Rattle.std.specs.Fmt.{decimal};
-ghost use Rattle.ppdb_maps.specs.Spelling.{MaySpell};
-ghost use Rattle.ppdb_maps.specs.Forms.{IsNumber, IsHexDigit, IsTable, ROWS, OFFSETS, SLOTS};
+ghost use Rattle.ppdb_maps.specs.Spelling.{IsHexDigit, MaySpell};
+ghost use Rattle.ppdb_base.specs.declared.limits.TheConstants.{MAX_ROWS, MAX_OFFSET};
+ghost use Rattle.ppdb_maps.specs.Forms.{IsNumber, IsTable, SLOTS};
 
 /// What decimal digits say.
 fn digits(word: &[u8]) -> Option<u64>
@@ -58,24 +59,24 @@ pub fn number(word: &[u8], least: u32, most: u32) -> Option<u32>
 
 /// A row, 1 to 16777215.
 pub fn row(word: &[u8]) -> Option<u32>
-    ensures some { IfSome result (IsNumber word.now 1 ROWS) }
-    ensures none { IfNone result ((n : ℕ) → IsNumber word.now 1 ROWS n → ⊥) }
+    ensures some { IfSome result (IsNumber word.now 1 MAX_ROWS) }
+    ensures none { IfNone result ((n : ℕ) → IsNumber word.now 1 MAX_ROWS n → ⊥) }
 {
     number(word, 1, 16_777_215)
 }
 
 /// A row or 0 for none, or a count of rows: 0 to 16777215.
 pub fn row_or_zero(word: &[u8]) -> Option<u32>
-    ensures some { IfSome result (IsNumber word.now 0 ROWS) }
-    ensures none { IfNone result ((n : ℕ) → IsNumber word.now 0 ROWS n → ⊥) }
+    ensures some { IfSome result (IsNumber word.now 0 MAX_ROWS) }
+    ensures none { IfNone result ((n : ℕ) → IsNumber word.now 0 MAX_ROWS n → ⊥) }
 {
     number(word, 0, 16_777_215)
 }
 
 /// An offset or a size, 0 to 2147483647.
 pub fn offset(word: &[u8]) -> Option<u32>
-    ensures some { IfSome result (IsNumber word.now 0 OFFSETS) }
-    ensures none { IfNone result ((n : ℕ) → IsNumber word.now 0 OFFSETS n → ⊥) }
+    ensures some { IfSome result (IsNumber word.now 0 MAX_OFFSET) }
+    ensures none { IfNone result ((n : ℕ) → IsNumber word.now 0 MAX_OFFSET n → ⊥) }
 {
     number(word, 0, 2_147_483_647)
 }

@@ -31,12 +31,13 @@ use Rattle.ppdb_maps.proofs.OneMap.{same_number, pair_is, pair_total}
 use Rattle.ppdb_maps.proofs.Named.{same_bytes}
 use Rattle.ppdb_maps.proofs.Refusing.{slot_keeps, signature_keeps, document_keeps}
 use Rattle.ppdb_maps.proofs.Saying.{breaks_said}
-use Rattle.ppdb_maps_text.specs.MapTexts.{version_of, has_newer, has_items, line_text, slot_says, signature_says}
+use Rattle.ppdb_maps_text.specs.MapTexts.{version_of, has_items, line_text}
 use Rattle.ppdb_maps_text.proofs.Ahead.{Ahead, AheadOf, ahead_same, none_ahead, not_yet, steps, not_before, before, not_yet_of, steps_of, not_before_of, none_of_them}
 use Rattle.ppdb_maps_text.proofs.Ahead.{before_of}
 use Rattle.ppdb_maps_text.proofs.OneLine.{has_line}
 use Rattle.ppdb_maps_text.proofs.Told.{IsTold, rows_told, row_told, cross_told, gone_told, drop_told, slots_told, slot_told, signature_told, document_told}
 use Rattle.ppdb_maps_text.proofs.Words.{IsPlain}
+use Rattle.ppdb_maps_text.proofs.Parts.{slot_says, signature_says, has_newer}
 
 -- a row with a line, by its table and its number
 abbrev pub RowKey : Type 0

@@ -12,9 +12,10 @@ use Rattle.ppdb_maps.specs.Forms.{IsHead, Tells, silent, told}
 use Rattle.ppdb_maps.specs.Map.{Map}
 use Rattle.ppdb_maps.specs.Rules.{BreaksLine, BreaksFirst, Keeps, kind_of, no_form, no_value}
 use Rattle.ppdb_maps.specs.Text.{IsMapOf, Read, Refused, start, further, at_head, at_line}
-use Rattle.ppdb_maps.specs.Words.{IsSilent, parts_at, text_lines}
+use Rattle.ppdb_maps.specs.Words.{IsSilent, text_lines}
 use Rattle.ppdb_maps_text.specs.Laws.{TextsAreJudged}
 use Rattle.ppdb_maps_text.proofs.Held.{held}
+use Rattle.ppdb_maps.specs.Cuts.{parts_at}
 
 -- ---- each text has a first line
 
@@ -67,7 +68,7 @@ line_judged : (version : ℕ) (before : List Line) (text : List ℕ) → ((rule 
     → ((line : Line) → Tells version text line → Keeps version before text → ⊥) → ⊥
 line_judged version before text none more =
     broken UnknownForm (no_form loud (λ form has. broken NumberFaults (no_value loud has (λ line values.
-    more line (told loud (record { form = form; has = has; values = values })) broken))))
+    more line (told form loud has values) broken))))
   where
     broken : Keeps version before text
     broken rule = none_broken version before text none (suc (kind_of rule)) rule (omega arith)

@@ -13,3 +13,4 @@ pub mod Reading
 pub mod Entries
 pub mod Held
 pub mod Judged
+pub mod Parts

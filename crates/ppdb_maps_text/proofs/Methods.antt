@@ -13,7 +13,6 @@ use Rattle.ppdb_maps.specs.declared.line.Line.{Line}
 use Rattle.ppdb_maps.specs.declared.line.Line.TheVariants.{Method, Kept}
 use Rattle.ppdb_maps.specs.declared.rule.Rule.{Rule}
 use Rattle.ppdb_maps.specs.Before.{methods_of, follows_method, with_run, drop_in}
-use Rattle.ppdb_maps.specs.Forms.{OFFSETS}
 use Rattle.ppdb_maps.specs.Map.{Map, MethodLine, is_dropped}
 use Rattle.ppdb_maps.specs.Readable.{IsLineOf}
 use Rattle.ppdb_maps.specs.Rules.{Breaks, BeginsEarly, EndsBeyond, run_alone, run_early, run_long}
@@ -23,6 +22,7 @@ use Rattle.ppdb_maps_text.specs.MapTexts.{version_of, line_text, method_says}
 use Rattle.ppdb_maps_text.proofs.Ahead.{Ahead, not_yet, steps, not_before_of}
 use Rattle.ppdb_maps_text.proofs.Got.{Got, from_three, read_on}
 use Rattle.ppdb_maps_text.proofs.Told.{method_told, run_told}
+use Rattle.ppdb_base.specs.declared.limits.TheConstants.{MAX_OFFSET}
 
 -- the method's line among these
 abbrev pub line_among : List MethodLine → ℕ → Option MethodLine
@@ -128,8 +128,8 @@ module _ (m : Map) (texts : List (List ℕ)) where
       let long = h.0 in
       let old = h.1 in
       let new = h.2 in
-      let old_to : l.old_size ≤ OFFSETS = is.1 in
-      let new_to : l.new_size ≤ OFFSETS = is.2 in
+      let old_to : l.old_size ≤ MAX_OFFSET = is.1 in
+      let new_to : l.new_size ≤ MAX_OFFSET = is.2 in
       let within : EndsBeyond run (with_runs l done) → ⊥ = λ beyond. elim beyond [ inl b ↦ omega (arith, b, old) | inr b ↦ omega (arith, b, new) ] in
       let late : BeginsEarly run done → ⊥ = begins_late 0 0 done (rest ++ sizes l.old_size l.new_size ∷ []) run rise in
       let next = read_on (version_of m) g.prefix texts g.said after (Kept run) g.read g.plain g.whole

@@ -28,7 +28,7 @@ use Rattle.ppdb_maps.proofs.Named.{same_bytes}
 use Rattle.ppdb_maps.proofs.Refusing.{link_keeps}
 use Rattle.ppdb_maps.proofs.OneMap.{same_number, pair_is, pair_total}
 use Rattle.ppdb_maps_text.specs.Laws.{TextsAreRead}
-use Rattle.ppdb_maps_text.specs.MapTexts.{version_of, head_text, line_text, shares_says, link_says, image_says, olds_of, slot_says, signature_says, count_says}
+use Rattle.ppdb_maps_text.specs.MapTexts.{version_of, head_text, line_text, image_says, olds_of, count_says}
 use Rattle.ppdb_maps_text.specs.MapTexts.{slots_say, method_says, map_says}
 use Rattle.ppdb_maps_text.proofs.Ahead.{ahead_same, ahead_of_same, starts, ends, starts_of, ends_of, one_of}
 use Rattle.ppdb_maps_text.proofs.Got.{Got, NoMethods, RowKey, key_of, no_value, there_if, SameImage, add_count, add_row, add_cross, add_gone, add_drop, add_slots, add_slot}
@@ -40,6 +40,7 @@ use Rattle.ppdb_maps_text.proofs.Starting.{keys_of, olds_lined, images_start, sa
 use Rattle.ppdb_maps_text.proofs.Groups.{regrouped, of_found, of_any, of_passed, of_each}
 use Rattle.ppdb_maps_text.proofs.Methods.{MethodsAhead, LinesAhead, line_among, add_methods}
 use Rattle.ppdb_maps_text.proofs.Words.{IsPlain, lines_ended}
+use Rattle.ppdb_maps_text.proofs.Parts.{slot_says, signature_says, link_says, shares_says}
 
 -- what stands at the start is below what is ahead
 first_below : (c : Count) (cs : List Count) → IsStrictlySortedBy nat_cmp (map (λ (c : Count). c.table) (c ∷ cs))

@@ -6,7 +6,7 @@ use Rattle.std.specs.List.{AllByRecursion}
 use Rattle.std.proofs.lemmas.Bool.{cases_lt, lt-ltb, le-ltb}
 use Rattle.ppdb_base.specs.declared.offsets.Run.{Run}
 use Rattle.ppdb_maps.specs.Words.{IsSilent}
-use Rattle.ppdb_maps.specs.Forms.{name_of, words_in, since, IsNumber, IsTable, IsHexDigit, ROWS, OFFSETS, SLOTS, Values, Tells, told}
+use Rattle.ppdb_maps.specs.Forms.{name_of, words_in, since, IsNumber, IsTable, SLOTS, Values, Tells, told}
 use Rattle.ppdb_maps.specs.Forms.{rows_line, row_line, method_line, run_line, drop_line, slots_line, slot_line, signature_line, document_line, link_line, AreBytes, IsEscaped}
 use Rattle.ppdb_maps.specs.Forms.{cross_line, gone_line, shares_line, IsTypeTable, Crosses}
 use Rattle.ppdb_maps.specs.declared.line.Form.{Form}
@@ -19,6 +19,9 @@ use Rattle.ppdb_maps.specs.declared.entries.NameLine.{NameLine}
 use Rattle.ppdb_base.specs.Escaped.{escaped}
 use Rattle.ppdb_maps_text.specs.MapTexts.{spaced, table_word, line_text}
 use Rattle.ppdb_maps_text.proofs.Words.{IsWord, IsPlain, line_words_spaced, spaced_is_plain, decimal_is_word, escaped_is_word}
+use Rattle.ppdb_base.specs.declared.limits.TheConstants.{MAX_ROWS, MAX_OFFSET}
+use Rattle.ppdb_maps.specs.Spelling.{IsHexDigit}
+use Rattle.ppdb_maps.proofs.Numbers.{table_of_digits}
 
 -- a line that says what it was spelled from, and that a text of the version can have
 pub record IsTold (version : ℕ) (line : Line) : Type 0 where
@@ -62,15 +65,12 @@ told_form : (version : ℕ) (form : Form) (values : List (List ℕ)) (line : Lin
 told_form version form values line is all count there says =
     let words = line_words_spaced (name_of form) values (name_is_word form) all in
     record {
-      tells = subst (λ text. Tells version text line) is (told (loud form values) (record {
-        form = form;
-        has = record { values = values; named = words; counted = ap length words ∙ count; there = there };
-        values = says;
-      }));
+      tells = subst (λ text. Tells version text line) is (told form (loud form values)
+          (record { values = values; named = words; counted = ap length words ∙ count; there = there }) says);
       plain = subst IsPlain is (spaced_is_plain (name_of form) values (name_is_word form) all);
     }
 
-number_word : (n : ℕ) → n ≤ OFFSETS → IsWord (decimal n)
+number_word : (n : ℕ) → n ≤ MAX_OFFSET → IsWord (decimal n)
 number_word n le = decimal_is_word n (omega (arith, le))
 
 number : (n least most : ℕ) → least ≤ n → n ≤ most → IsNumber (decimal n) least most n
@@ -90,7 +90,7 @@ table_digits : (table : ℕ) → table ≤ 0x2c → IsHexDigit (digit_char (tabl
 table_digits table le = (digit (table / 16) (omega (arith, le)), digit (table % 16) (omega arith))
 
 table_is : (table : ℕ) → table ≤ 0x2c → IsTable (table_word table) table
-table_is table le = record {
+table_is table le = table_of_digits (table_word table) table (record {
   high = table / 16;
   low = table % 16;
   c = digit_char (table / 16);
@@ -99,58 +99,59 @@ table_is table le = record {
   digits = table_digits table le;
   is = omega arith;
   known = le;
-}
+})
 
 table_is_word : (table : ℕ) → table ≤ 0x2c → IsWord (table_word table)
 table_is_word table le =
     let d = table_digits table le in
     (digit_word (digit_char (table / 16)) (table / 16) d.0, (digit_word (digit_char (table % 16)) (table % 16) d.1, tt))
 
-pub rows_told : (version : ℕ) → 3 ≤ version → (table rows : ℕ) → table ≤ 0x2c → rows ≤ ROWS → IsTold version (Rows table rows)
+pub rows_told : (version : ℕ) → 3 ≤ version → (table rows : ℕ) → table ≤ 0x2c → rows ≤ MAX_ROWS → IsTold version (Rows table rows)
 rows_told version there table rows known few =
     told_form version TableRows (table_word table ∷ decimal rows ∷ []) (Rows table rows) refl
     (table_is_word table known, (number_word rows (omega (arith, few)), tt)) refl (omega (arith, there))
-    (rows_line (table_is table known) (number rows 0 ROWS (omega arith) few))
+    (rows_line (table_is table known) (number rows 0 MAX_ROWS (omega arith) few))
 
-pub row_told : (version : ℕ) → 3 ≤ version → (table old new : ℕ) → table ≤ 0x2c → 1 ≤ old → old ≤ ROWS → 1 ≤ new → new ≤ ROWS → IsTold version (Row table old new)
+pub row_told : (version : ℕ) → 3 ≤ version → (table old new : ℕ) → table ≤ 0x2c → 1 ≤ old → old ≤ MAX_ROWS → 1 ≤ new → new ≤ MAX_ROWS → IsTold version (Row table old new)
 row_told version there table old new known old_from old_to new_from new_to =
     told_form version RowMove (table_word table ∷ decimal old ∷ decimal new ∷ []) (Row table old new) refl
     (table_is_word table known, (number_word old (omega (arith, old_to)), (number_word new (omega (arith, new_to)), tt))) refl (omega (arith, there))
-    (row_line (table_is table known) (number old 1 ROWS old_from old_to) (number new 1 ROWS new_from new_to))
+    (row_line (table_is table known) (number old 1 MAX_ROWS old_from old_to) (number new 1 MAX_ROWS new_from new_to))
 
-pub method_told : (version : ℕ) → 3 ≤ version → (method old new : ℕ) → 1 ≤ method → method ≤ ROWS → old ≤ OFFSETS → new ≤ OFFSETS → IsTold version (Method method old new)
+pub method_told : (version : ℕ) → 3 ≤ version → (method old new : ℕ) → 1 ≤ method → method ≤ MAX_ROWS → old ≤ MAX_OFFSET → new ≤ MAX_OFFSET
+    → IsTold version (Method method old new)
 method_told version there method old new from to old_to new_to =
     told_form version MethodSizes (decimal method ∷ decimal old ∷ decimal new ∷ []) (Method method old new) refl
     (number_word method (omega (arith, to)), (number_word old old_to, (number_word new new_to, tt))) refl (omega (arith, there))
-    (method_line (number method 1 ROWS from to) (number old 0 OFFSETS (omega arith) old_to) (number new 0 OFFSETS (omega arith) new_to))
+    (method_line (number method 1 MAX_ROWS from to) (number old 0 MAX_OFFSET (omega arith) old_to) (number new 0 MAX_OFFSET (omega arith) new_to))
 
-pub run_told : (version : ℕ) → 3 ≤ version → (run : Run) → run.old ≤ OFFSETS → run.new ≤ OFFSETS → 1 ≤ run.length → run.length ≤ OFFSETS → IsTold version (Kept run)
+pub run_told : (version : ℕ) → 3 ≤ version → (run : Run) → run.old ≤ MAX_OFFSET → run.new ≤ MAX_OFFSET → 1 ≤ run.length → run.length ≤ MAX_OFFSET → IsTold version (Kept run)
 run_told version there run old_to new_to from to =
     told_form version OffsetRun (decimal run.old ∷ decimal run.new ∷ decimal run.length ∷ []) (Kept run) refl
     (number_word run.old old_to, (number_word run.new new_to, (number_word run.length to, tt))) refl (omega (arith, there))
-    (run_line (number run.old 0 OFFSETS (omega arith) old_to) (number run.new 0 OFFSETS (omega arith) new_to) (number run.length 1 OFFSETS from to))
+    (run_line (number run.old 0 MAX_OFFSET (omega arith) old_to) (number run.new 0 MAX_OFFSET (omega arith) new_to) (number run.length 1 MAX_OFFSET from to))
 
-pub drop_told : (version : ℕ) → 3 ≤ version → (method : ℕ) → 1 ≤ method → method ≤ ROWS → IsTold version (Dropped method)
+pub drop_told : (version : ℕ) → 3 ≤ version → (method : ℕ) → 1 ≤ method → method ≤ MAX_ROWS → IsTold version (Dropped method)
 drop_told version there method from to =
     told_form version MethodDrop (decimal method ∷ []) (Dropped method) refl (number_word method (omega (arith, to)), tt) refl (omega (arith, there))
-    (drop_line (number method 1 ROWS from to))
+    (drop_line (number method 1 MAX_ROWS from to))
 
-pub slots_told : (version : ℕ) → 3 ≤ version → (method : ℕ) → 1 ≤ method → method ≤ ROWS → IsTold version (Slots method)
+pub slots_told : (version : ℕ) → 3 ≤ version → (method : ℕ) → 1 ≤ method → method ≤ MAX_ROWS → IsTold version (Slots method)
 slots_told version there method from to =
     told_form version MethodSlots (decimal method ∷ []) (Slots method) refl (number_word method (omega (arith, to)), tt) refl (omega (arith, there))
-    (slots_line (number method 1 ROWS from to))
+    (slots_line (number method 1 MAX_ROWS from to))
 
-pub slot_told : (version : ℕ) → 3 ≤ version → (method old new : ℕ) → 1 ≤ method → method ≤ ROWS → old ≤ SLOTS → new ≤ SLOTS → IsTold version (Slot method old new)
+pub slot_told : (version : ℕ) → 3 ≤ version → (method old new : ℕ) → 1 ≤ method → method ≤ MAX_ROWS → old ≤ SLOTS → new ≤ SLOTS → IsTold version (Slot method old new)
 slot_told version there method old new from to old_to new_to =
     told_form version SlotMove (decimal method ∷ decimal old ∷ decimal new ∷ []) (Slot method old new) refl
     (number_word method (omega (arith, to)), (number_word old (omega (arith, old_to)), (number_word new (omega (arith, new_to)), tt))) refl (omega (arith, there))
-    (slot_line (number method 1 ROWS from to) (number old 0 SLOTS (omega arith) old_to) (number new 0 SLOTS (omega arith) new_to))
+    (slot_line (number method 1 MAX_ROWS from to) (number old 0 SLOTS (omega arith) old_to) (number new 0 SLOTS (omega arith) new_to))
 
-pub signature_told : (version : ℕ) → 4 ≤ version → (method new : ℕ) → 1 ≤ method → method ≤ ROWS → new ≤ ROWS → IsTold version (Signature method new)
+pub signature_told : (version : ℕ) → 4 ≤ version → (method new : ℕ) → 1 ≤ method → method ≤ MAX_ROWS → new ≤ MAX_ROWS → IsTold version (Signature method new)
 signature_told version there method new from to new_to =
     told_form version MethodSignature (decimal method ∷ decimal new ∷ []) (Signature method new) refl
     (number_word method (omega (arith, to)), (number_word new (omega (arith, new_to)), tt)) refl there
-    (signature_line (number method 1 ROWS from to) (number new 0 ROWS (omega arith) new_to))
+    (signature_line (number method 1 MAX_ROWS from to) (number new 0 MAX_ROWS (omega arith) new_to))
 
 spelling : (bytes : List ℕ) → AreBytes bytes → IsEscaped (escaped bytes) bytes
 spelling bytes all = record { spelled = refl; within = all }
@@ -174,7 +175,7 @@ from_known line is = elim is [ inl types ↦ types_known line.table types.0 | in
 to_known : (line : CrossLine) → Crosses line → line.to ≤ 0x2c
 to_known line is = elim is [ inl types ↦ types_known line.to types.1 | inr own ↦ (let e = own.1 in omega (arith, e)) ]
 
-pub cross_told : (version : ℕ) → 4 ≤ version → (line : CrossLine) → Crosses line → 1 ≤ line.old → line.old ≤ ROWS → 1 ≤ line.new → line.new ≤ ROWS
+pub cross_told : (version : ℕ) → 4 ≤ version → (line : CrossLine) → Crosses line → 1 ≤ line.old → line.old ≤ MAX_ROWS → 1 ≤ line.new → line.new ≤ MAX_ROWS
     → IsTold version (Cross line)
 cross_told version there line crosses old_from old_to new_from new_to =
     told_form version CrossMove (table_word line.table ∷ decimal line.old ∷ table_word line.to ∷ decimal line.new ∷ []) (Cross line) refl (
@@ -184,14 +185,14 @@ cross_told version there line crosses old_from old_to new_from new_to =
         (table_is_word line.to (to_known line crosses), (number_word line.new (omega (arith, new_to)), tt)),
       ),
     ) refl there
-    (cross_line (table_is line.table (from_known line crosses)) (number line.old 1 ROWS old_from old_to) (table_is line.to (to_known line crosses))
-    (number line.new 1 ROWS new_from new_to) crosses)
+    (cross_line (table_is line.table (from_known line crosses)) (number line.old 1 MAX_ROWS old_from old_to) (table_is line.to (to_known line crosses))
+    (number line.new 1 MAX_ROWS new_from new_to) crosses)
 
-pub gone_told : (version : ℕ) → 4 ≤ version → (table old : ℕ) → table ≤ 0x2c → table ≢ 0x06 → 1 ≤ old → old ≤ ROWS → IsTold version (Gone table old)
+pub gone_told : (version : ℕ) → 4 ≤ version → (table old : ℕ) → table ≤ 0x2c → table ≢ 0x06 → 1 ≤ old → old ≤ MAX_ROWS → IsTold version (Gone table old)
 gone_told version there table old known other from to =
     told_form version RowGone (table_word table ∷ decimal old ∷ []) (Gone table old) refl
     (table_is_word table known, (number_word old (omega (arith, to)), tt)) refl there
-    (gone_line (table_is table known) other (number old 1 ROWS from to))
+    (gone_line (table_is table known) other (number old 1 MAX_ROWS from to))
 
 pub shares_told : (version : ℕ) → 4 ≤ version → IsTold version Shares
 shares_told version there = told_form version Sharing [] Shares refl tt refl there shares_line

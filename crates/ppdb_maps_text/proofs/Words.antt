@@ -10,13 +10,14 @@ use Rattle.std.proofs.lemmas.Bool.Decides.{nat_tests}
 use Rattle.std.proofs.lemmas.Fmt.{digits_decimal}
 use Rattle.std.proofs.lemmas.List.{append_assoc, append-nil}
 use Rattle.std.proofs.lemmas.Str.Parse.{digit_from_value}
-use Rattle.ppdb_maps.specs.Words.{parts_at, line_words}
+use Rattle.ppdb_maps.specs.Words.{line_words}
 use Rattle.ppdb_base.specs.Escaped.{is_plain, escaped_byte, escaped}
 use Rattle.ppdb_maps.specs.Escapes.{IsLowerDigit}
 use Rattle.ppdb_maps.specs.Forms.{AreBytes}
 use Rattle.ppdb_maps.proofs.Numbers.{numerals}
 use Rattle.ppdb_maps.proofs.Spelled.{digit, digit_lower, plain_text, code_text}
 use Rattle.ppdb_maps_text.specs.MapTexts.{spaced, ended}
+use Rattle.ppdb_maps.specs.Cuts.{parts_at}
 
 -- printed characters and spaces alone
 abbrev pub IsPlain : List ℕ → Type 0

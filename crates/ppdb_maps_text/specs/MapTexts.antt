@@ -1,5 +1,5 @@
 -- The canonical text of a map (docs/FORMAT.md, "Map texts"): what its lines say, in their order, and how each is spelled.
-use Rattle.std.specs.{Prelude.{ℕ, ◌+◌, ◌/◌, ◌%◌, ◌||◌, Bool, true, false, cond, nat_eq, List, [], ◌∷◌, ◌++◌, Option, Some, None, is_some, codes, map, decimal, flat_map}, Char.digit_char}
+use Rattle.std.specs.{Prelude.{ℕ, ◌+◌, ◌/◌, ◌%◌, ◌||◌, Bool, true, false, cond, nat_eq, List, [], ◌∷◌, ◌++◌, is_some, codes, map, decimal, flat_map, option_to_list}, Char.digit_char}
 use Rattle.ppdb_base.specs.Escaped.{escaped}
 use Rattle.ppdb_maps.specs.declared.entries.{Count.Count, RowLine.RowLine, CrossLine.CrossLine, GoneLine.GoneLine, SlotImage.SlotImage, SignatureImage.SignatureImage}
 use Rattle.ppdb_maps.specs.declared.line.Line.{Line, TheVariants.{Silent, Rows, Row, Cross, Gone, Method, Kept, Dropped, Slots, Slot, Signature, Document, Link, Shares}}
@@ -44,13 +44,6 @@ olds_of m table =
     ascending (map (λ (r : RowLine). r.old) (rows_of m table)
     ++ (map (λ (r : CrossLine). r.old) (crossed_of m table) ++ map (λ (r : GoneLine). r.old) (gone_of m table)))
 
--- what the lines of an entry say
-abbrev pub slot_says : SlotImage → Line
-slot_says slot = Slot slot.method slot.old slot.new
-
-abbrev pub signature_says : SignatureImage → Line
-signature_says signature = Signature signature.method signature.new
-
 -- a table's count, and the lines of its rows, by OLD
 abbrev pub count_says : Map → Count → List Line
 count_says m count =
@@ -58,44 +51,32 @@ count_says m count =
 
 -- a method's images of slots
 abbrev pub slots_say : Map → ℕ → List Line
-slots_say m method = Slots method ∷ map slot_says (slots_of m method)
+slots_say m method = Slots method ∷ map (λ (s : SlotImage). Slot s.method s.old s.new) (slots_of m method)
 
 -- a method's sizes, and its runs
 abbrev pub method_says : MethodLine → List Line
 method_says line = Method line.method line.old_size line.new_size ∷ map Kept line.runs
 
--- the value of Source Link records, where the map has one
-abbrev pub link_says : Option (List ℕ) → List Line
-link_says None = []
-link_says (Some value) = Link value ∷ []
-
--- whether rows may have one image
-abbrev pub shares_says : Bool → List Line
-shares_says false = []
-shares_says true = Shares ∷ []
-
 -- whether rows may have one image, the value of Source Link records, tables with their rows, dropped methods, slots, local signatures, names of
 -- documents, methods with their runs
 abbrev pub map_says : Map → List Line
 map_says m =
-    shares_says m.shares
-    ++ (link_says m.link
+    cond m.shares (Shares ∷ []) []
+    ++ (map Link (option_to_list m.link)
     ++ (flat_map (count_says m) m.counts
     ++ (map Dropped m.drops
-    ++ (flat_map (slots_say m) m.slotted ++ (map signature_says m.signatures ++ (map Document m.documents ++ flat_map method_says m.methods))))))
+    ++ (flat_map (slots_say m) m.slotted
+    ++ (map (λ (s : SignatureImage). Signature s.method s.new) m.signatures ++ (map Document m.documents ++ flat_map method_says m.methods))))))
 
 -- the list has an item
 abbrev pub has_items : {X : Type 0} → List X → Bool
 has_items [] = false
 has_items (_ ∷ _) = true
 
--- the map has a line of a form that texts have from version 4 on
-abbrev pub has_newer : Map → Bool
-has_newer m = m.shares || (is_some m.link || (has_items m.crossed || (has_items m.gone || (has_items m.signatures || has_items m.documents))))
-
--- the version of the map's text
+-- the version of the map's text: 4 where a line is of a form that texts have from version 4 on, else 3
 abbrev pub version_of : Map → ℕ
-version_of m = cond (has_newer m) 4 3
+version_of m =
+    cond (m.shares || (is_some m.link || (has_items m.crossed || (has_items m.gone || (has_items m.signatures || has_items m.documents))))) 4 3
 
 -- line 1 of a text of the version: 48 is the digit 0
 abbrev pub head_text : ℕ → List ℕ

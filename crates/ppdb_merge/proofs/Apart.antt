@@ -2,7 +2,7 @@
 use Rattle.std.proofs.Common.{◌≡◌, ◌≢◌, ℕ, ◌+◌, ◌||◌, Bool, true, false, cond, List, [], ◌∷◌, ◌++◌, Option, Some, None, map, refl, sym, ◌∙◌, ap, subst}
 use Rattle.std.specs.Prelude.{nat_eq, find, bytes_eq}
 use Rattle.std.specs.List.{filter_map, cons_option, enumerate_from, list_any}
-use Rattle.std.specs.Option.{option_map, option_and_then}
+use Rattle.std.specs.Option.{option_eq, option_map, option_and_then}
 use Rattle.std.proofs.lemmas.Bool.{both_ways, eq-eqb, and_parts}
 use Rattle.ppdb_base.specs.declared.merge_error.MergeError.TheVariants.{MethodTaken, DocumentConflict}
 use Rattle.ppdb_maps.specs.Map.{Map}
@@ -17,7 +17,7 @@ use Rattle.ppdb_merge_moved.specs.Moved.{moved_document}
 use Rattle.ppdb_merge_moved.proofs.Elements.{each_made}
 use Rattle.ppdb_merge_names.specs.declared.imaged.Imaged.{Imaged}
 use Rattle.ppdb_merge.specs.declared.trace.Trace.{Trace}
-use Rattle.ppdb_merge.specs.Refusals.{methods_in, claims, taken, methods_taken, same_guid, same_contents, conflict, moved_conflict}
+use Rattle.ppdb_merge.specs.Refusals.{methods_in, claims, taken, methods_taken, same_contents, conflict, moved_conflict}
 use Rattle.ppdb_merge.specs.Sound.{AreMethodsApart}
 use Rattle.ppdb_merge.proofs.Imaged.{Each-unsorted}
 
@@ -107,7 +107,7 @@ has_name name d = bytes_eq d.name name
 abbrev among : List (List ℕ) → List ℕ → Bool
 among names name = list_any (λ other. bytes_eq other name) names
 
-same_guids : (a b : Option (List ℕ)) → same_guid a b ≡ true → a ≡ b
+same_guids : (a b : Option (List ℕ)) → option_eq bytes_eq a b ≡ true → a ≡ b
 same_guids None None is = refl
 same_guids (Some a) (Some b) is = ap Some (same_bytes a b is)
 same_guids None (Some b) is = absurd cc
@@ -116,8 +116,8 @@ same_guids (Some a) None is = absurd cc
 -- a document with the name and the contents is the document
 same_document : (a b : DocumentValue) → a.name ≡ b.name → same_contents a b ≡ true → a ≡ b
 same_document a b name is =
-    let parts = and_parts (same_guid a.algorithm b.algorithm) _ is in
-    let others = and_parts (bytes_eq a.hash b.hash) (same_guid a.language b.language) parts.1 in
+    let parts = and_parts (option_eq bytes_eq a.algorithm b.algorithm) _ is in
+    let others = and_parts (bytes_eq a.hash b.hash) (option_eq bytes_eq a.language b.language) parts.1 in
     ap (λ n. record { name = n; algorithm = a.algorithm; hash = a.hash; language = a.language }) name
     ∙ ap (λ g. record { name = b.name; algorithm = g; hash = a.hash; language = a.language }) (same_guids a.algorithm b.algorithm parts.0)
     ∙ ap (λ h. record { name = b.name; algorithm = b.algorithm; hash = h; language = a.language }) (same_bytes a.hash b.hash others.0)

@@ -21,9 +21,10 @@ use Rattle.ppdb_values.specs.Imports.{import_scope_of}
 use Rattle.ppdb_values.specs.Parts.{first_item}
 use Rattle.ppdb_merge_items.specs.declared.file.AnnotatedScope.{AnnotatedScope}
 use Rattle.ppdb_merge_items.specs.Annotated.{annotated_file, annotated_scope, with_item}
-use Rattle.ppdb_merge_items.specs.NamedRows.{live_constant, live_constants, with_live_body}
+use Rattle.ppdb_merge_items.specs.NamedRows.{live_constants, with_live_body}
 use Rattle.ppdb_merge_moved.specs.Moved.{moved_document, moved_variable, moved_constant, moved_scope, moved_import_scope, moved_file, scope_image, is_empty}
 use Rattle.ppdb_merge_joined.specs.Small.{HasFewRows}
+use Rattle.ppdb_merge_items.proofs.Parts.{live_constant}
 
 -- ---- sums
 

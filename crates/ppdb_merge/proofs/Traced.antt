@@ -12,7 +12,7 @@ use Rattle.ppdb_values_sound_laws.specs.Sound.{IsSound}
 use Rattle.ppdb_merge_items.specs.declared.file.AnnotatedFile.{AnnotatedFile}
 use Rattle.ppdb_merge_items.specs.Each.{Each}
 use Rattle.ppdb_merge_items.specs.Laws.{SoundnessIsAnnotated}
-use Rattle.ppdb_merge_items.specs.NamedRows.{Named, names, names_some, named_rows, live_file, in_entry, all_named}
+use Rattle.ppdb_merge_items.specs.NamedRows.{Named, names, names_some, named_rows, live_file, all_named}
 use Rattle.ppdb_merge_items.specs.Annotated.{annotated_file}
 use Rattle.ppdb_merge_items.specs.SoundParts.{SoundMoved}
 use Rattle.ppdb_merge_items.proofs.Lists.{Each-weaker}
@@ -32,6 +32,7 @@ use Rattle.ppdb_merge.specs.Sound.{IsImageIn}
 use Rattle.ppdb_merge.proofs.Given.{row_in_all, given_in_all}
 use Rattle.ppdb_merge.proofs.Imaged.{named_in_rows}
 use Rattle.ppdb_merge_meaning_laws.proofs.MovedRows.{Moves, some_moves, all_move}
+use Rattle.ppdb_merge_items.proofs.Parts.{in_entry}
 
 -- ---- the images of the rows that it names
 

@@ -28,7 +28,7 @@ use Rattle.ppdb_merge_fits.specs.Clashes.{first_clash}
 use Rattle.ppdb_merge_fits.specs.Laws.{NothingClashes}
 use Rattle.ppdb_merge_fits.specs.Rows.{imaged_rows}
 use Rattle.ppdb_merge.specs.declared.trace.Trace.{Trace}
-use Rattle.ppdb_merge.specs.Inputs.{ReadInput, IsValidInput, AreAdded, Turn, IsFitting, AreFitting, moved_by, turns, trace_by, traces_of}
+use Rattle.ppdb_merge.specs.Inputs.{ReadInput, IsValidInput, AreAdded, IsFitting, AreFitting, moved_by, trace_by, traces_of}
 use Rattle.ppdb_merge.specs.Kept.{AreInputs}
 use Rattle.ppdb_merge.specs.Merged.{trace_of, is_first, unless}
 use Rattle.ppdb_merge.specs.Refusals.{added, clashes_before, methods_in, refusal_of}
@@ -40,7 +40,7 @@ use Rattle.ppdb_merge.proofs.Imaged.{named_in_rows}
 
 -- ---- inputs in turn
 
-abbrev pub input_by : Turn → Input
+abbrev pub input_by : Bool × ReadInput → Input
 input_by x = (x.0, moved_by x.1)
 
 map_next : {A B : Type 0} (f : A → B) (xs : List A) (x : A) → map f (xs ++ x ∷ []) ≡ map f xs ++ f x ∷ []
@@ -50,7 +50,7 @@ map_next f (y ∷ xs) x = ap (λ l. f y ∷ l) (map_next f xs x)
 is_later : (t : Trace) (ts : List Trace) → is_first (t ∷ ts) ≡ false
 is_later t ts = ne_eqb (length (t ∷ ts)) 0 (λ e. omega (arith, e))
 
-turns_more : (inputs : List ReadInput) (input : ReadInput) → turns (inputs ++ input ∷ []) ≡ turns inputs ++ (is_first (traces_of inputs), input) ∷ []
+turns_more : (inputs : List ReadInput) (input : ReadInput) → in_turn (inputs ++ input ∷ []) ≡ in_turn inputs ++ (is_first (traces_of inputs), input) ∷ []
 turns_more [] input = refl
 turns_more (first ∷ others) input =
     ap (λ l. (true, first) ∷ l) (map_next (λ i. (false, i)) others input)
@@ -59,7 +59,7 @@ turns_more (first ∷ others) input =
 
 pub traces_more : (inputs : List ReadInput) (input : ReadInput)
     → traces_of (inputs ++ input ∷ []) ≡ traces_of inputs ++ trace_of (is_first (traces_of inputs)) input.map input.raw ∷ []
-traces_more inputs input = ap (map trace_by) (turns_more inputs input) ∙ map_next trace_by (turns inputs) (is_first (traces_of inputs), input)
+traces_more inputs input = ap (map trace_by) (turns_more inputs input) ∙ map_next trace_by (in_turn inputs) (is_first (traces_of inputs), input)
 
 pub length_turns : (inputs : List ReadInput) → length (traces_of inputs) ≡ length inputs
 length_turns [] = refl
@@ -69,7 +69,7 @@ length_turns (first ∷ others) = ap suc (later others)
     later [] = refl
     later (i ∷ is) = ap suc (later is)
 
-pub turns_moved : (inputs : List ReadInput) → in_turn (map moved_by inputs) ≡ map input_by (turns inputs)
+pub turns_moved : (inputs : List ReadInput) → in_turn (map moved_by inputs) ≡ map input_by (in_turn inputs)
 turns_moved [] = refl
 turns_moved (first ∷ others) =
     ap (λ l. (true, moved_by first) ∷ l)
@@ -139,7 +139,7 @@ module _ (sounds : (raw : RawFile) → KeepsRules raw → IsSound (value_of raw)
       record {
         sound = subst SoundTraces (sym (traces_more inputs input)) sound;
         each = subst (Each (IsFitting marks)) (sym (turns_more inputs input))
-            (Each-append (IsFitting marks) (turns inputs) ((first, input) ∷ []) fit.each (record { valid = valid; clash = clash }, tt));
+            (Each-append (IsFitting marks) (in_turn inputs) ((first, input) ∷ []) fit.each (record { valid = valid; clash = clash }, tt));
       }
 
   one_more : (inputs : List ReadInput) (input : ReadInput) (more : List Trace) → AreFitting marks inputs → IsValidInput input → length inputs < 256
@@ -165,13 +165,13 @@ module _ (sounds : (raw : RawFile) → KeepsRules raw → IsSound (value_of raw)
 
   -- ---- what fits is apart
 
-  alone : (x : Turn) → (IsFitting marks) x → FitsAlone (input_by x)
+  alone : (x : Bool × ReadInput) → (IsFitting marks) x → FitsAlone (input_by x)
   alone x fits = record { sound = sounds x.1.raw fits.valid.rules; ready = fits.valid.ready; fits = fits.clash.fits }
 
   abbrev Of : ℕ → ℕ → Imaged
   Of method image = record { table = 0x06; row = method; to = 0x06; image = image }
 
-  stands : (x : Turn) → (IsFitting marks) x → (method image : ℕ) → Contains (named_rows x.0 x.1.map (annotated_file (value_of x.1.raw))) (names 0x06 method)
+  stands : (x : Bool × ReadInput) → (IsFitting marks) x → (method image : ℕ) → Contains (named_rows x.0 x.1.map (annotated_file (value_of x.1.raw))) (names 0x06 method)
       → row_within x.1.map 0x06 method ≡ Some image → Contains (trace_by x).rows (Of method image)
   stands x fits method image there is =
       row_in_all x.0 x.1.map x.1.raw (Of method image)
@@ -180,7 +180,7 @@ module _ (sounds : (raw : RawFile) → KeepsRules raw → IsSound (value_of raw)
       (named_rows x.0 x.1.map (annotated_file (value_of x.1.raw))) (names 0x06 method)
       (named_in_rows x.0 x.1.map x.1.raw named fits.valid.rules) there 0x06 image (within_is x.1.map 0x06 method image is))
 
-  apart : (a b : Turn) → (IsFitting marks) a → (IsFitting marks) b → AreMethodsApart (trace_by a) (trace_by b) → MethodsApart (input_by a) (input_by b)
+  apart : (a b : Bool × ReadInput) → (IsFitting marks) a → (IsFitting marks) b → AreMethodsApart (trace_by a) (trace_by b) → MethodsApart (input_by a) (input_by b)
   apart a b fits_a fits_b differ method other image names_a names_b is_a is_b =
       let of_a = in_each (λ (i : Imaged). nat_eq i.to 0x06 ≡ true → Each (λ (j : Imaged). i.image ≢ j.image) (methods_in (trace_by b).rows))
       (trace_by a).rows (Of method image) (each_left (λ (i : Imaged). Each (λ (j : Imaged). i.image ≢ j.image) (methods_in (trace_by b).rows))
@@ -188,11 +188,11 @@ module _ (sounds : (raw : RawFile) → KeepsRules raw → IsSound (value_of raw)
       in_each (λ (j : Imaged). nat_eq j.to 0x06 ≡ true → image ≢ j.image) (trace_by b).rows (Of other image)
       (each_left (λ (j : Imaged). image ≢ j.image) (λ j. nat_eq j.to 0x06) (trace_by b).rows of_a) (stands b fits_b other image names_b is_b) refl refl
 
-  all_apart : (xs : List Turn) → Each (IsFitting marks) xs → Pairs AreMethodsApart (map trace_by xs) → Pairs (λ a b. MethodsApart (input_by a) (input_by b)) xs
+  all_apart : (xs : List (Bool × ReadInput)) → Each (IsFitting marks) xs → Pairs AreMethodsApart (map trace_by xs) → Pairs (λ a b. MethodsApart (input_by a) (input_by b)) xs
   all_apart [] each pairs = tt
   all_apart (x ∷ xs) each pairs = (from_one each.0 xs each.1 pairs.0, all_apart xs each.1 pairs.1)
     where
-      from_one : (IsFitting marks) x → (ys : List Turn) → Each (IsFitting marks) ys → Each (AreMethodsApart (trace_by x)) (map trace_by ys)
+      from_one : (IsFitting marks) x → (ys : List (Bool × ReadInput)) → Each (IsFitting marks) ys → Each (AreMethodsApart (trace_by x)) (map trace_by ys)
           → Each (λ y. MethodsApart (input_by x) (input_by y)) ys
       from_one here [] each differ = tt
       from_one here (y ∷ ys) each differ = (apart x y here each.0 differ.0, from_one here ys each.1 differ.1)
@@ -202,19 +202,19 @@ module _ (sounds : (raw : RawFile) → KeepsRules raw → IsSound (value_of raw)
 
   pub fit_inputs : (inputs : List ReadInput) → AreFitting marks inputs → InputsFit (map moved_by inputs)
   fit_inputs inputs fit = record {
-    each = subst (Each FitsAlone) (sym (turns_moved inputs)) (Each-map input_by FitsAlone (turns inputs) (Each-weaker (IsFitting marks)
-        (λ x. FitsAlone (input_by x)) alone (turns inputs) fit.each));
-    methods_apart = subst (Pairs MethodsApart) (sym (turns_moved inputs)) (Pairs-map input_by MethodsApart (turns inputs)
-        (all_apart (turns inputs) fit.each fit.sound.methods_apart));
-    documents_agree = subst (Pairs Agree) (sym (turns_moved inputs)) (Pairs-map input_by Agree (turns inputs)
-        (Pairs-unmap trace_by (λ (s t : Trace). AgreeOnDocuments s.moved t.moved) (turns inputs)
+    each = subst (Each FitsAlone) (sym (turns_moved inputs)) (Each-map input_by FitsAlone (in_turn inputs) (Each-weaker (IsFitting marks)
+        (λ x. FitsAlone (input_by x)) alone (in_turn inputs) fit.each));
+    methods_apart = subst (Pairs MethodsApart) (sym (turns_moved inputs)) (Pairs-map input_by MethodsApart (in_turn inputs)
+        (all_apart (in_turn inputs) fit.each fit.sound.methods_apart));
+    documents_agree = subst (Pairs Agree) (sym (turns_moved inputs)) (Pairs-map input_by Agree (in_turn inputs)
+        (Pairs-unmap trace_by (λ (s t : Trace). AgreeOnDocuments s.moved t.moved) (in_turn inputs)
         (Pairs-unmap (λ (t : Trace). t.moved) AgreeOnDocuments (traces_of inputs) (can_be_joined (traces_of inputs) fit.sound).documents_agree)));
   }
 
   pub are_inputs_of : (inputs : List ReadInput) → AreFitting marks inputs → AreInputs (traces_of inputs) (map moved_by inputs)
   are_inputs_of inputs fit = record {
     fit = fit_inputs inputs fit;
-    moved = map_map_both (λ (t : Trace). t.moved) trace_by (turns inputs) ∙ sym (map_map_both moved_input input_by (turns inputs))
+    moved = map_map_both (λ (t : Trace). t.moved) trace_by (in_turn inputs) ∙ sym (map_map_both moved_input input_by (in_turn inputs))
         ∙ ap (map moved_input) (sym (turns_moved inputs));
   }
 

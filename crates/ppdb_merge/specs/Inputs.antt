@@ -1,10 +1,10 @@
 -- Inputs that were read, and added one after the other under the same marks.
-use Rattle.std.specs.Prelude.{◌≡◌, ℕ, Bool, true, false, List, [], ◌∷◌, Ok, map}
+use Rattle.std.specs.Prelude.{◌≡◌, ℕ, Bool, List, [], ◌∷◌, Ok, map}
 use Rattle.ppdb_maps.specs.{Map.Map, Readable.IsReadable}
 use Rattle.ppdb_values.specs.{RawFile.RawFile, Rules.KeepsRules, Value.value_of}
 use Rattle.ppdb_merge_items.specs.Each.{Each}
 use Rattle.ppdb_merge_fits.specs.Laws.{NoClash}
-use Rattle.ppdb_merge_meaning_laws.specs.Kept.{MovedBy}
+use Rattle.ppdb_merge_meaning_laws.specs.Kept.{MovedBy, in_turn}
 use Rattle.ppdb_merge.specs.{declared.trace.Trace.Trace, Merged.trace_of, Refusals.added, Sound.SoundTraces}
 
 -- what a file is read as, and the map by which it is moved
@@ -29,27 +29,20 @@ AreAdded marks there (input ∷ inputs) traces =
 
 -- ---- in turn
 
--- an input, and whether it is the first
-abbrev pub Turn : Type 0
-Turn = Bool × ReadInput
-
-abbrev pub turns : List ReadInput → List Turn
-turns [] = []
-turns (first ∷ others) = (true, first) ∷ map (λ input. (false, input)) others
-
-abbrev pub trace_by : Turn → Trace
+-- what is kept of an input, by whether it is the first
+abbrev pub trace_by : Bool × ReadInput → Trace
 trace_by x = trace_of x.0 x.1.map x.1.raw
 
 -- what is kept of inputs, in order
 abbrev pub traces_of : List ReadInput → List Trace
-traces_of inputs = map trace_by (turns inputs)
+traces_of inputs = map trace_by (in_turn inputs)
 
 -- A valid input whose map fits it.
-pub record IsFitting (marks : List (List ℕ)) (x : Turn) : Type 0 where
+pub record IsFitting (marks : List (List ℕ)) (x : Bool × ReadInput) : Type 0 where
   pub valid : IsValidInput x.1
   pub clash : NoClash marks x.0 x.1.map x.1.raw
 
 -- Valid inputs that fit each other, and each its map.
 pub record AreFitting (marks : List (List ℕ)) (inputs : List ReadInput) : Type 0 where
   pub sound : SoundTraces (traces_of inputs)
-  pub each : Each (IsFitting marks) (turns inputs)
+  pub each : Each (IsFitting marks) (in_turn inputs)

@@ -1,7 +1,7 @@
 -- Why an input is not joined to those before it (docs/FORMAT.md, "Fitting").
 use Rattle.ppdb_values.specs.Names.{MergeError, MethodTaken, DocumentConflict, LinkDiffers, list_any, numbered, source_link}
-use Rattle.std.specs.Prelude.{ℕ, ◌&&◌, not, Bool, true, false, cond, nat_eq, bytes_eq, List, [], ◌∷◌, ◌++◌, Option, Some, None, Result, Ok, slice_get, filter, find, flat_map, map, option_map}
-use Rattle.std.specs.{Prelude.{filter_map, option_and_then, option_to_list}, Option.option_or}
+use Rattle.std.specs.Prelude.{ℕ, ◌&&◌, not, Bool, false, cond, nat_eq, bytes_eq, List, [], ◌∷◌, ◌++◌, Option, Some, None, Result, Ok, slice_get, filter, find, flat_map, map, option_map}
+use Rattle.std.specs.{Prelude.{filter_map, option_and_then, option_to_list}, Option.{option_eq, option_or}}
 use Rattle.ppdb_maps.specs.Map.{Map, moved_row, is_gone_row}
 use Rattle.ppdb_values.specs.{declared.file.{DocumentValue.DocumentValue, FileValue.FileValue}, declared.custom.{CustomBody.{CustomBody, TheVariants.Unread}, CustomValue.CustomValue}, Parts.is_at}
 use Rattle.ppdb_values.specs.{RawFile.RawFile, Value.value_of}
@@ -31,14 +31,10 @@ methods_taken traces rows = filter_map (taken (claims traces)) (in_order (λ i. 
 
 -- ---- M7: a document has the name of one that was joined, and another algorithm, hash or language
 
--- a GUID or none; none is not the GUID of zeros
-abbrev pub same_guid : Option (List ℕ) → Option (List ℕ) → Bool
-same_guid None None = true
-same_guid (Some a) (Some b) = bytes_eq a b
-same_guid _ _ = false
-
+-- equal algorithm, hash and language; a GUID that is absent is not the GUID of zeros
 abbrev pub same_contents : DocumentValue → DocumentValue → Bool
-same_contents a b = same_guid a.algorithm b.algorithm && (bytes_eq a.hash b.hash && same_guid a.language b.language)
+same_contents a b =
+    option_eq bytes_eq a.algorithm b.algorithm && (bytes_eq a.hash b.hash && option_eq bytes_eq a.language b.language)
 
 -- a row and its document, against the joined documents by their rows
 abbrev pub conflict : List DocumentValue → ℕ × DocumentValue → Option MergeError

@@ -13,7 +13,7 @@ use Rattle.custom_info.specs.declared.slots.Slot.{Slot}
 use Rattle.custom_info.specs.declared.slots.Slot.TheVariants.{Empty, Held}
 use Rattle.custom_info.specs.declared.stepping.AsyncStep.{AsyncStep}
 use Rattle.custom_info.specs.Kinds.{kind_of}
-use Rattle.ppdb_maps.specs.Map.{Map, offsets_in, line_offsets, method_line, is_dropped, is_gone_row}
+use Rattle.ppdb_maps.specs.Map.{Map, offsets_in, method_line, is_dropped, is_gone_row}
 use Rattle.ppdb_maps.specs.Readable.{IsReadable}
 use Rattle.ppdb_maps.specs.Says.{sizes_of}
 use Rattle.sequence_points.specs.declared.point.Point.{Point}
@@ -37,9 +37,11 @@ use Rattle.ppdb_merge_moved.proofs.Fitting.{offsets_rise}
 use Rattle.ppdb_merge_moved.proofs.ImageRows.{no_gone_method}
 use Rattle.ppdb_merge_moved.proofs.SoundItems.{each_all}
 use Rattle.ppdb_merge_fits.specs.Offsets.{offset_in, step_offsets, handler_offsets, async_offsets, if_past, offset_beyond, end_beyond, points_beyond}
-use Rattle.ppdb_merge_fits.specs.Offsets.{scope_beyond, slot_beyond, body_beyond, custom_beyond, is_kept, if_lost, custom_lost, lost}
+use Rattle.ppdb_merge_fits.specs.Offsets.{scope_beyond, slot_beyond, body_beyond, is_kept, if_lost, lost}
 use Rattle.ppdb_merge_fits.proofs.Apart.{each_both}
 use Rattle.ppdb_merge_fits.proofs.First.{nil_parts, flat_append, flat_nested}
+use Rattle.ppdb_merge_fits.proofs.Parts.{custom_beyond, custom_lost}
+use Rattle.ppdb_maps.proofs.Parts.{line_offsets}
 
 pub flat_none : {A B : Type 0} (f : A → List B) (xs : List A) → flat_map f xs ≡ [] → Each (λ x. f x ≡ []) xs
 flat_none f [] none = tt

@@ -25,11 +25,12 @@ use Rattle.ppdb_merge_moved.specs.Moved.{table_in, row_in}
 use Rattle.ppdb_merge_moved.proofs.Elements.{in_each, each_made}
 use Rattle.ppdb_merge_fits.specs.declared.used.MethodSlot.{MethodSlot}
 use Rattle.ppdb_merge_fits.specs.declared.used.UsedSlot.{UsedSlot}
-use Rattle.ppdb_merge_fits.specs.Rows.{imaged, imaged_to, if_unmapped, image_key, image_twice, is_row, unmapped, unshared, imaged_rows, rows_twice}
+use Rattle.ppdb_merge_fits.specs.Rows.{imaged, imaged_to, image_key, image_twice, is_row, unmapped, unshared, imaged_rows, rows_twice}
 use Rattle.ppdb_merge_fits.specs.Slots.{scope_slots, variable_slots, if_slot_unmapped, slots_unmapped, used, slot_twice, slots_twice}
 use Rattle.ppdb_merge_fits.specs.Twice.{each_once}
 use Rattle.ppdb_merge_fits.proofs.Apart.{apart, OneNumber}
 use Rattle.ppdb_merge_fits.proofs.Fitting.{flat_none, holds}
+use Rattle.ppdb_merge_fits.proofs.Parts.{if_unmapped}
 
 some_of : {A : Type 0} (o : Option A) → is_some o ≡ true → (x : A) × (o ≡ Some x)
 some_of None is = absurd cc

@@ -8,7 +8,8 @@ use Rattle.ppdb_maps.specs.declared.image.RowImage.TheVariants.{Row, Missing}
 use Rattle.ppdb_merge_names.specs.declared.imaged.Imaged.{Imaged}
 use Rattle.ppdb_merge_names.specs.Imaging.{AreImagesOf, IsImageOf, image_of}
 use Rattle.ppdb_merge_names.specs.References.{Reference}
-use Rattle.ppdb_merge_fits.specs.Rows.{imaged, imaged_to, if_unmapped, is_row}
+use Rattle.ppdb_merge_fits.specs.Rows.{imaged, imaged_to, is_row}
+use Rattle.ppdb_merge_fits.proofs.Parts.{if_unmapped}
 
 one_image : (m : Map) (r : Reference) (i : Imaged) → IsImageOf m r i → imaged m r ≡ Some i
 one_image m r i is =

@@ -18,3 +18,4 @@ pub mod OneName
 pub mod Rows
 pub mod SlotLists
 pub mod Told
+pub mod Parts

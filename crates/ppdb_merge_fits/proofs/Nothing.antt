@@ -27,13 +27,14 @@ use Rattle.ppdb_merge_moved.proofs.Elements.{in_each}
 use Rattle.ppdb_merge_fits.specs.Clashes.{first_clash, clashes, unknown_kinds, if_unknown, is_unknown, is_at_gone}
 use Rattle.ppdb_merge_fits.specs.Documents.{documents_twice}
 use Rattle.ppdb_merge_fits.specs.Laws.{NothingClashes}
-use Rattle.ppdb_merge_fits.specs.Offsets.{beyond, lost, points_beyond, scope_beyond, custom_beyond}
+use Rattle.ppdb_merge_fits.specs.Offsets.{beyond, lost, points_beyond, scope_beyond}
 use Rattle.ppdb_merge_fits.specs.Rows.{unmapped, imaged_rows, rows_twice}
 use Rattle.ppdb_merge_fits.specs.Slots.{slots_unmapped, slots_twice, variable_slots}
 use Rattle.ppdb_merge_fits.proofs.OneName.{names_differ}
 use Rattle.ppdb_merge_fits.proofs.First.{nil_parts, no_first}
 use Rattle.ppdb_merge_fits.proofs.Fitting.{flat_none, fails, points_fit, ranges_fit, hoisted_fits, async_fit}
 use Rattle.ppdb_merge_fits.proofs.FittingRows.{rows_fit, rows_apart, slots_fit, slots_apart}
+use Rattle.ppdb_merge_fits.proofs.Parts.{custom_beyond}
 
 known_kind : (a b : Bool) → (a && not b) ≡ false → b ≡ false → a ≡ false
 known_kind true true e f = absurd cc

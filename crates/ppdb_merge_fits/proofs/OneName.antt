@@ -14,12 +14,13 @@ use Rattle.ppdb_values.specs.declared.file.DocumentValue.{DocumentValue}
 use Rattle.ppdb_merge_items.specs.Each.{Each, Pairs}
 use Rattle.ppdb_merge_items.proofs.Lists.{Each-weaker, Pairs-weaker, pairs_row}
 use Rattle.ppdb_merge_fits.specs.declared.documents.Names.{Names}
-use Rattle.ppdb_merge_fits.specs.Documents.{if_one_name, name_twice, documents_twice}
+use Rattle.ppdb_merge_fits.specs.Documents.{if_one_name, documents_twice}
 use Rattle.ppdb_merge_fits.specs.Names.{row_of}
 use Rattle.ppdb_merge_fits.proofs.Apart.{each_both}
 use Rattle.ppdb_merge_fits.proofs.First.{row_is, inside, take_next}
 use Rattle.ppdb_merge_fits.proofs.Fitting.{flat_none, fails}
 use Rattle.ppdb_merge_fits.proofs.Looking.{absent}
+use Rattle.ppdb_merge_fits.proofs.Parts.{name_twice}
 
 pub same_bytes : (xs ys : List ℕ) → bytes_eq xs ys ≡ true → xs ≡ ys
 same_bytes [] [] is = refl

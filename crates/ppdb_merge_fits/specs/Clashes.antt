@@ -3,43 +3,32 @@
 use Rattle.ppdb_values.specs.Names.{list_any, kind_of, Kind, Unknown, MergeError, KindUnknown, numbered, row_at, Parent}
 use Rattle.std.specs.Prelude.{ℕ, ◌&&◌, ◌||◌, ◌==◌, not, Bool, true, false, cond, List, [], ◌∷◌, ◌++◌, Option, Some, None, map, option_to_list, slice_get, flat_map}
 use Rattle.ppdb_maps.specs.Map.{Map, is_dropped, is_gone_row}
-use Rattle.ppdb_values.specs.{RawFile.RawFile, Value.value_of, declared.file.FileValue.FileValue, declared.scope.{ScopeValue.ScopeValue, ConstantValue.ConstantValue}}
+use Rattle.ppdb_values.specs.{RawFile.RawFile, Value.value_of, declared.file.FileValue.FileValue, declared.scope.ScopeValue.ScopeValue}
 use Rattle.ppdb_values.specs.{declared.custom.CustomValue.CustomValue}
 use Rattle.ppdb_merge_items.specs.NamedRows.{goes_constant}
 use Rattle.ppdb_merge_fits.specs.{Documents.documents_twice, Offsets.{beyond, lost}, Rows.{unmapped, imaged_rows, rows_twice}, Slots.{slots_unmapped, slots_twice, variable_slots}}
 
 -- ---- rows at dropped methods
 
--- the methods of the scopes, of the variables of all scopes and of their constants, by their rows from 1
-abbrev pub scope_methods : FileValue → List ℕ
-scope_methods value = map (λ (s : ScopeValue). s.method) value.scopes
-
-abbrev pub variable_methods : FileValue → List ℕ
-variable_methods value = flat_map (λ (s : ScopeValue). map (λ v. s.method) s.variables) value.scopes
-
-abbrev pub constant_methods : FileValue → List ℕ
-constant_methods value = flat_map (λ (s : ScopeValue). map (λ c. s.method) s.constants) value.scopes
-
--- the method at which a row stands: a method itself, and the method of the scope that the row is or that owns it
+-- the method at which a row stands: a method itself, and the method of the scope that the row is or that owns it; variables and constants
+-- are numbered from 1 through all scopes
 abbrev pub method_at : FileValue → Parent → Option ℕ
 method_at value parent =
     cond (parent.table == 0x06) (Some parent.row)
-    (cond (parent.table == 0x32) (row_at (scope_methods value) parent.row)
-    (cond (parent.table == 0x33) (row_at (variable_methods value) parent.row)
-    (cond (parent.table == 0x34) (row_at (constant_methods value) parent.row) None)))
+    (cond (parent.table == 0x32) (row_at (map (λ (s : ScopeValue). s.method) value.scopes) parent.row)
+    (cond (parent.table == 0x33) (row_at (flat_map (λ (s : ScopeValue). map (λ v. s.method) s.variables) value.scopes) parent.row)
+    (cond (parent.table == 0x34) (row_at (flat_map (λ (s : ScopeValue). map (λ c. s.method) s.constants) value.scopes) parent.row) None)))
 
 abbrev pub is_at_dropped : Map → FileValue → Parent → Bool
 is_at_dropped m value parent = list_any (is_dropped m) (option_to_list (method_at value parent))
 
 -- ---- records on rows that are gone
 
--- the constants of all scopes, by their rows from 1
-abbrev pub all_constants : FileValue → List ConstantValue
-all_constants value = flat_map (λ (s : ScopeValue). s.constants) value.scopes
-
 -- the row is that of a constant that is removed
 abbrev pub is_at_gone_constant : Map → FileValue → Parent → Bool
-is_at_gone_constant m value parent = parent.table == 0x34 && list_any (goes_constant m) (option_to_list (row_at (all_constants value) parent.row))
+is_at_gone_constant m value parent =
+    parent.table == 0x34
+    && list_any (goes_constant m) (option_to_list (row_at (flat_map (λ (s : ScopeValue). s.constants) value.scopes) parent.row))
 
 -- ---- records of unknown kinds
 

@@ -57,15 +57,12 @@ abbrev pub body_beyond : Map → ℕ → CustomBody → List MergeError
 body_beyond m method (Hoisted slots) = flat_map (slot_beyond m method) slots
 body_beyond m method body = flat_map (offset_beyond m) (async_offsets method body)
 
-abbrev pub custom_beyond : Map → CustomValue → List MergeError
-custom_beyond m c = cond (live_custom m c) (body_beyond m c.parent.row c.value) []
-
 -- points, scopes and custom records, in the order of their tables
 abbrev pub beyond : Map → FileValue → List MergeError
 beyond m value =
     flat_map (points_beyond m) value.methods
     ++ (flat_map (scope_beyond m) value.scopes
-    ++ flat_map (custom_beyond m) value.customs)
+    ++ flat_map (λ (c : CustomValue). cond (live_custom m c) (body_beyond m c.parent.row c.value) []) value.customs)
 
 -- ---- offsets of async records that are not kept
 
@@ -75,8 +72,5 @@ is_kept m method offset = is_kept_between (offsets_in m method) offset (offset +
 abbrev pub if_lost : Map → MethodOffset → List MergeError
 if_lost m x = cond (is_kept m x.method x.offset) [] (AsyncLost x.method x.offset ∷ [])
 
-abbrev pub custom_lost : Map → CustomValue → List MergeError
-custom_lost m c = cond (live_custom m c) (flat_map (if_lost m) (async_offsets c.parent.row c.value)) []
-
 abbrev pub lost : Map → FileValue → List MergeError
-lost m value = flat_map (custom_lost m) value.customs
+lost m value = flat_map (λ (c : CustomValue). cond (live_custom m c) (flat_map (if_lost m) (async_offsets c.parent.row c.value)) []) value.customs

@@ -25,11 +25,9 @@ is_row (Row table row) = true
 is_row image = false
 
 -- M1: a reference whose image is missing. What names a row that is gone is no reference.
-abbrev pub if_unmapped : Map → Reference → List MergeError
-if_unmapped m r = cond (is_row (row_image m r.table r.row)) [] (Unmapped r.table r.row r.place ∷ [])
-
 abbrev pub unmapped : Bool → Map → RawFile → List MergeError
-unmapped first m raw = flat_map (if_unmapped m) (references first m raw)
+unmapped first m raw =
+    flat_map (λ (r : Reference). cond (is_row (row_image m r.table r.row)) [] (Unmapped r.table r.row r.place ∷ [])) (references first m raw)
 
 -- the image is the row itself
 abbrev pub Stays : Imaged → Type 0

@@ -98,18 +98,20 @@ struct Rows<'v> {
 }
 
 impl<'v> Model for Rows<'v> {
-    ghost use Rattle.std.specs.Prelude.{◌≡◌, map};
+    ghost use Rattle.std.specs.Prelude.{◌≡◌, map, flat_map};
     ghost use Rattle.ppdb_maps.specs.Map.{Map};
     ghost use Rattle.ppdb_values.specs.declared.file.FileValue.{FileValue};
+    ghost use Rattle.ppdb_values.specs.declared.scope.ScopeValue.{ScopeValue as scope_value};
     ghost use Rattle.ppdb_merge_items.specs.NamedRows.{goes_constant};
-    ghost use Rattle.ppdb_merge_fits.specs.Clashes.{all_constants, scope_methods, variable_methods, constant_methods};
 
     ghost Value = { Map × FileValue };
 
     ghost view = { λ r. (r.by.now, r.value.now) };
 
-    ghost invariant = { λ r. (r.scopes ≡ scope_methods r.value.now) × (r.variables ≡ variable_methods r.value.now)
-        × (r.constants ≡ constant_methods r.value.now) × (r.gone ≡ map (goes_constant r.by.now) (all_constants r.value.now)) };
+    ghost invariant = { λ r. (r.scopes ≡ map (λ (s : scope_value). s.method) r.value.now.scopes)
+        × (r.variables ≡ flat_map (λ (s : scope_value). map (λ v. s.method) s.variables) r.value.now.scopes)
+        × (r.constants ≡ flat_map (λ (s : scope_value). map (λ c. s.method) s.constants) r.value.now.scopes)
+        × (r.gone ≡ map (goes_constant r.by.now) (flat_map (λ (s : scope_value). s.constants) r.value.now.scopes)) };
 }
 
 /// The entry of a row; none past the last.

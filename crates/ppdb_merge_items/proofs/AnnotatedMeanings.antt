@@ -15,7 +15,7 @@ use Rattle.ppdb_values.specs.declared.custom.CustomValue.{CustomValue}
 use Rattle.ppdb_values.specs.Parts.{slots_in, points_of, last_point, scopes_at, import_chain, is_at}
 use Rattle.ppdb_values.specs.declared.annotation.Annotation.{Annotation}
 use Rattle.ppdb_values.specs.Links.{links}
-use Rattle.ppdb_values.specs.Meaning.{meaning, point_meaning, scope_meaning, import_meaning, slots_at, annotated_on, without_parent}
+use Rattle.ppdb_values.specs.Meaning.{meaning, point_meaning, scope_meaning, slots_at, annotated_on, without_parent}
 use Rattle.ppdb_merge_items.specs.declared.file.AnnotatedScope.{AnnotatedScope}
 use Rattle.ppdb_merge_items.specs.Annotated.{annotated_scope, annotated_file}
 use Rattle.ppdb_merge_items.specs.AnnotatedMeaning as annotated
@@ -69,7 +69,8 @@ point_is value m x = of (find (λ (e : MethodValue). nat_eq e.method m) value.me
 -- ---- the scopes
 
 chain_is : (value : FileValue) (import : ℕ)
-    → map (import_meaning value) (import_chain value import) ≡ map imported (annotated.chain (annotated_file value).imports import)
+    → map (λ link. record { item = link.1.imports; customs = annotated_on value 0x35 link.0 }) (import_chain value import)
+    ≡ map imported (annotated.chain (annotated_file value).imports import)
 chain_is value import =
     sym (
     ap (map imported) (ap (map (λ (link : ℕ × Annotation ImportScopeValue). link.1))

@@ -9,3 +9,4 @@ pub mod Soundness
 pub mod Spread
 pub mod StableSort
 pub mod Values
+pub mod Parts

@@ -53,9 +53,6 @@ is_type_documents body = false
 abbrev pub is_gone_type : Map → TypeToken → Bool
 is_gone_type m token = is_gone_row m token.table token.row
 
-abbrev pub live_method : Map → MethodValue → Bool
-live_method m method = not (is_dropped m method.method)
-
 abbrev pub live_scope : Map → AnnotatedScope → Bool
 live_scope m scope = not (is_dropped m scope.method)
 
@@ -69,9 +66,6 @@ names_gone_class m body = false
 
 abbrev pub goes_constant : Map → ConstantValue → Bool
 goes_constant m constant = list_any (λ (modifier : Modifier). is_gone_type m modifier.target) constant.modifiers || names_gone_class m constant.body
-
-abbrev pub live_constant : Map → Annotation ConstantValue → Bool
-live_constant m n = not (goes_constant m n.item)
 
 -- An import is removed whose assembly or type is gone; so is an alias of an assembly that becomes the module's own (a row of table 20).
 abbrev pub live_import : Map → ImportValue → Bool
@@ -97,9 +91,6 @@ live_custom m custom =
 abbrev pub live_signature : Map → MethodValue → ℕ
 live_signature m method = cond (is_some (signature_line m method.method) || is_gone_row m 0x11 method.signature) 0 method.signature
 
-abbrev pub with_live_signature : Map → MethodValue → MethodValue
-with_live_signature m method = record method { signature = live_signature m method }
-
 -- a constant of an enumeration that is gone is one of the enumeration's underlying type
 abbrev pub live_body : Map → ConstantBody → ConstantBody
 live_body m (Enumerated code value target) = cond (is_gone_type m target) (Primitive code value) (Enumerated code value target)
@@ -108,38 +99,25 @@ live_body m body = body
 abbrev pub with_live_body : Map → ConstantValue → ConstantValue
 with_live_body m constant = record constant { body = live_body m constant.body }
 
--- the constants that are kept, and the imports
+-- the constants that are kept
 abbrev pub live_constants : Map → List (Annotation ConstantValue) → List (Annotation ConstantValue)
-live_constants m constants = map (with_item (with_live_body m)) (filter (live_constant m) constants)
-
-abbrev pub live_imports : Map → List ImportValue → List ImportValue
-live_imports m imports = filter (live_import m) imports
-
-abbrev pub with_live_constants : Map → AnnotatedScope → AnnotatedScope
-with_live_constants m scope = record scope { constants = live_constants m scope.constants }
-
-abbrev pub with_live_imports : Map → ImportScopeValue → ImportScopeValue
-with_live_imports m scope = record scope { imports = live_imports m scope.imports }
+live_constants m constants = map (with_item (with_live_body m)) (filter (λ n. not (goes_constant m n.item)) constants)
 
 -- The file without what is removed. At a dropped method these are removed: points, scopes with what they own, state machines, custom records,
--- and the entry point. Elsewhere `live_constant`, `live_import` and `live_custom` say which constants (each with the records on it), imports
--- and records are kept; an import scope is kept without imports, and a constant of an enumeration that is gone has its underlying type. No
+-- and the entry point. Elsewhere a constant that `goes_constant` is removed with the records on it, and `live_import` and `live_custom` say
+-- which imports and records are kept; an import scope is kept without imports, and a constant of an enumeration that is gone has its underlying type. No
 -- stored local signature is left where the method has a `signature` line or the row of the signature is gone.
 abbrev pub live_file : Map → AnnotatedFile → AnnotatedFile
 live_file m file = record file {
   entry = cond (is_dropped m file.entry) 0 file.entry;
-  methods = map (with_live_signature m) (filter (live_method m) file.methods);
-  scopes = map (with_live_constants m) (filter (live_scope m) file.scopes);
-  imports = map (with_item (with_live_imports m)) file.imports;
+  methods = map (λ (e : MethodValue). record e { signature = live_signature m e }) (filter (λ e. not (is_dropped m e.method)) file.methods);
+  scopes = map (λ (s : AnnotatedScope). record s { constants = live_constants m s.constants }) (filter (live_scope m) file.scopes);
+  imports = map (with_item (λ (i : ImportScopeValue). record i { imports = filter (live_import m) i.imports })) file.imports;
   machines = filter (live_machine m) file.machines;
   customs = filter (live_custom m) file.customs;
 }
 
 -- ---- the rows, in the order of the tables
-
-abbrev pub in_entry : Bool → AnnotatedFile → List Named
-in_entry true file = names_some 0x06 file.entry
-in_entry false file = []
 
 abbrev pub all_named : AnnotatedFile → List Named
 all_named file =
@@ -152,4 +130,4 @@ all_named file =
 
 -- The rows that an input names; the entry point counts in the first input.
 abbrev pub named_rows : Bool → Map → AnnotatedFile → List Named
-named_rows first m file = in_entry first (live_file m file) ++ all_named (live_file m file)
+named_rows first m file = cond first (names_some 0x06 (live_file m file).entry) [] ++ all_named (live_file m file)

@@ -87,12 +87,9 @@ joined_parts first documents files = record first {
   customs = in_order (λ c. coded_of c.parent) (fresh same_record [] (map (λ (file : AnnotatedFile). file.customs) files));
 }
 
-abbrev pub no_file : AnnotatedFile
-no_file = record { id = []; entry = 0; rows = repeat 64 (0 ∷ []); documents = []; methods = []; scopes = []; imports = []; machines = []; customs = [] }
-
 -- The documents of all files by name, the first of each standing; import scopes in the order of the files; methods, scopes, state
 -- machines and custom records in order of their methods, MoveNext methods and parents. A record that equals one of an earlier file
 -- is left out. Identity, entry point and row counts are the first file's.
 abbrev pub joined : List AnnotatedFile → AnnotatedFile
-joined [] = no_file
+joined [] = record { id = []; entry = 0; rows = repeat 64 (0 ∷ []); documents = []; methods = []; scopes = []; imports = []; machines = []; customs = [] }
 joined (first ∷ others) = joined_parts first (joined_documents (first ∷ others)) (renumbered_all (joined_documents (first ∷ others)) 0 (first ∷ others))

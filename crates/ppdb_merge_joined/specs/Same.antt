@@ -1,14 +1,9 @@
 -- Records that are equal, and those of later inputs that equal none of an earlier one.
-use Rattle.std.specs.{Prelude.{ℕ, ◌&&◌, ◌++◌, not, Bool, true, false, nat_eq, List, [], ◌∷◌, Option, Some, None, filter, bytes_eq}, List.list_any}
+use Rattle.std.specs.{Prelude.{◌&&◌, ◌++◌, not, Bool, true, false, nat_eq, List, [], ◌∷◌, filter, bytes_eq}, List.list_any, Option.option_eq}
 use Rattle.custom_info.specs.{declared.slots.Slot.{Slot, TheVariants.{Empty, Held}}, declared.stepping.AsyncStep.AsyncStep}
 use lib.Pointwise.{pointwise}
 use Rattle.ppdb_values.specs.{declared.custom.{CustomBody.{CustomBody, TheVariants.{Async, Hoisted, TypeDocuments, Unread}}, CustomValue.CustomValue}, declared.annotation.Custom.Custom}
 use Rattle.ppdb_values.specs.Meaning.{without_parent}
-
-abbrev pub same_option : Option ℕ → Option ℕ → Bool
-same_option None None = true
-same_option (Some a) (Some b) = nat_eq a b
-same_option _ _ = false
 
 abbrev pub same_step : AsyncStep → AsyncStep → Bool
 same_step a b = nat_eq a.pause b.pause && (nat_eq a.resume b.resume && nat_eq a.method b.method)
@@ -19,7 +14,7 @@ same_slot (Held a) (Held b) = nat_eq a.start b.start && nat_eq a.end b.end
 same_slot _ _ = false
 
 abbrev pub same_body : CustomBody → CustomBody → Bool
-same_body (Async handler steps) (Async other more) = same_option handler other && pointwise same_step steps more
+same_body (Async handler steps) (Async other more) = option_eq nat_eq handler other && pointwise same_step steps more
 same_body (Hoisted slots) (Hoisted others) = pointwise same_slot slots others
 same_body (TypeDocuments rows) (TypeDocuments others) = pointwise nat_eq rows others
 same_body (Unread bytes) (Unread others) = bytes_eq bytes others

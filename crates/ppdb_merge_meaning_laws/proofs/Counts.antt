@@ -4,7 +4,7 @@ use Rattle.std.specs.Prelude.{nat_eq, IfSome, get_or, unwrap_or}
 use Rattle.std.specs.List.{find}
 use Rattle.std.specs.Option.{option_map}
 use Rattle.std.proofs.lemmas.Bool.{eqb-true}
-use Rattle.ppdb_maps.specs.Map.{Map, output_count}
+use Rattle.ppdb_maps.specs.Map.{Map, count_of}
 use Rattle.ppdb_maps.specs.Readable.{IsReadable, IsCount}
 use Rattle.ppdb_maps.specs.declared.entries.Count.{Count}
 use Rattle.ppdb_values_sound_laws.specs.Sound.{SoundRows}
@@ -12,7 +12,7 @@ use Rattle.ppdb_merge_moved.specs.Moved.{moved_counts}
 use Rattle.ppdb_merge_moved.proofs.ImageRows.{found_passes}
 
 count_small : (m : Map) → IsReadable m → (table n : ℕ) → n ≤ 16777215 → (0x2d ≤ table → n ≡ 0)
-    → (output_count m table n ≤ 16777215) × (0x2d ≤ table → output_count m table n ≡ 0)
+    → (unwrap_or (count_of m table) n ≤ 16777215) × (0x2d ≤ table → unwrap_or (count_of m table) n ≡ 0)
 count_small m ready table n small none =
     by (find (λ (c : Count). nat_eq c.table table) m.counts) (found_passes IsCount (λ (c : Count). nat_eq c.table table) m.counts ready.counts)
   where

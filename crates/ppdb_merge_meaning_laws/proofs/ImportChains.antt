@@ -1,10 +1,10 @@
 -- The chain of a file's import scope is the same where the file's import scopes stand among others.
-use Rattle.std.proofs.Common.{◌≡◌, ℕ, zero, suc, ◌+◌, ◌≤◌, ◌++◌, List, ◌∷◌, Option, Some, None, length, map, refl, sym, ◌∙◌, ap, arith}
+use Rattle.std.proofs.Common.{◌≡◌, ℕ, zero, suc, ◌+◌, ◌≤◌, ◌++◌, List, [], ◌∷◌, Option, Some, None, length, map, refl, sym, ◌∙◌, ap, arith}
 use Rattle.std.proofs.Common.{slice_get}
-use Rattle.std.specs.Option.{option_map}
+use Rattle.std.specs.Option.{option_map, option_map_or}
 use Rattle.std.proofs.lemmas.List.{length-append, length-map}
 use Rattle.ppdb_tables.specs.RawTables.{row_at}
-use Rattle.ppdb_values.specs.Chains.{chain_for, chain_of, link_and}
+use Rattle.ppdb_values.specs.Chains.{chain_for, chain_of}
 use Rattle.ppdb_values.specs.declared.import.ImportScopeValue.{ImportScopeValue}
 use Rattle.ppdb_values.specs.declared.import.ImportValue.{ImportValue}
 use Rattle.ppdb_values.specs.declared.annotation.Annotation.{Annotation}
@@ -30,7 +30,8 @@ module _ (imports : List (Annotation ImportScopeValue)) (each : Each (λ n. pare
     (one_more : (row : ℕ) → row ≤ length imports → chain_for parent imports (suc (length imports)) row ≡ chain_of parent imports row) where
   linked : (g h : ℕ → List (ℕ × Annotation ImportScopeValue)) → ((next : ℕ) → next ≤ length imports → g next ≡ h next)
       → (row : ℕ) (o : Option (Annotation ImportScopeValue))
-      → row_at imports row ≡ o → link_and parent g row o ≡ link_and parent h row o
+      → row_at imports row ≡ o
+      → option_map_or (λ link. (row, link) ∷ g (parent link)) o [] ≡ option_map_or (λ link. (row, link) ∷ h (parent link)) o []
   linked g h same row None here = refl
   linked g h same zero (Some n) here = cc
   linked g h same (suc i) (Some n) here = ap (λ l. (suc i, n) ∷ l)
@@ -59,14 +60,14 @@ module _ (file : AnnotatedFile) (before rest : List (Annotation ImportScopeValue
   chain_shown zero row within = refl
   chain_shown (suc most) zero within = refl
   chain_shown (suc most) (suc i) within =
-      ap (λ o. said (link_and parent (λ next. chain_for parent all most next) (shift + suc i) o))
+      ap (λ o. said (option_map_or (λ link. (shift + suc i, link) ∷ chain_for parent all most (parent link)) o []))
       (shown file before rest shift is_shift i (omega (arith, within)))
       ∙ of_row (slice_get file.imports i) refl (λ row within. chain_shown most row within)
     where
       of_row : (o : Option (Annotation ImportScopeValue)) → slice_get file.imports i ≡ o
           → ((row : ℕ) → row ≤ length file.imports → said (chain_for parent all most (shifted shift row)) ≡ said (chain_for parent file.imports most row))
-          → said (link_and parent (λ next. chain_for parent all most next) (shift + suc i) (option_map (with_item (renumbered_import shift)) o))
-          ≡ said (link_and parent (λ next. chain_for parent file.imports most next) (suc i) o)
+          → said (option_map_or (λ link. (shift + suc i, link) ∷ chain_for parent all most (parent link)) (option_map (with_item (renumbered_import shift)) o) [])
+          ≡ said (option_map_or (λ link. (suc i, link) ∷ chain_for parent file.imports most (parent link)) o [])
       of_row None here rest = refl
       of_row (Some n) here rest = ap (λ l. imported n ∷ l)
           (rest n.item.parent (each_row_at (λ (n : Annotation ImportScopeValue). n.item.parent ≤ length file.imports) file.imports i n each here))

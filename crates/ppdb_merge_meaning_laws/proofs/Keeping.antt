@@ -20,7 +20,7 @@ use Rattle.ppdb_values_sound_laws.specs.Customs.{coded_of}
 use Rattle.ppdb_merge_items.specs.declared.file.AnnotatedFile.{AnnotatedFile}
 use Rattle.ppdb_merge_items.specs.Each.{Each, Pairs}
 use Rattle.ppdb_merge_items.specs.Laws.{SoundnessIsAnnotated}
-use Rattle.ppdb_merge_items.specs.NamedRows.{names, names_some, named_rows, in_entry, all_named, live_file}
+use Rattle.ppdb_merge_items.specs.NamedRows.{names, names_some, named_rows, all_named, live_file}
 use Rattle.ppdb_merge_items.specs.Annotated.{annotated_file}
 use Rattle.ppdb_merge_items.specs.AnnotatedMeaning.{annotated_meaning, annotated_links}
 use Rattle.ppdb_merge_items.specs.SoundParts.{SoundMoved}
@@ -49,6 +49,7 @@ use Rattle.ppdb_merge_moved.proofs.ImageRows.{within_moved}
 use Rattle.ppdb_merge_meaning_laws.proofs.Inputs.{map_split, input_sound, input_names, can_be_joined}
 use Rattle.ppdb_merge_meaning_laws.proofs.LastPoints.{found_each, last_at, last_in}
 use Rattle.ppdb_merge_meaning_laws.proofs.Joins.{joined_means, each_mid, pairs_before, pairs_after, joined_customs}
+use Rattle.ppdb_merge_items.proofs.Parts.{in_entry}
 
 each_before : {A : Type 0} (P : A → Type 0) (before after : List A) (x : A) → Each P (before ++ x ∷ after) → Each P before
 each_before P [] after x each = tt

@@ -12,7 +12,7 @@ use Rattle.type_blobs.specs.declared.types.TypeToken.{TypeToken}
 use Rattle.type_blobs.specs.declared.types.Modifier.{Modifier}
 use Rattle.custom_info.specs.declared.stepping.AsyncStep.{AsyncStep}
 use Rattle.ppdb_maps.specs.declared.image.RowImage.{RowImage}
-use Rattle.ppdb_maps.specs.Map.{Map, row_image, row_within, is_gone, moved_row, moved_signature, signature_line, offsets_in, is_dropped, line_offsets, method_line}
+use Rattle.ppdb_maps.specs.Map.{Map, row_image, row_within, is_gone, moved_row, moved_signature, signature_line, offsets_in, is_dropped, method_line}
 use Rattle.ppdb_maps.specs.Map.{is_gone_row, is_in_table}
 use Rattle.ppdb_maps.specs.Readable.{IsReadable}
 use Rattle.ppdb_tables.specs.declared.rows.MachineRow.{MachineRow}
@@ -32,7 +32,7 @@ use Rattle.ppdb_merge_items.specs.declared.file.AnnotatedScope.{AnnotatedScope}
 use Rattle.ppdb_merge_items.specs.declared.file.AnnotatedFile.{AnnotatedFile}
 use Rattle.ppdb_merge_items.specs.Each.{Each}
 use Rattle.ppdb_merge_items.specs.NamedRows.{Named, names, names_some, all_named, in_token, in_body, in_constant, in_import, in_steps, live_machine, live_custom}
-use Rattle.ppdb_merge_items.specs.NamedRows.{live_signature, live_constants, live_import, live_imports}
+use Rattle.ppdb_merge_items.specs.NamedRows.{live_signature, live_constants, live_import}
 use Rattle.ppdb_merge_items.proofs.Lists.{Each-append, Each-map}
 use Rattle.ppdb_merge_joined.proofs.Each.{Each-flat}
 use Rattle.ppdb_merge_items.specs.Annotated.{with_item}
@@ -43,6 +43,8 @@ use Rattle.ppdb_merge_moved.proofs.Elements.{each_parts}
 use Rattle.ppdb_merge_moved.proofs.Lists.{Each-both, Each-filter_map}
 use Rattle.ppdb_merge_moved.proofs.NamedParts.{NamedParts}
 use Rattle.ppdb_merge_moved.proofs.ImageRows.{may_cross, within_is, linked_lives}
+use Rattle.ppdb_maps.proofs.Parts.{line_offsets}
+use Rattle.ppdb_merge_items.proofs.Parts.{live_imports}
 
 some_of : {A : Type 0} (a b : A) → Some a ≡ Some b → a ≡ b
 some_of a b e = cc

@@ -17,10 +17,10 @@ pub record MovedBy : Type 0 where
 abbrev pub Input : Type 0
 Input = Bool × MovedBy
 
--- inputs in order
-abbrev pub in_turn : List MovedBy → List Input
+-- items in order, each with whether it is the first
+abbrev pub in_turn : {A : Type 0} → List A → List (Bool × A)
 in_turn [] = []
-in_turn (first ∷ others) = (true, first) ∷ map (λ input. (false, input)) others
+in_turn (first ∷ others) = (true, first) ∷ map (λ item. (false, item)) others
 
 -- the rows of the type system that an input names
 abbrev pub named_by : Input → List Named

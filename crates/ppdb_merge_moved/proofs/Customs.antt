@@ -9,7 +9,7 @@ use Rattle.ppdb_base.specs.Offsets.{gone}
 use Rattle.ppdb_maps.specs.declared.image.RowImage.{RowImage}
 use Rattle.ppdb_maps.specs.declared.image.RowImage.TheVariants.{Row, Gone, Missing}
 use Rattle.ppdb_maps.specs.Readable.{IsReadable}
-use Rattle.ppdb_maps.specs.Map.{Map, row_image, moved_row, offsets_in, is_dropped, line_offsets, method_line}
+use Rattle.ppdb_maps.specs.Map.{Map, row_image, moved_row, offsets_in, is_dropped, method_line}
 use Rattle.custom_info.specs.Kinds.{source_link}
 use Rattle.ppdb_values.specs.Parts.{is_at}
 use Rattle.ppdb_values.specs.declared.custom.CustomBody.TheVariants.{Unread}
@@ -22,6 +22,7 @@ use Rattle.ppdb_merge_moved.specs.Moved.{is_link, linked, moved_body, moved_cust
 use Rattle.ppdb_merge_moved.specs.FitsMethod.{FitsCustom, MovesAsMethod}
 use Rattle.ppdb_merge_moved.proofs.ImageRows.{lives_on_method, method_moves, never_method}
 use Rattle.ppdb_merge_moved.proofs.Lists.{Alike, filter-filter_map, filter_map-map}
+use Rattle.ppdb_maps.proofs.Parts.{line_offsets}
 
 abbrev pub on : ℕ → CustomValue → Bool
 on method c = nat_eq c.parent.table 0x06 && nat_eq c.parent.row method

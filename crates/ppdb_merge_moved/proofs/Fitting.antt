@@ -12,7 +12,7 @@ use Rattle.custom_info.specs.declared.slots.Slot.{Slot}
 use Rattle.custom_info.specs.declared.slots.Slot.TheVariants.{Empty, Held}
 use Rattle.custom_info.specs.HoistedScopes.{IsSlot}
 use Rattle.custom_info.specs.Kinds.{kind_of}
-use Rattle.ppdb_maps.specs.Map.{Map, MethodLine, moved_row, row_line, count_of, offsets_in, is_dropped, line_offsets, method_line}
+use Rattle.ppdb_maps.specs.Map.{Map, MethodLine, moved_row, row_line, count_of, offsets_in, is_dropped, method_line}
 use Rattle.ppdb_maps.specs.declared.image.RowImage.TheVariants.{Row}
 use Rattle.ppdb_maps.specs.Readable.{IsReadable, IsLineOf}
 use Rattle.ppdb_tables.specs.declared.rows.MachineRow.{MachineRow}
@@ -27,7 +27,7 @@ use Rattle.ppdb_values_sound_laws.specs.Methods.{SoundMethod}
 use Rattle.ppdb_merge_items.specs.declared.file.AnnotatedScope.{AnnotatedScope}
 use Rattle.ppdb_merge_items.specs.declared.file.AnnotatedFile.{AnnotatedFile}
 use Rattle.ppdb_merge_items.specs.Each.{Each}
-use Rattle.ppdb_merge_items.specs.NamedRows.{Named, names, names_some, named_rows, in_entry, live_file, live_machine, live_signature}
+use Rattle.ppdb_merge_items.specs.NamedRows.{Named, names, names_some, named_rows, live_file, live_machine, live_signature}
 use Rattle.ppdb_merge_items.specs.NamedRows.{live_custom, in_steps}
 use Rattle.ppdb_merge_items.specs.SoundParts.{SoundAnnotatedScope}
 use Rattle.ppdb_merge_items.specs.Unannotated.{value_of_annotated}
@@ -41,6 +41,8 @@ use Rattle.ppdb_merge_moved.proofs.RisingPoints.{points_are_rising}
 use Rattle.ppdb_merge_moved.proofs.ImageRows.{lives_on_method, no_shared_method, moved_stays, within}
 use Rattle.ppdb_merge_moved.proofs.RowImages.{IsWithin, found_holds, moved_is_image, row_moved}
 use Rattle.ppdb_merge_moved.proofs.Lists.{each_of_three}
+use Rattle.ppdb_merge_items.proofs.Parts.{in_entry}
+use Rattle.ppdb_maps.proofs.Parts.{line_offsets}
 
 -- ---- readable maps
 

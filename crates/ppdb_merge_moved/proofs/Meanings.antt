@@ -8,7 +8,6 @@ use Rattle.ppdb_values.specs.declared.annotation.Annotation.{Annotation}
 use Rattle.ppdb_merge_items.specs.declared.file.AnnotatedScope.{AnnotatedScope}
 use Rattle.ppdb_merge_items.specs.declared.file.AnnotatedFile.{AnnotatedFile}
 use Rattle.ppdb_merge_items.specs.Annotated.{with_item}
-use Rattle.ppdb_merge_items.specs.NamedRows.{live_imports}
 use Rattle.ppdb_merge_moved.specs.Moved.{moved_import, moved_import_scope, scope_image, moved_file}
 use Rattle.ppdb_merge_moved.specs.Images.{scope_image as scope_image_meaning}
 use Rattle.ppdb_merge_items.specs.AnnotatedMeaning.{chain, imported, scope_meaning, scopes_at, held as holds}
@@ -20,6 +19,7 @@ use Rattle.ppdb_merge_items.proofs.Mapped.{chain_of_map, map_map_both}
 use Rattle.ppdb_merge_moved.proofs.Scopes.{scopes_kept}
 use Rattle.ppdb_merge_items.proofs.Orders.{in_order_keeps}
 use Rattle.std.proofs.lemmas.Bool.{eqb-true, and_parts}
+use Rattle.ppdb_merge_items.proofs.Parts.{live_imports}
 
 -- the chain of moved imports is the chain, moved
 chain_moved : (m : Map) (imports : List (Annotation ImportScopeValue)) (row : ℕ)

@@ -10,12 +10,14 @@ use Rattle.ppdb_values.specs.declared.annotation.Annotation.{Annotation}
 use Rattle.ppdb_merge_items.specs.declared.file.AnnotatedScope.{AnnotatedScope}
 use Rattle.ppdb_merge_items.specs.declared.file.AnnotatedFile.{AnnotatedFile}
 use Rattle.ppdb_merge_items.specs.Each.{Each}
-use Rattle.ppdb_merge_items.specs.NamedRows.{Named, names, names_some, named_rows, in_entry, in_constant, in_import, in_steps, all_named, live_file, live_method}
+use Rattle.ppdb_merge_items.specs.NamedRows.{Named, names, names_some, named_rows, in_constant, in_import, in_steps, all_named, live_file}
 use Rattle.ppdb_merge_items.specs.Annotated.{with_item}
-use Rattle.ppdb_merge_items.specs.NamedRows.{live_scope, live_machine, live_custom, live_signature, with_live_signature}
-use Rattle.ppdb_merge_items.specs.NamedRows.{live_constants, live_imports, with_live_constants, with_live_imports}
+use Rattle.ppdb_merge_items.specs.NamedRows.{live_scope, live_machine, live_custom, live_signature}
+use Rattle.ppdb_merge_items.specs.NamedRows.{live_constants}
 use Rattle.ppdb_merge_items.proofs.Lists.{Each-weaker, Each-unmap}
 use Rattle.ppdb_merge_moved.proofs.Elements.{each_parts, each_made, each_left}
+use Rattle.ppdb_merge_items.proofs.Parts.{live_method, with_live_signature, with_live_constants, with_live_imports, in_entry}
+use Rattle.ppdb_merge_items.proofs.Parts.{live_imports}
 
 pub record NamedParts (P : Named → Type 0) (first : Bool) (m : Map) (w : AnnotatedFile) : Type 0 where
   pub entry : Each P (in_entry first (live_file m w))

@@ -33,15 +33,17 @@ use Rattle.ppdb_values_sound_laws.specs.Scopes.{SoundConstant, stored_body}
 use Rattle.ppdb_merge_items.specs.declared.file.AnnotatedScope.{AnnotatedScope}
 use Rattle.ppdb_merge_items.specs.declared.file.AnnotatedFile.{AnnotatedFile}
 use Rattle.ppdb_merge_items.specs.Each.{Each}
-use Rattle.ppdb_merge_items.specs.NamedRows.{Named, names, names_some, in_token, in_body, in_constant, in_import, in_steps, in_entry, all_named}
-use Rattle.ppdb_merge_items.specs.NamedRows.{live_file, live_method, live_scope, live_machine, live_custom, live_signature, with_live_signature}
-use Rattle.ppdb_merge_items.specs.NamedRows.{live_constants, live_import, live_imports, with_live_constants, with_live_imports}
+use Rattle.ppdb_merge_items.specs.NamedRows.{Named, names, names_some, in_token, in_body, in_constant, in_import, in_steps, all_named}
+use Rattle.ppdb_merge_items.specs.NamedRows.{live_file, live_scope, live_machine, live_custom, live_signature}
+use Rattle.ppdb_merge_items.specs.NamedRows.{live_constants, live_import}
 use Rattle.ppdb_merge_items.specs.Annotated.{items_of, with_item}
 use Rattle.ppdb_merge_items.specs.Unannotated.{value_of_annotated}
 use Rattle.ppdb_merge_items.proofs.Lists.{Each-append, Each-filter, Each-map, Each-weaker, each_row}
 use Rattle.ppdb_merge_moved.specs.Laws.{NamedRowsAreRows}
 use Rattle.ppdb_merge_moved.proofs.RowImages.{count_most}
 use Rattle.ppdb_merge_moved.proofs.SoundItems.{most, each_all, live_sound}
+use Rattle.ppdb_merge_items.proofs.Parts.{live_method, with_live_signature, with_live_constants, with_live_imports, in_entry}
+use Rattle.ppdb_merge_items.proofs.Parts.{live_imports}
 
 abbrev IsThere : Named → Type 0
 IsThere n = (1 ≤ n.row) × (n.row ≤ 16777215)

@@ -21,7 +21,7 @@ use Rattle.custom_info.specs.declared.slots.Range.{Range}
 use Rattle.custom_info.specs.declared.slots.Slot.{Slot}
 use Rattle.custom_info.specs.declared.slots.Slot.TheVariants.{Empty, Held}
 use Rattle.custom_info.specs.declared.stepping.AsyncStep.{AsyncStep}
-use Rattle.ppdb_maps.specs.Map.{Map, MethodLine, row_image, row_within, moved_row, offsets_in, is_dropped, line_offsets, method_line, is_in_table}
+use Rattle.ppdb_maps.specs.Map.{Map, MethodLine, row_image, row_within, moved_row, offsets_in, is_dropped, method_line, is_in_table}
 use Rattle.ppdb_maps.specs.declared.entries.CrossLine.{CrossLine}
 use Rattle.ppdb_maps.specs.declared.image.RowImage.TheVariants.{Row}
 use Rattle.ppdb_maps.specs.Forms.{Crosses, IsTypeTable}
@@ -43,7 +43,7 @@ use Rattle.ppdb_values_sound_laws.specs.Named.{count, HasRow, HasType, type_limi
 use Rattle.ppdb_values_sound_laws.specs.Scopes.{SoundConstant, stored_body}
 use Rattle.ppdb_merge_items.specs.Each.{Each, Pairs}
 use Rattle.ppdb_merge_items.specs.NamedRows.{names, in_token, in_body, in_constant, in_import, in_steps, is_gone_type}
-use Rattle.ppdb_merge_items.specs.NamedRows.{live_body, live_constant, live_constants, with_live_body}
+use Rattle.ppdb_merge_items.specs.NamedRows.{live_body, live_constants, with_live_body}
 use Rattle.ppdb_merge_items.specs.Annotated.{items_of, with_item}
 use Rattle.ppdb_merge_items.proofs.Lists.{Each-filter, Each-map, Each-unmap, Pairs-map, Pairs-unmap}
 use Rattle.ppdb_merge_moved.proofs.Lists.{Pairs-filter}
@@ -55,6 +55,8 @@ use Rattle.ppdb_merge_moved.proofs.Means.{kept_within}
 use Rattle.ppdb_merge_moved.proofs.RisingPoints.{all_each, size_moved, itself_moved}
 use Rattle.ppdb_merge_moved.proofs.ImageRows.{StaysOrCrosses, image_cases, image_in, within}
 use Rattle.ppdb_merge_moved.proofs.RowImages.{row_moved, found_holds}
+use Rattle.ppdb_merge_items.proofs.Parts.{live_constant}
+use Rattle.ppdb_maps.proofs.Parts.{line_offsets}
 
 -- a value whose type system has as many rows as may be
 abbrev pub most : FileValue → FileValue

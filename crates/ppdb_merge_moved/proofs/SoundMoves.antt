@@ -14,7 +14,7 @@ use Rattle.ppdb_maps.specs.declared.entries.CrossLine.{CrossLine}
 use Rattle.ppdb_maps.specs.declared.image.RowImage.{RowImage}
 use Rattle.ppdb_maps.specs.declared.image.RowImage.TheVariants.{Row}
 use Rattle.ppdb_maps.specs.Forms.{Crosses, IsTypeTable}
-use Rattle.ppdb_maps.specs.Map.{Map, row_image, row_within, moved_row, offsets_in, is_dropped, line_offsets, method_line, is_gone_row, leaves_table}
+use Rattle.ppdb_maps.specs.Map.{Map, row_image, row_within, moved_row, offsets_in, is_dropped, method_line, is_gone_row, leaves_table}
 use Rattle.ppdb_maps.specs.Readable.{IsReadable}
 use Rattle.ppdb_tables.specs.declared.rows.MachineRow.{MachineRow}
 use Rattle.row_layout.specs.Columns.{parent_tables}
@@ -46,7 +46,7 @@ use Rattle.ppdb_merge_items.specs.declared.file.AnnotatedScope.{AnnotatedScope}
 use Rattle.ppdb_merge_items.specs.declared.file.AnnotatedFile.{AnnotatedFile}
 use Rattle.ppdb_merge_items.specs.Each.{Each, Pairs}
 use Rattle.ppdb_merge_items.specs.NamedRows.{names, names_some, named_rows, live_machine, live_custom, live_scope, live_signature, in_constant, in_import, in_steps}
-use Rattle.ppdb_merge_items.specs.NamedRows.{is_type_documents, live_constant, live_constants, live_import, live_imports, with_live_body}
+use Rattle.ppdb_merge_items.specs.NamedRows.{is_type_documents, live_constants, live_import, with_live_body}
 use Rattle.ppdb_merge_items.specs.SoundParts.{SoundMoved, SoundNote, SoundAnnotatedScope}
 use Rattle.ppdb_merge_items.specs.Unannotated.{value_of_annotated}
 use Rattle.ppdb_merge_items.specs.Annotated.{items_of, with_item}
@@ -69,6 +69,9 @@ use Rattle.ppdb_merge_moved.proofs.ImageRows.{within, within_moved}
 use Rattle.ppdb_merge_moved.proofs.RisingPoints.{all_each, all_pairs, points_rise, points_are_rising}
 use Rattle.ppdb_merge_moved.proofs.RowImages.{row_moved, signature_moved, count_most}
 use Rattle.ppdb_merge_moved.proofs.SoundItems.{most, each_all, small_after, body_same, constant_moved, import_moved, body_kept, ranges_moved, live_sound, live_differ}
+use Rattle.ppdb_merge_items.proofs.Parts.{live_constant}
+use Rattle.ppdb_maps.proofs.Parts.{line_offsets}
+use Rattle.ppdb_merge_items.proofs.Parts.{live_imports}
 
 some_of : {A : Type 0} (a b : A) → Some a ≡ Some b → a ≡ b
 some_of a b e = cc

@@ -1,9 +1,9 @@
 -- What a meaning, and what is linked to a method, becomes where a file is moved by a map.
-use Rattle.std.specs.Prelude.{ℕ, ◌&&◌, Bool, cond, Option, Some, None, map, option_map, option_and_then}
+use Rattle.std.specs.Prelude.{ℕ, ◌&&◌, Bool, cond, Option, Some, None, map, filter, option_map, option_and_then}
 use Rattle.ppdb_base.specs.Offsets.{moved}
 use Rattle.ppdb_maps.specs.Map.{Map, moved_row, moved_signature, offsets_in, is_dropped}
 use Rattle.ppdb_values.specs.{declared.annotation.Custom.Custom, Meaning.{PointMeaning, ScopeMeaning, SlotMeaning, Meaning}, Links.Links}
-use Rattle.ppdb_merge_items.specs.{Annotated.with_item, NamedRows.{live_constants, live_imports}}
+use Rattle.ppdb_merge_items.specs.{Annotated.with_item, NamedRows.{live_constants, live_import}}
 use Rattle.ppdb_merge_moved.specs.Moved.{moved_range, moved_variable, moved_constant, moved_import, moved_body, moved_document}
 
 -- the document gets the name that the map gives it; the local signature is that of the method's `signature` line, else its own, moved
@@ -21,7 +21,7 @@ scope_image m method s = record s {
   range = moved_range (offsets_in m method) s.range;
   variables = map (with_item (moved_variable m method)) s.variables;
   constants = map (with_item (moved_constant m)) (live_constants m s.constants);
-  imports = map (with_item (λ imports. map (moved_import m) (live_imports m imports))) s.imports;
+  imports = map (with_item (λ imports. map (moved_import m) (filter (live_import m) imports))) s.imports;
 }
 
 abbrev pub slot_meaning_image : Map → ℕ → SlotMeaning → SlotMeaning

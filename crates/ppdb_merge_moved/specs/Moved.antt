@@ -1,7 +1,7 @@
 -- A file moved by a map (docs/FORMAT.md, "Moving"): what each of its parts becomes, and which parts are removed.
 use Rattle.ppdb_values.specs.Names.{Offsets, moved, Point, TypeToken, Modifier, Range, Slot, Empty, Held, AsyncStep, MachineRow, moved_points, source_link, Parent}
-use Rattle.std.specs.Prelude.{ℕ, ◌+◌, ◌&&◌, ◌||◌, not, Bool, cond, nat_lt, bytes_eq, List, [], ◌∷◌, Option, Some, None, unwrap_or, map, filter_map, option_map}
-use Rattle.ppdb_maps.specs.Map.{Map, row_image, moved_row, moved_signature, moved_name, offsets_in, slot_image, is_dropped, output_count, is_in_table}
+use Rattle.std.specs.Prelude.{ℕ, ◌+◌, ◌&&◌, ◌||◌, not, Bool, cond, nat_lt, bytes_eq, List, [], ◌∷◌, Option, Some, None, unwrap_or, map, filter, filter_map, option_map}
+use Rattle.ppdb_maps.specs.Map.{Map, row_image, moved_row, moved_signature, moved_name, offsets_in, slot_image, is_dropped, count_of, is_in_table}
 use Rattle.ppdb_maps.specs.declared.image.RowImage.{RowImage, TheVariants.Row}
 use Rattle.ppdb_values.specs.declared.file.{DocumentValue.DocumentValue, MethodValue.MethodValue}
 use Rattle.ppdb_values.specs.declared.scope.{VariableValue.VariableValue, ConstantValue.ConstantValue, ConstantBody.ConstantBody}
@@ -10,7 +10,7 @@ use Rattle.ppdb_values.specs.declared.import.ImportValue.TheVariants.{Namespace,
 use Rattle.ppdb_values.specs.declared.import.{ImportScopeValue.ImportScopeValue}
 use Rattle.ppdb_values.specs.{declared.custom.{CustomBody.{CustomBody, TheVariants.{Async, Hoisted, Unread}}, CustomValue.CustomValue}, Parts.is_at}
 use Rattle.ppdb_merge_items.specs.{declared.file.{AnnotatedScope.AnnotatedScope, AnnotatedFile.AnnotatedFile}, Annotated.with_item}
-use Rattle.ppdb_merge_items.specs.NamedRows.{live_constants, live_custom, live_imports}
+use Rattle.ppdb_merge_items.specs.NamedRows.{live_constants, live_custom, live_import}
 
 -- ---- offsets
 
@@ -100,7 +100,7 @@ abbrev pub moved_constant : Map → ConstantValue → ConstantValue
 moved_constant m c = record c { modifiers = map (moved_modifier m) c.modifiers; body = moved_constant_body m c.body }
 
 abbrev pub moved_import_scope : Map → ImportScopeValue → ImportScopeValue
-moved_import_scope m i = record i { imports = map (moved_import m) (live_imports m i.imports) }
+moved_import_scope m i = record i { imports = map (moved_import m) (filter (live_import m) i.imports) }
 
 abbrev pub scope_image : Map → AnnotatedScope → AnnotatedScope
 scope_image m s = record {
@@ -150,9 +150,10 @@ moved_custom m c = moved_record m (linked m c)
 
 -- ---- the file
 
+-- the row counts of the output, from a table on: that of its `rows` line, else that of the input
 abbrev pub moved_counts : Map → ℕ → List ℕ → List ℕ
 moved_counts m table [] = []
-moved_counts m table (n ∷ ns) = output_count m table n ∷ moved_counts m (table + 1) ns
+moved_counts m table (n ∷ ns) = unwrap_or (count_of m table) n ∷ moved_counts m (table + 1) ns
 
 abbrev pub moved_file : Map → AnnotatedFile → AnnotatedFile
 moved_file m file = record {

@@ -71,9 +71,10 @@ pub fn constant_goes(map: &MapText, constant: &ConstantValue) -> bool
 
 /// A constant is removed with the records on it.
 impl Lives<MapText> for Annotation<ConstantValue> {
-    ghost use Rattle.ppdb_merge_items.specs.NamedRows.{live_constant};
+    ghost use Rattle.std.specs.Prelude.{not};
+    ghost use Rattle.ppdb_merge_items.specs.NamedRows.{goes_constant};
 
-    ghost lives = { live_constant };
+    ghost lives = { λ m constant. not (goes_constant m constant.item) };
 
     fn lives_by(&self, map: &MapText) -> bool {
         !constant_goes(map, &self.item)

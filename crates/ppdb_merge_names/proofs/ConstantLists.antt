@@ -19,8 +19,9 @@ use Rattle.ppdb_values_reading.specs.declared.scopes.Scope.{Scope}
 pub use Rattle.ppdb_values_reading.specs.Scopes.{scope_in}
 use Rattle.ppdb_values_reading.specs.Scopes.{scopes_in, list_range, IsWithin, next_of}
 use Rattle.ppdb_values_reading.proofs.Shared.{list_within}
-use Rattle.ppdb_merge_names.specs.References.{Reference, types_of, is_dropped_scope, is_dropped_constant, of_constant}
+use Rattle.ppdb_merge_names.specs.References.{Reference, types_of, is_dropped_constant, of_constant}
 use Rattle.ppdb_merge_names.specs.Lists.{of_list, of_scope_constants}
+use Rattle.ppdb_merge_names.proofs.Parts.{is_dropped_scope}
 
 -- ---- parts of lists
 

@@ -4,3 +4,4 @@ pub mod TableLists
 pub mod RowNames
 pub mod ConstantLists
 pub mod Still
+pub mod Parts

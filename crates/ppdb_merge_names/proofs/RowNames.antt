@@ -15,14 +15,15 @@ use Rattle.ppdb_tables.specs.declared.rows.CustomRow.{CustomRow}
 use Rattle.ppdb_tables.specs.Parents.{parent_in}
 use Rattle.ppdb_tables.specs.RawTables.{RawTables, row_at}
 use Rattle.ppdb_values.specs.declared.file.MethodValue.{MethodValue}
-use Rattle.ppdb_values.specs.Customs.{parent_of, no_parent, kind_in}
+use Rattle.ppdb_values.specs.Customs.{parent_of, kind_in}
 use Rattle.ppdb_values.specs.Documents.{method_of}
 use Rattle.ppdb_values.specs.Parts.{method_at}
 use Rattle.ppdb_values.specs.RawFile.{RawFile}
 use Rattle.ppdb_values.specs.Rows.{ValuesAreRows, method_in}
 use Rattle.ppdb_values.specs.Value.{value_of}
-use Rattle.ppdb_merge_names.specs.References.{Reference, names, names_some, of_entry, of_signature, of_points, of_method, of_scope, of_machine, methods_in}
-use Rattle.ppdb_merge_names.specs.References.{is_type_documents, is_live_parent, leaves_types, is_live_record, of_parent, of_custom}
+use Rattle.ppdb_merge_names.specs.References.{Reference, names, names_some, of_entry, of_signature, of_method, of_scope, of_machine, methods_in}
+use Rattle.ppdb_merge_names.specs.References.{is_type_documents, is_live_parent, leaves_types, of_parent, of_custom}
+use Rattle.ppdb_merge_names.proofs.Parts.{of_points, is_live_record}
 
 abbrev if_kept : Bool → List Reference → List Reference
 if_kept dropped rs = cond dropped [] rs
@@ -93,7 +94,7 @@ machine_names m row cells d =
 
 -- a custom record by its parent
 parent_is : (coded : ℕ) (parent : Parent) → Some parent ≡ parent_in coded → parent_of coded ≡ parent
-parent_is coded parent e = ap (λ (o : Option Parent). unwrap_or o no_parent) (sym e)
+parent_is coded parent e = ap (λ (o : Option Parent). unwrap_or o (record { table = 0; row = 0 })) (sym e)
 
 abbrev if_live : Bool → List Reference → List Reference
 if_live live rs = cond live rs []

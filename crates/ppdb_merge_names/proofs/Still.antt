@@ -32,9 +32,10 @@ use Rattle.ppdb_values.specs.RawFile.{RawFile, blob, type_limits}
 use Rattle.type_blobs_rows.specs.declared.row.PlacedRow.{PlacedRow}
 use Rattle.type_blobs_rows.specs.Rows.{constant_types, import_rows, method_behind, resume_method, resume_methods}
 use Rattle.ppdb_merge_names.specs.References.{names, names_some, inside, is_live, takes_constant, live_types, of_entry, of_signature}
-use Rattle.ppdb_merge_names.specs.References.{of_points, of_method, of_scope, is_dropped_constant, of_constant, of_import, of_machine, methods_in}
+use Rattle.ppdb_merge_names.specs.References.{of_method, of_scope, is_dropped_constant, of_constant, of_import, of_machine, methods_in}
 use Rattle.ppdb_merge_names.specs.References.{of_parent, leaves_types, of_custom, of_methods, of_others, references}
 use Rattle.ppdb_merge_names.proofs.Going.{IsStill}
+use Rattle.ppdb_merge_names.proofs.Parts.{of_points}
 
 -- ---- lists
 

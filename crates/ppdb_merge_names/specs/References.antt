@@ -3,11 +3,11 @@
 -- names none (docs/FORMAT.md, "Fitting"), nor does the stored local signature of a method that has a `signature` line.
 use Rattle.ppdb_values.specs.Names.{Place, at_byte, cell, kind_of, Kind, Async, Parent, list_any, MethodDebugRow, ScopeRow, ConstantRow, ImportRow, MachineRow}
 use Rattle.ppdb_values.specs.Names.{CustomRow, RawTables, count, numbered, row_at}
-use Rattle.std.specs.Prelude.{map, filter, ℕ, ◌&&◌, ◌||◌, not, Bool, true, false, cond, nat_eq, nat_lt, is_some, List, [], ◌∷◌, ◌++◌, Option, Some, None, flat_map}
-use Rattle.std.specs.Prelude.{option_and_then}
+use Rattle.std.specs.Prelude.{map, filter, ℕ, ◌&&◌, ◌||◌, not, Bool, true, false, cond, nat_eq, nat_lt, is_some, List, [], ◌∷◌, ◌++◌, flat_map}
+use Rattle.std.specs.{Prelude.option_and_then, Option.option_map_or}
 use Rattle.custom_info.specs.declared.kinds.Kind.TheVariants.{TypeDocuments}
 use Rattle.ppdb_maps.specs.Map.{Map, is_dropped, is_gone_row, is_in_table, leaves_table, row_image, signature_line}
-use Rattle.ppdb_values.specs.{declared.file.MethodValue.MethodValue, RawFile.{RawFile, blob, type_limits}, Documents.method_of, Imports.heap_of}
+use Rattle.ppdb_values.specs.{RawFile.{RawFile, blob, type_limits}, Documents.method_of, Imports.heap_of}
 use Rattle.ppdb_values.specs.{Customs.{parent_of, kind_in}, Value.owner_of}
 use Rattle.type_blobs_rows.specs.declared.row.{PlacedRow.PlacedRow, Role.{Role, TheVariants.{Enumeration, AliasedAssembly}}}
 use Rattle.type_blobs_rows.specs.Rows.{constant_types, import_rows, resume_methods}
@@ -64,23 +64,18 @@ abbrev pub of_signature : Map → ℕ → ℕ → List Reference
 of_signature m row signature = cond (is_some (signature_line m row) || is_gone_row m 0x11 signature) [] (names_some (cell 0x31 row 1) 0x11 signature)
 
 -- a method that has points, and its local signature
-abbrev pub of_points : Map → ℕ → Option MethodValue → List Reference
-of_points m row None = []
-of_points m row (Some method) = names (cell 0x31 row 1) 0x06 row ∷ of_signature m row method.signature
-
 abbrev pub of_method : Map → RawTables → ℕ × MethodDebugRow → List Reference
-of_method m raw x = cond (is_dropped m x.0) [] (of_points m x.0 (method_of raw x))
+of_method m raw x =
+    cond (is_dropped m x.0) []
+    (option_map_or (λ method. names (cell 0x31 x.0 1) 0x06 x.0 ∷ of_signature m x.0 method.signature) (method_of raw x) [])
 
 abbrev pub of_scope : Map → ℕ × ScopeRow → List Reference
 of_scope m x = cond (is_dropped m x.1.method) [] (names (cell 0x32 x.0 0) 0x06 x.1.method ∷ [])
 
 -- a constant is removed with the scope that owns it
-abbrev pub is_dropped_scope : Map → Option ScopeRow → Bool
-is_dropped_scope m None = false
-is_dropped_scope m (Some scope) = is_dropped m scope.method
-
 abbrev pub is_dropped_constant : Map → RawTables → ℕ → Bool
-is_dropped_constant m raw row = is_dropped_scope m (option_and_then (row_at raw.scopes) (owner_of (λ scope. scope.constants) raw.scopes row))
+is_dropped_constant m raw row =
+    option_map_or (λ scope. is_dropped m scope.method) (option_and_then (row_at raw.scopes) (owner_of (λ scope. scope.constants) raw.scopes row)) false
 
 abbrev pub types_of : Map → RawTables → ℕ × ConstantRow → List Reference
 types_of m raw x = inside 0x34 x.0 1 (live_types m (constant_types (type_limits raw) (blob raw x.1.signature)))
@@ -123,11 +118,9 @@ is_type_documents kind = false
 abbrev pub leaves_types : Map → RawTables → CustomRow → Parent → Bool
 leaves_types m raw row parent = is_type_documents (kind_of [] (kind_in raw row)) && leaves_table parent.table (row_image m parent.table parent.row)
 
-abbrev pub is_live_record : Map → RawTables → CustomRow → Parent → Bool
-is_live_record m raw row parent = is_live_parent m parent && not (leaves_types m raw row parent)
-
 abbrev pub of_custom : Map → RawTables → ℕ × CustomRow → List Reference
-of_custom m raw x = cond (is_live_record m raw x.1 (parent_of x.1.parent)) (of_parent raw x (parent_of x.1.parent)) []
+of_custom m raw x =
+    cond (is_live_parent m (parent_of x.1.parent) && not (leaves_types m raw x.1 (parent_of x.1.parent))) (of_parent raw x (parent_of x.1.parent)) []
 
 -- ---- the whole input
 

@@ -38,14 +38,13 @@ use Rattle.ppdb_values.specs.RawFile.{RawFile, blob, records_of, begun_of, type_
 use Rattle.ppdb_values.specs.Rules.{KeepsRules}
 use Rattle.ppdb_values.specs.Value.{value_of, scope_of}
 use Rattle.ppdb_merge_names.specs.References.{names as names_at, types_of, of_constant, of_import, of_machine, methods_in, methods_of, of_parent}
-use Rattle.ppdb_merge_names.specs.References.{is_type_documents, is_live_parent, is_live_record, of_custom}
+use Rattle.ppdb_merge_names.specs.References.{is_type_documents, is_live_parent, of_custom}
 use Rattle.ppdb_merge_names.specs.Lists.{of_list, of_scope_constants}
 use Rattle.ppdb_merge_names.proofs.ConstantLists.{all-scopes, get_numbered, get_take, get_drop, scope_in}
 use Rattle.ppdb_merge_items.specs.declared.file.AnnotatedScope.{AnnotatedScope}
 use Rattle.ppdb_merge_items.specs.Annotated.{annotated_file, with_item}
 use Rattle.ppdb_merge_items.specs.NamedRows.{Named, names, in_constant, in_import, in_steps, live_scope, live_machine, live_custom}
-use Rattle.ppdb_merge_items.specs.NamedRows.{is_type_documents as is_documents_body, live_constant, with_live_body, live_constants, with_live_constants, live_imports}
-use Rattle.ppdb_merge_items.specs.NamedRows.{with_live_imports}
+use Rattle.ppdb_merge_items.specs.NamedRows.{is_type_documents as is_documents_body, with_live_body, live_constants}
 use Rattle.ppdb_merge_names_laws.proofs.FieldWalks.{row_named}
 use Rattle.ppdb_merge_names_laws.proofs.ConstantNames.{constant-names}
 use Rattle.ppdb_merge_names_laws.proofs.ImportNames.{import-names}
@@ -54,6 +53,9 @@ use Rattle.ppdb_merge_names_laws.proofs.StepNames.{step-names}
 use Rattle.ppdb_merge_names_laws.proofs.Listed.{unplaced, flat_map-made, flat_map-same, unplaced-flat, named-mapped, unnumbered, numbered-out, numbered-value}
 use Rattle.ppdb_merge_names_laws.proofs.Listed.{annotated-items, filter-both}
 use Rattle.ppdb_merge_names_laws.proofs.Parts.{inside-named, annotated_row, annotated-scopes}
+use Rattle.ppdb_merge_names.proofs.Parts.{is_live_record}
+use Rattle.ppdb_merge_items.proofs.Parts.{live_constant, with_live_constants, with_live_imports}
+use Rattle.ppdb_merge_items.proofs.Parts.{live_imports}
 
 -- ---- constants
 

@@ -14,13 +14,14 @@ use Rattle.ppdb_values.specs.Documents.{method_of, method_with, signature_in, po
 use Rattle.ppdb_values.specs.RawFile.{RawFile, blob}
 use Rattle.ppdb_values.specs.Value.{value_of, scope_of}
 use Rattle.type_blobs_rows.specs.declared.row.PlacedRow.{PlacedRow}
-use Rattle.ppdb_merge_names.specs.References.{names as names_at, names_some as some_at, inside, of_entry, of_signature, of_points, of_method, of_scope}
+use Rattle.ppdb_merge_names.specs.References.{names as names_at, names_some as some_at, inside, of_entry, of_signature, of_method, of_scope}
 use Rattle.ppdb_merge_items.specs.declared.file.AnnotatedScope.{AnnotatedScope}
 use Rattle.ppdb_merge_items.specs.Annotated.{annotated_file, annotated_scope}
-use Rattle.ppdb_merge_items.specs.NamedRows.{Named, names, names_some, in_entry, live_file, live_method, live_scope, live_signature, with_live_signature}
-use Rattle.ppdb_merge_items.specs.NamedRows.{with_live_constants}
+use Rattle.ppdb_merge_items.specs.NamedRows.{Named, names, names_some, live_file, live_scope, live_signature}
 use Rattle.ppdb_merge_names_laws.proofs.FieldWalks.{row_named}
 use Rattle.ppdb_merge_names_laws.proofs.Listed.{unplaced, unplaced-flat, flat_map-made, named-mapped, named-filtered, numbered-made, map-twice}
+use Rattle.ppdb_merge_names.proofs.Parts.{of_points}
+use Rattle.ppdb_merge_items.proofs.Parts.{live_method, with_live_signature, with_live_constants, in_entry}
 
 some-named : (place : Place) (table row : ℕ) → unplaced (some_at place table row) ≡ names_some table row
 some-named place table row = by (nat_eq row 0)

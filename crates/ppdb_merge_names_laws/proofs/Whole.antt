@@ -14,11 +14,12 @@ use Rattle.ppdb_values.specs.Value.{value_of}
 use Rattle.ppdb_merge_names.specs.References.{Reference, of_entry, of_method, of_scope, of_constant, of_import, of_machine, of_custom, of_methods, of_others}
 use Rattle.ppdb_merge_names.specs.References.{references}
 use Rattle.ppdb_merge_items.specs.Annotated.{annotated_file}
-use Rattle.ppdb_merge_items.specs.NamedRows.{Named, names, in_entry, in_constant, in_import, live_file, named_rows}
+use Rattle.ppdb_merge_items.specs.NamedRows.{Named, names, in_constant, in_import, live_file, named_rows}
 use Rattle.ppdb_merge_names_laws.specs.Laws.{named_by}
 use Rattle.ppdb_merge_names_laws.proofs.Listed.{unplaced}
 use Rattle.ppdb_merge_names_laws.proofs.Parts.{method_rows, entry-named, methods-named, scopes-named}
 use Rattle.ppdb_merge_names_laws.proofs.Owned.{machine_rows, custom_rows, constants-named, imports-named, machines-named, customs-named}
+use Rattle.ppdb_merge_items.proofs.Parts.{in_entry}
 
 both : (xs ys : List Reference) (a b : List Named) → unplaced xs ≡ a → unplaced ys ≡ b → unplaced (xs ++ ys) ≡ a ++ b
 both xs ys a b e f = map-append named_by xs ys ∙ ap (λ (l : List Named). l ++ unplaced ys) e ∙ ap (λ (l : List Named). a ++ l) f

@@ -20,7 +20,7 @@ use Rattle.ppdb_values.specs.Meaning.{annotated_from, annotated_on}
 use Rattle.ppdb_merge_items.specs.declared.file.AnnotatedScope.{AnnotatedScope}
 use Rattle.ppdb_merge_items.specs.declared.file.AnnotatedFile.{AnnotatedFile}
 use Rattle.ppdb_merge_items.specs.Annotated.{annotated_file, annotated_scope, items_of, scope_of, with_item}
-use Rattle.ppdb_merge_items.specs.NamedRows.{goes_constant, live_constant, live_constants, with_live_body}
+use Rattle.ppdb_merge_items.specs.NamedRows.{goes_constant, live_constants, with_live_body}
 use Rattle.ppdb_merge_items.specs.Sorted.{in_order}
 use Rattle.ppdb_merge_items.specs.Unannotated.{value_of_annotated}
 use Rattle.ppdb_merge_items.proofs.Mapped.{map_map_both}
@@ -33,6 +33,7 @@ use Rattle.ppdb_merge_parts.specs.Flat.{Counted, counted, rows_of, moved_documen
 use Rattle.ppdb_merge_parts.specs.Flat.{scope_image, import_image, machine_image, IsFlat, HasHeadOf, JoinedPartsAreFlat}
 use Rattle.ppdb_merge_parts.proofs.Lists.{map_numbered, filter_map_numbered, map_filter_map, filter_map_map, map_flat, filter_map_flat, flat_same}
 use Rattle.ppdb_merge_parts.proofs.Ordered.{in_order_made, in_order_map}
+use Rattle.ppdb_merge_items.proofs.Parts.{live_constant}
 
 -- ---- inputs, moved
 

@@ -21,12 +21,13 @@ use Rattle.ppdb_merge_items.proofs.Lists.{Each-weaker}
 use Rattle.ppdb_merge_moved.proofs.Elements.{each_in}
 use Rattle.ppdb_merge_joined.proofs.Each.{Each-flat}
 use Rattle.ppdb_merge_fits.specs.Offsets.{MethodOffset, offset_in, async_offsets, offset_beyond, end_beyond, points_beyond, scope_beyond}
-use Rattle.ppdb_merge_fits.specs.Offsets.{slot_beyond, body_beyond, custom_beyond, beyond}
+use Rattle.ppdb_merge_fits.specs.Offsets.{slot_beyond, body_beyond, beyond}
 use Rattle.ppdb_merge_places_laws.proofs.Ordered.{Rise, and_then, at_one}
 use Rattle.ppdb_merge_places_laws.proofs.Reported.{Placed, error_of, numbers}
 use Rattle.ppdb_merge_places_laws.proofs.Rows.{InRow, InTable, OfRow, in_table, numbered_row, table_each, table_rises}
 use Rattle.ppdb_merge_places_laws.proofs.Tagged.{One, by_number, flat_same, numbered_same, tag, tag_each, tag_rise, tag_same}
 use Rattle.ppdb_merge_places_laws.proofs.Past.{past_one}
+use Rattle.ppdb_merge_fits.proofs.Parts.{custom_beyond}
 
 module _ (m : Map) where
   -- ---- the errors of each row, with their places

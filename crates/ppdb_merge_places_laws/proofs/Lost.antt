@@ -12,13 +12,14 @@ use Rattle.ppdb_values.specs.declared.custom.CustomValue.{CustomValue}
 use Rattle.ppdb_merge_items.specs.Each.{Each}
 use Rattle.ppdb_merge_items.specs.NamedRows.{live_custom}
 use Rattle.ppdb_merge_moved.proofs.Elements.{each_in, each_made}
-use Rattle.ppdb_merge_fits.specs.Offsets.{MethodOffset, async_offsets, is_kept, if_lost, custom_lost, lost}
+use Rattle.ppdb_merge_fits.specs.Offsets.{MethodOffset, async_offsets, is_kept, if_lost, lost}
 use Rattle.ppdb_merge_places_laws.specs.Offsets.{IsLiveRecord, IsLost, FirstLostOffsetsAreReported}
 use Rattle.ppdb_merge_places_laws.specs.Offsets.IsLost.{async}
 use Rattle.ppdb_merge_places_laws.proofs.Ordered.{Rise, numbered_rise}
 use Rattle.ppdb_merge_places_laws.proofs.Reported.{IsWitness, Placed, error_of, numbers, reports_first}
 use Rattle.ppdb_merge_places_laws.proofs.Rows.{OfRow, numbered_row, row_made}
 use Rattle.ppdb_merge_places_laws.proofs.Tagged.{One, numbered_found, numbered_pick, numbered_same, tag, tag_same}
+use Rattle.ppdb_merge_fits.proofs.Parts.{custom_lost}
 
 module _ (m : Map) where
   abbrev offset_told : ℕ → ℕ × MethodOffset → List Placed

@@ -22,8 +22,8 @@ use Rattle.ppdb_values.specs.Imports.{heap_of}
 use Rattle.ppdb_values.specs.Customs.{parent_of, kind_in}
 use Rattle.ppdb_merge_items.specs.Each.{Each, Pairs}
 use Rattle.ppdb_merge_items.proofs.Lists.{Each-weaker}
-use Rattle.ppdb_merge_names.specs.References.{Reference, names, of_entry, of_points, of_method, of_scope, types_of, of_constant}
-use Rattle.ppdb_merge_names.specs.References.{is_dropped_constant, of_import, of_machine, methods_in, methods_of, of_parent, is_live_record, of_custom}
+use Rattle.ppdb_merge_names.specs.References.{Reference, names, of_entry, of_method, of_scope, types_of, of_constant}
+use Rattle.ppdb_merge_names.specs.References.{is_dropped_constant, of_import, of_machine, methods_in, methods_of, of_parent, of_custom}
 use Rattle.ppdb_merge_names.specs.References.{is_live, live_types}
 use Rattle.ppdb_merge_names.specs.References.{of_methods, of_others, references}
 use Rattle.ppdb_merge_fits.proofs.First.{append_is}
@@ -32,6 +32,7 @@ use Rattle.ppdb_merge_places_laws.proofs.Bytes.{Above}
 use Rattle.ppdb_merge_places_laws.proofs.Ordered.{At, From, RiseFrom, and_then, at_one, numbered_each, numbered_rise}
 use Rattle.ppdb_merge_places_laws.proofs.Inside.{Rising, InRow, InTable, in_table, constants_rise}
 use Rattle.ppdb_merge_places_laws.proofs.Inside.{imports_rise, rows_left, types_left, methods_rise, inside_rises, inside_each, inside_row}
+use Rattle.ppdb_merge_names.proofs.Parts.{of_points, is_live_record}
 
 -- ---- the rows of each table
 

@@ -12,12 +12,13 @@ use Rattle.ppdb_merge_items.specs.Each.{Each}
 use Rattle.ppdb_merge_moved.proofs.Elements.{each_in, each_made, in_each}
 use Rattle.ppdb_merge_joined.proofs.Each.{Each-flat}
 use Rattle.ppdb_merge_names.specs.References.{Reference, references}
-use Rattle.ppdb_merge_fits.specs.Rows.{is_row, if_unmapped, unmapped}
+use Rattle.ppdb_merge_fits.specs.Rows.{is_row, unmapped}
 use Rattle.ppdb_merge_places_laws.specs.References.{reference_numbers, IsUnmapped, FirstReferencesAreReported}
 use Rattle.ppdb_merge_places_laws.specs.References.IsUnmapped.{reference}
 use Rattle.ppdb_merge_places_laws.proofs.Ordered.{Rise}
 use Rattle.ppdb_merge_places_laws.proofs.References.{rising}
 use Rattle.ppdb_merge_places_laws.proofs.Reported.{IsWitness, Placed, error_of, numbers, reports_first}
+use Rattle.ppdb_merge_fits.proofs.Parts.{if_unmapped}
 
 module _ (first : Bool) (m : Map) (raw : RawFile) where
   abbrev Witness : List ℕ → MergeError → Type 0

@@ -20,7 +20,7 @@ use Rattle.ppdb_merge_items.specs.declared.file.AnnotatedFile.{AnnotatedFile}
 use Rattle.ppdb_merge_items.specs.declared.file.AnnotatedScope.{AnnotatedScope}
 use Rattle.ppdb_merge_items.specs.Annotated.{annotated_scope, customs_of, with_item}
 use Rattle.ppdb_merge_items.specs.Each.{Each}
-use Rattle.ppdb_merge_items.specs.NamedRows.{goes_constant, live_constant, live_constants, with_live_body}
+use Rattle.ppdb_merge_items.specs.NamedRows.{goes_constant, live_constants, with_live_body}
 use Rattle.ppdb_merge_items.specs.Sorted.{in_order}
 use Rattle.ppdb_merge_items.proofs.Lists.{Each-filter, Each-map, Each-weaker, each_of}
 use Rattle.ppdb_merge_items.proofs.Mapped.{map_map_both}
@@ -36,6 +36,7 @@ use Rattle.ppdb_merge_parts.proofs.Flat.{moved_of}
 use Rattle.ppdb_merge_records_laws.proofs.Fresh.{of_one, later_none, flat_none}
 use Rattle.ppdb_merge_parts.proofs.Lists.{map_filter_map, filter_map_map, filter_map_flat, map_flat, flat_same}
 use Rattle.ppdb_merge_parts.proofs.Ordered.{in_order_made, in_order_map}
+use Rattle.ppdb_merge_items.proofs.Parts.{live_constant}
 
 -- ---- what the input of a row has on it
 

@@ -5,7 +5,7 @@ use Rattle.std.specs.Prelude.{ℤ, All, unwrap_or, get_or, slice_get, nat_lt, if
 use Rattle.std.specs.Option.{option_map, option_and_then}
 use Rattle.std.proofs.lemmas.List.Elements.{All-nil, All-cons, All-head, All-tail}
 use Rattle.ppdb_base.specs.Offsets.{Offsets, gone, moved, is_kept_between, old_size, Rise}
-use Rattle.ppdb_maps.specs.Map.{Map, moved_row, moved_signature, offsets_in, is_dropped, line_offsets, method_line}
+use Rattle.ppdb_maps.specs.Map.{Map, moved_row, moved_signature, offsets_in, is_dropped, method_line}
 use Rattle.cli_ints.specs.Shortest.{short_unsigned, in_two_bytes, in_four_bytes}
 use Rattle.sequence_points.specs.declared.point.Point.{Point}
 use Rattle.sequence_points.specs.MovedPoints.{moved_points, first_offset}
@@ -22,6 +22,7 @@ use Rattle.sequence_points_moved.specs.Conditions.{HasImage}
 use Rattle.sequence_points_moved.specs.MovedBlob.{in_new_document, moved_in, moved_blob}
 use Rattle.sequence_points_moved.proofs.Stays.{image_small}
 use Rattle.ppdb_merge_rows.specs.Methods.{method_after, HasBlob, HasLargeStep}
+use Rattle.ppdb_maps.proofs.Parts.{line_offsets}
 
 abbrev HasDocument : Point → Type 0
 HasDocument p = 1 ≤ p.document

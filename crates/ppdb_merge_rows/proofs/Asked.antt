@@ -2,7 +2,7 @@
 use Rattle.std.proofs.Common.{◌≡◌, ◌≢◌, ℕ, ◌<◌, ◌++◌, false, cond, List, [], Option, Some, None, length, sym, ap, subst, ◌∙◌, arith}
 use Rattle.std.specs.Prelude.{ℤ, All, get_or}
 use Rattle.ppdb_base.specs.Offsets.{Offsets, gone, Rise, old_size}
-use Rattle.ppdb_maps.specs.Map.{Map, MethodLine, is_dropped, line_offsets, method_line, moved_signature, offsets_in}
+use Rattle.ppdb_maps.specs.Map.{Map, MethodLine, is_dropped, method_line, moved_signature, offsets_in}
 use Rattle.sequence_points.specs.declared.point.Point.{Point}
 use Rattle.sequence_points.specs.declared.point.PointLimits.{PointLimits}
 use Rattle.sequence_points.specs.Points.{common_document}
@@ -21,6 +21,7 @@ use Rattle.ppdb_merge_rows.specs.Methods.{HasBlob, HasLargeStep, PointsFit, is_l
 use Rattle.ppdb_merge_rows.proofs.After.{after_some, answers_gone, answers_blob, answers_step, moved_small, with_moved}
 use Rattle.ppdb_merge_rows.proofs.Images.{has_image}
 use Rattle.ppdb_merge_rows.proofs.Read.{IsRead, is_read, one_reading}
+use Rattle.ppdb_maps.proofs.Parts.{line_offsets}
 
 abbrev pub held : ℕ → ℕ → List Point → MethodValue
 held row signature points = record { method = row; signature = signature; points = points }

@@ -40,7 +40,7 @@ use Rattle.ppdb_values_sound_laws.specs.Named.{count}
 use Rattle.ppdb_merge_items.specs.declared.file.AnnotatedScope.{AnnotatedScope}
 use Rattle.ppdb_merge_items.specs.declared.file.AnnotatedFile.{AnnotatedFile}
 use Rattle.ppdb_merge_items.specs.Each.{Each, Pairs}
-use Rattle.ppdb_merge_items.specs.NamedRows.{is_gone_type, is_type_documents, leaves_types, live_body, live_constant, live_constants}
+use Rattle.ppdb_merge_items.specs.NamedRows.{is_gone_type, is_type_documents, leaves_types, live_body, live_constants}
 use Rattle.ppdb_merge_items.specs.NamedRows.{live_custom, live_import, names_gone_class, with_live_body}
 use Rattle.ppdb_merge_items.specs.SoundParts.{SoundIn, SoundAnnotatedScope}
 use Rattle.ppdb_merge_items.proofs.Lists.{Each-weaker, each_of}
@@ -52,6 +52,7 @@ use Rattle.ppdb_merge_moved.specs.Moved.{moved_import_scope, moved_machine, move
 use Rattle.ppdb_merge_moved.specs.Moved.{moved_token, moved_variable, scope_image, with_points, is_link, linked, moved_document, moved_parent, moved_record}
 use Rattle.ppdb_merge_moved.specs.Moved.{row_in, table_in}
 use Rattle.ppdb_merge_moved.proofs.RisingPoints.{itself_moved}
+use Rattle.ppdb_merge_items.proofs.Parts.{live_constant}
 
 -- ---- rows and offsets
 

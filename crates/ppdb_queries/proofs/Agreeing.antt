@@ -5,7 +5,6 @@ use Rattle.std.specs.List.{filter, filter_map, flat_map, enumerate_from, cons_op
 use Rattle.std.specs.Option.{option_map}
 use Rattle.custom_info.specs.declared.slots.Slot.{Slot}
 use Rattle.custom_info.specs.declared.slots.Slot.TheVariants.{Empty, Held}
-use Rattle.ppdb_tables.specs.declared.parent.Parent.{Parent}
 use Rattle.ppdb_tables.specs.declared.rows.CustomRow.{CustomRow}
 use Rattle.ppdb_tables.specs.RawTables.{RawTables, numbered, row_at}
 use Rattle.ppdb_values.specs.Chains.{chain_of}
@@ -18,7 +17,7 @@ use Rattle.ppdb_values.specs.RawFile.{RawFile}
 use Rattle.ppdb_values.specs.Value.{value_of, scope_of, range_of}
 use Rattle.ppdb_values.proofs.Mapped.{scopes_are_rows, chain_is_rows}
 use Rattle.ppdb_queries.specs.Chains.{link_of, links_from}
-use Rattle.ppdb_queries.specs.Hoisted.{hoisted_at, hoisted_at_slot, hoisted_in, records_on, slots_from, slots_of}
+use Rattle.ppdb_queries.specs.Hoisted.{hoisted_at, hoisted_at_slot, hoisted_in, slots_from, slots_of}
 use Rattle.ppdb_queries.specs.Laws.{hoisted_records, at_position, of_scope, of_view, of_import, of_link}
 use Rattle.ppdb_queries.specs.Runs.{customs_at}
 use Rattle.ppdb_queries.specs.Scopes.{scope_view, scopes_at}
@@ -53,9 +52,9 @@ customs_from raw table row n (c ∷ cs) =
       | false ↦ more
     ]
 
-pub customs_are : (raw : RawFile) (parent : Parent) → customs_on (value_of raw) parent.table parent.row ≡ map (λ row. custom_of raw.tables row.1)
-    (customs_at raw.tables parent)
-customs_are raw parent = customs_from raw.tables parent.table parent.row 1 raw.tables.customs
+pub customs_are : (raw : RawFile) (table row : ℕ) → customs_on (value_of raw) table row ≡ map (λ custom. custom_of raw.tables custom.1)
+    (customs_at raw.tables table row)
+customs_are raw table row = customs_from raw.tables table row 1 raw.tables.customs
 
 pub scopes_are : (raw : RawFile) (m x : ℕ) → map of_scope (scopes_of_value (value_of raw) m x) ≡ map of_view (scopes_at raw.tables m x)
 scopes_are raw m x =
@@ -95,7 +94,7 @@ only_hoisted raw x [] = refl
 only_hoisted raw x (row ∷ rows) = only_next raw x row rows (slots_in (custom_of raw row.1).value) refl (only_hoisted raw x rows)
 
 pub hoisted_is : (raw : RawFile) (m x : ℕ) → hoisted_at raw.tables m x ≡ hoisted_in raw.tables x (hoisted_records raw.tables m)
-hoisted_is raw m x = only_hoisted raw.tables x (records_on raw.tables m)
+hoisted_is raw m x = only_hoisted raw.tables x (customs_at raw.tables 0x06 m)
 
 -- one slot, by the position of its record and by its row
 one_slot : (x position row n : ℕ) (slot : Slot) → slot_at x position (n, slot) ≡ option_map (at_position position) (hoisted_at_slot x row (n, slot))
@@ -157,6 +156,5 @@ pub positions_are : (raw : RawFile) (m x : ℕ) → slots_at (value_of raw) m x
     ≡ flat_map (λ record_at. map (at_position record_at.0) (slots_from x record_at.1.0 0 (slots_of raw.tables record_at.1.1)))
     (enumerate_from 0 (hoisted_records raw.tables m))
 positions_are raw m x =
-    let on : Parent = record { table = 0x06; row = m } in
-    ap (λ customs. by_position x 0 (filter_map (λ custom. slots_in custom.value) customs)) (customs_are raw on)
-    ∙ positions_from raw.tables x 0 (records_on raw.tables m)
+    ap (λ customs. by_position x 0 (filter_map (λ custom. slots_in custom.value) customs)) (customs_are raw 0x06 m)
+    ∙ positions_from raw.tables x 0 (customs_at raw.tables 0x06 m)

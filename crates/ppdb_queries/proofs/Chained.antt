@@ -2,6 +2,7 @@
 use Rattle.std.proofs.Common.{◌≡◌, ℕ, zero, suc, List, [], ◌∷◌, length, refl, sym, ap, ◌∙◌}
 use Rattle.std.specs.Prelude.{Some, None, map, ◌+◌, ◌≤◌}
 use Rattle.std.proofs.Common.{arith}
+use Rattle.std.specs.Option.{option_map_or}
 use Rattle.ppdb_tables.specs.declared.rows.ImportRow.{ImportRow}
 use Rattle.ppdb_values.specs.Rules.{KeepsImports}
 use Rattle.blob_grammar.specs.Reader.{tail, Left}
@@ -11,14 +12,14 @@ use Rattle.ppdb_queries.specs.declared.imports.ImportLink.{ImportLink}
 use Rattle.ppdb_queries.specs.Chains.{link_of, links_from}
 use Rattle.ppdb_queries.specs.Cursors.{next_of}
 use Rattle.ppdb_tables.specs.RawTables.{RawTables, row_at}
-use Rattle.ppdb_values.specs.Chains.{chain_for, chain_of, link_and}
+use Rattle.ppdb_values.specs.Chains.{chain_for, chain_of}
 
 -- a row that is there comes first, and then the chain of its parent
 pub chain_step : {X : Type 0} (parent : X → ℕ) (rows : List X) (row : ℕ) (x : X)
     → chain_for parent rows (suc (length rows)) row ≡ chain_of parent rows row
     → row_at rows row ≡ Some x → chain_of parent rows row ≡ (row, x) ∷ chain_of parent rows (parent x)
 unfolding chain_for
-chain_step parent rows row x ends e = sym ends ∙ ap (link_and parent (λ next. chain_for parent rows (length rows) next) row) e
+chain_step parent rows row x ends e = sym ends ∙ ap (λ o. option_map_or (λ link. (row, link) ∷ chain_for parent rows (length rows) (parent link)) o []) e
 
 none_for : {X : Type 0} (parent : X → ℕ) (rows : List X) (most : ℕ) → chain_for parent rows most 0 ≡ []
 unfolding chain_for

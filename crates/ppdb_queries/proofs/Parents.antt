@@ -78,7 +78,7 @@ filter_same p q n (x ∷ xs) same =
 
 -- the run of the code of a row is the custom records on the row
 pub run_at : (raw : RawTables) (laws : CodesAreParents) (wanted : Parent) (coded : ℕ) (run : Run) → coded_in wanted ≡ Some coded → KeepsCustoms raw
-    → IsRunOf (λ custom. custom.parent) coded raw.customs run → rows_in run raw.customs ≡ customs_at raw wanted
+    → IsRunOf (λ custom. custom.parent) coded raw.customs run → rows_in run raw.customs ≡ customs_at raw wanted.table wanted.row
 run_at raw laws wanted coded run code keeps is =
     is.all ∙ filter_same (λ row. row.parent == coded) (λ row. is_at wanted.table wanted.row (parent_of row.parent)) 1 raw.customs
     (λ i row there. same_test raw laws wanted coded row code (keeps.each (suc i) row there))

@@ -4,9 +4,9 @@ use Rattle.std.specs.Prelude.{Option, Some, slice_get}
 use Rattle.ppdb_tables.specs.declared.rows.CustomRow.{CustomRow}
 use Rattle.ppdb_tables.specs.RawTables.{RawTables, row_at}
 use Rattle.ppdb_queries.specs.Cursors.{next_of}
-use Rattle.ppdb_queries.specs.Hoisted.{slots_from, slots_of, hoisted_in, hoisted_left, hoisted_at, records_on}
+use Rattle.ppdb_queries.specs.Hoisted.{slots_from, slots_of, hoisted_in, hoisted_left, hoisted_at}
 use Rattle.ppdb_queries.specs.declared.run.Run.{Run}
-use Rattle.ppdb_queries.specs.Runs.{rows_in}
+use Rattle.ppdb_queries.specs.Runs.{rows_in, customs_at}
 use Rattle.ppdb_queries.specs.declared.hoisted.Hoisted.{Hoisted}
 use Rattle.ppdb_queries.proofs.Views.{run_step}
 
@@ -35,6 +35,6 @@ record_next raw x first end current new from forward last none is =
     rw (none, is row.0 row.1, step) refl
 
 -- at the start all slots of all records of the method are left
-pub hoisted_all : (raw : RawTables) (m x : ℕ) (current : List Hoisted) (run : Run) → current ≡ [] → rows_in run raw.customs ≡ records_on raw m
+pub hoisted_all : (raw : RawTables) (m x : ℕ) (current : List Hoisted) (run : Run) → current ≡ [] → rows_in run raw.customs ≡ customs_at raw 0x06 m
     → (hoisted_left raw x current run.first run.end).items ≡ hoisted_at raw m x
 hoisted_all raw m x current run none all = rw none (ap (hoisted_in raw x) all)

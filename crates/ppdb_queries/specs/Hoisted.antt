@@ -25,13 +25,9 @@ slots_of raw row = unwrap_or (slots_in (custom_of raw row).value) []
 abbrev pub hoisted_in : RawTables → ℕ → List (ℕ × CustomRow) → List Hoisted
 hoisted_in raw x rows = flat_map (λ row. slots_from x row.0 0 (slots_of raw row.1)) rows
 
--- the custom records of a method
-abbrev pub records_on : RawTables → ℕ → List (ℕ × CustomRow)
-records_on raw m = customs_at raw (record { table = 0x06; row = m })
-
 -- the hoisted slots of a method that hold an offset, by record and slot
 abbrev pub hoisted_at : RawTables → ℕ → ℕ → List Hoisted
-hoisted_at raw m x = hoisted_in raw x (records_on raw m)
+hoisted_at raw m x = hoisted_in raw x (customs_at raw 0x06 m)
 
 -- ---- a walk over some records
 

@@ -1,15 +1,15 @@
 -- What the queries answer of rows is what the value of the file has (Portable PDB v1.0, "Metadata Tables").
-use Rattle.ppdb_values.specs.Names.{enumerate_from, Range, Parent, CustomRow, ScopeRow, RawTables, count, row_at}
+use Rattle.ppdb_values.specs.Names.{enumerate_from, Range, CustomRow, ScopeRow, RawTables, count, row_at}
 use Rattle.std.specs.Prelude.{◌≡◌, ◌≤◌, ◌+◌, map, ℕ, length, Some, is_some, List, option_map, filter, flat_map}
 use Rattle.ppdb_values.specs.{declared.import.{ImportScopeValue.ImportScopeValue, ImportValue.ImportValue}, declared.scope.ScopeValue.ScopeValue, Constants.constant_of, Customs.custom_of}
 use Rattle.ppdb_values.specs.{Documents.document_of, Imports.import_value, Meaning.{SlotMeaning, slots_at}, Parts.{customs_on, first_item, import_chain, scopes_at as scopes_of_value, slots_in}}
 use Rattle.ppdb_values.specs.{RawFile.RawFile, Rules.{HasRow, HasRowOrNone}, Value.{value_of, scope_of, variable_of}}
 use Rattle.ppdb_queries.specs.{Chains.links_from, declared.imports.ImportLink.ImportLink, declared.run.Run.Run, declared.scopes.ScopeView.ScopeView, declared.hoisted.Hoisted.Hoisted}
-use Rattle.ppdb_queries.specs.{Hoisted.{hoisted_at, hoisted_in, records_on, slots_from, slots_of}, Runs.{customs_at, rows_in}, Scopes.{scope_view, scopes_at}}
+use Rattle.ppdb_queries.specs.{Hoisted.{hoisted_at, hoisted_in, slots_from, slots_of}, Runs.{customs_at, rows_in}, Scopes.{scope_view, scopes_at}}
 
 -- the records of hoisted locals among the custom records of a method
 abbrev pub hoisted_records : RawTables → ℕ → List (ℕ × CustomRow)
-hoisted_records raw m = filter (λ row. is_some (slots_in (custom_of raw row.1).value)) (records_on raw m)
+hoisted_records raw m = filter (λ row. is_some (slots_in (custom_of raw row.1).value)) (customs_at raw 0x06 m)
 
 -- a hoisted local with the position of its record in place of the record's row
 abbrev pub at_position : ℕ → Hoisted → SlotMeaning
@@ -33,8 +33,8 @@ pub record RowsAreValues : Type 0 where
   -- a document is that of its row
   pub document : (raw : RawFile) (n : ℕ) → row_at (value_of raw).documents n ≡ option_map (document_of raw.tables) (row_at raw.tables.documents n)
   -- the custom records on a row are those whose rows name it
-  pub customs : (raw : RawFile) (parent : Parent) → customs_on (value_of raw) parent.table parent.row ≡ map (λ row. custom_of raw.tables row.1)
-      (customs_at raw.tables parent)
+  pub customs : (raw : RawFile) (table row : ℕ) → customs_on (value_of raw) table row ≡ map (λ custom. custom_of raw.tables custom.1)
+      (customs_at raw.tables table row)
   -- the scopes that hold an offset are the same, in the same order
   pub scopes : (raw : RawFile) (m x : ℕ) → map of_scope (scopes_of_value (value_of raw) m x) ≡ map of_view (scopes_at raw.tables m x)
   -- the import scopes of a chain are the same, and what they import

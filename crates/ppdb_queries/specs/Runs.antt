@@ -1,6 +1,6 @@
 -- Rows with a key, in a table that is sorted by it (ECMA-335 II.22: tables that are sorted by a primary key).
 use Rattle.std.specs.Prelude.{map, ℕ, ◌≡◌, ◌+◌, ◌-◌, ◌<◌, ◌≤◌, ◌==◌, ◌⊎◌, List, length, slice_index, slice_range, filter}
-use Rattle.ppdb_tables.specs.{declared.parent.Parent.Parent, declared.rows.CustomRow.CustomRow, RawTables.{RawTables, numbered, count}}
+use Rattle.ppdb_tables.specs.{declared.rows.CustomRow.CustomRow, RawTables.{RawTables, numbered, count}}
 use Rattle.ppdb_values.specs.{Customs.parent_of, Parts.is_at}
 use Rattle.ppdb_queries.specs.declared.run.Run.{Run}
 
@@ -31,8 +31,8 @@ pub record IsRunOf {X : Type 0} (key : X → ℕ) (wanted : ℕ) (rows : List X)
   pub all : rows_in run rows ≡ filter (λ row. key row.1 == wanted) (numbered rows)
 
 -- the custom records on a row, with their numbers
-abbrev pub customs_at : RawTables → Parent → List (ℕ × CustomRow)
-customs_at raw parent = filter (λ row. is_at parent.table parent.row (parent_of row.1.parent)) (numbered raw.customs)
+abbrev pub customs_at : RawTables → ℕ → ℕ → List (ℕ × CustomRow)
+customs_at raw table row = filter (λ custom. is_at table row (parent_of custom.1.parent)) (numbered raw.customs)
 
 -- the method is 0 or above the methods
 abbrev pub IsNoMethod : RawTables → ℕ → Type 0

@@ -8,8 +8,8 @@ ghost use Rattle.ppdb_values.specs.Rules.{HasRow};
 ghost use Rattle.ppdb_verify.specs.Views.{tables_of};
 ghost use Rattle.ppdb_queries.specs.Cursors.{next_of};
 ghost use Rattle.ppdb_queries.specs.Digits.{digits};
-ghost use Rattle.ppdb_queries.specs.Hoisted.{hoisted_at as hoisted_of, range_at as range_of, records_on, slots_from, slots_of};
-ghost use Rattle.ppdb_queries.specs.Runs.{IsNoMethod};
+ghost use Rattle.ppdb_queries.specs.Hoisted.{hoisted_at as hoisted_of, range_at as range_of, slots_from, slots_of};
+ghost use Rattle.ppdb_queries.specs.Runs.{IsNoMethod, customs_at};
 
 use crate::copied::copy_of;
 use crate::method::{NoMethod, judge_method};
@@ -193,7 +193,7 @@ pub fn hoisted_at<'a, L: Ledger>(
     ensures none { OnErr result (IsNoMethod (raw_of (tables_of file.now)) method) }
     ensures there { OnOk result (HasRow (raw_of (tables_of file.now)) 0x06 method) }
     ensures hoisted { IfOk result (λ hoisted. hoisted.items ≡ hoisted_of (raw_of (tables_of file.now)) method offset) }
-    ensures rows { IfOk result (λ hoisted. hoisted.rows ≡ length (records_on (raw_of (tables_of file.now)) method)) }
+    ensures rows { IfOk result (λ hoisted. hoisted.rows ≡ length (customs_at (raw_of (tables_of file.now)) 0x06 method)) }
     ensures later { steps.old ≤ steps.new }
     ensures cost { steps.new ≤ steps.old + 2 * digits (length (raw_of (tables_of file.now)).customs) }
 {

@@ -101,7 +101,7 @@ pub fn customs_of<L: Ledger>(file: &Verified<'_>, parent: Parent, steps: &mut St
     requires tag { IsSome (coded_in parent) }
     requires there { HasRow (raw_of (tables_of file.now)) parent.table parent.row }
     ensures run { IfSome (coded_in parent) (λ coded. IsRunOf (λ custom. custom.parent) coded (raw_of (tables_of file.now)).customs result) }
-    ensures all { rows_in result (raw_of (tables_of file.now)).customs ≡ customs_at (raw_of (tables_of file.now)) parent }
+    ensures all { rows_in result (raw_of (tables_of file.now)).customs ≡ customs_at (raw_of (tables_of file.now)) parent.table parent.row }
     ensures later { steps.old ≤ steps.new }
     ensures cost { steps.new ≤ steps.old + 2 * digits (length (raw_of (tables_of file.now)).customs) }
 {

@@ -6,10 +6,10 @@ use Rattle.std.specs.List.{onto_first}
 use Rattle.std.specs.Option.{is_some}
 use Rattle.std.proofs.lemmas.Bool.{false≢true}
 use Rattle.ppdb_maps.specs.Cuts.{IsCut, IsUncut}
-use Rattle.ppdb_maps.specs.Words.{parts_at}
 use Rattle.ppdb_queries_list.specs.Lists.{IsMethod, IsOffset}
 use Rattle.ppdb_queries_list.specs.Said.{AreWords}
 use Rattle.ppdb_queries_list.specs.declared.line.MethodOffset.{MethodOffset}
+use Rattle.ppdb_maps.specs.Cuts.{parts_at}
 
 -- each line has a part
 some_part : (mark : ℕ) (xs : List ℕ) → parts_at mark xs ≡ [] → ⊥

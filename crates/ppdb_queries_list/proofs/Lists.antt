@@ -5,17 +5,18 @@ use Rattle.std.specs.Fmt.{decimal}
 use Rattle.std.specs.Str.Parse.{digits_value}
 use Rattle.std.proofs.lemmas.Fmt.{decimal_injective}
 use Rattle.ppdb_base.specs.declared.limits.TheConstants.{MAX_ROWS, MAX_OFFSET}
-use Rattle.ppdb_queries_list.specs.Lists.{IsDecimal, IsMethod, IsOffset, Asks, IsListed, Lists, none, silent, asks}
+use Rattle.ppdb_maps.specs.Forms.{IsNumber}
+use Rattle.ppdb_queries_list.specs.Lists.{IsMethod, IsOffset, Asks, IsListed, Lists, none, silent, asks}
 use Rattle.ppdb_queries_list.specs.Lists.{IsFirstOther, here, later}
 use Rattle.ppdb_queries_list.specs.declared.line.MethodOffset.{MethodOffset}
 use Rattle.ppdb_queries_list.proofs.Numbers.{begins_as_number}
 
 -- ---- words
 
-one_decimal : (most : ℕ) (word : List ℕ) (m n : ℕ) → most < 2 ^ 32 → IsDecimal most word m → IsDecimal most word n → m ≡ n
+one_decimal : (most : ℕ) (word : List ℕ) (m n : ℕ) → most < 2 ^ 32 → IsNumber word 0 most m → IsNumber word 0 most n → m ≡ n
 one_decimal most word m n below a b =
-    let am : m ≤ most = a.1 in let bn : n ≤ most = b.1 in
-    decimal_injective m n (omega (arith, am, below)) (omega (arith, bn, below)) (sym a.0 ∙ b.0)
+    let am : m ≤ most = a.to in let bn : n ≤ most = b.to in
+    decimal_injective m n (omega (arith, am, below)) (omega (arith, bn, below)) (sym a.spelled ∙ b.spelled)
 
 -- a decimal number does not begin with 0x
 pub no_decimal : (word rest : List ℕ) (n : ℕ) → n < 2 ^ 32 → word ≡ decimal n → word ≡ 48 ∷ 120 ∷ rest → ⊥
@@ -33,15 +34,15 @@ same_rest_of xs ys e = cc e
 
 pub one_method : (word : List ℕ) (m n : ℕ) → IsMethod word m → IsMethod word n → m ≡ n
 one_method word m n (inl a) (inl b) = one_decimal MAX_ROWS word m n (omega arith) a b
-one_method word m n (inl a) (inr b) = let am : m ≤ MAX_ROWS = a.1 in absurd (no_decimal word (48 ∷ 54 ∷ b.digits) m (omega (arith, am)) a.0 b.spelled)
-one_method word m n (inr a) (inl b) = let bn : n ≤ MAX_ROWS = b.1 in absurd (no_decimal word (48 ∷ 54 ∷ a.digits) n (omega (arith, bn)) b.0 a.spelled)
+one_method word m n (inl a) (inr b) = let am : m ≤ MAX_ROWS = a.to in absurd (no_decimal word (48 ∷ 54 ∷ b.digits) m (omega (arith, am)) a.spelled b.spelled)
+one_method word m n (inr a) (inl b) = let bn : n ≤ MAX_ROWS = b.to in absurd (no_decimal word (48 ∷ 54 ∷ a.digits) n (omega (arith, bn)) b.spelled a.spelled)
 one_method word m n (inr a) (inr b) = a.is ∙ ap (digits_value 16) (same_rest a.digits b.digits (sym a.spelled ∙ b.spelled)) ∙ sym b.is
 
 pub one_offset : (word : List ℕ) (m n : ℕ) → IsOffset word m → IsOffset word n → m ≡ n
 one_offset word m n (inl a) (inl b) = one_decimal MAX_OFFSET word m n (omega arith) a b
-one_offset word m n (inl a) (inr b) = let am : m ≤ MAX_OFFSET = a.1 in absurd (no_decimal word b.digits m (omega (arith, am)) a.0 b.spelled)
-one_offset word m n (inr a) (inl b) = let bn : n ≤ MAX_OFFSET = b.1 in absurd (no_decimal word a.digits n (omega (arith, bn)) b.0 a.spelled)
-one_offset word m n (inr a) (inr b) = a.is ∙ ap (digits_value 16) (same_rest_of a.digits b.digits (sym a.spelled ∙ b.spelled)) ∙ sym b.is
+one_offset word m n (inl a) (inr b) = let am : m ≤ MAX_OFFSET = a.to in absurd (no_decimal word b.0.digits m (omega (arith, am)) a.spelled b.0.spelled)
+one_offset word m n (inr a) (inl b) = let bn : n ≤ MAX_OFFSET = b.to in absurd (no_decimal word a.0.digits n (omega (arith, bn)) b.spelled a.0.spelled)
+one_offset word m n (inr a) (inr b) = a.0.is ∙ ap (digits_value 16) (same_rest_of a.0.digits b.0.digits (sym a.0.spelled ∙ b.0.spelled)) ∙ sym b.0.is
 
 -- ---- lines
 

@@ -37,11 +37,12 @@ hexadecimal_word (x ∷ y ∷ rest) long a b =
 pub token_read : (r : Option ℕ) (word digits : List ℕ) → word ≡ codes "0x06" ++ digits → length digits ≡ 6
     → IfSome r (λ n. IsNumeral 16 digits × (n ≡ digits_value 16 digits)) → IfNone r (IsNumeral 16 digits → digits_value 16 digits < 2 ^ 32 → ⊥)
     → MatchOption r ((n : ℕ) → IsMethod word n → ⊥) (IsMethod word)
-token_read (Some n) word digits is six some none = inr (record { digits = digits; spelled = is; six = six; numeral = some.0; is = some.1 })
+token_read (Some n) word digits is six some none = inr
+    (record { digits = digits; spelled = is; from = omega (arith, six); to = omega (arith, six); numeral = some.0; is = some.1 })
 token_read None word digits is six some none = no_row
   where
     no_row : (n : ℕ) → IsMethod word n → ⊥
-    no_row n (inl a) = let most : n ≤ MAX_ROWS = a.1 in no_decimal word (48 ∷ 54 ∷ digits) n (omega (arith, most)) a.0 is
+    no_row n (inl a) = let most : n ≤ MAX_ROWS = a.to in no_decimal word (48 ∷ 54 ∷ digits) n (omega (arith, most)) a.spelled is
     no_row n (inr a) =
         let same = same_rest a.digits digits (sym a.spelled ∙ is) in
         let numeral = subst (IsNumeral 16) same a.numeral in
@@ -51,17 +52,17 @@ token_read None word digits is six some none = no_row
 -- what is read of few digits
 pub no_offset : (word digits : List ℕ) → word ≡ codes "0x" ++ digits → (IsNumeral 16 digits → digits_value 16 digits < 2 ^ 32 → ⊥)
     → (n : ℕ) → IsOffset word n → ⊥
-no_offset word digits is none n (inl a) = let most : n ≤ MAX_OFFSET = a.1 in no_decimal word digits n (omega (arith, most)) a.0 is
+no_offset word digits is none n (inl a) = let most : n ≤ MAX_OFFSET = a.to in no_decimal word digits n (omega (arith, most)) a.spelled is
 no_offset word digits is none n (inr a) =
-    let same = same_rest_of a.digits digits (sym a.spelled ∙ is) in
-    let value : n ≡ digits_value 16 digits = a.is ∙ ap (digits_value 16) same in
-    let most : n ≤ MAX_OFFSET = a.to in
-    none (subst (IsNumeral 16) same a.numeral) (omega (arith, value, most))
+    let same = same_rest_of a.0.digits digits (sym a.0.spelled ∙ is) in
+    let value : n ≡ digits_value 16 digits = a.0.is ∙ ap (digits_value 16) same in
+    let most : n ≤ MAX_OFFSET = a.1 in
+    none (subst (IsNumeral 16) same a.0.numeral) (omega (arith, value, most))
 
 pub offset_above : (word digits : List ℕ) (v : ℕ) → word ≡ codes "0x" ++ digits → v ≡ digits_value 16 digits → MAX_OFFSET < v → (n : ℕ) → IsOffset word n → ⊥
-offset_above word digits v is value above n (inl a) = let most : n ≤ MAX_OFFSET = a.1 in no_decimal word digits n (omega (arith, most)) a.0 is
+offset_above word digits v is value above n (inl a) = let most : n ≤ MAX_OFFSET = a.to in no_decimal word digits n (omega (arith, most)) a.spelled is
 offset_above word digits v is value above n (inr a) =
-    let same = same_rest_of a.digits digits (sym a.spelled ∙ is) in
-    let both : n ≡ digits_value 16 digits = a.is ∙ ap (digits_value 16) same in
-    let most : n ≤ MAX_OFFSET = a.to in
+    let same = same_rest_of a.0.digits digits (sym a.0.spelled ∙ is) in
+    let both : n ≡ digits_value 16 digits = a.0.is ∙ ap (digits_value 16) same in
+    let most : n ≤ MAX_OFFSET = a.1 in
     omega (arith, value, both, most, above)

@@ -1,37 +1,16 @@
 -- The text of a list of offsets of methods (docs/FORMAT.md, "Lists of offsets").
-use Rattle.std.specs.{Prelude.{◌≡◌, ℕ, ◌+◌, ◌≤◌, ◌⊎◌, ◌++◌, List, [], ◌∷◌, codes, length, decimal}, Str.Parse.{IsNumeral, digits_value}}
+use Rattle.std.specs.Prelude.{◌≡◌, ℕ, ◌+◌, ◌≤◌, ◌⊎◌, List, [], ◌∷◌, codes}
 use Rattle.ppdb_base.specs.declared.limits.TheConstants.{MAX_ROWS, MAX_OFFSET}
-use Rattle.ppdb_maps.specs.Words.{IsSilent, line_words}
+use Rattle.ppdb_maps.specs.{Forms.{IsHexadecimal, IsNumber}, Words.{IsSilent, line_words}}
 use Rattle.ppdb_queries_list.specs.declared.line.MethodOffset.{MethodOffset}
 
--- a decimal number to most, without sign and leading zeros
-abbrev pub IsDecimal : ℕ → List ℕ → ℕ → Type 0
-IsDecimal most word n = (word ≡ decimal n) × (n ≤ most)
-
--- a token of MethodDef (ECMA-335 II.22): 0x06 and six hexadecimal digits of either case
-pub record IsToken (word : List ℕ) (n : ℕ) : Type 0 where
-  pub digits : List ℕ
-  pub spelled : word ≡ codes "0x06" ++ digits
-  pub six : length digits ≡ 6
-  pub numeral : IsNumeral 16 digits
-  pub is : n ≡ digits_value 16 digits
-
--- an offset: 0x and one to eight hexadecimal digits of either case
-pub record IsHexadecimal (word : List ℕ) (n : ℕ) : Type 0 where
-  pub digits : List ℕ
-  pub spelled : word ≡ codes "0x" ++ digits
-  pub few : length digits ≤ 8
-  pub numeral : IsNumeral 16 digits
-  pub is : n ≡ digits_value 16 digits
-  pub to : n ≤ MAX_OFFSET
-
--- METHOD
+-- METHOD: a decimal number, or a token of MethodDef (ECMA-335 II.22), which is 0x06 and six hexadecimal digits of either case
 abbrev pub IsMethod : List ℕ → ℕ → Type 0
-IsMethod word n = IsDecimal MAX_ROWS word n ⊎ IsToken word n
+IsMethod word n = IsNumber word 0 MAX_ROWS n ⊎ IsHexadecimal (codes "0x06") 6 6 word n
 
--- OFFSET
+-- OFFSET: a decimal number, or 0x and one to eight hexadecimal digits of either case
 abbrev pub IsOffset : List ℕ → ℕ → Type 0
-IsOffset word n = IsDecimal MAX_OFFSET word n ⊎ IsHexadecimal word n
+IsOffset word n = IsNumber word 0 MAX_OFFSET n ⊎ (IsHexadecimal (codes "0x") 1 8 word n × (n ≤ MAX_OFFSET))
 
 -- a line that asks: METHOD and OFFSET, parted by one space
 pub record Asks (line : List ℕ) (at : MethodOffset) : Type 0 where

@@ -7,7 +7,7 @@ use Rattle.ppdb_base.specs.Written.{appended}
 use Rattle.ppdb_run_stops.specs.declared.status.Status.{Status}
 use Rattle.ppdb_run_stops.specs.declared.status.Status.TheVariants as statuses
 use Rattle.ppdb_run_stops.specs.declared.stop.Stop.{Stop}
-use Rattle.ppdb_run.specs.Ends.{OnOutcome, HasOutcome, IsUnread, IsUnwritten, LeavesFiles, TellsUnread, TellsUnwritten, UnlessWritten}
+use Rattle.ppdb_run.specs.Ends.{OnOutcome, HasOutcome, IsUnread, IsUnwritten, LeavesFiles, TellsUnread, TellsUnwritten}
 use Rattle.ppdb_run_stops.specs.Lines.{read_fault_line, write_fault_line}
 use Rattle.ppdb_run_stops.specs.Refusals.{Outcome}
 use Rattle.ppdb_run.specs.Outcome.{IsOutcome}
@@ -98,18 +98,21 @@ module _ (cause : Cause) (status : Status) (faults faults' : ℕ) (mid new : Opt
   ]
 
   -- files that were kept are as before
-  as_before : (cause : Cause) → Refuses cause → (P : Type 0) → OnKept cause P → UnlessWritten (status_of cause) P
-  as_before (Refusal outcome) is P h = at_refusal (λ x. UnlessWritten x P) h h h h h h h h h h h outcome.status is
-  as_before (Unread name) is P h = h
-  as_before (Unwritten name) is P h = tt
-  as_before Unput is P h = tt
-  as_before OutOfMemory is P h = tt
+  abbrev IsKept : Status → Type 0 → Type 0
+  IsKept s P = (s ≡ statuses.Done) ⊎ (s ≡ statuses.WriteFault) ⊎ (s ≡ statuses.Memory) ⊎ P
 
-  pub stopped_kept : (P : Type 0) → OnKept cause P → UnlessWritten status P
+  as_before : (cause : Cause) → (P : Type 0) → OnKept cause P → IsKept (status_of cause) P
+  as_before (Refusal outcome) P h = inr (inr (inr h))
+  as_before (Unread name) P h = inr (inr (inr h))
+  as_before (Unwritten name) P h = inr (inl refl)
+  as_before Unput P h = inr (inl refl)
+  as_before OutOfMemory P h = inr (inr (inl refl))
+
+  pub stopped_kept : (P : Type 0) → OnKept cause P → IsKept status P
   stopped_kept P h = elim tells [
-    | Told s w l ↦ subst (λ x. UnlessWritten x P) (sym s) (as_before cause is P h)
-    | Failed s r w ↦ subst (λ x. UnlessWritten x P) (sym s) tt
-    | NoMemory s w l ↦ subst (λ x. UnlessWritten x P) (sym s) tt
+    | Told s w l ↦ subst (λ x. IsKept x P) (sym s) (as_before cause P h)
+    | Failed s r w ↦ inr (inl s)
+    | NoMemory s w l ↦ inr (inr (inl s))
   ]
 
   -- it was not done
@@ -212,19 +215,22 @@ module _ (cause : Cause) (status : Status) (faults faults' : ℕ) (mid new : Opt
   -- what the line says of a file that was not read
   pub stopped_unread : (M A B C : Type 0) (W : List ℕ → Type 0) (words : List (List ℕ)) (told files : Option Files) (reads reads' : ℕ) (old : Option (List ℕ))
       → ComesFrom cause M (IsUnread words told reads reads') W files A B C → OnUntold cause (mid ≡ old) → status ≡ statuses.ReadFault
-      → TellsUnread words told reads reads' old new
+      → (text : List ℕ) × TellsUnread words told reads reads' text × (new ≡ appended old text)
   stopped_unread M A B C W words told files reads reads' old comes silent e =
       let at = unread_at M (IsUnread words told reads reads') W files A B C (mid ≡ old) comes silent e in
-      record { name = at.0; unread = at.1; written = at.4 ∙ ap (λ m. appended m (read_fault_line at.0)) at.3 }
+      (read_fault_line at.0, (at.0, at.1, refl), at.4 ∙ ap (λ m. appended m (read_fault_line at.0)) at.3)
 
   -- or of one that was not written, unless the sink failed
   module _ (M A B : Type 0) (R : List ℕ → Type 0) (words : List (List ℕ)) (files : Option Files) (old : Option (List ℕ)) (before : ℕ) (from : before ≤ faults)
       (comes : ComesFrom cause M R (IsUnwritten words) files A B (Rose before faults)) (silent : OnUntold cause (mid ≡ old)) where
-    unwritten_at : status ≡ statuses.WriteFault → Rose before faults' ⊎ (B × TellsUnwritten words old new)
+    abbrev LinePut : Type 0
+    LinePut = (text : List ℕ) × TellsUnwritten words text × (new ≡ appended old text)
+
+    unwritten_at : status ≡ statuses.WriteFault → Rose before faults' ⊎ (B × LinePut)
     unwritten_at e = elim tells [
       | Told s w l ↦ elim (unwritten_of M R (IsUnwritten words) files A B (Rose before faults) (mid ≡ old) cause is comes silent (sym e ∙ s) w) [
         | inl put ↦ inl (rose_on before faults faults' from put l)
-        | inr at ↦ inr (at.2, record { name = at.0; unwritten = at.1; written = at.4 ∙ ap (λ m. appended m (write_fault_line at.0)) at.3 })
+        | inr at ↦ inr (at.2, (write_fault_line at.0, (at.0, at.1, refl), at.4 ∙ ap (λ m. appended m (write_fault_line at.0)) at.3))
       ]
       | Failed s r w ↦ inl (rose_before before faults faults' from r)
       | NoMemory s w l ↦ absurd (let x : statuses.WriteFault ≡ statuses.Memory = sym e ∙ s in cc)
@@ -233,7 +239,7 @@ module _ (cause : Cause) (status : Status) (faults faults' : ℕ) (mid new : Opt
     pub stopped_write_fault : status ≡ statuses.WriteFault → B ⊎ Rose before faults'
     stopped_write_fault e = elim (unwritten_at e) [ inl put ↦ inr put | inr at ↦ inl at.0 ]
 
-    pub stopped_unwritten : status ≡ statuses.WriteFault → Rose before faults' ⊎ TellsUnwritten words old new
+    pub stopped_unwritten : status ≡ statuses.WriteFault → Rose before faults' ⊎ LinePut
     stopped_unwritten e = elim (unwritten_at e) [ inl put ↦ inl put | inr at ↦ inr at.1 ]
 
   -- over the outcome of the words

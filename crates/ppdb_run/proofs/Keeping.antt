@@ -18,12 +18,12 @@ use Rattle.ppdb_merge_items.proofs.Lists.{Each-map, Each-weaker}
 use Rattle.ppdb_merge_names_laws.specs.Laws.{ReferencesAreNamed}
 use Rattle.ppdb_merge_joined.specs.Joined.{joined}
 use Rattle.ppdb_merge_joined.specs.Laws.{JoinedIsSound}
-use Rattle.ppdb_merge_meaning_laws.specs.Kept.{MovedBy, KeepsMeaning, InputsKeepMeaning, joined_inputs}
+use Rattle.ppdb_merge_meaning_laws.specs.Kept.{in_turn, MovedBy, KeepsMeaning, InputsKeepMeaning, joined_inputs}
 use Rattle.ppdb_merge_meaning_laws.specs.Origins.{KeepsOrigins, InputsKeepOrigins}
 use Rattle.ppdb_merge_unmoved_laws.specs.NoLines.{SoundFilesStay, left_alone}
 use Rattle.ppdb_merge_fits.specs.Laws.{NothingClashes}
 use Rattle.ppdb_merge.specs.declared.trace.Trace.{Trace}
-use Rattle.ppdb_merge.specs.Inputs.{IsFitting, ReadInput, moved_by, trace_by, traces_of, turns}
+use Rattle.ppdb_merge.specs.Inputs.{IsFitting, ReadInput, moved_by, trace_by, traces_of}
 use Rattle.ppdb_merge.specs.Laws.{AddedInputsFit}
 use Rattle.ppdb_merge.specs.Merged.{moved_files, unless}
 use Rattle.ppdb_merge.specs.Together.{joined_of, misfit_of}
@@ -88,9 +88,9 @@ kinds_known sounds annotated named clashes marks inputs value are =
     let fit = all_fit sounds annotated named clashes marks inputs are.traces are.few are.valid are.added in
     let files : Each (KnownFile marks) (moved_files (traces_of inputs)) =
     Each-map (λ (t : Trace). t.moved) (KnownFile marks) (traces_of inputs)
-    (Each-map trace_by (λ (t : Trace). KnownFile marks t.moved) (turns inputs)
+    (Each-map trace_by (λ (t : Trace). KnownFile marks t.moved) (in_turn inputs)
     (Each-weaker (IsFitting marks) (λ x. KnownFile marks (trace_by x).moved)
-    (λ x fits. moved_known marks x.1.map fits.valid.ready (value_of x.1.raw) fits.clash.known) (turns inputs) fit.1.each)) in
+    (λ x fits. moved_known marks x.1.map fits.valid.ready (value_of x.1.raw) fits.clash.known) (in_turn inputs) fit.1.each)) in
     subst (HasKnownKinds marks) (ap (λ l. value_of_annotated (joined (moved_files l))) (sym fit.0) ∙ value_is are.traces value are.joined)
     (value_known marks (joined (moved_files (traces_of inputs))) (joined_known marks (moved_files (traces_of inputs)) files))
 

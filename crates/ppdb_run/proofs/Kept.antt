@@ -124,20 +124,14 @@ first_unread task file files before after name first comes e same = record {
 
 pub is_unread : (words : List (List ℕ)) (question : Question) (file : List ℕ) (files : Option Files) (before after : ℕ) (name : List ℕ)
     → Words (Ask question file) words → name ≡ file → after ≡ before → IsUnread words files before after name
-is_unread words question file files before after name asked e same = record {
-  task = Ask question file;
-  asked = asked;
-  unread = first_unread (Ask question file) file files before after name refl (λ all. refl) e same;
-}
+is_unread words question file files before after name asked e same =
+    (Ask question file, asked, first_unread (Ask question file) file files before after name refl (λ all. refl) e same)
 
 -- so it is where a file is rebuilt
 pub is_input : (words : List (List ℕ)) (input output : List ℕ) (options : Options) (files : Option Files) (before after : ℕ) (name : List ℕ)
     → Words (Rebuild input output options) words → name ≡ input → after ≡ before → IsUnread words files before after name
-is_input words input output options files before after name asked e same = record {
-  task = Rebuild input output options;
-  asked = asked;
-  unread = first_unread (Rebuild input output options) input files before after name refl (λ all. refl) e same;
-}
+is_input words input output options files before after name asked e same =
+    (Rebuild input output options, asked, first_unread (Rebuild input output options) input files before after name refl (λ all. refl) e same)
 
 -- of two maps the first is read first, and the second where the first is a map
 pub is_first_map : (first second output : List ℕ) (files : Option Files) (before after : ℕ) (name : List ℕ) → name ≡ first → after ≡ before
@@ -171,4 +165,4 @@ is_second_map first second output files before after name m e more read = record
 -- the file that a task writes
 pub is_output : (words : List (List ℕ)) (task : Task) (output name : List ℕ) → written_file task ≡ Some output → Words task words → name ≡ output
     → IsUnwritten words name
-is_output words task output name writes asked e = record { task = task; asked = asked; named = writes ∙ ap Some (sym e) }
+is_output words task output name writes asked e = (task, asked, writes ∙ ap Some (sym e))

@@ -1,8 +1,9 @@
 -- What is known of the meaning of a debug file that is written.
 use Rattle.std.proofs.Common.{ℕ, suc, ◌≡◌, ◌≢◌, ◌+◌, ◌≤◌, inl, inr, List, [], ◌∷◌, Bool, true, false, Option, Some, None, map, length, refl, sym}
 use Rattle.std.proofs.Common.{◌∙◌, ap, subst, arith}
+use Rattle.std.specs.Result.{result_map_both}
 use Rattle.std.specs.Prelude.{Result, Ok, Err, IfOk, IfSome, find, nat_lt, option_map, if◌then◌else◌}
-use Rattle.std.specs.List.{enumerate_from}
+use Rattle.std.specs.List.{AllZip, enumerate_from}
 use Rattle.std.proofs.lemmas.Bool.{both_ways, cases_lt, lt-ltb}
 use Rattle.std.specs.FinMap.{get}
 use Rattle.custom_info.specs.declared.kinds.Kind.{Kind}
@@ -35,9 +36,9 @@ use Rattle.ppdb_run.specs.MeaningLaws.{AreJoinedTo, HasKnownKinds, JoinedFilesKe
 use Rattle.ppdb_run.specs.MeaningLaws.{RebuiltFilesKeepThemselves, SaysButForId}
 use Rattle.ppdb_run_stops.specs.declared.stop.Stop.{Stop}
 use Rattle.ppdb_run.specs.Ends.{OnAsked, OnTask, RebuildsToItself, RebuildsWhereKnown, WritesAgain}
-use Rattle.ppdb_run.specs.Means.{AreInputsOf, AreReadAs, ExactlyMeans, WritesExactly, WritesMeaning}
-use Rattle.ppdb_run_stops.specs.Refusals.{Outcome}
-use Rattle.ppdb_run.specs.Outcome.{file_at, fitting, input_of, map_at, steps_of, unknown_kind, verified, with_input}
+use Rattle.ppdb_run.specs.Means.{AreInputsOf, IsReadAs, ExactlyMeans, WritesExactly, WritesMeaning}
+use Rattle.ppdb_run_stops.specs.Refusals.{unfit, Outcome}
+use Rattle.ppdb_run.specs.Outcome.{file_at, input_of, map_at, steps_of, unknown_kind, verified, with_input}
 use Rattle.ppdb_run.specs.Outcome.{with_inputs}
 use Rattle.ppdb_run.specs.Outcome.{written}
 use Rattle.ppdb_run_words.specs.Words.{Input, Options, Task, Rebuild, Merge, Words}
@@ -113,37 +114,37 @@ module _ (files : Files) where
       let other = has_map map_file read.map k in
       law one.bytes other.text read (read_short file one.bytes one.at) one.accepted one.is other.is
 
-  inputs_valid : ReadInputsAreValid → (inputs : List Input) (read : List ReadInput) → AreReadAs files inputs read → Each IsValidInput read
+  inputs_valid : ReadInputsAreValid → (inputs : List Input) (read : List ReadInput) → AllZip (IsReadAs files) inputs read → Each IsValidInput read
   inputs_valid law [] [] are = tt
   inputs_valid law [] (one ∷ read) are = absurd are
   inputs_valid law (input ∷ inputs) [] are = absurd are
   inputs_valid law (input ∷ inputs) (one ∷ read) are =
-      (input_valid law input.file input.map_file one are.0 are.1, inputs_valid law inputs read are.2)
+      (input_valid law input.file input.map_file one are.0.0 are.0.1, inputs_valid law inputs read are.1)
 
-  as_many : (inputs : List Input) (read : List ReadInput) → AreReadAs files inputs read → length read ≡ length inputs
+  as_many : (inputs : List Input) (read : List ReadInput) → AllZip (IsReadAs files) inputs read → length read ≡ length inputs
   as_many [] [] are = refl
   as_many [] (one ∷ read) are = absurd are
   as_many (input ∷ inputs) [] are = absurd are
-  as_many (input ∷ inputs) (one ∷ read) are = ap suc (as_many inputs read are.2)
+  as_many (input ∷ inputs) (one ∷ read) are = ap suc (as_many inputs read are.1)
 
   -- inputs are read as one list
-  all_one : (inputs : List Input) (read other : List ReadInput) → AreReadAs files inputs read → AreReadAs files inputs other → read ≡ other
+  all_one : (inputs : List Input) (read other : List ReadInput) → AllZip (IsReadAs files) inputs read → AllZip (IsReadAs files) inputs other → read ≡ other
   all_one [] [] [] are also = refl
   all_one [] [] (b ∷ other) are also = absurd also
   all_one [] (a ∷ read) other are also = absurd are
   all_one (input ∷ inputs) [] other are also = absurd are
   all_one (input ∷ inputs) (a ∷ read) [] are also = absurd also
   all_one (input ∷ inputs) (a ∷ read) (b ∷ other) are also =
-      let raws : a.raw ≡ b.raw = one_verified files input.file (Ok a.raw) (Ok b.raw) are.0 also.0 in
-      let maps : a.map ≡ b.map = one_map files input.map_file (Ok a.map) (Ok b.map) are.1 also.1 in
-      let rest : read ≡ other = all_one inputs read other are.2 also.2 in
+      let raws : a.raw ≡ b.raw = one_verified files input.file (Ok a.raw) (Ok b.raw) are.0.0 also.0.0 in
+      let maps : a.map ≡ b.map = one_map files input.map_file (Ok a.map) (Ok b.map) are.0.1 also.0.1 in
+      let rest : read ≡ other = all_one inputs read other are.1 also.1 in
       let heads : a ≡ b = ap (λ r. let x : ReadInput = record { raw = r; map = a.map } in x) raws
       ∙ ap (λ f. let x : ReadInput = record { raw = b.raw; map = f } in x) maps in
       ap (λ x. x ∷ read) heads ∙ ap (λ l. b ∷ l) rest
 
   -- ---- inputs that were added
 
-  fits : (name : List ℕ) (more : List Trace) (result : Result (List Trace) MergeError) → Ok more ≡ fitting name result → result ≡ Ok more
+  fits : (name : List ℕ) (more : List Trace) (result : Result (List Trace) MergeError) → Ok more ≡ result_map_both (λ traces. traces) (unfit name) result → result ≡ Ok more
   fits name more (Ok traces) e = sym cc
   fits name more (Err error) e = absurd cc
 
@@ -167,12 +168,12 @@ module _ (files : Files) where
   one_added marks there input more (inr (refusal, h, e)) = absurd cc
 
   all_added : (marks : List (List ℕ)) (there : List Trace) (inputs : List Input) (traces : List Trace) → with_inputs files marks there inputs (Ok traces)
-      → (read : List ReadInput) × AreReadAs files inputs read × AreAdded marks there read traces
+      → (read : List ReadInput) × AllZip (IsReadAs files) inputs read × AreAdded marks there read traces
   all_added marks there [] traces e = ([], tt, cc)
   all_added marks there (input ∷ inputs) traces (inl (more, h, k)) =
       let one = one_added marks there input more h in
       let rest = all_added marks more inputs traces k in
-      (one.read ∷ rest.0, (one.file, one.map_file, rest.1), (more, one.is, rest.2))
+      (one.read ∷ rest.0, ((one.file, one.map_file), rest.1), (more, one.is, rest.2))
   all_added marks there (input ∷ inputs) traces (inr (refusal, h, e)) = absurd cc
 
 -- ---- a file that is rebuilt
@@ -199,7 +200,7 @@ module _ (files : Files) (input output : List ℕ) (options : Options) (raw : Ra
 module _ (files : Files) (inputs : List Input) (output : List ℕ) (options : Options) (traces : List Trace) (value : FileValue) (bytes : List ℕ)
     (few : length inputs ≤ 256) (merged : with_inputs files options.marks [] inputs (Ok traces)) (joins : joined_of traces ≡ Ok value)
     (valid : ReadInputsAreValid) where
-  joined_to : (read : List ReadInput) → AreReadAs files inputs read → AreAdded options.marks [] read traces → AreJoinedTo options.marks read value
+  joined_to : (read : List ReadInput) → AllZip (IsReadAs files) inputs read → AreAdded options.marks [] read traces → AreJoinedTo options.marks read value
   joined_to read are all = record {
     traces = traces;
     few = let many = as_many files inputs read are in omega (arith, few, many);
@@ -223,7 +224,7 @@ module _ (files : Files) (inputs : List Input) (output : List ℕ) (options : Op
             ap (unknown_kind options.marks) said.1 ∙ kinds_known options.marks value (kinds options.marks all.0 value joined));
       }
     where
-      kept : (read : List ReadInput) → AreReadAs files inputs read → KeepsInputs (map moved_by read) bytes
+      kept : (read : List ReadInput) → AllZip (IsReadAs files) inputs read → KeepsInputs (map moved_by read) bytes
           → (moved : List MovedBy) → AreInputsOf (Merge inputs output options) files moved → KeepsInputs moved bytes
       kept read are keeps moved (other, also, is) =
           subst (λ l. KeepsInputs l bytes) (ap (map moved_by) (all_one files inputs read other are also) ∙ sym is) keeps

@@ -1,6 +1,7 @@
 -- What is known of inputs that are moved and joined.
 use Rattle.std.proofs.Common.{ℕ, zero, suc, ◌≡◌, ◌≤◌, ◌<◌, ◌+◌, ◌-◌, ◌*◌, ◌⊎◌, inl, inr, List, [], ◌∷◌, ◌++◌, length, drop, Bool, refl, sym, ◌∙◌, ap}
 use Rattle.std.proofs.Common.{subst, arith}
+use Rattle.std.specs.Result.{result_map_both}
 use Rattle.std.specs.Prelude.{Option, Some, None, Result, Ok, Err, IfSome, slice_get, slice_index_or, String}
 use Rattle.std.specs.String.{string_bytes}
 use Rattle.std.specs.declared.alloc.Global.{Global}
@@ -20,7 +21,7 @@ use Rattle.ppdb_run_stops.specs.declared.stop.Stop.{Stop}
 use Rattle.ppdb_run_stops.specs.declared.stop.Stop.TheVariants as stops
 use Rattle.ppdb_run.specs.Ends.{ComesToInput, IsInputUnread, IsUnreadOf}
 use Rattle.ppdb_run_stops.specs.Refusals.{Outcome, unfit}
-use Rattle.ppdb_run.specs.Outcome.{Step, ◌>>=◌, file_at, fitting, gives, judged, map_in, with_input, with_inputs, with_texts}
+use Rattle.ppdb_run.specs.Outcome.{Step, ◌>>=◌, file_at, gives, judged, map_in, with_input, with_inputs, with_texts}
 use Rattle.ppdb_run_stops.specs.Causes.{cause_of, refusal_of as told_by, ComesFrom, IsNoInput, no_file}
 use Rattle.ppdb_run_stops.specs.Causes.Cause.{Refusal}
 use Rattle.ppdb_run_stops.specs.declared.status.Status.TheVariants as statuses
@@ -141,15 +142,15 @@ comes_unfit stops.Memory = tt
 -- an error that is reported, or want of memory
 pub unfit_given : {U A : Type 0} (view : U → A) (stop : Stop) (name : List ℕ) (error : MergeError) (told : Result A MergeError)
     → IfSome (told_by (cause_of stop)) (λ o. (o ≡ unfit name error) × (error ≡ merge_errors.Memory → ⊥))
-    → (error ≡ merge_errors.Memory) ⊎ (told ≡ Err error) → Gives view (Err stop) (gives (fitting name told))
+    → (error ≡ merge_errors.Memory) ⊎ (told ≡ Err error) → Gives view (Err stop) (gives (result_map_both (λ traces. traces) (unfit name) told))
 unfit_given view stop name error told h either = by_refusal (told_by (cause_of stop)) h
   where
     by_refusal : (o : Option Outcome) → IfSome o (λ o. (o ≡ unfit name error) × (error ≡ merge_errors.Memory → ⊥))
-        → IfSome o (λ refusal. Err refusal ≡ fitting name told)
+        → IfSome o (λ refusal. Err refusal ≡ result_map_both (λ traces. traces) (unfit name) told)
     by_refusal None h = tt
     by_refusal (Some o) h = elim either [
       | inl memory ↦ absurd (h.1 memory)
-      | inr is ↦ ap Err h.0 ∙ sym (ap (fitting name) is)
+      | inr is ↦ ap Err h.0 ∙ sym (ap (result_map_both (λ traces. traces) (unfit name)) is)
     ]
 
 module _ (marks : List (List ℕ)) (traces more : List Trace) (input : Input) (bytes text : List ℕ) where
@@ -157,7 +158,7 @@ module _ (marks : List (List ℕ)) (traces more : List Trace) (input : Input) (b
   judged_input = judged input.file (FileFaults bytes) (IsRawOf bytes)
 
   abbrev fitted : RawFile → Map → Step (List Trace)
-  fitted raw m = gives (fitting input.file (added marks traces m raw))
+  fitted raw m = gives (result_map_both (λ traces. traces) (unfit input.file) (added marks traces m raw))
 
   abbrev moved_with : RawFile → Step (List Trace)
   moved_with raw = map_in input.map_file text >>= fitted raw
@@ -179,7 +180,7 @@ module _ (marks : List (List ℕ)) (traces more : List Trace) (input : Input) (b
 
       -- it is added
       pub input_told : (x : Unit {0}) → added marks traces m raw ≡ Ok more → Gives (λ _. more) (Ok x) (with_texts marks traces input bytes text)
-      input_told x e = further (Ok x) (sym (ap (fitting input.file) e))
+      input_told x e = further (Ok x) (sym (ap (result_map_both (λ traces. traces) (unfit input.file)) e))
 
       -- there is one more
       pub one_added : added marks traces m raw ≡ Ok more → refusal_of marks traces m raw ≡ None → length more ≡ length traces + 1

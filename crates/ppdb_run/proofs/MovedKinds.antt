@@ -6,7 +6,7 @@ use Rattle.std.specs.List.{filter, flat_map, list_any}
 use Rattle.std.specs.Option.{option_to_list}
 use Rattle.std.proofs.lemmas.Bool.{and_parts, both_ways, eqb-true, ltb-true, ne_eqb, not-true, or_from, or_parts}
 use Rattle.ppdb_base.specs.Offsets.{gone}
-use Rattle.ppdb_maps.specs.Map.{Map, is_dropped, line_offsets, method_line, offsets_in, is_gone_row}
+use Rattle.ppdb_maps.specs.Map.{Map, is_dropped, method_line, offsets_in, is_gone_row}
 use Rattle.ppdb_maps.specs.Readable.{IsReadable}
 use Rattle.ppdb_tables.specs.declared.parent.Parent.{Parent}
 use Rattle.ppdb_tables.specs.RawTables.{row_at}
@@ -24,16 +24,19 @@ use Rattle.ppdb_values.specs.Parts.{is_at}
 use Rattle.ppdb_merge_items.specs.declared.file.AnnotatedScope.{AnnotatedScope}
 use Rattle.ppdb_merge_items.specs.Each.{Each}
 use Rattle.ppdb_merge_items.specs.Annotated.{annotated_file, with_item}
-use Rattle.ppdb_merge_items.specs.NamedRows.{goes_constant, leaves_types, live_constant, live_constants, live_custom, with_live_body}
+use Rattle.ppdb_merge_items.specs.NamedRows.{goes_constant, leaves_types, live_constants, live_custom, with_live_body}
 use Rattle.ppdb_merge_items.proofs.Lists.{Each-filter, Each-map}
 use Rattle.ppdb_merge_moved.specs.Moved.{is_empty, moved_constant, moved_custom, moved_file, moved_import_scope, moved_range, moved_scope, moved_variable}
 use Rattle.ppdb_merge_moved.specs.Moved.{linked, moved_body, moved_document, moved_parent, scope_image}
 use Rattle.ppdb_merge_moved.specs.OnRows.{annotated_by, annotated_scopes_by}
 use Rattle.ppdb_merge_moved.proofs.Lists.{Each-filter_map}
 use Rattle.ppdb_merge_moved.proofs.ScopesAtRows.{scopes_are}
-use Rattle.ppdb_merge_fits.specs.Clashes.{all_constants, constant_methods, is_at_dropped, is_at_gone, method_at, scope_methods, variable_methods}
+use Rattle.ppdb_merge_fits.specs.Clashes.{is_at_dropped, is_at_gone, method_at}
 use Rattle.ppdb_run.proofs.Images.{high_row}
 use Rattle.ppdb_run.proofs.KnownKinds.{Known, KnownFile, KnownScope, Notes}
+use Rattle.ppdb_merge_items.proofs.Parts.{live_constant}
+use Rattle.ppdb_merge_fits.proofs.Parts.{scope_methods, variable_methods, constant_methods, all_constants}
+use Rattle.ppdb_maps.proofs.Parts.{line_offsets}
 
 -- ---- rows that follow each other
 

@@ -1,5 +1,6 @@
 -- A task has one outcome over the files.
 use Rattle.std.proofs.Common.{ℕ, ◌≡◌, inl, inr, List, [], ◌∷◌, Bool, refl, sym, ◌∙◌, ap, subst, arith}
+use Rattle.std.specs.Result.{result_map_both}
 use Rattle.std.specs.Prelude.{Option, Some, None, Result, Ok, Err, IfSome}
 use Rattle.ppdb_base.specs.declared.code.Code.{Code}
 use Rattle.ppdb_base.specs.declared.fault.Place.{Place}
@@ -8,10 +9,10 @@ use Rattle.ppdb_base.specs.Files.{Files, reading}
 use Rattle.ppdb_base.specs.declared.limits.TheConstants.{MAX_FILE_BYTES}
 use Rattle.ppdb_base.proofs.Judging.{one_first, first_not_accepted}
 use Rattle.ppdb_run_stops.specs.declared.stop.Stop.{Stop}
-use Rattle.ppdb_run.specs.Ends.{Asks, AreSeen, IsApart, OnDue, OnOutcome, OnTask, OnRead, IsWithinBound, IsWithinRows}
-use Rattle.ppdb_run_stops.specs.Refusals.{Outcome, refused}
+use Rattle.ppdb_run.specs.Ends.{Asks, AreSeen, IsApart, OnOutcome, OnTask, OnRead, IsWithinBound, IsWithinRows}
+use Rattle.ppdb_run_stops.specs.Refusals.{unfit, Outcome, refused}
 use Rattle.ppdb_run.specs.Outcome.{Step, ◌>>=◌, gives, judged, file_at, input_of, verified, answer_of, rebuilt, outcome_of}
-use Rattle.ppdb_run.specs.Outcome.{all_joined, fitting, in_limits, map_in, with_input, with_inputs, with_texts}
+use Rattle.ppdb_run.specs.Outcome.{all_joined, in_limits, map_in, with_input, with_inputs, with_texts}
 use Rattle.ppdb_merge.specs.declared.trace.Trace.{Trace}
 use Rattle.ppdb_merge.specs.Refusals.{added}
 use Rattle.ppdb_merge.specs.Together.{joined_of}
@@ -62,10 +63,12 @@ one_verified files file =
 one_texts : (marks : List (List ℕ)) (traces : List Trace) (input : Input) (bytes text : List ℕ)
     → GivesOne (λ x y. x ≡ y) (with_texts marks traces input bytes text)
 one_texts marks traces input bytes text =
-    one_then (judged_file input.file bytes) (λ raw. map_in input.map_file text >>= λ m. gives (fitting input.file (added marks traces m raw)))
+    one_then (judged_file input.file bytes) (λ raw. map_in input.map_file text
+    >>= λ m. gives (result_map_both (λ traces. traces) (unfit input.file) (added marks traces m raw)))
     (one_judged input.file (FileFaults bytes) (IsRawOf bytes) (λ a b. a ≡ b) (one_raw bytes))
-    (λ raw. one_then (map_in input.map_file text) (λ m. gives (fitting input.file (added marks traces m raw))) (one_text input.map_file text)
-    (λ m. one_given (fitting input.file (added marks traces m raw))))
+    (λ raw. one_then (map_in input.map_file text) (λ m. gives (result_map_both (λ traces. traces) (unfit input.file) (added marks traces m raw)))
+    (one_text input.map_file text)
+    (λ m. one_given (result_map_both (λ traces. traces) (unfit input.file) (added marks traces m raw))))
 
 one_input : (files : Files) (marks : List (List ℕ)) (traces : List Trace) (input : Input) → GivesOne (λ x y. x ≡ y) (with_input files marks traces input)
 one_input files marks traces input =
@@ -176,7 +179,7 @@ of_told P words task (Some told) k h reads (Some other) asks all seen =
 -- what holds of the outcome of a task holds of that of its words
 pub of_task : {P : Outcome → Type 0} (words : List (List ℕ)) (task : Task) (files : Option Files) → OnTask task files P → Words task words
     → (IsApart (Some task) → ⊥) → OnOutcome words files P
-of_task {P = P} words task files k h reads = of_told (λ asked all. OnDue asked all P) words task files k.holds h reads
+of_task {P = P} words task files k h reads = of_told (λ asked all. (due : Outcome) → IsOutcome asked all due → P due) words task files k.holds h reads
 
 -- so do the rows that it reads
 pub of_rows : (words : List (List ℕ)) (task : Task) (files : Option Files) (before after : ℕ) → IsWithinRows task files before after → Words task words
@@ -184,7 +187,8 @@ pub of_rows : (words : List (List ℕ)) (task : Task) (files : Option Files) (be
 of_rows words task files before after k h other h' = subst (λ (t : Task). IsWithinRows t files before after) (one_task words task other h h') k
 
 -- what holds of one outcome holds of the outcome
-pub on_due : (P : Outcome → Type 0) (asked : Option Task) (files : Files) (a : Outcome) → IsOutcome asked files a → P a → OnDue asked files P
+pub on_due : (P : Outcome → Type 0) (asked : Option Task) (files : Files) (a : Outcome) → IsOutcome asked files a → P a
+    → (due : Outcome) → IsOutcome asked files due → P due
 on_due P asked files a is p = λ b other. subst P (one_outcome asked files a b is other) p
 
 -- a refusal is the outcome

@@ -1,11 +1,11 @@
 -- What was put when a run has ended.
-use Rattle.std.proofs.Common.{ℕ, ◌≡◌, List, [], ◌∷◌, ◌++◌, sym, ◌∙◌, ap, subst}
+use Rattle.std.proofs.Common.{ℕ, ◌≡◌, ◌⊎◌, inl, inr, List, [], ◌∷◌, ◌++◌, refl, sym, ◌∙◌, ap, subst}
 use Rattle.std.specs.Prelude.{Option, IfSome}
 use Rattle.ppdb_base.specs.Files.{Files}
 use Rattle.ppdb_base.specs.Written.{appended, AppendsPrefix}
 use Rattle.ppdb_base.proofs.Written.{prefix_whole, appended_nothing}
 use Rattle.ppdb_run_stops.specs.declared.status.Status.{Status}
-use Rattle.ppdb_run.specs.Ends.{OnOutcome, IsUnread, IsUnwritten, IsDue, answer, read_fault, write_fault, PutsPrefix}
+use Rattle.ppdb_run.specs.Ends.{OnOutcome, IsUnread, IsUnwritten, PutsPrefix, TellsUnread, TellsUnwritten}
 use Rattle.ppdb_run_stops.specs.Refusals.{Outcome}
 use Rattle.ppdb_run_stops.specs.Causes.{Cause, Refusal, Unread, Unwritten, Unput, OutOfMemory, line_of, refusal_of}
 use Rattle.ppdb_run_stops.specs.Causes.{ComesFrom, OnUntold, OnCut}
@@ -13,7 +13,7 @@ use Rattle.ppdb_run.specs.Stops.{Tells, Told, Failed, NoMemory}
 
 module _ (words : List (List ℕ)) (files : Option Files) (before after : ℕ) (ReadFailed WriteFailed : Type 0) (old mid new : Option (List ℕ)) where
   abbrev Due : Outcome → List ℕ → Type 0
-  Due due text = IsDue words files due before after ReadFailed WriteFailed text
+  Due due text = (text ≡ due.text) ⊎ (ReadFailed × TellsUnread words files before after text) ⊎ (WriteFailed × TellsUnwritten words text)
 
   abbrev Puts : Outcome → Type 0
   Puts due = PutsPrefix words files due before after ReadFailed WriteFailed old new
@@ -23,26 +23,23 @@ module _ (words : List (List ℕ)) (files : Option Files) (before after : ℕ) (
   nothing_put (x ∷ prefix) rest e w = cc
 
   the_text : (due : Outcome) → AppendsPrefix old mid due.text → AppendsPrefix mid new [] → Puts due
-  the_text due h k = record {
-    text = due.text;
-    is_due = answer;
-    written = subst (λ (w : Option (List ℕ)). AppendsPrefix old w due.text) (sym (nothing_put k.prefix k.rest k.is_prefix k.written)) h;
-  }
+  the_text due h k =
+      (due.text, subst (λ (w : Option (List ℕ)). AppendsPrefix old w due.text) (sym (nothing_put k.prefix k.rest k.is_prefix k.written)) h, inl refl)
 
   the_line : (due : Outcome) (text : List ℕ) → Due due text → mid ≡ old → AppendsPrefix mid new text → Puts due
-  the_line due text d e h = record { text = text; is_due = d; written = subst (λ (w : Option (List ℕ)). AppendsPrefix w new text) e h }
+  the_line due text d e h = (text, subst (λ (w : Option (List ℕ)). AppendsPrefix w new text) e h, d)
 
   -- the line of a refusal is the text of the outcome
   the_refusal : (due refusal : Outcome) → due ≡ refusal → mid ≡ old → AppendsPrefix mid new refusal.text → Puts due
-  the_refusal due refusal e silent h = the_line due refusal.text (subst (λ (text : List ℕ). Due due text) (ap (λ (o : Outcome). o.text) e) answer) silent h
+  the_refusal due refusal e silent h = the_line due refusal.text (inl (sym (ap (λ (o : Outcome). o.text) e))) silent h
 
   module _ (M C : Type 0) where
     stopped : (cause : Cause) (due : Outcome) → ComesFrom cause M (IsUnread words files before after) (IsUnwritten words) files ReadFailed WriteFailed C
         → IfSome (refusal_of cause) (λ refusal. due ≡ refusal) → OnUntold cause (mid ≡ old) → OnCut cause (AppendsPrefix old mid due.text)
         → AppendsPrefix mid new (line_of cause) → Puts due
     stopped (Refusal outcome) due comes settles silent cut h = the_refusal due outcome settles silent h
-    stopped (Unread name) due comes settles silent cut h = the_line due _ (read_fault name comes.0 comes.1) silent h
-    stopped (Unwritten name) due comes settles silent cut h = the_line due _ (write_fault name comes.0 comes.1) silent h
+    stopped (Unread name) due comes settles silent cut h = the_line due _ (inr (inl (comes.1, (name, comes.0, refl)))) silent h
+    stopped (Unwritten name) due comes settles silent cut h = the_line due _ (inr (inr (comes.1, (name, comes.0, refl)))) silent h
     stopped Unput due comes settles silent cut h = the_text due cut h
     stopped OutOfMemory due comes settles silent cut h = the_text due cut h
 
@@ -66,5 +63,5 @@ module _ (words : List (List ℕ)) (files : Option Files) (before after : ℕ) (
 pub prefix_of_done : (words : List (List ℕ)) (files : Option Files) (before after : ℕ) (ReadFailed WriteFailed : Type 0) (old new : Option (List ℕ))
     → OnOutcome words files (λ due. new ≡ appended old due.text)
     → OnOutcome words files (λ due. PutsPrefix words files due before after ReadFailed WriteFailed old new)
-prefix_of_done words files b a R W old new put asked h all seen due is = record
-    { text = due.text; is_due = answer; written = prefix_whole old new _ (put asked h all seen due is) }
+prefix_of_done words files b a R W old new put asked h all seen due is =
+    (due.text, prefix_whole old new _ (put asked h all seen due is), inl refl)

@@ -5,7 +5,7 @@ use Rattle.ppdb_base.specs.Files.{Files}
 use Rattle.ppdb_base.specs.declared.limits.Limit.{Limit}
 use Rattle.ppdb_run.specs.Sampled.{limit_of_sample}
 use Rattle.ppdb_run_stops.specs.declared.stop.Stop.{Stop}
-use Rattle.ppdb_run.specs.Ends.{Asks, IsValid, OnAsked, OnDue, OnOutcome, WritesAgain, WritesValid}
+use Rattle.ppdb_run.specs.Ends.{Asks, IsValid, OnAsked, OnOutcome, WritesAgain, WritesValid}
 use Rattle.ppdb_run_stops.specs.Refusals.{Outcome, limited}
 use Rattle.ppdb_run.specs.Outcome.{IsOutcome, done, outcome_of, sampled}
 use Rattle.ppdb_merge.specs.Merged.{unless}
@@ -44,7 +44,7 @@ module _ (words : List (List ℕ)) (n : ℕ) (asked : Words (Sample n) words) (f
   -- what holds of it holds of the outcome of the words
   pub of_sampled : (P : Outcome → Type 0) → P (outcome_of (sampled n)) → OnOutcome words files P
   of_sampled P p other asks all seen =
-      of_all (λ task all. OnDue task all P) words (Sample n) (λ all due is. subst P (sym (due_is n all due is)) p) asked other asks all
+      of_all (λ task all. (due : Outcome) → IsOutcome task all due → P due) words (Sample n) (λ all due is. subst P (sym (due_is n all due is)) p) asked other asks all
 
   -- they have one
   pub sampled_found : {T : Type 0} (result : Result T Stop) → Settles result (outcome_of (sampled n)) → FindsOutcome words files result
@@ -67,9 +67,10 @@ module _ (words : List (List ℕ)) (n : ℕ) (asked : Words (Sample n) words) (f
   -- nothing is written that could be bad
   pub sampled_valid : OnAsked words files WritesValid
   sampled_valid other asks all seen =
-      of_all (λ task all. OnDue task all (WritesValid task)) words (Sample n)
+      of_all (λ task all. (due : Outcome) → IsOutcome task all due → WritesValid task due) words (Sample n)
       (λ all due is. subst (λ due. IfSome due.writes (λ file. IsValid (Sample n) file.1)) (sym (due_is n all due is))
       (subst (λ w. IfSome w (λ file. IsValid (Sample n) file.1)) (sym (sample_writes n)) tt)) asked other asks all
 
   pub sampled_again : OnAsked words files WritesAgain
-  sampled_again other asks all seen = of_all (λ task all. OnDue task all (WritesAgain task)) words (Sample n) (λ all due is. tt) asked other asks all
+  sampled_again other asks all seen =
+      of_all (λ task all. (due : Outcome) → IsOutcome task all due → WritesAgain task due) words (Sample n) (λ all due is. tt) asked other asks all

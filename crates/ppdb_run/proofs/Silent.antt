@@ -35,9 +35,10 @@ use Rattle.ppdb_merge_moved.proofs.Elements.{each_left}
 use Rattle.ppdb_merge_moved.proofs.Fitting.{offsets_rise}
 use Rattle.ppdb_merge_fits.specs.Clashes.{if_unknown, is_unknown, is_at_gone}
 use Rattle.ppdb_merge_fits.specs.Offsets.{MethodOffset, offset_in, step_offsets, handler_offsets, async_offsets, if_past, offset_beyond}
-use Rattle.ppdb_merge_fits.specs.Offsets.{points_beyond, scope_beyond, slot_beyond, body_beyond, custom_beyond, is_kept, if_lost, custom_lost}
+use Rattle.ppdb_merge_fits.specs.Offsets.{points_beyond, scope_beyond, slot_beyond, body_beyond, is_kept, if_lost}
 use Rattle.ppdb_merge_fits.proofs.Apart.{each_both}
 use Rattle.ppdb_merge_fits.proofs.First.{flat_append, flat_nested}
+use Rattle.ppdb_merge_fits.proofs.Parts.{custom_beyond, custom_lost}
 
 -- nothing of a list of items of which nothing is reported
 pub flat_nil : {A B : Type 0} (f : A → List B) (xs : List A) → Each (λ x. f x ≡ []) xs → flat_map f xs ≡ []

@@ -14,8 +14,9 @@ use Rattle.ppdb_merge_items.proofs.Lists.{Each-weaker, Pairs-unmap}
 use Rattle.ppdb_merge_joined.proofs.Each.{Each-with}
 use Rattle.ppdb_merge_joined.proofs.Names.{bytes_apart}
 use Rattle.ppdb_merge_moved.specs.Fits.{NamesDiffer}
-use Rattle.ppdb_merge_fits.specs.Documents.{documents_twice, get_one_name, if_one_name, name_twice}
+use Rattle.ppdb_merge_fits.specs.Documents.{documents_twice, if_one_name}
 use Rattle.ppdb_run.proofs.Silent.{flat_nil, if_fails}
+use Rattle.ppdb_merge_fits.proofs.Parts.{get_one_name, name_twice}
 
 -- a document with its row
 abbrev Row : Type 0

@@ -28,12 +28,13 @@ use Rattle.ppdb_merge_joined.proofs.Each.{Each-flat}
 use Rattle.ppdb_merge_moved.specs.Fits.{may_share, IsImaged, AreApart, HasSlot, SlotsAreApart}
 use Rattle.ppdb_merge_moved.proofs.Elements.{each_in}
 use Rattle.ppdb_merge_moved.proofs.Lists.{Each-filter_map}
-use Rattle.ppdb_merge_fits.specs.Rows.{image_key, imaged, imaged_to, if_unmapped, image_twice, is_row, unmapped, unshared, imaged_rows, rows_twice}
+use Rattle.ppdb_merge_fits.specs.Rows.{image_key, imaged, imaged_to, image_twice, is_row, unmapped, unshared, imaged_rows, rows_twice}
 use Rattle.ppdb_merge_fits.specs.Slots.{scope_slots, variable_slots, if_slot_unmapped, slots_unmapped, used, slot_twice, slots_twice}
 use Rattle.ppdb_merge_fits.specs.Twice.{beside, beside_from, each_once, is_same, if_one_image, twice}
 use Rattle.ppdb_merge_fits.proofs.Apart.{OneNumber}
 use Rattle.ppdb_run.proofs.Images.{same_image}
 use Rattle.ppdb_run.proofs.Silent.{flat_nil, unnumbered, if_holds}
+use Rattle.ppdb_merge_fits.proofs.Parts.{if_unmapped}
 
 -- ---- lists in order, each item once
 

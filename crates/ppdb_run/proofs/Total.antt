@@ -1,5 +1,6 @@
 -- What is asked for has an outcome.
 use Rattle.std.proofs.Common.{ℕ, ◌≡◌, ◌+◌, ◌≤◌, inl, inr, Bool, List, [], ◌∷◌, length, take, drop, Option, Some, None, Result, Ok, Err, refl, sym, ap}
+use Rattle.std.specs.Result.{result_map_both}
 use Rattle.std.specs.Prelude.{MatchOption}
 use Rattle.std.proofs.lemmas.Bool.{cases_lt}
 use Rattle.ppdb_base.specs.declared.code.Code.TheVariants.{StreamBounds}
@@ -16,7 +17,7 @@ use Rattle.metadata_root.specs.Streams.StreamFaults.{bounds}
 use Rattle.ppdb_values.specs.RawFile.{raw_in, RawFile}
 use Rattle.ppdb_verify.specs.Files.{FileFaults}
 use Rattle.ppdb_values.specs.Value.{value_of}
-use Rattle.ppdb_run_stops.specs.Refusals.{Outcome, absent, too_long, refused, usage}
+use Rattle.ppdb_run_stops.specs.Refusals.{unfit, Outcome, absent, too_long, refused, usage}
 use Rattle.ppdb_run.specs.Outcome.{◌>>=◌, IsOutcome, gives, input_of, answer_of, rebuilt}
 use Rattle.ppdb_run.specs.Outcome.{outcome_of, sampled, steps_of, verified}
 use Rattle.ppdb_maps_text.proofs.Judged.{texts_are_judged}
@@ -24,7 +25,7 @@ use Rattle.ppdb_verify.specs.Files.{IsRawOf}
 use Rattle.ppdb_merge.specs.declared.trace.Trace.{Trace}
 use Rattle.ppdb_merge.specs.Refusals.{added}
 use Rattle.ppdb_merge.specs.Together.{joined_of}
-use Rattle.ppdb_run.specs.Outcome.{Step, all_joined, file_at, fitting, in_limits, judged, map_in, with_input, with_inputs, with_texts}
+use Rattle.ppdb_run.specs.Outcome.{Step, all_joined, file_at, in_limits, judged, map_in, with_input, with_inputs, with_texts}
 use Rattle.ppdb_run_stops.specs.Refusals.{no_map}
 use Rattle.std.specs.Str.Lines.{lines}
 use Rattle.ppdb_queries_list.proofs.Lists.{lists_are_judged}
@@ -120,10 +121,11 @@ some_text name text none =
 some_texts : (marks : List (List ℕ)) (traces : List Trace) (input : Input) (bytes text : List ℕ) → GivesSome (with_texts marks traces input bytes text)
 some_texts marks traces input bytes text =
     some_then (judged input.file (FileFaults bytes) (IsRawOf bytes))
-    (λ raw. map_in input.map_file text >>= λ m. gives (fitting input.file (added marks traces m raw)))
+    (λ raw. map_in input.map_file text >>= λ m. gives (result_map_both (λ traces. traces) (unfit input.file) (added marks traces m raw)))
     (some_judged input.file bytes)
-    (λ raw. some_then (map_in input.map_file text) (λ m. gives (fitting input.file (added marks traces m raw))) (some_text input.map_file text)
-    (λ m. some_given (fitting input.file (added marks traces m raw))))
+    (λ raw. some_then (map_in input.map_file text) (λ m. gives (result_map_both (λ traces. traces) (unfit input.file) (added marks traces m raw)))
+    (some_text input.map_file text)
+    (λ m. some_given (result_map_both (λ traces. traces) (unfit input.file) (added marks traces m raw))))
 
 some_input : (files : Files) (marks : List (List ℕ)) (traces : List Trace) (input : Input) → GivesSome (with_input files marks traces input)
 some_input files marks traces input =

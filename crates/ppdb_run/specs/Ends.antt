@@ -1,5 +1,5 @@
 -- How a run ends: what its status, its text and the files afterwards have to do with the outcome of its words.
-use Rattle.ppdb_values.specs.Names.{counted, MAX_FILE_BYTES, Files, Contents, reading, IsAccepted, appended, AppendsPrefix, lines, count}
+use Rattle.ppdb_values.specs.Names.{counted, MAX_FILE_BYTES, Files, Contents, reading, IsAccepted, AppendsPrefix, lines, count}
 use Rattle.std.specs.Prelude.{ℕ, ◌≡◌, ◌<◌, ◌≤◌, ◌+◌, ◌-◌, ◌*◌, ◌⊎◌, List, [], ◌∷◌, length, Option, Some, None, Ok, IfSome, option_and_then, slice_get}
 use Rattle.ppdb_run_stops.specs.{declared.status.Status.{Status, TheVariants.{Done, WriteFault, Memory}}, Lines.{read_fault_line, write_fault_line}, Refusals.Outcome, Status.UnlessFault}
 use Rattle.ppdb_merge.specs.declared.trace.Trace.{Trace}
@@ -8,7 +8,6 @@ use Rattle.ppdb_maps.specs.{Map.Map, Text.IsMapOf}
 use Rattle.ppdb_queries_list.specs.{Lists.Lists, declared.line.MethodOffset.MethodOffset}
 use Rattle.ppdb_show.specs.{Bound.query_rows, Lookup.lookup_rows}
 use Rattle.ppdb_queries.specs.{Digits.digits, Runs.customs_at}
-use Rattle.source_link.specs.FileLinks.{module_row}
 use Rattle.ppdb_values.specs.{RawFile.RawFile, Value.value_of}
 use Rattle.ppdb_verify.specs.Files.{FileFaults, IsRawOf}
 use Rattle.ppdb_run.specs.{Outcome.{IsOutcome, file_at, map_at, unknown_kind, verified, with_input, written}, Writes.{WritesAll, WritesPrefix}}
@@ -29,25 +28,21 @@ abbrev pub AreSeen : Option Task → Option Files → Files → Type 0
 AreSeen asked (Some told) all = told ≡ all
 AreSeen asked None all = IsApart asked
 
--- P holds of the outcome of what is asked for over the files
-abbrev pub OnDue : Option Task → Files → (Outcome → Type 0) → Type 0
-OnDue asked all P = (due : Outcome) → IsOutcome asked all due → P due
-
 -- P holds of the outcome of a task over the files, where the folder reports them
 pub record OnTask (task : Task) (files : Option Files) (P : Outcome → Type 0) : Type 0 where
-  pub holds : IfSome files (λ all. OnDue (Some task) all P)
+  pub holds : IfSome files (λ all. (due : Outcome) → IsOutcome (Some task) all due → P due)
 
 -- P holds of what the words ask for and of the files that they see
 abbrev pub OnSeen : List (List ℕ) → Option Files → (Option Task → Files → Type 0) → Type 0
 OnSeen words files P = (asked : Option Task) → Asks words asked → (all : Files) → AreSeen asked files all → P asked all
 
--- P holds of the outcome of the words over the files that they see
-abbrev pub OnOutcome : List (List ℕ) → Option Files → (Outcome → Type 0) → Type 0
-OnOutcome words files P = OnSeen words files (λ asked all. OnDue asked all P)
-
 -- P holds of what the words ask for and of its outcome, over the files that they see
 abbrev pub OnAsked : List (List ℕ) → Option Files → (Option Task → Outcome → Type 0) → Type 0
-OnAsked words files P = OnSeen words files (λ asked all. OnDue asked all (P asked))
+OnAsked words files P = OnSeen words files (λ asked all. (due : Outcome) → IsOutcome asked all due → P asked due)
+
+-- P holds of the outcome of the words over the files that they see
+abbrev pub OnOutcome : List (List ℕ) → Option Files → (Outcome → Type 0) → Type 0
+OnOutcome words files P = OnAsked words files (λ asked. P)
 
 -- the words have an outcome over the files that they see, unless something outside failed or memory lacked first
 abbrev pub HasOutcome : List (List ℕ) → Option Files → Status → Type 0
@@ -85,16 +80,12 @@ IsInputUnread files input before after name =
     ⊎ ((name ≡ input.map_file) × (after ≡ counted before) × IfSome files (λ all. (bytes : List ℕ) × file_at all input.file (Ok bytes)))
 
 -- the task that the words name was to read this file when it stopped
-pub record IsUnread (words : List (List ℕ)) (files : Option Files) (before after : ℕ) (name : List ℕ) : Type 0 where
-  pub task : Task
-  pub asked : Words task words
-  pub unread : IsUnreadOf task files before after name
+abbrev pub IsUnread : List (List ℕ) → Option Files → (before after : ℕ) → List ℕ → Type 0
+IsUnread words files before after name = (task : Task) × Words task words × IsUnreadOf task files before after name
 
 -- this is the file that the words have written
-pub record IsUnwritten (words : List (List ℕ)) (name : List ℕ) : Type 0 where
-  pub task : Task
-  pub asked : Words task words
-  pub named : written_file task ≡ Some name
+abbrev pub IsUnwritten : List (List ℕ) → List ℕ → Type 0
+IsUnwritten words name = (task : Task) × Words task words × (written_file task ≡ Some name)
 
 -- the files after a run
 abbrev pub LeavesFiles : Status → Outcome → Option Files → Option Files → Type 0
@@ -103,42 +94,22 @@ LeavesFiles WriteFault due old new = WritesPrefix due.writes old new
 LeavesFiles Memory due old new = WritesPrefix due.writes old new
 LeavesFiles status due old new = new ≡ old
 
--- P holds, unless the file that the outcome writes may hold some of its bytes
-abbrev pub UnlessWritten : Status → Type 0 → Type 0
-UnlessWritten Done P = Unit {0}
-UnlessWritten WriteFault P = Unit {0}
-UnlessWritten Memory P = Unit {0}
-UnlessWritten status P = P
-
 -- where the words have no file written, the files are as before
 abbrev pub KeepsFiles : List (List ℕ) → Option Files → Option Files → Type 0
 KeepsFiles words old new = (asked : Option Task) → Asks words asked → option_and_then written_file asked ≡ None → new ≡ old
 
--- the text that was put is the line of the file that could not be read
-pub record TellsUnread (words : List (List ℕ)) (files : Option Files) (before after : ℕ) (old new : Option (List ℕ)) : Type 0 where
-  pub name : List ℕ
-  pub unread : IsUnread words files before after name
-  pub written : new ≡ appended old (read_fault_line name)
+-- this is the line of the file that could not be read
+abbrev pub TellsUnread : List (List ℕ) → Option Files → (before after : ℕ) → List ℕ → Type 0
+TellsUnread words files before after text = (name : List ℕ) × IsUnread words files before after name × (text ≡ read_fault_line name)
 
--- the text that was put is the line of the file that could not be written
-pub record TellsUnwritten (words : List (List ℕ)) (old new : Option (List ℕ)) : Type 0 where
-  pub name : List ℕ
-  pub unwritten : IsUnwritten words name
-  pub written : new ≡ appended old (write_fault_line name)
+-- this is the line of the file that could not be written
+abbrev pub TellsUnwritten : List (List ℕ) → List ℕ → Type 0
+TellsUnwritten words text = (name : List ℕ) × IsUnwritten words name × (text ≡ write_fault_line name)
 
--- the texts that may be due: that of the outcome, or, where a read or a write failed, the line of the file
-pub data IsDue (words : List (List ℕ)) (files : Option Files) (due : Outcome) (before after : ℕ) (ReadFailed WriteFailed : Type 0) : List ℕ → Type 0 where
-  answer : IsDue words files due before after ReadFailed WriteFailed due.text
-  read_fault : (name : List ℕ) → IsUnread words files before after name → ReadFailed
-      → IsDue words files due before after ReadFailed WriteFailed (read_fault_line name)
-  write_fault : (name : List ℕ) → IsUnwritten words name → WriteFailed → IsDue words files due before after ReadFailed WriteFailed (write_fault_line name)
-
--- the text that was put is a prefix of one that was due
-pub record PutsPrefix (words : List (List ℕ)) (files : Option Files) (due : Outcome) (before after : ℕ) (ReadFailed WriteFailed : Type 0)
-    (old new : Option (List ℕ)) : Type 0 where
-  pub text : List ℕ
-  pub is_due : IsDue words files due before after ReadFailed WriteFailed text
-  pub written : AppendsPrefix old new text
+-- the text that was put is a prefix of one that was due: that of the outcome, or, where a read or a write failed, the line of the file
+abbrev pub PutsPrefix : List (List ℕ) → Option Files → Outcome → (before after : ℕ) → (ReadFailed WriteFailed : Type 0) → (old new : Option (List ℕ)) → Type 0
+PutsPrefix words files due before after ReadFailed WriteFailed old new = (text : List ℕ) × AppendsPrefix old new text
+    × ((text ≡ due.text) ⊎ (ReadFailed × TellsUnread words files before after text) ⊎ (WriteFailed × TellsUnwritten words text))
 
 -- ---- a file that is written
 
@@ -181,7 +152,7 @@ NeedsNoRows task = ⊥
 abbrev pub IsWithinBound : Question → RawFile → ℕ → ℕ → Type 0
 IsWithinBound (Query method offset json) raw before after = after ≤ before + query_rows raw.tables method offset
 IsWithinBound (Links json) raw before after =
-    after ≤ before + 2 * digits (length raw.tables.customs) + length (customs_at raw.tables module_row) + count raw.tables 0x30
+    after ≤ before + 2 * digits (length raw.tables.customs) + length (customs_at raw.tables 0x00 1) + count raw.tables 0x30
 IsWithinBound (Breaks document line json) raw before after = after ≤ before + count raw.tables 0x30 + length raw.tables.methods
 IsWithinBound question raw before after = Unit {0}
 

@@ -1,5 +1,5 @@
 -- What a debug file that is written means, by what its inputs meant.
-use Rattle.std.specs.Prelude.{◌≡◌, ℕ, List, [], ◌∷◌, Option, Some, Ok, IfSome, map}
+use Rattle.std.specs.{Prelude.{◌≡◌, ℕ, List, [], ◌∷◌, Option, Some, Ok, IfSome, map}, List.AllZip}
 use Rattle.ppdb_base.specs.{Files.Files, First.IsAccepted}
 use Rattle.ppdb_merge_meaning_laws.specs.{Kept.{MovedBy, KeepsMeaning}, Origins.KeepsOrigins}
 use Rattle.ppdb_values.specs.{RawFile.RawFile, Value.value_of}
@@ -10,17 +10,14 @@ use Rattle.ppdb_run_stops.specs.Refusals.{Outcome}
 use Rattle.ppdb_run_words.specs.Words.{Input, Options, Task, Rebuild, Merge}
 use Rattle.ppdb_run.specs.{Ends.RebuildsToItself, Outcome.{map_at, verified}}
 
--- each input is read so: its file breaks no rule, and its map's text has the map
-abbrev pub AreReadAs : Files → List Input → List ReadInput → Type 0
-AreReadAs files [] [] = Unit {0}
-AreReadAs files (input ∷ inputs) (read ∷ others) =
-    verified files input.file (Ok read.raw) × map_at files input.map_file (Ok read.map) × AreReadAs files inputs others
-AreReadAs files inputs others = ⊥
+-- an input is read so: its file breaks no rule, and its map's text has the map
+abbrev pub IsReadAs : Files → Input → ReadInput → Type 0
+IsReadAs files input read = verified files input.file (Ok read.raw) × map_at files input.map_file (Ok read.map)
 
 -- this is what the inputs of a task say, each with its map; that of a rebuild has the map without lines
 abbrev pub AreInputsOf : Task → Files → List MovedBy → Type 0
 AreInputsOf (Rebuild input output options) files inputs = (raw : RawFile) × verified files input (Ok raw) × (inputs ≡ left_alone (value_of raw) ∷ [])
-AreInputsOf (Merge pairs output options) files inputs = (read : List ReadInput) × AreReadAs files pairs read × (inputs ≡ map moved_by read)
+AreInputsOf (Merge pairs output options) files inputs = (read : List ReadInput) × AllZip (IsReadAs files) pairs read × (inputs ≡ map moved_by read)
 AreInputsOf task files inputs = ⊥
 
 -- A debug file that a task writes.

@@ -1,7 +1,7 @@
 -- What a command comes to over the files: a status, a text, and at most one file that is written.
 use Rattle.ppdb_values.specs.Names.{kind_of, Code, Place, Fault, Files, Missing, Longer, Contents, reading, LinkError, MergeError, KindUnknown, MAX_FILE_BYTES, IsAccepted, IsFirst, lines, RowsDiffer}
 use Rattle.ppdb_values.specs.Names.{ImageRange, numbered}
-use Rattle.std.specs.Prelude.{ℕ, ◌≡◌, ◌<◌, ◌≤◌, ◌⊎◌, List, [], ◌∷◌, Bool, if◌then◌else◌, find, Option, Some, None, option_map, Result, Ok, Err, codes, length}
+use Rattle.std.specs.{Prelude.{ℕ, ◌≡◌, ◌<◌, ◌≤◌, ◌⊎◌, List, [], ◌∷◌, Bool, if◌then◌else◌, find, Option, Some, None, option_map, ok_or, Result, Ok, Err, codes, length}, Result.result_map_both}
 use Rattle.ppdb_base.specs.Files.{Reading}
 use Rattle.ppdb_queries_list.specs.{Lists.{IsFirstOther, Lists}, declared.line.MethodOffset.MethodOffset}
 use Rattle.ppdb_show_lines.specs.{declared.form.Form.{Form, TheVariants.{Text, Json}}, Forms.lines_as, Heads.{id_line, entry_line}, Pieces.line}
@@ -82,13 +82,12 @@ done text = Ok (prints statuses.Done text)
 
 -- the addresses of the documents, where the Source Link record gives some
 abbrev pub links_answer : Form → List ℕ → FileValue → Result (List Pair) LinkError → Result Outcome Outcome
-links_answer form file value (Ok pairs) = done (link_text form value pairs)
-links_answer form file value (Err error) = Err (unlinked file error)
+links_answer form file value links = result_map_both (λ pairs. prints statuses.Done (link_text form value pairs)) (unlinked file) links
 
 -- the breaks of a line, by method and IL offset, where there is such a document
 abbrev pub breaks_answer : Form → List ℕ → ℕ → FileValue → Option ℕ → Result Outcome Outcome
-breaks_answer form document line value None = Err (no_document document)
-breaks_answer form document line value (Some row) = done (text_of_breaks form (breaks_in value row line))
+breaks_answer form document line value named =
+    ok_or (option_map (λ row. prints statuses.Done (text_of_breaks form (breaks_in value row line))) named) (no_document document)
 
 -- what the answer to a question about a file is: a text, or why there is none
 abbrev pub answer_of : Question → List ℕ → RawFile → Result Outcome Outcome
@@ -136,17 +135,12 @@ rebuilt input output options value = unless (option_map (unfit input) (unknown_k
 
 -- ---- inputs that are moved and joined
 
--- the traces with an input added, where it fits; else why it does not
-abbrev pub fitting : {A : Type 0} → List ℕ → Result A MergeError → Result A Outcome
-fitting name (Ok traces) = Ok traces
-fitting name (Err error) = Err (unfit name error)
-
 -- an input by what was read of it: the file is verified, the map's text has a map, and the input fits those before it
 abbrev pub with_texts : List (List ℕ) → List Trace → Input → List ℕ → List ℕ → Step (List Trace)
 with_texts marks traces input bytes text = do
   raw ← judged input.file (FileFaults bytes) (IsRawOf bytes)
   m ← map_in input.map_file text
-  gives (fitting input.file (added marks traces m raw))
+  gives (result_map_both (λ traces. traces) (unfit input.file) (added marks traces m raw))
 
 -- one more input: its file and its map are read
 abbrev pub with_input : Files → List (List ℕ) → List Trace → Input → Step (List Trace)
@@ -170,8 +164,7 @@ input_in error = 0
 
 -- the value of all inputs, where they can be joined; else the file of the one that cannot, and why
 abbrev pub all_joined : List Input → Result FileValue MergeError → Result FileValue Outcome
-all_joined inputs (Ok value) = Ok value
-all_joined inputs (Err error) = Err (unfit (file_of inputs (input_in error)) error)
+all_joined inputs joined = result_map_both (λ value. value) (λ error. unfit (file_of inputs (input_in error)) error) joined
 
 -- ---- a map that is written
 

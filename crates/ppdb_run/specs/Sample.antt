@@ -6,7 +6,7 @@ use Rattle.ppdb_run.specs.declared.report.SampleReport.{SampleReport}
 
 -- words and what stands after them
 abbrev pub told_line : List ℕ → Content → Line
-told_line words content = record { word = words; fields = said (codes " ") content ∷ [] }
+told_line words content = record { word = words; fields = said " " content ∷ [] }
 
 -- the sample of n methods: the length of its file, and the length and the identity of the file of what its map makes of it
 abbrev pub sample_text : ℕ → SampleReport → List ℕ

@@ -1,9 +1,9 @@
 // The commands over a folder and a sink.
-ghost use Rattle.std.specs.Prelude.{◌≡◌, ◌≤◌, ◌⊎◌, None, OnOk, IfErr, IsErrOf};
+ghost use Rattle.std.specs.Prelude.{ℕ, ◌≡◌, ◌≤◌, ◌⊎◌, List, None, OnOk, IfErr, IsErrOf};
 ghost use Rattle.ppdb_base.specs.Causes.{Rose};
 ghost use Rattle.ppdb_base.specs.Written.{appended, AppendsPrefix};
 ghost use Rattle.ppdb_run.specs.Ends.{OnOutcome, HasOutcome, IsWithinRows, LeavesFiles, KeepsFiles, PutsPrefix, IsUnread, IsUnwritten};
-ghost use Rattle.ppdb_run.specs.Ends.{TellsUnread, TellsUnwritten, UnlessWritten};
+ghost use Rattle.ppdb_run.specs.Ends.{TellsUnread, TellsUnwritten};
 ghost use Rattle.ppdb_run.specs.Ends.{OnAsked, WritesValid, WritesAgain};
 ghost use Rattle.ppdb_run.specs.Means.{WritesMeaning};
 ghost use Rattle.ppdb_run_stops.specs.Status.{UnlessFault};
@@ -43,12 +43,13 @@ pub fn run<F: Folder, O: Sink, K: Ledger, L: Ledger>(
 
     // A failed read.
     ensures read_fault { result ≡ Status.ReadFault → Rose (F.read_faults folder.old) (F.read_faults folder.new) }
-    ensures unread { result ≡ Status.ReadFault → TellsUnread (texts words.now) (F.files folder.old) (F.reads folder.old) (F.reads folder.new) (O.written out.old)
-        (O.written out.new) }
+    ensures unread { result ≡ Status.ReadFault → (text : List ℕ) × TellsUnread (texts words.now) (F.files folder.old) (F.reads folder.old) (F.reads folder.new) text
+        × (O.written out.new ≡ appended (O.written out.old) text) }
 
     // A failed write, of the file or of the text.
     ensures write_fault { result ≡ Status.WriteFault → Rose (F.write_faults folder.old) (F.write_faults folder.new) ⊎ Rose (O.faults out.old) (O.faults out.new) }
-    ensures unwritten { result ≡ Status.WriteFault → Rose (O.faults out.old) (O.faults out.new) ⊎ TellsUnwritten (texts words.now) (O.written out.old) (O.written out.new) }
+    ensures unwritten { result ≡ Status.WriteFault → Rose (O.faults out.old) (O.faults out.new)
+        ⊎ ((text : List ℕ) × TellsUnwritten (texts words.now) text × (O.written out.new ≡ appended (O.written out.old) text)) }
 
     // Whatever comes, what was put is a prefix of a text that was due.
     ensures prefix { OnOutcome (texts words.now) (F.files folder.old) (λ due. PutsPrefix (texts words.now) (F.files folder.old) due (F.reads folder.old) (F.reads folder.new)
@@ -63,7 +64,7 @@ pub fn run<F: Folder, O: Sink, K: Ledger, L: Ledger>(
     ensures means { result ≡ Status.Done → OnAsked (texts words.now) (F.files folder.old) (WritesMeaning (F.files folder.old)) }
 
     // Whether or not the words have an outcome.
-    ensures kept { UnlessWritten result (F.files folder.new ≡ F.files folder.old) }
+    ensures kept { (result ≡ Status.Done) ⊎ (result ≡ Status.WriteFault) ⊎ (result ≡ Status.Memory) ⊎ (F.files folder.new ≡ F.files folder.old) }
     ensures read_only { KeepsFiles (texts words.now) (F.files folder.old) (F.files folder.new) }
 
     // Whether or not files are reported.

@@ -1,4 +1,5 @@
 -- The lines that say why a run stopped.
+use Prim.Native.String.{String}
 use Rattle.ppdb_values.specs.Names.{Limit, LinkError, MergeError, TableRows, ListPastEnd, PointOffset, LineStep, FileSize, SpanTotal, Unmapped, ImageTwice, MethodTaken, OffsetBeyond, AsyncLost}
 use Rattle.ppdb_values.specs.Names.{KindUnknown, DocumentConflict, RowsDiffer, ImageRange, SlotUnmapped, SlotTwice, DocumentTwice, LinkDiffers}
 use Rattle.std.specs.Prelude.{ℕ, List, [], ◌∷◌, ◌++◌, Some, codes}
@@ -8,42 +9,38 @@ use Rattle.ppdb_run_stops.specs.Faults.{said, place_fields}
 use Rattle.ppdb_base.specs.declared.link_error.LinkError.TheVariants as links
 
 -- words, a name and more about it
-abbrev pub about : List ℕ → List ℕ → List Field → Line
-about words name fields = record { word = words; fields = said (codes " ") (named_bytes name) ∷ fields }
+abbrev pub about : String → List ℕ → List Field → Line
+about words name fields = record { word = codes words; fields = said " " (named_bytes name) ∷ fields }
 
 -- ---- files
 
 abbrev pub read_fault_line : List ℕ → List ℕ
-read_fault_line name = text_of (about (codes "read fault") name [])
+read_fault_line name = text_of (about "read fault" name [])
 
 abbrev pub write_fault_line : List ℕ → List ℕ
-write_fault_line name = text_of (about (codes "write fault") name [])
+write_fault_line name = text_of (about "write fault" name [])
 
 -- ---- files that are rewritten by maps
 
 -- why an input is not joined, M1 to M13
 abbrev pub merge_fields : MergeError → List Field
-merge_fields (Unmapped t row place) = said (codes " M1 table ") (table t) ∷ said (codes " row ") (number row) ∷ mark (codes " at") ∷ place_fields place
+merge_fields (Unmapped t row place) = said " M1 table " (table t) ∷ said " row " (number row) ∷ mark (codes " at") ∷ place_fields place
 merge_fields (ImageTwice t first second image) =
-    said (codes " M2 table ") (table t) ∷ said (codes " rows ") (number first) ∷ said (codes " ") (number second) ∷ said (codes " image ") (number image) ∷ []
-merge_fields (MethodTaken input first second image) =
-    said (codes " M3 input ") (number input) ∷ said (codes " row ") (number first) ∷ said (codes " row ") (number second)
-    ∷ said (codes " image ") (number image) ∷ []
-merge_fields (OffsetBeyond method offset size) =
-    said (codes " M4 method ") (number method) ∷ said (codes " offset ") (number offset) ∷ said (codes " size ") (number size) ∷ []
-merge_fields (AsyncLost method offset) = said (codes " M5 method ") (number method) ∷ said (codes " offset ") (number offset) ∷ []
-merge_fields (KindUnknown row kind) = said (codes " M6 row ") (number row) ∷ said (codes " kind ") (guid (Some kind)) ∷ []
-merge_fields (DocumentConflict row joined) = said (codes " M7 document ") (number row) ∷ said (codes " joined ") (number joined) ∷ []
-merge_fields (RowsDiffer input t first second) = said (codes " M8 table ") (table t) ∷ said (codes " rows ") (number first)
-    ∷ said (codes " ") (number second) ∷ []
+    said " M2 table " (table t) ∷ said " rows " (number first) ∷ said " " (number second) ∷ said " image " (number image) ∷ []
+merge_fields (MethodTaken input first second image) = said " M3 input " (number input) ∷ said " row " (number first) ∷ said " row " (number second)
+    ∷ said " image " (number image) ∷ []
+merge_fields (OffsetBeyond method offset size) = said " M4 method " (number method) ∷ said " offset " (number offset) ∷ said " size " (number size) ∷ []
+merge_fields (AsyncLost method offset) = said " M5 method " (number method) ∷ said " offset " (number offset) ∷ []
+merge_fields (KindUnknown row kind) = said " M6 row " (number row) ∷ said " kind " (guid (Some kind)) ∷ []
+merge_fields (DocumentConflict row joined) = said " M7 document " (number row) ∷ said " joined " (number joined) ∷ []
+merge_fields (RowsDiffer input t first second) = said " M8 table " (table t) ∷ said " rows " (number first) ∷ said " " (number second) ∷ []
 merge_fields (ImageRange input t row image rows) =
-    said (codes " M9 table ") (table t) ∷ said (codes " row ") (number row) ∷ said (codes " image ") (number image) ∷ said (codes " rows ") (number rows) ∷ []
-merge_fields (SlotUnmapped row slot) = said (codes " M10 variable ") (number row) ∷ said (codes " slot ") (number slot) ∷ []
-merge_fields (SlotTwice method first second image) =
-    said (codes " M11 method ") (number method) ∷ said (codes " slots ") (number first) ∷ said (codes " ") (number second)
-    ∷ said (codes " image ") (number image) ∷ []
-merge_fields (DocumentTwice first second) = said (codes " M12 documents ") (number first) ∷ said (codes " ") (number second) ∷ []
-merge_fields (LinkDiffers row) = said (codes " M13 row ") (number row) ∷ []
+    said " M9 table " (table t) ∷ said " row " (number row) ∷ said " image " (number image) ∷ said " rows " (number rows) ∷ []
+merge_fields (SlotUnmapped row slot) = said " M10 variable " (number row) ∷ said " slot " (number slot) ∷ []
+merge_fields (SlotTwice method first second image) = said " M11 method " (number method) ∷ said " slots " (number first) ∷ said " " (number second)
+    ∷ said " image " (number image) ∷ []
+merge_fields (DocumentTwice first second) = said " M12 documents " (number first) ∷ said " " (number second) ∷ []
+merge_fields (LinkDiffers row) = said " M13 row " (number row) ∷ []
 merge_fields Memory = []
 
 -- a limit of the format, L1 to L6

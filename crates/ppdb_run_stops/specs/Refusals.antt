@@ -25,23 +25,21 @@ abbrev pub usage : Outcome
 usage = tells statuses.Usage (line_with "usage" [])
 
 abbrev pub absent : List ℕ → Outcome
-absent name = tells statuses.Absent (about (codes "absent") name [])
+absent name = tells statuses.Absent (about "absent" name [])
 
 abbrev pub too_long : List ℕ → Outcome
-too_long name = tells statuses.TooLong (about (codes "too long") name [])
+too_long name = tells statuses.TooLong (about "too long" name [])
 
 -- the first fault of a file, as `refused cut.pdb F3 root byte 48`
 abbrev pub refused : List ℕ → Fault → Outcome
-refused name fault =
-    tells statuses.Refused (about (codes "refused") name (said (codes " F") (number (number_of fault.code)) ∷ place_fields fault.place))
+refused name fault = tells statuses.Refused (about "refused" name (said " F" (number (number_of fault.code)) ∷ place_fields fault.place))
 
 -- a text is no map: the number of a line of it, and that of the rule that the line breaks
 abbrev pub no_map : List ℕ → ℕ → ℕ → Outcome
-no_map name n kind =
-    tells statuses.Unfit (about (codes "map") name (said (codes " line ") (number n) ∷ said (codes " kind ") (number kind) ∷ []))
+no_map name n kind = tells statuses.Unfit (about "map" name (said " line " (number n) ∷ said " kind " (number kind) ∷ []))
 
 abbrev pub unfit : List ℕ → MergeError → Outcome
-unfit name error = tells statuses.Unfit (about (codes "unfit") name (merge_fields error))
+unfit name error = tells statuses.Unfit (about "unfit" name (merge_fields error))
 
 abbrev pub limited : Limit → Outcome
 limited limit = prints statuses.Limit (limit_text limit)
@@ -54,16 +52,16 @@ abbrev pub no_method : ℕ → Outcome
 no_method method = tells statuses.NoMethod (no_method_line method)
 
 abbrev pub unlinked : List ℕ → LinkError → Outcome
-unlinked name error = tells statuses.Unlinked (about (codes "links") name (link_fields error))
+unlinked name error = tells statuses.Unlinked (about "links" name (link_fields error))
 
 abbrev pub no_document : List ℕ → Outcome
-no_document name = tells statuses.NoDocument (about (codes "no document") name [])
+no_document name = tells statuses.NoDocument (about "no document" name [])
 
 -- a text is no list of offsets: its first line, by its number, that a list cannot have
 abbrev pub unlisted : List ℕ → ℕ → Outcome
-unlisted name n = tells statuses.Unlisted (about (codes "list") name (said (codes " line ") (number n) ∷ []))
+unlisted name n = tells statuses.Unlisted (about "list" name (said " line " (number n) ∷ []))
 
 -- two maps do not follow one another: a method's sizes after the first and before the second differ
 abbrev pub sizes_differ : ℕ → ℕ → ℕ → Outcome
 sizes_differ method first second = tells statuses.Uncomposed
-    (line_with "sizes differ" (said (codes " method ") (number method) ∷ said (codes " ") (number first) ∷ said (codes " ") (number second) ∷ []))
+    (line_with "sizes differ" (said " method " (number method) ∷ said " " (number first) ∷ said " " (number second) ∷ []))

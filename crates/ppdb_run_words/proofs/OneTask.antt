@@ -1,5 +1,5 @@
 -- The words of two tasks differ: a task is read back from its words.
-use Rattle.std.proofs.Common.{ℕ, ◌≡◌, ◌≤◌, ◌<◌, ◌^◌, ◌==◌, inl, inr, List, [], ◌∷◌, ◌++◌, Bool, true, false, if◌then◌else◌, Option, Some, None, refl, sym}
+use Rattle.std.proofs.Common.{ℕ, ◌≡◌, ◌≤◌, ◌<◌, ◌^◌, ◌==◌, ◌⊎◌, inl, inr, List, [], ◌∷◌, ◌++◌, Bool, true, false, if◌then◌else◌, Option, Some, None, refl, sym}
 use Rattle.std.proofs.Common.{◌∙◌, ap, subst, arith}
 use Rattle.std.specs.Fmt.{decimal}
 use Rattle.std.specs.Str.Parse.{AllDigits, digits_value}
@@ -9,8 +9,8 @@ use Rattle.ppdb_base.specs.declared.limits.TheConstants.{MAX_ROWS, MAX_OFFSET}
 use Rattle.ppdb_run_words.specs.declared.words.TheConstants.{MAX_LINE}
 use Rattle.ppdb_run_words.specs.Words.{Question, Id, Verify, Show, Query, Links, Breaks, Options, AreOptions, no_option, keep_id, free, Task, Ask, Lookup}
 use Rattle.ppdb_run_words.specs.Words.{Rebuild}
-use Rattle.ppdb_run_words.specs.Words.{Compose, Input, IsMerge, IsRemap, Merge, Sample, Words, input_words, is_file_word, json_words}
-use Rattle.ppdb_run_words.proofs.PairWords.{behind_first, first_letter, no_options_pair, same_inputs, third_letter}
+use Rattle.ppdb_run_words.specs.Words.{Compose, Input, Merge, Sample, Words, input_words, is_file_word, json_words}
+use Rattle.ppdb_run_words.proofs.PairWords.{AfterMerge, AfterRemap, behind_first, first_letter, in_form, no_options_pair, same_inputs, third_letter}
 
 numerals : IsNumeralModel (AllDigits 10) (digits_value 10)
 numerals = numerals_by_value (AllDigits 10) tells_digits
@@ -93,8 +93,10 @@ reads words (Ask question file) h = read_back words question file h
 reads words (Lookup file list json) h = ap task_in h.0 ∙ ap (λ b. Some (Lookup file list b)) (some_json json)
 reads words (Rebuild input output options) h = ap task_in h.1
 reads words (Compose first second output) h = ap task_in h.0
-reads words (Merge inputs output options) (inl h) = ap task_in h.is
-reads words (Merge inputs output options) (inr h) = ap task_in h.is
+reads words (Merge inputs output options) h = elim (in_form inputs output options words h) [
+  | inl k ↦ ap task_in k.is
+  | inr k ↦ ap task_in k.is
+]
 reads words (Sample n) h =
     let methods = value n 100000 (omega arith) h.1 in
     let same : task_in words ≡ Some (Sample (digits_value 10 (decimal n))) = ap task_in h.0 in
@@ -122,10 +124,10 @@ one_choice _ _ _ (free word guid e h) (free again other e' k) =
     cc
 
 -- words that move one input are not those that join inputs
-not_both : (words : List (List ℕ)) (inputs others : List Input) (o p : List ℕ) (a b : Options) → IsRemap inputs o a words → IsMerge others p b words → ⊥
+not_both : (words : List (List ℕ)) (inputs others : List Input) (o p : List ℕ) (a b : Options) → AfterRemap inputs o a words → AfterMerge others p b words → ⊥
 not_both words inputs others o p a b h k = let e : 114 ≡ 109 = ap first_letter (sym h.is ∙ k.is) in absurd (omega (arith, e))
 
-one_remap : (words : List (List ℕ)) (inputs others : List Input) (o p : List ℕ) (a b : Options) → IsRemap inputs o a words → IsRemap others p b words
+one_remap : (words : List (List ℕ)) (inputs others : List Input) (o p : List ℕ) (a b : Options) → AfterRemap inputs o a words → AfterRemap others p b words
     → (inputs ≡ others) × (o ≡ p) × (a ≡ b)
 one_remap words inputs others o p a b h k =
     let both = sym h.is ∙ k.is in
@@ -135,7 +137,7 @@ one_remap words inputs others o p a b h k =
     let input : h.input ≡ k.input = λ i. record { file = file i; map_file = map_file i } in
     (h.alone ∙ (ap (λ (x : Input). x ∷ []) input ∙ sym k.alone), cc, one_choice k.rest a b (subst (λ w. AreOptions w a) rest h.options_are) k.options_are)
 
-one_merge : (words : List (List ℕ)) (inputs others : List Input) (o p : List ℕ) (a b : Options) → IsMerge inputs o a words → IsMerge others p b words
+one_merge : (words : List (List ℕ)) (inputs others : List Input) (o p : List ℕ) (a b : Options) → AfterMerge inputs o a words → AfterMerge others p b words
     → (inputs ≡ others) × (o ≡ p) × (a ≡ b)
 one_merge words inputs others o p a b h k =
     let both = sym h.is ∙ k.is in
@@ -156,8 +158,10 @@ one_rebuild words i o i' o' options options' h k =
 -- the third letter reports rebuild from remap, and the first from merge
 apart : (words : List (List ℕ)) (i o o' : List ℕ) (inputs : List Input) (options options' : Options) → Words (Rebuild i o options) words
     → Words (Merge inputs o' options') words → ⊥
-apart words i o o' inputs options options' h (inl k) = let e : 98 ≡ 109 = ap third_letter (sym h.1 ∙ k.is) in absurd (omega (arith, e))
-apart words i o o' inputs options options' h (inr k) = let e : 114 ≡ 109 = ap first_letter (sym h.1 ∙ k.is) in absurd (omega (arith, e))
+apart words i o o' inputs options options' h k = elim (in_form inputs o' options' words k) [
+  | inl k ↦ let e : 98 ≡ 109 = ap third_letter (sym h.1 ∙ k.is) in absurd (omega (arith, e))
+  | inr k ↦ let e : 114 ≡ 109 = ap first_letter (sym h.1 ∙ k.is) in absurd (omega (arith, e))
+]
 
 same_merge : (inputs others : List Input) (o p : List ℕ) (a b : Options) → (inputs ≡ others) × (o ≡ p) × (a ≡ b) → Merge inputs o a ≡ Merge others p b
 same_merge inputs others o p a b h = λ i. Merge (h.0 i) (h.1 i) (h.2 i)
@@ -178,9 +182,12 @@ one_task words (Merge inputs o p) (Lookup file list json) h k = sym (read_is wor
 one_task words (Merge inputs o p) (Compose first second output) h k = sym (read_is words (Compose first second output) (Merge inputs o p) refl k h)
 one_task words (Merge inputs o p) (Sample n) h k = sym (read_is words (Sample n) (Merge inputs o p) refl k h)
 one_task words (Merge inputs o p) (Rebuild i o' p') h k = absurd (apart words i o' o inputs p' p k h)
-one_task words (Merge inputs o p) (Merge others o' p') (inl h) (inl k) =
-    same_merge inputs others o o' p p' (one_remap words inputs others o o' p p' h k)
-one_task words (Merge inputs o p) (Merge others o' p') (inl h) (inr k) = absurd (not_both words inputs others o o' p p' h k)
-one_task words (Merge inputs o p) (Merge others o' p') (inr h) (inl k) = absurd (not_both words others inputs o' o p' p k h)
-one_task words (Merge inputs o p) (Merge others o' p') (inr h) (inr k) =
-    same_merge inputs others o o' p p' (one_merge words inputs others o o' p p' h k)
+one_task words (Merge inputs o p) (Merge others o' p') h k =
+    same_merge inputs others o o' p p' (by_form (in_form inputs o p words h) (in_form others o' p' words k))
+  where
+    by_form : AfterRemap inputs o p words ⊎ AfterMerge inputs o p words → AfterRemap others o' p' words ⊎ AfterMerge others o' p' words
+        → (inputs ≡ others) × (o ≡ o') × (p ≡ p')
+    by_form (inl h) (inl k) = one_remap words inputs others o o' p p' h k
+    by_form (inl h) (inr k) = absurd (not_both words inputs others o o' p p' h k)
+    by_form (inr h) (inl k) = absurd (not_both words others inputs o' o p' p k h)
+    by_form (inr h) (inr k) = one_merge words inputs others o o' p p' h k

@@ -8,7 +8,7 @@ use Rattle.std.proofs.lemmas.List.{drop-map, drop-drop, length-drop, take_all}
 use Rattle.std.specs.List.{list_all, prefix_len}
 use Rattle.ppdb_run_words.specs.Task.{NoPair, pairs_of}
 use Rattle.ppdb_run_words.specs.Task.{file_of}
-use Rattle.ppdb_run_words.specs.Words.{Options, AreOptions, no_option, keep_id, free, Input, input_words, is_file_word, texts, NoTask, Words, IsMerge, IsRemap}
+use Rattle.ppdb_run_words.specs.Words.{Options, AreOptions, no_option, keep_id, free, Input, input_words, is_file_word, texts, NoTask, Words, IsMerge}
 use Rattle.ppdb_run_words.specs.Words.{Id, Verify, Show, Query, Links, Breaks, Ask, Lookup, Rebuild, Compose, Merge, Sample}
 
 -- what holds of two
@@ -126,10 +126,47 @@ abbrev pub third_letter : List (List ℕ) → ℕ
 third_letter ((a ∷ b ∷ c ∷ letters) ∷ words) = c
 third_letter words = 0
 
+-- the words of one input after `remap`
+pub record AfterRemap (inputs : List Input) (output : List ℕ) (options : Options) (words : List (List ℕ)) : Type 0 where
+  pub input : Input
+  pub rest : List (List ℕ)
+  pub alone : inputs ≡ input ∷ []
+  pub is : words ≡ codes "remap" ∷ input.file ∷ input.map_file ∷ output ∷ rest
+  pub files : IsTrue (list_all is_file_word (input.file ∷ input.map_file ∷ output ∷ []))
+  pub options_are : AreOptions rest options
+
+-- the words of inputs after `merge`
+pub record AfterMerge (inputs : List Input) (output : List ℕ) (options : Options) (words : List (List ℕ)) : Type 0 where
+  pub rest : List (List ℕ)
+  pub some : 1 ≤ length inputs
+  pub most : length inputs ≤ 256
+  pub is : words ≡ codes "merge" ∷ output ∷ (input_words inputs ++ rest)
+  pub files : IsTrue (list_all is_file_word (output ∷ input_words inputs))
+  pub options_are : AreOptions rest options
+
+after_remap : (inputs : List Input) (output : List ℕ) (options : Options) (words rest : List (List ℕ)) → length inputs ≡ 1
+    → words ≡ codes "remap" ∷ (input_words inputs ++ output ∷ rest) → IsTrue (list_all is_file_word (output ∷ input_words inputs)) → AreOptions rest options
+    → AfterRemap inputs output options words
+after_remap [] output options words rest one is files options_are = absurd (omega (arith, one))
+after_remap (input ∷ []) output options words rest one is files options_are =
+    let a = both (is_file_word output) (list_all is_file_word (input.file ∷ input.map_file ∷ [])) files in
+    let b = both (is_file_word input.file) (list_all is_file_word (input.map_file ∷ [])) a.1 in
+    let c = both (is_file_word input.map_file) (list_all is_file_word []) b.1 in
+    record { input = input; rest = rest; alone = refl; is = is; files = rw (b.0, c.0, a.0) refl; options_are = options_are }
+after_remap (input ∷ other ∷ more) output options words rest one is files options_are = absurd (omega (arith, one))
+
+-- the words of a merge are in one of the two forms
+pub in_form : (inputs : List Input) (output : List ℕ) (options : Options) (words : List (List ℕ)) → Words (Merge inputs output options) words
+    → AfterRemap inputs output options words ⊎ AfterMerge inputs output options words
+in_form inputs output options words h = elim h.is [
+  | inl is ↦ inr (record { rest = h.rest; some = h.some; most = h.most; is = is; files = h.files; options_are = h.options_are })
+  | inr is ↦ inl (after_remap inputs output options words h.rest is.0 is.1 h.files h.options_are)
+]
+
 -- words of a merge are split in one way
 pub merge_is : (inputs : List Input) (output first : List ℕ) (options : Options) (words prefix back : List (List ℕ))
     → words ≡ prefix ++ back → prefix ≡ input_words (pairs_of prefix) → IsTrue (list_all is_file_word prefix) → NoPair back
-    → (h : IsMerge inputs output options (codes "merge" ∷ first ∷ words)) → (output ≡ first) × (inputs ≡ pairs_of prefix) × (h.rest ≡ back)
+    → (h : AfterMerge inputs output options (codes "merge" ∷ first ∷ words)) → (output ≡ first) × (inputs ≡ pairs_of prefix) × (h.rest ≡ back)
 merge_is inputs output first options words prefix back e even files none h =
     let is = h.is in
     let same : output ≡ first = cc in
@@ -140,7 +177,7 @@ merge_is inputs output first options words prefix back e even files none h =
     (same, one.0, one.1)
 
 -- words that begin as those of a merge are no other task's
-pub only_merge : (words : List (List ℕ)) → ((inputs : List Input) (output : List ℕ) (options : Options) → IsMerge inputs output options
+pub only_merge : (words : List (List ℕ)) → ((inputs : List Input) (output : List ℕ) (options : Options) → AfterMerge inputs output options
     (codes "merge" ∷ words) → ⊥)
     → NoTask (codes "merge" ∷ words)
 only_merge words none (Ask (Id json) file) h = let e : 109 ≡ 105 = ap first_letter h.0 in absurd (omega (arith, e))
@@ -153,16 +190,18 @@ only_merge words none (Lookup file list json) h = let e : 109 ≡ 108 = ap first
 only_merge words none (Rebuild input output options) h = let e : 109 ≡ 114 = ap first_letter h.1 in absurd (omega (arith, e))
 only_merge words none (Compose first second output) h = let e : 109 ≡ 99 = ap first_letter h.0 in absurd (omega (arith, e))
 only_merge words none (Sample n) h = let e : 109 ≡ 115 = ap first_letter h.0 in absurd (omega (arith, e))
-only_merge words none (Merge inputs output options) (inl h) = let e : 109 ≡ 114 = ap first_letter h.is in absurd (omega (arith, e))
-only_merge words none (Merge inputs output options) (inr h) = none inputs output options h
+only_merge words none (Merge inputs output options) h = elim (in_form inputs output options (codes "merge" ∷ words) h) [
+  | inl k ↦ let e : 109 ≡ 114 = ap first_letter k.is in absurd (omega (arith, e))
+  | inr k ↦ none inputs output options k
+]
 
 module _ (args : List (List ℕ)) (first : List ℕ) (words prefix back : List (List ℕ)) (is : args ≡ first ∷ words) (split : words ≡ prefix ++ back)
     (even : prefix ≡ input_words (pairs_of prefix)) (files : IsTrue (list_all is_file_word prefix)) (none : NoPair back) where
-  merge_parts : (inputs : List Input) (output : List ℕ) (options : Options) → IsMerge inputs output options (codes "merge" ∷ args)
+  merge_parts : (inputs : List Input) (output : List ℕ) (options : Options) → AfterMerge inputs output options (codes "merge" ∷ args)
       → (1 ≤ length inputs) × (length inputs ≤ 256) × (inputs ≡ pairs_of prefix) × AreOptions back options
   merge_parts inputs output options h =
-      let k : IsMerge inputs output options (codes "merge" ∷ first ∷ words) =
-      subst (λ w. IsMerge inputs output options (codes "merge" ∷ w)) is h in
+      let k : AfterMerge inputs output options (codes "merge" ∷ first ∷ words) =
+      subst (λ w. AfterMerge inputs output options (codes "merge" ∷ w)) is h in
       let one = merge_is inputs output first options words prefix back split even files none k in
       (k.some, k.most, one.1, subst (λ w. AreOptions w options) one.2 k.options_are)
 
@@ -190,17 +229,17 @@ module _ (args : List (List ℕ)) (first : List ℕ) (words prefix back : List (
   merge_words output options same file some most options_are =
       let long = ap length even in
       let two = two_each (pairs_of prefix) in
-      inr (record {
+      record {
         rest = back;
         some = omega (arith, some, long, two);
         most = omega (arith, most, long, two);
-        is = ap (λ (w : List (List ℕ)). codes "merge" ∷ w) (is ∙ (ap (λ (w : List (List ℕ)). first ∷ w) (split ∙ ap (λ (w : List (List ℕ)). w ++ back) even)
-            ∙ ap (λ (w : List ℕ). w ∷ input_words (pairs_of prefix) ++ back) (sym same)));
+        is = inl (ap (λ (w : List (List ℕ)). codes "merge" ∷ w) (is ∙ (ap (λ (w : List (List ℕ)). first ∷ w) (split ∙ ap (λ (w : List (List ℕ)). w ++ back) even)
+            ∙ ap (λ (w : List ℕ). w ∷ input_words (pairs_of prefix) ++ back) (sym same))));
         files = rw (ap is_file_word same ∙ file) (subst (λ w. IsTrue (list_all is_file_word w)) even files);
         options_are = options_are;
-      })
+      }
 
-pub only_remap : (words : List (List ℕ)) → ((inputs : List Input) (output : List ℕ) (options : Options) → IsRemap inputs output options
+pub only_remap : (words : List (List ℕ)) → ((inputs : List Input) (output : List ℕ) (options : Options) → AfterRemap inputs output options
     (codes "remap" ∷ words) → ⊥)
     → NoTask (codes "remap" ∷ words)
 only_remap words none (Ask (Id json) file) h = let e : 114 ≡ 105 = ap first_letter h.0 in absurd (omega (arith, e))
@@ -213,8 +252,23 @@ only_remap words none (Lookup file list json) h = let e : 114 ≡ 108 = ap first
 only_remap words none (Rebuild input output options) h = let e : 109 ≡ 98 = ap third_letter h.1 in absurd (omega (arith, e))
 only_remap words none (Compose first second output) h = let e : 114 ≡ 99 = ap first_letter h.0 in absurd (omega (arith, e))
 only_remap words none (Sample n) h = let e : 114 ≡ 115 = ap first_letter h.0 in absurd (omega (arith, e))
-only_remap words none (Merge inputs output options) (inl h) = none inputs output options h
-only_remap words none (Merge inputs output options) (inr h) = let e : 114 ≡ 109 = ap first_letter h.is in absurd (omega (arith, e))
+only_remap words none (Merge inputs output options) h = elim (in_form inputs output options (codes "remap" ∷ words) h) [
+  | inl k ↦ none inputs output options k
+  | inr k ↦ let e : 114 ≡ 109 = ap first_letter k.is in absurd (omega (arith, e))
+]
+
+-- the words of one input
+pub remap_words : (file map_file output : List ℕ) (args rest : List (List ℕ)) (options : Options) → args ≡ file ∷ map_file ∷ output ∷ rest
+    → IsTrue (is_file_word file) → IsTrue (is_file_word map_file) → IsTrue (is_file_word output) → AreOptions rest options
+    → Words (Merge (record { file = file; map_file = map_file } ∷ []) output options) (codes "remap" ∷ args)
+remap_words file map_file output args rest options is f m o options_are = record {
+  rest = rest;
+  some = omega arith;
+  most = omega arith;
+  is = inr (refl, ap (λ (w : List (List ℕ)). codes "remap" ∷ w) is);
+  files = rw (o, f, m) refl;
+  options_are = options_are;
+}
 
 -- ---- the file of the input of a number
 
@@ -312,8 +366,7 @@ options_pairs args first rest prefix back given options is split files h same =
 
 pub merge_counts : (inputs : List Input) (output : List ℕ) (options : Options) (words : List (List ℕ)) → Words (Merge inputs output options) words
     → (1 ≤ length inputs) × (length inputs ≤ 256)
-merge_counts inputs output options words (inl h) = let one : length inputs ≡ 1 = ap length h.alone in (omega (arith, one), omega (arith, one))
-merge_counts inputs output options words (inr h) = (h.some, h.most)
+merge_counts inputs output options words h = (h.some, h.most)
 
 -- what holds in any case holds of words that are refused
 pub on_err : {T E P : Type 0} (result : Result T E) → P → OnErr result P

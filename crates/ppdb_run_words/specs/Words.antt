@@ -15,11 +15,6 @@ is_file_word [] = false
 is_file_word (first ∷ []) = true
 is_file_word (first ∷ second ∷ rest) = not (first == 0x2d && second == 0x2d)
 
--- a word that can name a document: it is not empty
-abbrev pub is_name_word : List ℕ → Bool
-is_name_word [] = false
-is_name_word word = true
-
 -- what is asked of one file, whose answer is a text
 pub data Question : Type 0 where
   Id : (json : Bool) → Question
@@ -98,21 +93,13 @@ pub data AreOptions : List (List ℕ) → Options → Type 0 where
   free : {words : List (List ℕ)} {options : Options} (word guid : List ℕ) → parsed word ≡ Some guid → AreOptions words options
       → AreOptions (codes "--free" ∷ word ∷ words) (record { keep_id = options.keep_id; marks = swap_fields guid ∷ options.marks })
 
--- the words that move one input
-pub record IsRemap (inputs : List Input) (output : List ℕ) (options : Options) (words : List (List ℕ)) : Type 0 where
-  pub input : Input
-  pub rest : List (List ℕ)
-  pub alone : inputs ≡ input ∷ []
-  pub is : words ≡ codes "remap" ∷ input.file ∷ input.map_file ∷ output ∷ rest
-  pub files : IsTrue (list_all is_file_word (input.file ∷ input.map_file ∷ output ∷ []))
-  pub options_are : AreOptions rest options
-
--- the words that move inputs, 1 to 256, and join them
+-- the words that move inputs, 1 to 256, and join them; one may also be moved by `remap`
 pub record IsMerge (inputs : List Input) (output : List ℕ) (options : Options) (words : List (List ℕ)) : Type 0 where
   pub rest : List (List ℕ)
   pub some : 1 ≤ length inputs
   pub most : length inputs ≤ 256
-  pub is : words ≡ codes "merge" ∷ output ∷ (input_words inputs ++ rest)
+  pub is : (words ≡ codes "merge" ∷ output ∷ (input_words inputs ++ rest))
+      ⊎ ((length inputs ≡ 1) × (words ≡ codes "remap" ∷ (input_words inputs ++ output ∷ rest)))
   pub files : IsTrue (list_all is_file_word (output ∷ input_words inputs))
   pub options_are : AreOptions rest options
 
@@ -126,8 +113,7 @@ Words (Ask (Query method offset json) file) words =
     × (offset ≤ MAX_OFFSET)
 Words (Ask (Links json) file) words = (words ≡ codes "links" ∷ file ∷ json_words json) × IsTrue (is_file_word file)
 Words (Ask (Breaks document line json) file) words =
-    (words ≡ codes "breaks" ∷ file ∷ document ∷ decimal line ∷ json_words json) × IsTrue (is_file_word file) × IsTrue (is_name_word document)
-    × (line ≤ MAX_LINE)
+    (words ≡ codes "breaks" ∷ file ∷ document ∷ decimal line ∷ json_words json) × IsTrue (is_file_word file) × (1 ≤ length document) × (line ≤ MAX_LINE)
 Words (Lookup file list json) words = (words ≡ codes "lookup" ∷ file ∷ list ∷ json_words json) × IsTrue (is_file_word file) × IsTrue (is_file_word list)
 Words (Rebuild input output options) words =
     (rest : List (List ℕ)) × (words ≡ codes "rebuild" ∷ input ∷ output ∷ rest) × IsTrue (is_file_word input) × IsTrue (is_file_word output)
@@ -135,7 +121,7 @@ Words (Rebuild input output options) words =
 Words (Compose first second output) words =
     (words ≡ codes "compose" ∷ first ∷ second ∷ output ∷ []) × IsTrue (is_file_word first) × IsTrue (is_file_word second)
     × IsTrue (is_file_word output)
-Words (Merge inputs output options) words = IsRemap inputs output options words ⊎ IsMerge inputs output options words
+Words (Merge inputs output options) words = IsMerge inputs output options words
 Words (Sample n) words = (words ≡ codes "sample" ∷ decimal n ∷ []) × (n ≤ 100000)
 
 -- no task has these words

@@ -1,6 +1,6 @@
 // The words of the command line.
-ghost use Rattle.std.specs.Prelude.{◌≡◌, ℕ, Bool, List, ◌∷◌, codes, IfOk, OnErr};
-ghost use Rattle.ppdb_run_words.specs.Words.{Words, NoTask, IsFileAlone, IsFileInForm, is_file_word, is_name_word, json_words, texts};
+ghost use Rattle.std.specs.Prelude.{◌≡◌, ℕ, Bool, List, ◌∷◌, codes, length, nat_le, IfOk, OnErr};
+ghost use Rattle.ppdb_run_words.specs.Words.{Words, NoTask, IsFileAlone, IsFileInForm, is_file_word, json_words, texts};
 ghost use Rattle.ppdb_run_words.specs.Task.{PairsEndAtOptions, task_of, words_of};
 
 use crate::command::Command;
@@ -254,7 +254,7 @@ fn sample(args: &[String]) -> Result<Command<'_>, Usage>
 
 /// Whether a word can be a document's name: it is not empty.
 fn names_document(word: &str) -> bool
-    ensures { result ≡ is_name_word word.now }
+    ensures { result ≡ nat_le 1 (length word.now) }
 {
     !word.is_empty()
 }

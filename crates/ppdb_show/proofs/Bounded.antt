@@ -7,7 +7,8 @@ use Rattle.ppdb_queries.specs.declared.scopes.ScopeView.{ScopeView}
 use Rattle.ppdb_queries.specs.Digits.{digits}
 use Rattle.ppdb_queries.specs.Scopes.{scopes_at, scope_count}
 use Rattle.ppdb_show.specs.Bound.{with_customs, shown_of_scope, query_rows}
-use Rattle.ppdb_show.specs.Query.{customs_on, variables_of, constants_of, imports_of}
+use Rattle.ppdb_queries.specs.Runs.{customs_at}
+use Rattle.ppdb_show.specs.Query.{variables_of, constants_of, imports_of}
 use Rattle.ppdb_show.specs.QueryWalk.{customs_reads, item_reads, items_reads, scope_reads, scopes_reads}
 use Rattle.ppdb_queries.proofs.Powers.{digits_most}
 use Rattle.ppdb_show.proofs.Added.{sum_first}
@@ -33,7 +34,7 @@ items_most : {X : Type 0} (raw : RawTables) (table : ℕ) (items : List (ℕ × 
     → items_reads raw table items ≤ (2 * digits (length raw.customs) + 2) * sum_by (λ row. with_customs raw table row.0) items
 items_most {X} raw table items =
     sum_most (2 * digits (length raw.customs) + 2) (item_reads raw table) (λ item. with_customs raw table item.0)
-    (λ item. with_most (digits (length raw.customs)) (length (customs_on raw table item.0))) items
+    (λ item. with_most (digits (length raw.customs)) (length (customs_at raw table item.0))) items
 
 scope_most : (raw : RawTables) (view : ScopeView) → scope_reads raw view ≤ (2 * digits (length raw.customs) + 2) * shown_of_scope raw view
 scope_most raw view =
@@ -45,7 +46,7 @@ scope_most raw view =
     let first = mul-add k w (a + (b + d)) in
     let second = mul-add k a (b + d) in
     let third = mul-add k b d in
-    let one = with_most (digits (length raw.customs)) (length (customs_on raw 0x32 view.row)) in
+    let one = with_most (digits (length raw.customs)) (length (customs_at raw 0x32 view.row)) in
     let va = items_most raw 0x33 (variables_of raw view) in
     let vb = items_most raw 0x34 (constants_of raw view) in
     let vd = items_most raw 0x35 (imports_of raw view) in
@@ -66,7 +67,7 @@ pub reads_bounded : (raw : RawTables) (m x : ℕ)
     ≤ query_rows raw m x
 unfolding query_rows
 reads_bounded raw m x =
-    total (digits (length raw.scopes)) (scope_count raw m) (length raw.machines) (digits (length raw.customs)) (length (customs_on raw 0x06 m))
+    total (digits (length raw.scopes)) (scope_count raw m) (length raw.machines) (digits (length raw.customs)) (length (customs_at raw 0x06 m))
     (sum_by (shown_of_scope raw) (scopes_at raw m x))
     (sum_by (scope_reads raw) (scopes_at raw m x)) (digits (length raw.machines))
     (sum_most (2 * digits (length raw.customs) + 2) (scope_reads raw) (shown_of_scope raw) (scope_most raw) (scopes_at raw m x))

@@ -2,9 +2,10 @@
 use Rattle.std.proofs.Common.{◌≡◌, ℕ, zero, suc, ◌+◌, List, [], ◌∷◌, ◌++◌, length, map, refl, ap, arith}
 use Rattle.std.specs.Prelude.{Option, Some, None}
 use Rattle.std.specs.List.{flat_map, sum_by}
+use Rattle.std.specs.Option.{option_map_or}
 use Rattle.ppdb_tables.specs.declared.rows.ImportRow.{ImportRow}
 use Rattle.ppdb_tables.specs.RawTables.{RawTables, count, row_at}
-use Rattle.ppdb_values.specs.Chains.{chain_for, link_and}
+use Rattle.ppdb_values.specs.Chains.{chain_for}
 use Rattle.ppdb_values.specs.Rules.{HasRow}
 use Rattle.ppdb_queries.specs.declared.imports.ImportLink.{ImportLink}
 use Rattle.ppdb_queries.specs.Chains.{link_of, links_from}
@@ -28,7 +29,7 @@ link_there raw n row many there = let within = row_within raw.imports n row ther
 
 links_by : (raw : RawTables) (most n : ℕ) (found : Option ImportRow) → length raw.imports ≡ count raw 0x35 → row_at raw.imports n ≡ found
     → ((next : ℕ) → Each (IsLink raw) (map (link_of raw) (chain_for (λ scope. scope.parent) raw.imports most next)))
-    → Each (IsLink raw) (map (link_of raw) (link_and (λ scope. scope.parent) (λ next. chain_for (λ scope. scope.parent) raw.imports most next) n found))
+    → Each (IsLink raw) (map (link_of raw) (option_map_or (λ link. (n, link) ∷ chain_for (λ scope. scope.parent) raw.imports most link.parent) found []))
 links_by raw most n None many e more = tt
 links_by raw most n (Some row) many e more = (link_there raw n row many e, more row.parent)
 

@@ -11,12 +11,12 @@ use Rattle.ppdb_values.specs.RawFile.{RawFile, blob}
 use Rattle.ppdb_values.specs.Documents.{method_with, points_in, signature_in}
 use Rattle.ppdb_values.specs.Imports.{import_value, import_scope_of}
 use Rattle.ppdb_show_lines.specs.declared.form.Form.{Form}
-use Rattle.ppdb_show_lines.specs.Lines.{Line}
+use Rattle.ppdb_show_lines.specs.Lines.{Line, line_with, bare, named, number}
 use Rattle.ppdb_show_lines.proofs.Texts.{no_lines, more_lines}
 use Rattle.ppdb_show_lines.specs.Forms.{lines_as}
 use Rattle.ppdb_show_lines.specs.Heads.{id_line, entry_line}
 use Rattle.ppdb_show_lines.specs.Uses.{use_line}
-use Rattle.ppdb_show.specs.Show.{lines_of_method, method_line, point_line, import_line, count_lines, count_lines_of, head_lines}
+use Rattle.ppdb_show.specs.Show.{lines_of_method, point_line, count_lines, count_lines_of, head_lines}
 use Rattle.ppdb_show.specs.Show.{row_lines}
 use Rattle.ppdb_show.specs.declared.show.rows.Rows.TheVariants.{Documents, Methods, Scopes, Imports, Machines, Customs}
 use Rattle.ppdb_show.specs.declared.show.owned.Owned.TheVariants.{Variables, Constants}
@@ -66,6 +66,12 @@ not_nil (x ∷ xs) h e = grind (arith, e)
 pub no_method : (form : Form) (raw : RawTables) (row : ℕ) (method : MethodDebugRow) → row_at raw.methods row ≡ Some method → blob raw method.points ≡ []
     → lines_as form (lines_of_method_row raw row) ≡ []
 no_method form raw row method e nil = rw (e, nil) (no_lines form)
+
+abbrev pub method_line : ℕ → ℕ → Line
+method_line method signature = line_with "method" (bare "method" (number method) ∷ named "signature" (number signature) ∷ [])
+
+abbrev pub import_line : ℕ → ℕ → Line
+import_line row parent = line_with "import" (bare "row" (number row) ∷ named "parent" (number parent) ∷ [])
 
 with_points : (raw : RawTables) (row column signature : ℕ) (content : List ℕ) → content ≢ [] → signature_in raw column content ≡ Some signature
     → lines_of_method (method_with raw row column content) ≡ method_line row signature ∷ map point_line (points_in raw column content)

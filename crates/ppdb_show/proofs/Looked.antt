@@ -22,8 +22,8 @@ use Rattle.ppdb_show_lines.proofs.Texts.{more_lines, no_lines}
 use Rattle.ppdb_tables.specs.RawTables.{RawTables, count}
 use Rattle.ppdb_values.specs.RawFile.{RawFile}
 use Rattle.ppdb_show.specs.Bound.{query_rows}
-use Rattle.ppdb_show.specs.Lookup.{answer_lines, at_line, found_lines, has_method, lookup_rows, lookup_text_of, no_method_line}
-use Rattle.ppdb_show.specs.Query.{query_text_of}
+use Rattle.ppdb_show.specs.Lookup.{answer_lines, at_line, has_method, lookup_rows, lookup_text_of, no_method_line}
+use Rattle.ppdb_show.specs.Query.{query_lines, query_text_of}
 use Rattle.ppdb_show.proofs.Added.{sum_first}
 
 -- ---- one question
@@ -60,6 +60,10 @@ not_failed f = absurd cc
 
 pub ok_not_failed : {T A : Type 0} (x : T) → IsErrOf (Ok x) write_errors.Failed → A
 ok_not_failed x f = absurd cc
+
+-- the lines of the query, or that there is no such method
+abbrev pub found_lines : RawFile → MethodOffset → List Line
+found_lines raw at = if has_method raw.tables at.method then query_lines raw at.method at.offset else no_method_line at.method ∷ []
 
 pub one_answer : (form : Form) (raw : RawFile) (at : MethodOffset)
     → lines_as form (answer_lines raw at) ≡ lines_as form (at_line at ∷ []) ++ lines_as form (found_lines raw at)

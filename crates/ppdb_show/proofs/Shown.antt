@@ -7,21 +7,22 @@ use Rattle.ppdb_tables.specs.RawTables.{RawTables}
 use Rattle.ppdb_queries.specs.declared.run.Run.{Run}
 use Rattle.ppdb_queries.specs.Runs.{rows_in, customs_at}
 use Rattle.ppdb_show_lines.specs.declared.form.Form.{Form}
-use Rattle.ppdb_show.specs.Query.{custom_found, customs_found, customs_on, lines_of_record}
+use Rattle.ppdb_show.specs.Query.{custom_found, customs_found, lines_of_record}
 use Rattle.ppdb_show.specs.QueryWalk.{Adds}
 use Rattle.ppdb_show.proofs.Added.{lines_each, one_each, adds_same}
 
 -- the custom records of a run
-pub customs_all : (form : Form) (raw : RawTables) (parent : Parent) (run : Run) (old new : List ℕ) → rows_in run raw.customs ≡ customs_at raw parent
+pub customs_all : (form : Form) (raw : RawTables) (parent : Parent) (run : Run) (old new : List ℕ)
+    → rows_in run raw.customs ≡ customs_at raw parent.table parent.row
     → Adds form old new (flat_map (λ custom. custom_found raw custom.1 ∷ []) (rows_in run raw.customs)) → Adds form old new (customs_found raw parent.table parent.row)
 customs_all form raw parent run old new all h =
     adds_same form old new _ _ (lines_each (λ (custom : ℕ × CustomRow). custom_found raw custom.1) (rows_in run raw.customs)
     ∙ ap (map (λ (custom : ℕ × CustomRow). custom_found raw custom.1)) all) h
 
-pub customs_many : (raw : RawTables) (parent : Parent) (run : Run) → rows_in run raw.customs ≡ customs_at raw parent
-    → sum_by (λ (custom : ℕ × CustomRow). 1) (rows_in run raw.customs) ≡ length (customs_on raw parent.table parent.row)
+pub customs_many : (raw : RawTables) (parent : Parent) (run : Run) → rows_in run raw.customs ≡ customs_at raw parent.table parent.row
+    → sum_by (λ (custom : ℕ × CustomRow). 1) (rows_in run raw.customs) ≡ length (customs_at raw parent.table parent.row)
 customs_many raw parent run all = one_each (rows_in run raw.customs) ∙ ap length all
 
-pub records_all : (form : Form) (raw : RawTables) (m : ℕ) (run : Run) (old new : List ℕ) → rows_in run raw.customs ≡ customs_on raw 0x06 m
-    → Adds form old new (flat_map (lines_of_record raw) (rows_in run raw.customs)) → Adds form old new (flat_map (lines_of_record raw) (customs_on raw 0x06 m))
+pub records_all : (form : Form) (raw : RawTables) (m : ℕ) (run : Run) (old new : List ℕ) → rows_in run raw.customs ≡ customs_at raw 0x06 m
+    → Adds form old new (flat_map (lines_of_record raw) (rows_in run raw.customs)) → Adds form old new (flat_map (lines_of_record raw) (customs_at raw 0x06 m))
 records_all form raw m run old new all h = adds_same form old new _ _ (ap (flat_map (lines_of_record raw)) all) h

@@ -17,13 +17,10 @@ at_line at = line_with "at" (bare "method" (number at.method) ∷ bare "offset" 
 abbrev pub no_method_line : ℕ → Line
 no_method_line method = line_with "no method" (bare "method" (number method) ∷ [])
 
--- the lines of the query, or that there is no such method
-abbrev pub found_lines : RawFile → MethodOffset → List Line
-found_lines raw at = if has_method raw.tables at.method then query_lines raw at.method at.offset else no_method_line at.method ∷ []
-
--- what is asked, and the answer
+-- what is asked, and the lines of the query, or that there is no such method
 abbrev pub answer_lines : RawFile → MethodOffset → List Line
-answer_lines raw at = at_line at ∷ found_lines raw at
+answer_lines raw at =
+    at_line at ∷ (if has_method raw.tables at.method then query_lines raw at.method at.offset else no_method_line at.method ∷ [])
 
 -- What `lookup` prints of what is asked, in this order.
 unfoldable pub lookup_text_of : Form → RawFile → List MethodOffset → List ℕ

@@ -15,11 +15,8 @@ abbrev pub custom_found : RawTables → CustomRow → Line
 custom_found raw custom = line_with "custom" (bare "kind" (guid (guid_in raw custom.kind)) ∷ bare "value" (octets (blob raw custom.value)) ∷ [])
 
 -- the custom records on a row
-abbrev pub customs_on : RawTables → ℕ → ℕ → List (ℕ × CustomRow)
-customs_on raw table row = customs_at raw (record { table = table; row = row })
-
 abbrev pub customs_found : RawTables → ℕ → ℕ → List Line
-customs_found raw table row = map (λ custom. custom_found raw custom.1) (customs_on raw table row)
+customs_found raw table row = map (λ custom. custom_found raw custom.1) (customs_at raw table row)
 
 -- ---- the sequence point ("Sequence Points Blob", "Document Table")
 
@@ -114,7 +111,7 @@ lines_of_record raw custom = lines_of_body (custom_found raw custom.1) (custom_o
 abbrev pub query_lines : RawFile → ℕ → ℕ → List Line
 query_lines raw m x = line_of_point raw m (last_point (points_of (value_of raw) m) x) ∷ []
     ++ (flat_map (scope_answer raw.tables) (scopes_at raw.tables m x)
-    ++ (map hoisted_line (hoisted_at raw.tables m x) ++ (link_lines raw m ++ flat_map (lines_of_record raw.tables) (customs_on raw.tables 0x06 m))))
+    ++ (map hoisted_line (hoisted_at raw.tables m x) ++ (link_lines raw m ++ flat_map (lines_of_record raw.tables) (customs_at raw.tables 0x06 m))))
 
 -- What `query` prints.
 unfoldable pub query_text_of : Form → RawFile → ℕ → ℕ → List ℕ

@@ -2,9 +2,10 @@
 use Rattle.std.specs.Prelude.{map, ℕ, ◌≡◌, ◌+◌, ◌*◌, ◌≤◌, ◌++◌, List, [], ◌∷◌, codes, length, Option, Some, None, flat_map, sum_by}
 use Rattle.ppdb_tables.specs.{declared.rows.ScopeRow.ScopeRow, RawTables.{RawTables, row_at}}
 use Rattle.ppdb_values.specs.{Imports.import_value, Rules.HasRow}
-use Rattle.ppdb_queries.specs.{declared.imports.ImportLink.ImportLink, declared.points.PointAt.PointAt, declared.scopes.ScopeView.ScopeView, Digits.digits, Scopes.{scope_view, scopes_at, scope_count}}
+use Rattle.ppdb_queries.specs.{declared.imports.ImportLink.ImportLink, declared.points.PointAt.PointAt, declared.scopes.ScopeView.ScopeView, Digits.digits}
+use Rattle.ppdb_queries.specs.{Runs.customs_at, Scopes.{scope_view, scopes_at, scope_count}}
 use Rattle.ppdb_show_lines.specs.{declared.form.Form.Form, Forms.lines_as, Lines.{Line, line_with, bare, number, absent}, Uses.use_line}
-use Rattle.ppdb_show.specs.Query.{customs_on, customs_found, point_found, document_name, variables_of, constants_of, imports_of}
+use Rattle.ppdb_show.specs.Query.{customs_found, point_found, document_name, variables_of, constants_of, imports_of}
 
 -- the lines were put after a text
 abbrev pub Adds : Form → List ℕ → List ℕ → List Line → Type 0
@@ -20,7 +21,7 @@ pub record Walked {X : Type 0} (form : Form) (lines : X → List Line) (reads : 
 
 -- the custom records on a row: two searches, and each record
 abbrev pub customs_reads : RawTables → ℕ → ℕ → ℕ
-customs_reads raw table row = 2 * digits (length raw.customs) + length (customs_on raw table row)
+customs_reads raw table row = 2 * digits (length raw.customs) + length (customs_at raw table row)
 
 -- a row, and the custom records on it
 abbrev pub item_reads : {X : Type 0} → RawTables → ℕ → ℕ × X → ℕ

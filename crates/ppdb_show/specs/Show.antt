@@ -30,12 +30,10 @@ span_fields (Lines start_line start_column end_line end_column) = range_fields s
 abbrev pub point_line : Point → Line
 point_line point = line_with "point" (bare "offset" (number point.offset) ∷ bare "document" (number point.document) ∷ span_fields point.span)
 
-abbrev pub method_line : ℕ → ℕ → Line
-method_line method signature = line_with "method" (bare "method" (number method) ∷ named "signature" (number signature) ∷ [])
-
 -- a method that has points, and its points
 abbrev pub lines_of_method : Option MethodValue → List Line
-lines_of_method (Some method) = method_line method.method method.signature ∷ map point_line method.points
+lines_of_method (Some method) =
+    line_with "method" (bare "method" (number method.method) ∷ named "signature" (number method.signature) ∷ []) ∷ map point_line method.points
 lines_of_method None = []
 
 -- ---- scopes, and the variables and constants that they own
@@ -59,11 +57,9 @@ scope_of_item list raw item = unwrap_or (owner_of list raw.scopes item) 0
 
 -- ---- import scopes, and what they import
 
-abbrev pub import_line : ℕ → ℕ → Line
-import_line row parent = line_with "import" (bare "row" (number row) ∷ named "parent" (number parent) ∷ [])
-
 abbrev pub lines_of_import : ℕ → ImportScopeValue → List Line
-lines_of_import row import = import_line row import.parent ∷ map use_line import.imports
+lines_of_import row import =
+    line_with "import" (bare "row" (number row) ∷ named "parent" (number import.parent) ∷ []) ∷ map use_line import.imports
 
 -- ---- state machines, and custom debug information
 

@@ -10,7 +10,6 @@ ghost use Rattle.ppdb_values.specs.Value.{value_of};
 ghost use Rattle.ppdb_verify.specs.Views.{raw_file};
 ghost use Rattle.ppdb_queries.specs.Digits.{digits};
 ghost use Rattle.ppdb_queries.specs.Runs.{customs_at};
-ghost use Rattle.source_link.specs.FileLinks.{module_row};
 ghost use Rattle.source_link.specs.Record.{IsRefusedBy};
 ghost use Rattle.ppdb_show_lines.specs.Forms.{lines_as};
 ghost use Rattle.ppdb_show_lines.specs.Lines.{absent, name as named_bytes};
@@ -43,7 +42,7 @@ pub fn file_links<L: Ledger>(
     ensures refused { IsRefusedBy result (links_said (value_of (raw_file file.now))) }
     ensures later { steps.old ≤ steps.new }
     ensures cost { steps.new ≤ steps.old + 2 * digits (length (raw_file file.now).tables.customs) + length
-        (customs_at (raw_file file.now).tables module_row) }
+        (customs_at (raw_file file.now).tables 0x00 1) }
 {
     source_link::order_is_free();
     match find_link(file, steps) {

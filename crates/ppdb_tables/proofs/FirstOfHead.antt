@@ -12,9 +12,9 @@ use Rattle.ppdb_base.proofs.Judging.{first_at, byte_before}
 use Rattle.ppdb_base.specs.Fields.{IsField}
 use Rattle.ppdb_base.proofs.Fields.{ends_by_cut, ends_within}
 use Rattle.ppdb_tables.specs.declared.counts.Part.{Part}
-use Rattle.ppdb_tables.specs.Counts.{HasCount, counts_below, count_fields, IsShort, IsCountFault}
+use Rattle.ppdb_tables.specs.Counts.{HasCount, counts_below, count_fields, IsShort, IsCountFault, count_place}
 use Rattle.ppdb_tables.specs.Head.{PdbFaults, PdbFieldFaults, short, foreign, rows, EntryFaults, entry, NamesMethod, entry_in, referenced}
-use Rattle.ppdb_tables.specs.Head.{pdb_fields, pdb_count_place, pdb_rows}
+use Rattle.ppdb_tables.specs.Head.{pdb_fields, pdb_rows}
 use Rattle.ppdb_tables.proofs.FieldLists.{field_within, starts_by, all_fit}
 use Rattle.ppdb_tables.proofs.RowCounts.{cut, sum-cut, sum-fields, fields_cut, count_cut, one_more, counts_mono, earlier_table, rows_in-set, has_count}
 
@@ -32,7 +32,7 @@ module _ (stream : List ℕ) where
   -- nothing bad begins before a cut of the fields that lies in the stream, where the fields before it are good
   judged_case : (b : ℕ) (before after : List ℕ) → pdb_fields stream ≡ before ++ after → b ≡ sum before → b ≤ length stream
       → (24 < b → referenced stream < 2 ^ 45)
-      → ((t : ℕ) → HasCount (referenced stream) t → pdb_count_place stream t < b → pdb_rows stream t ≤ 16777215)
+      → ((t : ℕ) → HasCount (referenced stream) t → count_place 32 (referenced stream) t < b → pdb_rows stream t ≤ 16777215)
       → (code : Code) (at : Place) → PdbFieldFaults stream code at → ComesBefore (numbers code at) (3 ∷ 0 ∷ 0 ∷ 0 ∷ b ∷ []) → ⊥
   judged_case b before after split is le known few _ _ (short at len f within over) past =
       let lt = byte_before 3 PdbShort at b past in
@@ -40,7 +40,7 @@ module _ (stream : List ℕ) where
   judged_case b before after split is le known few _ _ (foreign within large) past =
       let lt = byte_before 3 PdbTables 24 b past in absurd (omega (arith, large, known lt))
   judged_case b before after split is le known few _ _ (rows t small set within many) past =
-      let lt = byte_before 3 PdbRows (pdb_count_place stream t) b past in absurd (omega (arith, many, few t set lt))
+      let lt = byte_before 3 PdbRows (count_place 32 (referenced stream) t) b past in absurd (omega (arith, many, few t set lt))
 
   least_short : (code : Code) (at : Place) → PdbFieldFaults stream code at → 9 ≤ number_of code
   least_short _ _ (short at len f within over) = lit≤ tt
@@ -49,7 +49,7 @@ module _ (stream : List ℕ) where
 
   -- a field that passes the end, after fields that fit and are good, is the first fault
   short_is_first : (b len : ℕ) (fault : Fault) → IsField (pdb_fields stream) b len → b ≤ length stream → (24 < b → referenced stream < 2 ^ 45)
-      → ((t : ℕ) → HasCount (referenced stream) t → pdb_count_place stream t < b → pdb_rows stream t ≤ 16777215)
+      → ((t : ℕ) → HasCount (referenced stream) t → count_place 32 (referenced stream) t < b → pdb_rows stream t ≤ 16777215)
       → (fault ≡ record { code = PdbShort; place = at_byte 3 b }) × (length stream < b + len) → IsFirst (PdbFieldFaults stream) fault
   short_is_first b len fault f le known few past =
       subst (IsFirst (PdbFieldFaults stream)) (sym past.0)
@@ -57,7 +57,7 @@ module _ (stream : List ℕ) where
       (short b len f le past.1)
       (λ other invalid. least_short other (at_byte 3 b) invalid))
 
-  no_count_before : (b t : ℕ) → b ≤ 32 → HasCount (referenced stream) t → pdb_count_place stream t < b → pdb_rows stream t ≤ 16777215
+  no_count_before : (b t : ℕ) → b ≤ 32 → HasCount (referenced stream) t → count_place 32 (referenced stream) t < b → pdb_rows stream t ≤ 16777215
   no_count_before b t le set lt = absurd (omega (arith, le, lt))
 
   -- so it is with a field before the row counts
@@ -94,15 +94,15 @@ module _ (stream : List ℕ) where
   -- ---- the row count of a table, after good ones
   module _ (table : ℕ) (lt : table < 64) (set : HasCount (referenced stream) table) (known : referenced stream < 2 ^ 45)
       (few : (t : ℕ) → t < table → pdb_rows stream t ≤ 16777215) where
-    few_before : (t : ℕ) → HasCount (referenced stream) t → pdb_count_place stream t < pdb_count_place stream table → pdb_rows stream t ≤ 16777215
+    few_before : (t : ℕ) → HasCount (referenced stream) t → count_place 32 (referenced stream) t < count_place 32 (referenced stream) table → pdb_rows stream t ≤ 16777215
     few_before t set_t before = few t (earlier_table 32 (referenced stream) t table before)
 
-    count_short : (fault : Fault) → pdb_count_place stream table ≤ length stream
-        → (fault ≡ record { code = PdbShort; place = at_byte 3 (pdb_count_place stream table) }) × (length stream < pdb_count_place stream table + 4)
+    count_short : (fault : Fault) → count_place 32 (referenced stream) table ≤ length stream
+        → (fault ≡ record { code = PdbShort; place = at_byte 3 (count_place 32 (referenced stream) table) }) × (length stream < count_place 32 (referenced stream) table + 4)
         → IsFirst (PdbFieldFaults stream) fault
     count_short fault le past =
         let n = counts_below (referenced stream) table in
-        short_is_first (pdb_count_place stream table) 4 fault
+        short_is_first (count_place 32 (referenced stream) table) 4 fault
         (record {
           before = cut prefix n;
           after = replicate (counts_below (referenced stream) 64 - suc n) 4;
@@ -111,10 +111,10 @@ module _ (stream : List ℕ) where
         })
         le (λ _. known) few_before past
 
-    least_rows : pdb_count_place stream table + 4 ≤ length stream → (code : Code) (at : Place) → PdbFieldFaults stream code at
-        → at ≡ at_byte 3 (pdb_count_place stream table) → 11 ≤ number_of code
+    least_rows : count_place 32 (referenced stream) table + 4 ≤ length stream → (code : Code) (at : Place) → PdbFieldFaults stream code at
+        → at ≡ at_byte 3 (count_place 32 (referenced stream) table) → 11 ≤ number_of code
     least_rows fits _ _ (short at len f within over) e =
-        let same = same_byte at (pdb_count_place stream table) e in
+        let same = same_byte at (count_place 32 (referenced stream) table) e in
         let n = suc (counts_below (referenced stream) table) in
         let le = one_more (referenced stream) table lt set in
         let ends = ends_by_cut (pdb_fields stream) (cut prefix n)
@@ -122,25 +122,25 @@ module _ (stream : List ℕ) where
         (omega (arith, same, sum-cut prefix n)) in
         absurd (omega (arith, ends, sum-cut prefix n, fits, over))
     least_rows fits _ _ (foreign within large) e =
-        let same = same_byte 24 (pdb_count_place stream table) e in absurd (omega (arith, same))
+        let same = same_byte 24 (count_place 32 (referenced stream) table) e in absurd (omega (arith, same))
     least_rows fits _ _ (rows t small is_set within many) e = lit≤ tt
 
-    count_many : (fault : Fault) → fault ≡ record { code = PdbRows; place = at_byte 3 (pdb_count_place stream table) }
-        → pdb_count_place stream table + 4 ≤ length stream
+    count_many : (fault : Fault) → fault ≡ record { code = PdbRows; place = at_byte 3 (count_place 32 (referenced stream) table) }
+        → count_place 32 (referenced stream) table + 4 ≤ length stream
         → 16777215 < pdb_rows stream table → IsFirst (PdbFieldFaults stream) fault
     count_many fault is fits many =
         let n = counts_below (referenced stream) table in
         let le = one_more (referenced stream) table lt set in
         subst (IsFirst (PdbFieldFaults stream)) (sym is)
-        (first_at (PdbFieldFaults stream) PdbRows (at_byte 3 (pdb_count_place stream table))
-        (judged_case (pdb_count_place stream table) (cut prefix n) (replicate (counts_below (referenced stream) 64 - n) 4)
+        (first_at (PdbFieldFaults stream) PdbRows (at_byte 3 (count_place 32 (referenced stream) table))
+        (judged_case (count_place 32 (referenced stream) table) (cut prefix n) (replicate (counts_below (referenced stream) 64 - n) 4)
         (fields_cut prefix (referenced stream) n (omega (arith, le)))
         (omega (arith, sum-cut prefix n)) (omega (arith, fits)) (λ _. known) few_before)
         (rows table lt set (omega (arith, fits)) many)
         (λ other invalid. least_rows fits other _ invalid refl))
 
   -- the fault of a table's row count, after good ones, is the first
-  pub count_is_first : (table at : ℕ) (fault : Fault) → table < 64 → at ≡ pdb_count_place stream table → at ≤ length stream → referenced stream < 2 ^ 45
+  pub count_is_first : (table at : ℕ) (fault : Fault) → table < 64 → at ≡ count_place 32 (referenced stream) table → at ≤ length stream → referenced stream < 2 ^ 45
       → ((t : ℕ) → t < table → pdb_rows stream t ≤ 16777215) → IsCountFault pdb_part stream (referenced stream) table at fault
       → IsFirst (PdbFieldFaults stream) fault
   count_is_first table at fault lt here le known few (set, inl past) =
@@ -184,7 +184,7 @@ few_rows stream judged t lt =
       | inr le ↦ le
       | inl many ↦
           let set = has_count stream 32 (referenced stream) t (λ none. absurd (omega (arith, many, none))) in
-          let place : pdb_count_place stream t ≤ length stream =
+          let place : count_place 32 (referenced stream) t ≤ length stream =
           omega (arith, fields, sum-fields prefix (referenced stream), counts_mono (referenced stream) t 64 (omega (arith, lt))) in
-          absurd (judged PdbRows (at_byte 3 (pdb_count_place stream t)) (inl (rows t lt set place many)))
+          absurd (judged PdbRows (at_byte 3 (count_place 32 (referenced stream) t)) (inl (rows t lt set place many)))
     ]

@@ -25,7 +25,7 @@ use Rattle.row_layout.specs.declared.column.Sizes.{Sizes}
 use Rattle.row_layout.specs.declared.column.Column.{Column}
 use Rattle.row_layout.specs.declared.column.Column.TheVariants.{U16, U32, Text, Blob, Guid, Row, Parent}
 use Rattle.row_layout.specs.Columns.{width_of, index_width, has_rows, parent_tables}
-use Rattle.ppdb_tables.specs.Layouts.{debug_tables, row_len, row_fields, row_fields_of}
+use Rattle.ppdb_tables.specs.Layouts.{debug_tables, row_len, row_fields}
 use Rattle.ppdb_tables.specs.Tables.{BoundFaults, bounds, rows_start}
 use Rattle.ppdb_tables.specs.Bounds.{IsRowFault}
 use Rattle.ppdb_tables.proofs.RowCounts.{sum-replicate}
@@ -87,24 +87,28 @@ row_some sizes index lt =
 -- ---- the tables one after another
 
 module _ (sizes : Sizes) where
-  -- the rows of a table, as they are counted
-  fields_of : (index : ℕ) → index < 8 → row_fields_of sizes (table index) ≡ replicate (slice_index sizes.rows (0x30 + index)) (row_len sizes (table index))
+  -- the rows of a table as fields
+  abbrev fields_in : ℕ × List Column → List ℕ
+  fields_in table = replicate (slice_index sizes.rows table.0) (row_len sizes table)
+
+  -- the same, as they are counted
+  fields_of : (index : ℕ) → index < 8 → fields_in (table index) ≡ replicate (slice_index sizes.rows (0x30 + index)) (row_len sizes (table index))
   fields_of index lt = ap (λ number. replicate (slice_index sizes.rows number) (row_len sizes (table index))) (number_is index lt)
 
   -- the fields up to the next table
   next_fields : (index : ℕ) → index < 8 → row_fields sizes (take (index + 1) debug_tables) ≡ row_fields sizes (take index debug_tables)
-      ++ (row_fields_of sizes (table index) ++ [])
+      ++ (fields_in (table index) ++ [])
   unfolding table
   next_fields index lt =
       ap (λ tables. row_fields sizes tables) (take_more debug_tables index no_table lt)
-      ∙ flat_map-append (row_fields_of sizes) (take index debug_tables) (table index ∷ [])
-      ∙ ap (λ xs. row_fields sizes (take index debug_tables) ++ xs) (flat_map-cons (row_fields_of sizes) (table index) [])
+      ∙ flat_map-append fields_in (take index debug_tables) (table index ∷ [])
+      ∙ ap (λ xs. row_fields sizes (take index debug_tables) ++ xs) (flat_map-cons fields_in (table index) [])
 
   pub next_table : (index : ℕ) → index < 8 → sum (row_fields sizes (take (index + 1) debug_tables)) ≡ sum (row_fields sizes (take index debug_tables))
       + slice_index sizes.rows (0x30 + index) * row_len sizes (table index)
   next_table index lt =
       let fields = replicate (slice_index sizes.rows (0x30 + index)) (row_len sizes (table index)) in
-      ap sum (next_fields index lt) ∙ sum_append (row_fields sizes (take index debug_tables)) (row_fields_of sizes (table index) ++ [])
+      ap sum (next_fields index lt) ∙ sum_append (row_fields sizes (take index debug_tables)) (fields_in (table index) ++ [])
       ∙ ap (λ xs. sum (row_fields sizes (take index debug_tables)) + sum (xs ++ [])) (fields_of index lt)
       ∙ ap (λ n. sum (row_fields sizes (take index debug_tables)) + n)
       (sum_append fields [] ∙ omega (arith, sum-replicate (slice_index sizes.rows (0x30 + index)) (row_len sizes (table index))))
@@ -120,8 +124,8 @@ module _ (sizes : Sizes) where
       let before = row_fields sizes (take index debug_tables) in
       let later = row_fields sizes (drop (suc index) debug_tables) in
       let split = ap (λ tables. row_fields sizes tables) (split_at debug_tables index no_table lt)
-      ∙ flat_map-append (row_fields_of sizes) (take index debug_tables) (table index ∷ drop (suc index) debug_tables)
-      ∙ ap (λ xs. before ++ xs) (flat_map-cons (row_fields_of sizes) (table index) (drop (suc index) debug_tables)
+      ∙ flat_map-append fields_in (take index debug_tables) (table index ∷ drop (suc index) debug_tables)
+      ∙ ap (λ xs. before ++ xs) (flat_map-cons fields_in (table index) (drop (suc index) debug_tables)
       ∙ ap (λ xs. xs ++ later) (fields_of index lt)) in
       let count : row + suc (rows - suc row) ≡ rows = omega (arith, below) in
       let parts : replicate rows len ≡ replicate row len ++ (len ∷ replicate (rows - suc row) len) =

@@ -14,9 +14,9 @@ use Rattle.std.specs.Prelude.{nat_lt, if◌then◌else◌, slice_index}
 use Rattle.std.proofs.lemmas.Bool.{cases_lt}
 use Rattle.ppdb_tables.specs.declared.head.PdbHead.{PdbHead}
 use Rattle.ppdb_tables.specs.declared.counts.Part.{Part}
-use Rattle.ppdb_tables.specs.Counts.{HasCount, counts_below, count_fields, IsShort, IsCountFault}
+use Rattle.ppdb_tables.specs.Counts.{HasCount, counts_below, count_fields, IsShort, IsCountFault, count_place}
 use Rattle.ppdb_tables.specs.Tables.{TableFieldFaults, short, heap_bits, foreign, rows, method_rows, IsForeign, heap_sizes, valid}
-use Rattle.ppdb_tables.specs.Tables.{table_fields, table_count_place, table_rows, rows_start, count_in}
+use Rattle.ppdb_tables.specs.Tables.{table_fields, table_rows, rows_start, count_in}
 use Rattle.ppdb_tables.proofs.FieldLists.{field_within, starts_by}
 use Rattle.ppdb_tables.proofs.RowCounts.{cut, sum-cut, sum-fields, fields_cut, count_cut, one_more, earlier_table, same_table, rows_in-set}
 
@@ -39,8 +39,8 @@ module _ (methods : ℕ) (stream : List ℕ) where
   record AreGoodTo (b : ℕ) : Type 0 where
     pub heap : 6 < b → heap_sizes stream < 8
     pub known : 8 < b → IsForeign (valid stream) → ⊥
-    pub few : (t : ℕ) → HasCount (valid stream) t → table_count_place stream t < b → table_rows stream t ≤ 16777215
-    pub fit : table_count_place stream 0x31 < b → FitMethods methods stream
+    pub few : (t : ℕ) → HasCount (valid stream) t → count_place 24 (valid stream) t < b → table_rows stream t ≤ 16777215
+    pub fit : count_place 24 (valid stream) 0x31 < b → FitMethods methods stream
 
   -- nothing bad begins before a cut of the fields that lies in the stream, where the fields before it are good
   judged_case : (b : ℕ) (before after : List ℕ) → table_fields stream ≡ before ++ after → b ≡ sum before → b ≤ length stream → AreGoodTo b
@@ -53,9 +53,9 @@ module _ (methods : ℕ) (stream : List ℕ) where
   judged_case b before after split is le good _ _ (foreign within some) past =
       good.known (byte_before 4 TablesForeign 8 b past) some
   judged_case b before after split is le good _ _ (rows t small set within many) past =
-      let lt = byte_before 4 TableRows (table_count_place stream t) b past in absurd (omega (arith, many, good.few t set lt))
+      let lt = byte_before 4 TableRows (count_place 24 (valid stream) t) b past in absurd (omega (arith, many, good.few t set lt))
   judged_case b before after split is le good _ _ (method_rows set within some other) past =
-      good.fit (byte_before 4 MethodRows (table_count_place stream 0x31) b past) some other
+      good.fit (byte_before 4 MethodRows (count_place 24 (valid stream) 0x31) b past) some other
 
   least_short : (code : Code) (at : Place) → TableFieldFaults methods stream code at → 13 ≤ number_of code
   least_short _ _ (short at len f within over) = lit≤ tt
@@ -165,7 +165,7 @@ module _ (methods : ℕ) (stream : List ℕ) where
   -- ---- the row count of a table, after good ones
   module _ (table : ℕ) (lt : table < 64) (set : HasCount (valid stream) table) (heap : heap_sizes stream < 8) (known : IsForeign (valid stream) → ⊥)
       (few : (t : ℕ) → t < table → table_rows stream t ≤ 16777215) (fit : 0x31 < table → FitMethods methods stream) where
-    good_before : AreGoodTo (table_count_place stream table)
+    good_before : AreGoodTo (count_place 24 (valid stream) table)
     good_before = record {
       heap = λ _. heap;
       known = λ _. known;
@@ -173,12 +173,12 @@ module _ (methods : ℕ) (stream : List ℕ) where
       fit = λ before. fit (earlier_table 24 (valid stream) 0x31 table before);
     }
 
-    count_short : (fault : Fault) → table_count_place stream table ≤ length stream
-        → (fault ≡ record { code = TablesShort; place = at_byte 4 (table_count_place stream table) }) × (length stream < table_count_place stream table + 4)
+    count_short : (fault : Fault) → count_place 24 (valid stream) table ≤ length stream
+        → (fault ≡ record { code = TablesShort; place = at_byte 4 (count_place 24 (valid stream) table) }) × (length stream < count_place 24 (valid stream) table + 4)
         → IsFirst (TableFieldFaults methods stream) fault
     count_short fault le past =
         let n = counts_below (valid stream) table in
-        short_is_first (table_count_place stream table) 4 fault
+        short_is_first (count_place 24 (valid stream) table) 4 fault
         (record {
           before = cut prefix n;
           after = replicate (counts_below (valid stream) 64 - suc n) 4;
@@ -187,72 +187,72 @@ module _ (methods : ℕ) (stream : List ℕ) where
         })
         le good_before past
 
-    judged_count : table_count_place stream table ≤ length stream → IsJudgedTo (TableFieldFaults methods stream)
-        (4 ∷ 0 ∷ 0 ∷ 0 ∷ table_count_place stream table ∷ [])
+    judged_count : count_place 24 (valid stream) table ≤ length stream → IsJudgedTo (TableFieldFaults methods stream)
+        (4 ∷ 0 ∷ 0 ∷ 0 ∷ count_place 24 (valid stream) table ∷ [])
     judged_count le =
         let n = counts_below (valid stream) table in
         let more = one_more (valid stream) table lt set in
-        judged_case (table_count_place stream table) (cut prefix n) (replicate (counts_below (valid stream) 64 - n) 4)
+        judged_case (count_place 24 (valid stream) table) (cut prefix n) (replicate (counts_below (valid stream) 64 - n) 4)
         (fields_cut prefix (valid stream) n (omega (arith, more)))
         (omega (arith, sum-cut prefix n)) le good_before
 
-    not_short_here : table_count_place stream table + 4 ≤ length stream → (at len : ℕ) → IsField (table_fields stream) at len
-        → at_byte 4 at ≡ at_byte 4 (table_count_place stream table) → length stream < at + len → ⊥
+    not_short_here : count_place 24 (valid stream) table + 4 ≤ length stream → (at len : ℕ) → IsField (table_fields stream) at len
+        → at_byte 4 at ≡ at_byte 4 (count_place 24 (valid stream) table) → length stream < at + len → ⊥
     not_short_here fits at len f e over =
         let n = suc (counts_below (valid stream) table) in
         let more = one_more (valid stream) table lt set in
         not_short (cut prefix n) (replicate (counts_below (valid stream) 64 - n) 4)
-        (table_count_place stream table) at len (fields_cut prefix (valid stream) n more)
-        (omega (arith, sum-cut prefix n)) (omega (arith, sum-cut prefix n, fits)) f (same_byte at (table_count_place stream table) e) over
+        (count_place 24 (valid stream) table) at len (fields_cut prefix (valid stream) n more)
+        (omega (arith, sum-cut prefix n)) (omega (arith, sum-cut prefix n, fits)) f (same_byte at (count_place 24 (valid stream) table) e) over
 
-    least_rows : table_count_place stream table + 4 ≤ length stream → (code : Code) (at : Place) → TableFieldFaults methods stream code at
-        → at ≡ at_byte 4 (table_count_place stream table) → 16 ≤ number_of code
+    least_rows : count_place 24 (valid stream) table + 4 ≤ length stream → (code : Code) (at : Place) → TableFieldFaults methods stream code at
+        → at ≡ at_byte 4 (count_place 24 (valid stream) table) → 16 ≤ number_of code
     least_rows fits _ _ (short at len f within over) e = absurd (not_short_here fits at len f e over)
     least_rows fits _ _ (heap_bits within large) e =
-        let same = same_byte 6 (table_count_place stream table) e in absurd (omega (arith, same))
+        let same = same_byte 6 (count_place 24 (valid stream) table) e in absurd (omega (arith, same))
     least_rows fits _ _ (foreign within some) e =
-        let same = same_byte 8 (table_count_place stream table) e in absurd (omega (arith, same))
+        let same = same_byte 8 (count_place 24 (valid stream) table) e in absurd (omega (arith, same))
     least_rows fits _ _ (rows t small is_set within many) e = lit≤ tt
     least_rows fits _ _ (method_rows is_set within some other) e = lit≤ tt
 
-    count_many : (fault : Fault) → fault ≡ record { code = TableRows; place = at_byte 4 (table_count_place stream table) }
-        → table_count_place stream table + 4 ≤ length stream
+    count_many : (fault : Fault) → fault ≡ record { code = TableRows; place = at_byte 4 (count_place 24 (valid stream) table) }
+        → count_place 24 (valid stream) table + 4 ≤ length stream
         → 16777215 < table_rows stream table → IsFirst (TableFieldFaults methods stream) fault
     count_many fault is fits many =
         subst (IsFirst (TableFieldFaults methods stream)) (sym is)
-        (first_at (TableFieldFaults methods stream) TableRows (at_byte 4 (table_count_place stream table)) (judged_count (omega (arith, fits)))
+        (first_at (TableFieldFaults methods stream) TableRows (at_byte 4 (count_place 24 (valid stream) table)) (judged_count (omega (arith, fits)))
         (rows table lt set (omega (arith, fits)) many)
         (λ other invalid. least_rows fits other _ invalid refl))
 
-    least_methods : table_count_place stream table + 4 ≤ length stream → table_rows stream table ≤ 16777215 → (code : Code) (at : Place)
-        → TableFieldFaults methods stream code at → at ≡ at_byte 4 (table_count_place stream table) → 18 ≤ number_of code
+    least_methods : count_place 24 (valid stream) table + 4 ≤ length stream → table_rows stream table ≤ 16777215 → (code : Code) (at : Place)
+        → TableFieldFaults methods stream code at → at ≡ at_byte 4 (count_place 24 (valid stream) table) → 18 ≤ number_of code
     least_methods fits small _ _ (short at len f within over) e = absurd (not_short_here fits at len f e over)
     least_methods fits small _ _ (heap_bits within large) e =
-        let same = same_byte 6 (table_count_place stream table) e in absurd (omega (arith, same))
+        let same = same_byte 6 (count_place 24 (valid stream) table) e in absurd (omega (arith, same))
     least_methods fits small _ _ (foreign within some) e =
-        let same = same_byte 8 (table_count_place stream table) e in absurd (omega (arith, same))
+        let same = same_byte 8 (count_place 24 (valid stream) table) e in absurd (omega (arith, same))
     least_methods fits small _ _ (rows t below is_set within many) e =
-        let same = same_table 24 (valid stream) t table is_set set (same_byte (table_count_place stream t) (table_count_place stream table) e) in
+        let same = same_table 24 (valid stream) t table is_set set (same_byte (count_place 24 (valid stream) t) (count_place 24 (valid stream) table) e) in
         absurd (omega (arith, many, small, ap (table_rows stream) same))
     least_methods fits small _ _ (method_rows is_set within some other) e = lit≤ tt
 
-    pub methods_are_first : (fault : Fault) → table ≡ 0x31 → fault ≡ record { code = MethodRows; place = at_byte 4 (table_count_place stream table) }
-        → table_count_place stream table + 4 ≤ length stream
+    pub methods_are_first : (fault : Fault) → table ≡ 0x31 → fault ≡ record { code = MethodRows; place = at_byte 4 (count_place 24 (valid stream) table) }
+        → count_place 24 (valid stream) table + 4 ≤ length stream
         → table_rows stream table ≤ 16777215 → table_rows stream table ≢ 0 → table_rows stream table ≢ methods → IsFirst (TableFieldFaults methods stream) fault
     methods_are_first fault is_31 is fits small some other =
         subst (IsFirst (TableFieldFaults methods stream)) (sym is)
-        (first_at (TableFieldFaults methods stream) MethodRows (at_byte 4 (table_count_place stream table)) (judged_count (omega (arith, fits)))
+        (first_at (TableFieldFaults methods stream) MethodRows (at_byte 4 (count_place 24 (valid stream) table)) (judged_count (omega (arith, fits)))
         (at_31 table is_31 set (omega (arith, fits)) some other)
         (λ code invalid. least_methods fits small code _ invalid refl))
       where
-        at_31 : (t : ℕ) → t ≡ 0x31 → HasCount (valid stream) t → table_count_place stream t ≤ length stream → table_rows stream t ≢ 0
+        at_31 : (t : ℕ) → t ≡ 0x31 → HasCount (valid stream) t → count_place 24 (valid stream) t ≤ length stream → table_rows stream t ≢ 0
             → table_rows stream t ≢ methods
-            → TableFieldFaults methods stream MethodRows (at_byte 4 (table_count_place stream t))
-        at_31 t e = subst (λ u. HasCount (valid stream) u → table_count_place stream u ≤ length stream → table_rows stream u ≢ 0 → table_rows stream u ≢ methods
-            → TableFieldFaults methods stream MethodRows (at_byte 4 (table_count_place stream u))) (sym e) method_rows
+            → TableFieldFaults methods stream MethodRows (at_byte 4 (count_place 24 (valid stream) t))
+        at_31 t e = subst (λ u. HasCount (valid stream) u → count_place 24 (valid stream) u ≤ length stream → table_rows stream u ≢ 0 → table_rows stream u ≢ methods
+            → TableFieldFaults methods stream MethodRows (at_byte 4 (count_place 24 (valid stream) u))) (sym e) method_rows
 
   -- the fault of a table's row count, after good ones, is the first
-  pub count_is_first : (table at : ℕ) (fault : Fault) → table < 64 → at ≡ table_count_place stream table → at ≤ length stream → heap_sizes stream < 8
+  pub count_is_first : (table at : ℕ) (fault : Fault) → table < 64 → at ≡ count_place 24 (valid stream) table → at ≤ length stream → heap_sizes stream < 8
       → (IsForeign (valid stream) → ⊥)
       → ((t : ℕ) → t < table → table_rows stream t ≤ 16777215) → (0x31 < table → FitMethods methods stream)
       → IsCountFault table_part stream (valid stream) table at fault → IsFirst (TableFieldFaults methods stream) fault
@@ -277,7 +277,7 @@ module _ (methods : ℕ) (stream : List ℕ) where
   fields_accepted le heap known few fit = accepted_case le heap known few fit
 
 -- the rows begin after the last row count
-pub start_is : (stream : List ℕ) → rows_start stream ≡ table_count_place stream 64
+pub start_is : (stream : List ℕ) → rows_start stream ≡ count_place 24 (valid stream) 64
 start_is stream = omega (arith, sum-fields prefix (valid stream))
 
 -- the rows that are kept for a table are those of #Pdb or of #~

@@ -16,10 +16,6 @@ referenced stream = number_at stream 24 8
 abbrev pub pdb_fields : List ℕ → List ℕ
 pdb_fields stream = 20 ∷ 4 ∷ 8 ∷ count_fields (referenced stream)
 
--- where the row count of a table stands
-abbrev pub pdb_count_place : List ℕ → ℕ → ℕ
-pdb_count_place stream table = count_place 32 (referenced stream) table
-
 -- the rows of a table
 abbrev pub pdb_rows : List ℕ → ℕ → ℕ
 pdb_rows stream table = rows_in stream 32 (referenced stream) table
@@ -29,8 +25,8 @@ pdb_rows stream table = rows_in stream 32 (referenced stream) table
 pub data PdbFieldFaults (stream : List ℕ) : Code → Place → Type 0 where
   short : (at len : ℕ) → IsField (pdb_fields stream) at len → at ≤ length stream → length stream < at + len → PdbFieldFaults stream PdbShort (at_byte 3 at)
   foreign : 24 ≤ length stream → 2 ^ 0x2D ≤ referenced stream → PdbFieldFaults stream PdbTables (at_byte 3 24)
-  rows : (table : ℕ) → table < 64 → HasCount (referenced stream) table → pdb_count_place stream table ≤ length stream → 16777215 < pdb_rows stream table
-      → PdbFieldFaults stream PdbRows (at_byte 3 (pdb_count_place stream table))
+  rows : (table : ℕ) → table < 64 → HasCount (referenced stream) table → count_place 32 (referenced stream) table ≤ length stream → 16777215 < pdb_rows stream table
+      → PdbFieldFaults stream PdbRows (at_byte 3 (count_place 32 (referenced stream) table))
 
 -- a token of MethodDef, table 06, whose row is there (ECMA-335 II.22, II.22.26)
 abbrev pub NamesMethod : ℕ → ℕ → Type 0

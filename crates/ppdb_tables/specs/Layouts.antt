@@ -50,13 +50,9 @@ widths_of sizes columns = map (width_of sizes) columns
 abbrev pub row_len : Sizes → ℕ × List Column → ℕ
 row_len sizes table = sum (widths_of sizes table.1)
 
--- the rows of a table as fields
-abbrev pub row_fields_of : Sizes → ℕ × List Column → List ℕ
-row_fields_of sizes table = replicate (slice_index sizes.rows table.0) (row_len sizes table)
-
 -- the rows of some tables as fields, one table after another
 abbrev pub row_fields : Sizes → List (ℕ × List Column) → List ℕ
-row_fields sizes tables = flat_map (row_fields_of sizes) tables
+row_fields sizes tables = flat_map (λ table. replicate (slice_index sizes.rows table.0) (row_len sizes table)) tables
 
 -- the bytes of a row, where the rows stand one after another; the first is row 0 here
 abbrev pub row_in : List ℕ → List ℕ → ℕ → List ℕ

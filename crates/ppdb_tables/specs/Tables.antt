@@ -20,10 +20,6 @@ valid stream = number_at stream 8 8
 abbrev pub table_fields : List ℕ → List ℕ
 table_fields stream = 4 ∷ 1 ∷ 1 ∷ 1 ∷ 1 ∷ 8 ∷ 8 ∷ count_fields (valid stream)
 
--- where the row count of a table stands
-abbrev pub table_count_place : List ℕ → ℕ → ℕ
-table_count_place stream table = count_place 24 (valid stream) table
-
 -- the rows of a table
 abbrev pub table_rows : List ℕ → ℕ → ℕ
 table_rows stream table = rows_in stream 24 (valid stream) table
@@ -38,10 +34,10 @@ pub data TableFieldFaults (methods : ℕ) (stream : List ℕ) : Code → Place �
       → TableFieldFaults methods stream TablesShort (at_byte 4 at)
   heap_bits : 6 ≤ length stream → 8 ≤ heap_sizes stream → TableFieldFaults methods stream HeapBits (at_byte 4 6)
   foreign : 8 ≤ length stream → IsForeign (valid stream) → TableFieldFaults methods stream TablesForeign (at_byte 4 8)
-  rows : (table : ℕ) → table < 64 → HasCount (valid stream) table → table_count_place stream table ≤ length stream → 16777215 < table_rows stream table
-      → TableFieldFaults methods stream TableRows (at_byte 4 (table_count_place stream table))
-  method_rows : HasCount (valid stream) 0x31 → table_count_place stream 0x31 ≤ length stream → table_rows stream 0x31 ≢ 0 → table_rows stream 0x31 ≢ methods
-      → TableFieldFaults methods stream MethodRows (at_byte 4 (table_count_place stream 0x31))
+  rows : (table : ℕ) → table < 64 → HasCount (valid stream) table → count_place 24 (valid stream) table ≤ length stream → 16777215 < table_rows stream table
+      → TableFieldFaults methods stream TableRows (at_byte 4 (count_place 24 (valid stream) table))
+  method_rows : HasCount (valid stream) 0x31 → count_place 24 (valid stream) 0x31 ≤ length stream → table_rows stream 0x31 ≢ 0 → table_rows stream 0x31 ≢ methods
+      → TableFieldFaults methods stream MethodRows (at_byte 4 (count_place 24 (valid stream) 0x31))
 
 -- where the rows begin
 abbrev pub rows_start : List ℕ → ℕ

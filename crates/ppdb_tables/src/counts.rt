@@ -4,10 +4,7 @@ ghost use Rattle.ppdb_base.specs.Place.{at_byte};
 ghost use Rattle.metadata_root.specs.Fields.{number_at};
 
 use metadata_root::{fault_at, u32_at};
-use ppdb_base::{Code, Fault};
-
-/// The most rows that a table has: a token has three bytes for a row.
-pub const MAX_ROWS: u32 = 16_777_215;
+use ppdb_base::{Code, Fault, MAX_ROWS};
 
 /// A part of the file that is a stream with row counts.
 #[derive(Clone, Copy)]

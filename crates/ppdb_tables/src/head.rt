@@ -4,10 +4,10 @@ ghost use Rattle.metadata_root.specs.declared.kind.StreamKind.TheVariants.{Pdb};
 ghost use Rattle.metadata_root.specs.Streams.{bytes_of};
 ghost use Rattle.ppdb_tables.specs.Head.{PdbFieldFaults, PdbFaults, IsHeadOf, NamesMethod, referenced, pdb_rows};
 
-use crate::counts::{MAX_ROWS, Part};
+use crate::counts::Part;
 use crate::streams::stream_bytes;
 use metadata_root::{Root, StreamKind, u32_at, u64_at};
-use ppdb_base::{Code, Fault};
+use ppdb_base::{Code, Fault, MAX_ROWS};
 
 /// The `#Pdb` stream among the parts of a file.
 const PDB: Part = Part {

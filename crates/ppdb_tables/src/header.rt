@@ -3,11 +3,11 @@ ghost use Rattle.std.specs.List.{range_with_len};
 ghost use Rattle.ppdb_base.specs.First.{IsFirst, IsAccepted};
 ghost use Rattle.ppdb_tables.specs.Tables.{TableFieldFaults, IsForeign, heap_sizes, valid, table_rows, count_in, sizes_in, rows_start};
 
-use crate::counts::{MAX_ROWS, Part};
+use crate::counts::Part;
 use crate::head::PdbHead;
 use crate::numbers::METHOD_DEBUG;
 use metadata_root::{u8_at, u64_at};
-use ppdb_base::{Code, Fault};
+use ppdb_base::{Code, Fault, MAX_ROWS};
 use row_layout::Sizes;
 
 /// The `#~` stream among the parts of a file.

@@ -1,4 +1,4 @@
-ghost use Rattle.std.specs.Prelude.{◌≡◌, IfOk, OnOk, IfErr};
+ghost use Rattle.std.specs.Prelude.{◌≡◌, ◌<◌, slice_index, IfOk, OnOk, IfErr};
 ghost use Rattle.ppdb_base.specs.First.{IsFirst, IsAccepted};
 ghost use Rattle.metadata_root.specs.declared.kind.StreamKind.TheVariants.{Pdb, Tables as TablesKind};
 ghost use Rattle.metadata_root.specs.Streams.{bytes_of};
@@ -37,54 +37,22 @@ pub fn read_tables<'a>(root: &Root<'a>, head: &PdbHead) -> Result<Tables<'a>, Fa
     let header = read_header(stream, head)?;
     let layouts = Layouts::of(&header.sizes);
     let places = place_tables(stream, header.start, &header.sizes, &layouts.lens())?;
-    let rows = &header.sizes.rows;
+    let rows = |table: u8|
+        requires { table < 64 }
+        ensures { result ≡ slice_index header.sizes.rows table }
+    { header.sizes.rows[table as usize] };
     Ok(Tables {
         sizes: header.sizes,
         strings: Strings::new(stream_bytes(root, StreamKind::Strings)),
         guids: Guids::new(stream_bytes(root, StreamKind::Guids)),
         blobs: Blobs::new(stream_bytes(root, StreamKind::Blobs)),
-        documents: Table::at(
-            stream,
-            places[0],
-            rows[DOCUMENT as usize],
-            &layouts.documents,
-        ),
-        methods: Table::at(
-            stream,
-            places[1],
-            rows[METHOD_DEBUG as usize],
-            &layouts.methods,
-        ),
-        scopes: Table::at(
-            stream,
-            places[2],
-            rows[LOCAL_SCOPE as usize],
-            &layouts.scopes,
-        ),
-        variables: Table::at(
-            stream,
-            places[3],
-            rows[LOCAL_VARIABLE as usize],
-            &layouts.variables,
-        ),
-        constants: Table::at(
-            stream,
-            places[4],
-            rows[LOCAL_CONSTANT as usize],
-            &layouts.constants,
-        ),
-        imports: Table::at(
-            stream,
-            places[5],
-            rows[IMPORT_SCOPE as usize],
-            &layouts.imports,
-        ),
-        machines: Table::at(
-            stream,
-            places[6],
-            rows[STATE_MACHINE as usize],
-            &layouts.machines,
-        ),
-        customs: Table::at(stream, places[7], rows[CUSTOM as usize], &layouts.customs),
+        documents: Table::at(stream, places[0], rows(DOCUMENT), &layouts.documents),
+        methods: Table::at(stream, places[1], rows(METHOD_DEBUG), &layouts.methods),
+        scopes: Table::at(stream, places[2], rows(LOCAL_SCOPE), &layouts.scopes),
+        variables: Table::at(stream, places[3], rows(LOCAL_VARIABLE), &layouts.variables),
+        constants: Table::at(stream, places[4], rows(LOCAL_CONSTANT), &layouts.constants),
+        imports: Table::at(stream, places[5], rows(IMPORT_SCOPE), &layouts.imports),
+        machines: Table::at(stream, places[6], rows(STATE_MACHINE), &layouts.machines),
+        customs: Table::at(stream, places[7], rows(CUSTOM), &layouts.customs),
     })
 }

@@ -4,11 +4,12 @@ use Rattle.std.specs.Prelude.{Some, None, slice_get, ◌&&◌, ◌==◌}
 use Rattle.std.specs.List.{filter, enumerate_from}
 use Rattle.std.specs.Option.{option_map}
 use Rattle.std.proofs.lemmas.List.{length-map}
+use Rattle.std.specs.Option.{option_map_or}
 use Rattle.ppdb_tables.specs.RawTables.{numbered, row_at}
 use Rattle.ppdb_values.specs.RawFile.{RawFile}
 use Rattle.ppdb_values.specs.Imports.{import_scope_of}
 use Rattle.ppdb_values.specs.Value.{value_of, scope_of, range_of}
-use Rattle.ppdb_values.specs.Chains.{chain_for, chain_of, link_and}
+use Rattle.ppdb_values.specs.Chains.{chain_for, chain_of}
 use Rattle.ppdb_values.specs.Parts.{scopes_at, import_chain, holds}
 
 numbered_map : {X Y : Type 0} (f : ℕ × X → Y) (n : ℕ) (rows : List X) → enumerate_from n (map f (enumerate_from n rows)) ≡ map (λ row. (row.0, f row))
@@ -45,8 +46,8 @@ pub chain_map : {X Y : Type 0} (f : X → Y) (parent : X → ℕ) (other : Y →
 unfolding chain_for
 chain_map f parent other same zero xs row = refl
 chain_map f parent other same (suc most) xs row =
-    rw (row_map f xs row) (elim (row_at xs row) as (λ o. link_and other (λ next. chain_for other (map f xs) most next) row (option_map f o)
-    ≡ map (λ link. (link.0, f link.1)) (link_and parent (λ next. chain_for parent xs most next) row o)) [
+    rw (row_map f xs row) (elim (row_at xs row) as (λ o. option_map_or (λ link. (row, link) ∷ chain_for other (map f xs) most (other link)) (option_map f o) []
+    ≡ map (λ link. (link.0, f link.1)) (option_map_or (λ link. (row, link) ∷ chain_for parent xs most (parent link)) o [])) [
       | Some x ↦ ap (λ rest. (row, f x) ∷ rest) (ap (chain_for other (map f xs) most) (same x) ∙ chain_map f parent other same most xs (parent x))
       | None ↦ refl
     ])

@@ -1,16 +1,12 @@
 -- Chains of rows, each the parent of the one before it (Portable PDB v1.0, "ImportScope Table": Parent).
-use Rattle.std.specs.Prelude.{◌≡◌, ℕ, zero, suc, ◌≤◌, List, [], ◌∷◌, length, Option, Some, None}
+use Rattle.std.specs.{Prelude.{◌≡◌, ℕ, zero, suc, ◌≤◌, List, [], ◌∷◌, length}, Option.option_map_or}
 use Rattle.ppdb_tables.specs.RawTables.{row_at}
 pub use Rattle.ppdb_tables.specs.Chains.{parent_at, ancestor_of, NeverEnds}
-
-abbrev pub link_and : {X : Type 0} → (X → ℕ) → (ℕ → List (ℕ × X)) → ℕ → Option X → List (ℕ × X)
-link_and parent goes_on row None = []
-link_and parent goes_on row (Some link) = (row, link) ∷ goes_on (parent link)
 
 -- a row, its parent, and so on, at most so many; the chain ends at 0
 unfoldable pub chain_for : {X : Type 0} → (X → ℕ) → List X → ℕ → ℕ → List (ℕ × X)
 chain_for parent rows zero row = []
-chain_for parent rows (suc most) row = link_and parent (λ next. chain_for parent rows most next) row (row_at rows row)
+chain_for parent rows (suc most) row = option_map_or (λ link. (row, link) ∷ chain_for parent rows most (parent link)) (row_at rows row) []
 
 -- The chain from a row: the row, its parent, and so on. One that ends has no row twice, and so no more links than there are rows.
 abbrev pub chain_of : {X : Type 0} → (X → ℕ) → List X → ℕ → List (ℕ × X)

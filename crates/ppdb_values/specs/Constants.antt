@@ -9,7 +9,7 @@ body_value (enumerated code value target) = Enumerated code value target
 body_value (general code target rest) = General code target rest
 body_value object = Object
 
--- A constant: its modifiers are the records of its signature, its body is what follows them. In a valid file a body does.
+-- A constant: its modifiers are the records of its signature, its body is what follows them. In a valid file what follows them is a body.
 abbrev pub constant_of : RawTables → ConstantRow → ConstantValue
 constant_of raw row = record {
   name = text raw row.name;

@@ -23,11 +23,8 @@ custom_body raw DocumentsKind content = TypeDocuments (records_of (type_document
 custom_body raw _ content = Unread content
 
 -- In a valid file the tag of the coded parent has a table.
-abbrev pub no_parent : Parent
-no_parent = record { table = 0; row = 0 }
-
 abbrev pub parent_of : ℕ → Parent
-parent_of coded = unwrap_or (parent_in coded) no_parent
+parent_of coded = unwrap_or (parent_in coded) (record { table = 0; row = 0 })
 
 -- In a valid file the kind is a GUID that is there.
 abbrev pub kind_in : RawTables → CustomRow → List ℕ

@@ -3,7 +3,7 @@
 use Rattle.ppdb_values.specs.Names.{enumerate_from, Point, Span, Range, Slot, Empty, Held, row_at}
 use Rattle.std.specs.Prelude.{map, ℕ, length, if◌then◌else◌, List, Option, Some, None, option_map, filter_map, flat_map}
 use Rattle.ppdb_values.specs.{declared.file.{DocumentValue.DocumentValue, FileValue.FileValue}, declared.scope.{ScopeValue.ScopeValue, VariableValue.VariableValue, ConstantValue.ConstantValue}}
-use Rattle.ppdb_values.specs.{declared.import.{ImportScopeValue.ImportScopeValue, ImportValue.ImportValue}, declared.custom.CustomValue.CustomValue, declared.annotation.Custom.Custom}
+use Rattle.ppdb_values.specs.{declared.import.{ImportValue.ImportValue}, declared.custom.CustomValue.CustomValue, declared.annotation.Custom.Custom}
 use Rattle.ppdb_values.specs.{declared.annotation.Annotation.Annotation, Parts.{points_of, signature_of, last_point, holds, scopes_at, first_item, import_chain, customs_on, hoisted_of}}
 
 -- A sequence point, with its document and the method's local signature. In a valid file the document is there.
@@ -50,17 +50,13 @@ annotated_on value table row = map without_parent (customs_on value table row)
 abbrev pub annotated_from : {X : Type 0} → FileValue → ℕ → ℕ → List X → List (Annotation X)
 annotated_from value table first items = map (λ item. record { item = item.1; customs = annotated_on value table item.0 }) (enumerate_from first items)
 
--- an import scope of a chain: what it imports
-abbrev pub import_meaning : FileValue → ℕ × ImportScopeValue → Annotation (List ImportValue)
-import_meaning value link = record { item = link.1.imports; customs = annotated_on value 0x35 link.0 }
-
 abbrev pub scope_meaning : FileValue → ℕ × ScopeValue → ScopeMeaning
 scope_meaning value scope = record {
   range = scope.1.range;
   customs = annotated_on value 0x32 scope.0;
   variables = annotated_from value 0x33 (first_item (λ before. length before.variables) value scope.0) scope.1.variables;
   constants = annotated_from value 0x34 (first_item (λ before. length before.constants) value scope.0) scope.1.constants;
-  imports = map (import_meaning value) (import_chain value scope.1.import);
+  imports = map (λ link. record { item = link.1.imports; customs = annotated_on value 0x35 link.0 }) (import_chain value scope.1.import);
 }
 
 -- ---- the hoisted locals

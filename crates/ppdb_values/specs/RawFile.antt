@@ -34,7 +34,7 @@ guid raw number = guid_at raw.guids number
 unfoldable pub records_of : {R : Type 0} → Grammar R → List ℕ → List R
 records_of g blob = (cut g (prefix_of g blob)).whole
 
--- the values that follow the last of them in that prefix
+-- the values of the blob's longest valid prefix that follow its last whole record
 unfoldable pub begun_of : {R : Type 0} → Grammar R → List ℕ → List Value
 begun_of g blob = (cut g (prefix_of g blob)).begun
 

@@ -2,6 +2,7 @@
 use Rattle.std.proofs.Common.{◌≡◌, ℕ, zero, suc, List, [], ◌∷◌, length, map, refl, ap, ◌∙◌, subst, arith}
 use Rattle.std.specs.Prelude.{Option, Some, None, unwrap_or}
 use Rattle.std.specs.Option.{option_map}
+use Rattle.std.specs.Option.{option_map_or}
 use Rattle.type_blobs.specs.declared.types.TypeLimits.{TypeLimits}
 use Rattle.type_blobs.specs.Imports.{ImportItem, namespace, assembly_namespace, target, xml, alias, assembly_alias, namespace_alias}
 use Rattle.type_blobs.specs.Imports.{assembly_namespace_alias, target_alias}
@@ -9,7 +10,7 @@ use Rattle.ppdb_tables.specs.declared.rows.ImportRow.{ImportRow}
 use Rattle.ppdb_tables.specs.RawTables.{row_at}
 use Rattle.ppdb_values.specs.declared.file.FileValue.{FileValue}
 use Rattle.ppdb_values.specs.declared.import.ImportScopeValue.{ImportScopeValue}
-use Rattle.ppdb_values.specs.Chains.{NeverEnds, ancestor_of, parent_at, chain_for, chain_of, link_and}
+use Rattle.ppdb_values.specs.Chains.{NeverEnds, ancestor_of, parent_at, chain_for, chain_of}
 use Rattle.ppdb_values.specs.Imports.{import_value, import_scope_of, heap_of}
 use Rattle.ppdb_values.specs.RawFile.{RawFile, blob, type_limits as raw_limits}
 use Rattle.ppdb_values.specs.Rules.{KeepsRules, IsImport}
@@ -43,7 +44,7 @@ module _ {X : Type 0} (parent : X → ℕ) (rows : List X) where
 
   long_link : (row most : ℕ) (o : Option X) → row_at rows row ≡ o → NeverEnds (parent_at parent rows) row
       → ((next : ℕ) → NeverEnds (parent_at parent rows) next → length (chain_for parent rows most next) ≡ most)
-      → length (link_and parent (λ next. chain_for parent rows most next) row o) ≡ suc most
+      → length (option_map_or (λ link. (row, link) ∷ chain_for parent rows most (parent link)) o []) ≡ suc most
   long_link row most None here never again = absurd (never_none row None here never refl)
   long_link row most (Some x) here never again =
       let next : parent_at parent rows row ≡ parent x = ap (λ (o : Option X). unwrap_or (option_map parent o) 0) here in

@@ -11,10 +11,10 @@ use Rattle.ppdb_base.specs.Place.{at_byte}
 use Rattle.ppdb_base.proofs.Fields.{sum_append, sum_cons}
 use Rattle.metadata_root.specs.declared.kind.StreamKind.TheVariants.{Tables}
 use Rattle.metadata_root.specs.Streams.{Streams, bytes_of}
-use Rattle.ppdb_tables.specs.Counts.{count_fields, counts_below}
+use Rattle.ppdb_tables.specs.Counts.{count_fields, counts_below, count_place}
 use Rattle.ppdb_tables.specs.declared.head.PdbHead.{PdbHead}
 use Rattle.ppdb_tables.specs.RawTables.{count}
-use Rattle.ppdb_tables.specs.Tables.{TableFieldFaults, TablesFaults, count_in, table_count_place, table_fields, table_rows, tables_in, valid}
+use Rattle.ppdb_tables.specs.Tables.{TableFieldFaults, TablesFaults, count_in, table_fields, table_rows, tables_in, valid}
 use Rattle.ppdb_tables.specs.Tables.TableFieldFaults.{short, method_rows}
 use Rattle.ppdb_verify.proofs.Fitting.{fields_fit}
 
@@ -37,7 +37,7 @@ not_set : (bits table : ℕ) → bit_at bits table ≢ 1 → (bit_at bits table 
 not_set bits table apart = grind (arith, nat_tests, apart)
 
 module _ (methods : ℕ) (stream : List ℕ) (accepted : IsAccepted (TableFieldFaults methods stream)) where
-  place_within : (table : ℕ) → table ≤ 64 → table_count_place stream table ≤ length stream
+  place_within : (table : ℕ) → table ≤ 64 → count_place 24 (valid stream) table ≤ length stream
   place_within table le =
       let fit = fields_fit (table_fields stream) (length stream) (λ at len is from past. accepted TablesShort (at_byte 4 at) (short at len is from past)) in
       let parts = sum_append (4 ∷ 1 ∷ 1 ∷ 1 ∷ 1 ∷ 8 ∷ 8 ∷ []) (count_fields (valid stream)) in
@@ -49,7 +49,7 @@ module _ (methods : ℕ) (stream : List ℕ) (accepted : IsAccepted (TableFieldF
   method_rows_fit some = elim (cases_eq (bit_at (valid stream) 0x31) 1) [
     | inl set ↦ elim (cases_eq (table_rows stream 0x31) methods) [
       | inl same ↦ same
-      | inr other ↦ absurd (accepted MethodRows (at_byte 4 (table_count_place stream 0x31)) (method_rows set (place_within 0x31 (omega arith)) some other))
+      | inr other ↦ absurd (accepted MethodRows (at_byte 4 (count_place 24 (valid stream) 0x31)) (method_rows set (place_within 0x31 (omega arith)) some other))
     ]
     | inr clear ↦ absurd (some (rw (not_set (valid stream) 0x31 clear) refl))
   ]

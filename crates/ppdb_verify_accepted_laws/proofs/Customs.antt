@@ -23,7 +23,7 @@ use Rattle.ppdb_verify_rules.specs.Customs.{IsOfKind, ReadsValue, parent_table}
 use Rattle.ppdb_verify_rules.specs.Rows.{RowFaults, CustomFault}
 use Rattle.ppdb_verify_rules.specs.Rows.RowFaults.{in_custom}
 use Rattle.ppdb_verify_rules.specs.Rows.CustomFault.{no_parent, no_tag, out_of_order, no_kind, other_parent, no_value, invalid_value}
-use Rattle.ppdb_values.specs.Customs.{kind_in, no_parent as nothing, parent_of}
+use Rattle.ppdb_values.specs.Customs.{kind_in, parent_of}
 use Rattle.ppdb_values.specs.RawFile.{blob}
 use Rattle.ppdb_values.specs.Rules.{HasBlob, HasRow, IsCustom, IsWholeOfKind, KeepsCustoms, StandsOn}
 use Rattle.ppdb_verify_accepted_laws.proofs.Items.{blob_there, is_there, row_named, whole}
@@ -36,9 +36,9 @@ with_row row o = option_map (λ (table : ℕ). record { table = table; row = row
 
 -- a tag has a table, and the parent is the row of that table
 record IsParent (o : Option ℕ) (row : ℕ) : Type 0 where
-  there : with_row row o ≡ Some (unwrap_or (with_row row o) nothing)
-  table_is : o ≡ Some (unwrap_or (with_row row o) nothing).table
-  row_is : (unwrap_or (with_row row o) nothing).row ≡ row
+  there : with_row row o ≡ Some (unwrap_or (with_row row o) (record { table = 0; row = 0 }))
+  table_is : o ≡ Some (unwrap_or (with_row row o) (record { table = 0; row = 0 })).table
+  row_is : (unwrap_or (with_row row o) (record { table = 0; row = 0 })).row ≡ row
 
 parent_is : (o : Option ℕ) (row : ℕ) → (o ≡ None → ⊥) → IsParent o row
 parent_is None row none = absurd (none refl)

@@ -9,7 +9,7 @@ use Rattle.ppdb_tables.specs.RawTables.{RawTables, count, row_at}
 use Rattle.ppdb_verify_rules.specs.Rows.{RowFaults, ScopeFault}
 use Rattle.ppdb_verify_rules.specs.Rows.RowFaults.{in_scope}
 use Rattle.ppdb_verify_rules.specs.Rows.ScopeFault.{no_method, out_of_order, no_import, crossing, no_range}
-use Rattle.ppdb_verify_rules.specs.Scopes.{Crosses, IsAbove, extent_of}
+use Rattle.ppdb_verify_rules.specs.Scopes.{AreCrossed, IsAbove}
 use Rattle.ppdb_values.specs.Ranges.{ComesAfter, IsInOrAfter}
 use Rattle.ppdb_values.specs.Rules.{IsScope, KeepsScopes}
 use Rattle.ppdb_values.specs.Value.{range_of}
@@ -23,11 +23,12 @@ not_before x y after = elim after [
 ]
 
 -- an earlier scope that ends in a later one
-crosses : (x y : ScopeRow) → ComesAfter (range_of x) (range_of y) → y.start < x.start + x.length → x.start + x.length < y.start + y.length
-    → Crosses (extent_of x) (extent_of y)
-crosses x y after meets past =
+crosses : (x y : ScopeRow) → x.method ≡ y.method → ComesAfter (range_of x) (range_of y) → y.start < x.start + x.length → x.start + x.length < y.start + y.length
+    → AreCrossed x y
+crosses x y same_method after meets past =
     let up = not_before x y after in
     record {
+      one_method = same_method;
       shared = y.start;
       in_both = ((up, meets), (omega arith, omega (arith, meets, past)));
       first = λ all. let in_x = (all (x.start + x.length) (omega (arith, meets), past)).1 in omega (arith, in_x);
@@ -53,7 +54,7 @@ module _ (raw : RawTables) (accepted : IsAccepted (RowFaults raw)) where
     }
 
   module _ (a b : ℕ) (x y : ScopeRow) (hx : row_at raw.scopes a ≡ Some x) (hy : row_at raw.scopes b ≡ Some y) (less : a < b) where
-    not_above : IsAbove (extent_of x) (extent_of y) → ⊥
+    not_above : IsAbove x y → ⊥
     not_above above = no_fault b y hy (out_of_order (record { before = a; earlier = x; there = hx; sooner = less; forbidden = above }))
 
     method_up : x.method ≤ y.method
@@ -83,7 +84,7 @@ module _ (raw : RawTables) (accepted : IsAccepted (RowFaults raw)) where
     in_or_after same = elim (cases_lt (x.start + x.length) (y.start + y.length)) [
       | inl past ↦ elim (cases_lt y.start (x.start + x.length)) [
         | inl meets ↦ absurd (no_fault b y hy (crossing
-            (record { before = a; earlier = x; there = hx; sooner = less; forbidden = (same, crosses x y (comes_after same) meets past) })))
+            (record { before = a; earlier = x; there = hx; sooner = less; forbidden = crosses x y same (comes_after same) meets past })))
         | inr after ↦ inr after
       ]
       | inr within ↦ inl within

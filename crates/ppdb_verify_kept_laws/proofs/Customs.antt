@@ -18,7 +18,7 @@ use Rattle.ppdb_verify_rules.specs.Customs.{HasInvalidValue, HasNoParent, HasOth
 use Rattle.ppdb_verify_rules.specs.Earlier.{HasEarlier}
 use Rattle.ppdb_verify_rules.specs.Rows.{CustomFault}
 use Rattle.ppdb_verify_rules.specs.Rows.CustomFault.{no_parent, no_tag, out_of_order, no_kind, other_parent, no_value, invalid_value}
-use Rattle.ppdb_values.specs.Customs.{kind_in, no_parent as nothing, parent_of}
+use Rattle.ppdb_values.specs.Customs.{kind_in, parent_of}
 use Rattle.ppdb_values.specs.RawFile.{blob}
 use Rattle.ppdb_values.specs.Rules.{HasRow, IsCustom, IsWholeOfKind, KeepsCustoms, StandsOn}
 use Rattle.ppdb_verify_kept_laws.proofs.Items.{parent_named, row_named, tag_there, there_itself}
@@ -30,7 +30,7 @@ use Rattle.ppdb_verify_kept_laws.proofs.Whole.{no_fault}
 abbrev with_row : ℕ → Option ℕ → Option Parent
 with_row row o = option_map (λ (table : ℕ). record { table = table; row = row }) o
 
-table_named : (o : Option ℕ) (row : ℕ) → with_row row o ≡ Some (unwrap_or (with_row row o) nothing) → o ≡ Some (unwrap_or (with_row row o) nothing).table
+table_named : (o : Option ℕ) (row : ℕ) → with_row row o ≡ Some (unwrap_or (with_row row o) (record { table = 0; row = 0 })) → o ≡ Some (unwrap_or (with_row row o) (record { table = 0; row = 0 })).table
 table_named None row is = cc
 table_named (Some table) row is = refl
 

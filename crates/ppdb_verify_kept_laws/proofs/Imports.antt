@@ -1,7 +1,7 @@
 -- The import scopes of a file that keeps the rules are not at fault.
-use Rattle.std.proofs.Common.{◌≡◌, ℕ, zero, suc, List, length, refl, ap, subst, arith}
+use Rattle.std.proofs.Common.{◌≡◌, ℕ, zero, suc, List, [], ◌∷◌, length, refl, ap, subst, arith}
 use Rattle.std.specs.Prelude.{Option, Some, None, unwrap_or}
-use Rattle.std.specs.Option.{option_map}
+use Rattle.std.specs.Option.{option_map, option_map_or}
 use Rattle.ppdb_base.specs.declared.code.Code.{Code}
 use Rattle.ppdb_tables.specs.declared.rows.ImportRow.{ImportRow}
 use Rattle.ppdb_tables.specs.RawTables.{RawTables, count, row_at}
@@ -9,7 +9,7 @@ use Rattle.ppdb_tables.proofs.NumberedRows.{row_within}
 use Rattle.type_blobs.specs.Imports.{imports as import_grammar}
 use Rattle.ppdb_verify_rules.specs.Rows.{ImportFault}
 use Rattle.ppdb_verify_rules.specs.Rows.ImportFault.{no_parent, cycle, no_list, invalid_list}
-use Rattle.ppdb_values.specs.Chains.{NeverEnds as GoesOn, ancestor_of, chain_for, link_and, parent_at}
+use Rattle.ppdb_values.specs.Chains.{NeverEnds as GoesOn, ancestor_of, chain_for, parent_at}
 use Rattle.ppdb_values.specs.Imports.{heap_of}
 use Rattle.ppdb_values.specs.RawFile.{type_limits}
 use Rattle.ppdb_values.specs.Rules.{IsImport, KeepsImports}
@@ -21,7 +21,7 @@ use Rattle.ppdb_verify_kept_laws.proofs.Whole.{no_fault_there}
 module _ {X : Type 0} (parent : X → ℕ) (rows : List X) where
   linked : (most row : ℕ) (o : Option X) → row_at rows row ≡ o → GoesOn (parent_at parent rows) row
       → ((x : X) → row_at rows row ≡ Some x → length (chain_for parent rows most (parent x)) ≡ most)
-      → length (link_and parent (λ next. chain_for parent rows most next) row o) ≡ suc most
+      → length (option_map_or (λ link. (row, link) ∷ chain_for parent rows most (parent link)) o []) ≡ suc most
   linked most row None past never again = absurd (never 1 (ap (λ (o : Option X). unwrap_or (option_map parent o) 0) past))
   linked most row (Some x) here never again = ap suc (again x here)
 

@@ -10,7 +10,7 @@ use Rattle.ppdb_tables.specs.RawTables.{RawTables}
 use Rattle.row_layout.specs.Columns.{parent_tables}
 use Rattle.ppdb_verify_rules.specs.Blobs.{NamesNoGuid}
 use Rattle.ppdb_verify_rules.specs.Earlier.{NamesNoRow}
-use Rattle.ppdb_values.specs.Customs.{no_parent, parent_of}
+use Rattle.ppdb_values.specs.Customs.{parent_of}
 use Rattle.ppdb_values.specs.Rules.{HasGuidOrNone}
 
 -- ---- GUIDs
@@ -38,7 +38,7 @@ abbrev with_row : ℕ → ℕ → Parent
 with_row row table = record { table = table; row = row }
 
 pub parent_named : (coded table : ℕ) → slice_get parent_tables (coded % 32) ≡ Some table → parent_of coded ≡ with_row (coded / 32) table
-parent_named coded table named = ap (λ (o : Option ℕ). unwrap_or (option_map (with_row (coded / 32)) o) no_parent) named
+parent_named coded table named = ap (λ (o : Option ℕ). unwrap_or (option_map (with_row (coded / 32)) o) (record { table = 0; row = 0 })) named
 
 -- a tag that has a table is at most 26
 low_tag : (coded : ℕ) (o : Option ℕ) (parent : Parent) → slice_get parent_tables (coded % 32) ≡ o → option_map (with_row (coded / 32)) o ≡ Some parent

@@ -7,7 +7,7 @@ use Rattle.ppdb_tables.specs.RawTables.{RawTables, HasShape, count, row_at}
 use Rattle.ppdb_verify_rules.specs.Earlier.{HasEarlier}
 use Rattle.ppdb_verify_rules.specs.Rows.{ScopeFault}
 use Rattle.ppdb_verify_rules.specs.Rows.ScopeFault.{no_method, out_of_order, no_import, no_variables, no_constants, crossing, no_range}
-use Rattle.ppdb_verify_rules.specs.Scopes.{AreCrossed, Crosses, HasNoRange, IsAbove, IsListOut, extent_of}
+use Rattle.ppdb_verify_rules.specs.Scopes.{AreCrossed, HasNoRange, IsAbove, IsListOut}
 use Rattle.ppdb_values.specs.Ranges.{ComesAfter, IsInOrAfter}
 use Rattle.ppdb_values.specs.Rules.{IsScope, KeepsConstants, KeepsScopes, KeepsVariables}
 use Rattle.ppdb_values.specs.Value.{range_of}
@@ -24,7 +24,7 @@ not_above x y (inr within) =
     let shorter = within.1 in
     (λ below. omega (arith, same, below), λ again longer. omega (arith, shorter, longer))
 
-in_order : (x y : ScopeRow) → x.method ≤ y.method → (x.method ≡ y.method → ComesAfter (range_of x) (range_of y)) → IsAbove (extent_of x) (extent_of y) → ⊥
+in_order : (x y : ScopeRow) → x.method ≤ y.method → (x.method ≡ y.method → ComesAfter (range_of x) (range_of y)) → IsAbove x y → ⊥
 in_order x y up after (inl below) = omega (arith, up, below)
 in_order x y up after (inr (same, inl below)) = (not_above x y (after (sym same))).0 below
 in_order x y up after (inr (same, inr longer)) = (not_above x y (after (sym same))).1 longer.0 longer.1
@@ -34,7 +34,7 @@ from_start x y (inl later) = omega (arith, later)
 from_start x y (inr within) = let same = within.0 in omega (arith, same)
 
 -- a scope that lies in another one, or after it, does not cross it
-apart : (x y : ScopeRow) → x.start ≤ y.start → IsInOrAfter (range_of x) (range_of y) → Crosses (extent_of x) (extent_of y) → ⊥
+apart : (x y : ScopeRow) → x.start ≤ y.start → IsInOrAfter (range_of x) (range_of y) → AreCrossed x y → ⊥
 apart x y from (inl within) crosses =
     crosses.first (λ offset covered.
     let low = covered.0 in
@@ -42,7 +42,7 @@ apart x y from (inl within) crosses =
     (omega (arith, from, low), omega (arith, within, high)))
 apart x y from (inr after) crosses = let high = crosses.in_both.0.1 in let low = crosses.in_both.1.0 in omega (arith, after, high, low)
 
-ranged : (raw : RawTables) (x : ScopeRow) → IsScope raw x → HasNoRange (extent_of x) → ⊥
+ranged : (raw : RawTables) (x : ScopeRow) → IsScope raw x → HasNoRange x → ⊥
 ranged raw x is (inl none) = let some = is.not_empty in omega (arith, some, none)
 ranged raw x is (inr late) = let end = is.end in omega (arith, end, late)
 
@@ -50,7 +50,7 @@ module _ (raw : RawTables) (keeps : KeepsScopes raw) (row : ℕ) (x : ScopeRow) 
   is : IsScope raw x
   is = keeps.each row x here
 
-  none_above : HasEarlier (λ _ (e : ScopeRow). IsAbove (extent_of e) (extent_of x)) raw.scopes row → ⊥
+  none_above : HasEarlier (λ _ (e : ScopeRow). IsAbove e x) raw.scopes row → ⊥
   none_above earlier =
       let e = earlier.earlier in
       let sooner = earlier.sooner in
@@ -59,14 +59,14 @@ module _ (raw : RawTables) (keeps : KeepsScopes raw) (row : ℕ) (x : ScopeRow) 
       (keeps.by_start earlier.before row e x earlier.there here sooner)
       earlier.forbidden
 
-  none_crossed : HasEarlier (λ _ (e : ScopeRow). AreCrossed (extent_of e) (extent_of x)) raw.scopes row → ⊥
+  none_crossed : HasEarlier (λ _ (e : ScopeRow). AreCrossed e x) raw.scopes row → ⊥
   none_crossed earlier =
       let e = earlier.earlier in
       let crossed = earlier.forbidden in
       apart e x
-      (from_start e x (keeps.by_start earlier.before row e x earlier.there here earlier.sooner crossed.0))
-      (keeps.nested earlier.before row e x earlier.there here earlier.sooner crossed.0)
-      crossed.1
+      (from_start e x (keeps.by_start earlier.before row e x earlier.there here earlier.sooner crossed.one_method))
+      (keeps.nested earlier.before row e x earlier.there here earlier.sooner crossed.one_method)
+      crossed
 
   pub no_scope_fault : HasShape raw → KeepsVariables raw → KeepsConstants raw → (column byte : ℕ) (code : Code) → ScopeFault raw row x column byte code → ⊥
   no_scope_fault _ _ _ _ _ _ (no_method none) = row_named 1 (count raw 0x06) x.method is.method none

@@ -16,38 +16,36 @@ use Rattle.ppdb_verify_rules.specs.Judged.{ToCell}
 use Rattle.ppdb_verify_rules.specs.Open.{AreOpen, EndsThere}
 use Rattle.ppdb_verify_rules.specs.Rows.RowFaults.{in_scope}
 use Rattle.ppdb_verify_rules.specs.Rows.ScopeFault.{out_of_order, crossing as scope_crossing, no_range}
-use Rattle.ppdb_verify_rules.specs.Scopes.{AreCrossed, Covers, Crosses, IsAbove, extent_of}
+use Rattle.ppdb_verify_rules.specs.Scopes.{AreCrossed, Covers, IsAbove, scope_end}
 use Rattle.ppdb_tables.proofs.NumberedRows.{same_row}
 use Rattle.ppdb_verify_rules.proofs.Order.{scopes_in_order}
 
-abbrev end_of : ScopeRow → ℕ
-end_of scope = scope.start + scope.length
-
 abbrev CrossesEarlier : List ScopeRow → ℕ → ScopeRow → Type 0
-CrossesEarlier scopes row scope = HasEarlier (λ _ (e : ScopeRow). AreCrossed (extent_of e) (extent_of scope)) scopes row
+CrossesEarlier scopes row scope = HasEarlier (λ _ (e : ScopeRow). AreCrossed e scope) scopes row
 
 -- past its method, a scope is below no earlier one
 pub not_below : (raw : RawTables) (row i c : ℕ) (x scope : ScopeRow) → ToCell raw 0x32 row (c + 1)
-    → row_at raw.scopes row ≡ Some scope → row_at raw.scopes i ≡ Some x → i < row → IsAbove (extent_of x) (extent_of scope) → ⊥
+    → row_at raw.scopes row ≡ Some scope → row_at raw.scopes i ≡ Some x → i < row → IsAbove x scope → ⊥
 not_below raw row i c x scope clear here there sooner above =
     clear ScopeOrder (cell 0x32 row 0)
     (in_scope here (out_of_order (record { before = i; earlier = x; there = there; sooner = sooner; forbidden = above })))
     (inr (refl, inr (refl, inr (refl, inl (omega arith)))))
 
-cross : (a b : ScopeRow) → (IsAbove (extent_of a) (extent_of b) → ⊥) → a.method ≡ b.method → a.start ≤ b.start → b.start < end_of a → end_of a < end_of b
-    → Crosses (extent_of a) (extent_of b)
+cross : (a b : ScopeRow) → (IsAbove a b → ⊥) → a.method ≡ b.method → a.start ≤ b.start → b.start < scope_end a → scope_end a < scope_end b
+    → AreCrossed a b
 cross a b not_above same begun later longer = record {
+  one_method = same;
   shared = b.start;
   in_both = ((begun, later), (omega arith, omega arith));
-  first = λ all. let x : Covers (extent_of a) (end_of a) = all (end_of a) (omega arith, longer) in omega (arith, x.1);
+  first = λ all. let x : Covers a (scope_end a) = all (scope_end a) (omega arith, longer) in omega (arith, x.1);
   second =
-      λ all. let x : Covers (extent_of b) a.start = all a.start (omega arith, omega arith) in not_above (let from : b.start ≤ a.start = x.0 in grind arith);
+      λ all. let x : Covers b a.start = all a.start (omega arith, omega arith) in not_above (let from : b.start ≤ a.start = x.0 in grind arith);
 }
 
 -- an opened scope that ends before this one does crosses it
 pub crossing_at : (raw : RawTables) (row : ℕ) (scope : ScopeRow) (ends : List ℕ) (k : ℕ)
     → row_at raw.scopes row ≡ Some scope → ToCell raw 0x32 row 4 → AreOpen raw.scopes row scope.method scope.start ends
-    → k < length ends → get_or ends k 0 < end_of scope
+    → k < length ends → get_or ends k 0 < scope_end scope
     → CrossesEarlier raw.scopes row scope
 crossing_at raw row scope ends k here clear opened within longer =
     let e : EndsThere raw.scopes row scope.method (get_or ends k 0) = opened.each k within in
@@ -56,27 +54,23 @@ crossing_at raw row scope ends k here clear opened within longer =
       earlier = e.earlier;
       there = e.there;
       sooner = e.sooner;
-      forbidden = (
-        e.forbidden.0,
-        cross e.earlier scope (not_below raw row e.before 3 e.earlier scope clear here e.there e.sooner) e.forbidden.0
-            (opened.begun e.before e.earlier e.there e.sooner e.forbidden.0) (rw e.forbidden.1 (opened.later k within)) (rw e.forbidden.1 longer),
-      );
+      forbidden = cross e.earlier scope (not_below raw row e.before 3 e.earlier scope clear here e.there e.sooner) e.forbidden.0
+          (opened.begun e.before e.earlier e.there e.sooner e.forbidden.0) (rw e.forbidden.1 (opened.later k within)) (rw e.forbidden.1 longer);
     }
 
 -- where each opened scope ends no sooner than this one, none crosses it
 pub none_crosses : (scopes : List ScopeRow) (row : ℕ) (scope : ScopeRow) (ends : List ℕ)
     → AreOpen scopes row scope.method scope.start ends
-    → ((k : ℕ) → k < length ends → end_of scope ≤ get_or ends k 0)
+    → ((k : ℕ) → k < length ends → scope_end scope ≤ get_or ends k 0)
     → CrossesEarlier scopes row scope → ⊥
 none_crosses scopes row scope ends opened longer crossing =
-    let begun : crossing.earlier.start ≤ scope.start = opened.begun crossing.before crossing.earlier crossing.there crossing.sooner crossing.forbidden.0 in
-    let both : Covers (extent_of crossing.earlier) crossing.forbidden.1.shared × Covers (extent_of scope) crossing.forbidden.1.shared =
-    crossing.forbidden.1.in_both in
-    elim (opened.others crossing.before crossing.earlier crossing.there crossing.sooner crossing.forbidden.0) [
+    let begun : crossing.earlier.start ≤ scope.start = opened.begun crossing.before crossing.earlier crossing.there crossing.sooner crossing.forbidden.one_method in
+    let both : Covers crossing.earlier crossing.forbidden.shared × Covers scope crossing.forbidden.shared = crossing.forbidden.in_both in
+    elim (opened.others crossing.before crossing.earlier crossing.there crossing.sooner crossing.forbidden.one_method) [
       | inl over ↦ omega (arith, both.0.1, both.1.0)
       | inr k ↦
-          let reaches : end_of scope ≤ end_of crossing.earlier = rw (← k.2) (longer k.0 k.1) in
-          crossing.forbidden.1.first (λ offset inside. (omega (arith, inside.0), omega (arith, inside.1)))
+          let reaches : scope_end scope ≤ scope_end crossing.earlier = rw (← k.2) (longer k.0 k.1) in
+          crossing.forbidden.first (λ offset inside. (omega (arith, inside.0), omega (arith, inside.1)))
     ]
 
 -- closing what ends by the offset leaves what is opened there
@@ -123,15 +117,15 @@ none_open scopes row method start none = record {
 -- a scope that no earlier one crosses is the innermost of the open ones
 pub open_pushed : (scopes : List ScopeRow) (row : ℕ) (scope : ScopeRow) (ends : List ℕ)
     → row_at scopes row ≡ Some scope → AreOpen scopes row scope.method scope.start ends
-    → ((k : ℕ) → k < length ends → end_of scope ≤ get_or ends k 0)
+    → ((k : ℕ) → k < length ends → scope_end scope ≤ get_or ends k 0)
     → 0 < scope.length
-    → AreOpen scopes (row + 1) scope.method scope.start (ends ++ end_of scope ∷ [])
+    → AreOpen scopes (row + 1) scope.method scope.start (ends ++ scope_end scope ∷ [])
 open_pushed scopes row scope ends here opened longer some = record {
   each = λ k within. elim (cases_lt k (length ends)) [
-    | inl lt ↦ rw (get_or-append ends (end_of scope ∷ []) 0 k lt) (let e : EndsThere scopes row scope.method (get_or ends k 0) = opened.each k lt in
+    | inl lt ↦ rw (get_or-append ends (scope_end scope ∷ []) 0 k lt) (let e : EndsThere scopes row scope.method (get_or ends k 0) = opened.each k lt in
         record { before = e.before; earlier = e.earlier; there = e.there; sooner = let s : e.before < row = e.sooner in omega arith; forbidden = e.forbidden })
-    | inr ge ↦ let same : k ≡ length ends = omega (arith, within, length-append ends (end_of scope ∷ [])) in
-        rw (same, get_or-append_seam ends (end_of scope) [] 0) (record {
+    | inr ge ↦ let same : k ≡ length ends = omega (arith, within, length-append ends (scope_end scope ∷ [])) in
+        rw (same, get_or-append_seam ends (scope_end scope) [] 0) (record {
           before = row;
           earlier = scope;
           there = here;
@@ -140,17 +134,17 @@ open_pushed scopes row scope ends here opened longer some = record {
         })
   ];
   nested = λ j k le within. elim (cases_lt k (length ends)) [
-    | inl lt ↦ rw (get_or-append ends (end_of scope ∷ []) 0 k lt, get_or-append ends (end_of scope ∷ []) 0 j (omega arith)) (opened.nested j k le lt)
-    | inr ge ↦ let same : k ≡ length ends = omega (arith, within, length-append ends (end_of scope ∷ [])) in
-        rw (same, get_or-append_seam ends (end_of scope) [] 0) (elim (cases_lt j (length ends)) [
-          | inl lt ↦ rw (get_or-append ends (end_of scope ∷ []) 0 j lt) (longer j lt)
-          | inr also ↦ let e : j ≡ length ends = omega arith in rw (e, get_or-append_seam ends (end_of scope) [] 0) (omega arith)
+    | inl lt ↦ rw (get_or-append ends (scope_end scope ∷ []) 0 k lt, get_or-append ends (scope_end scope ∷ []) 0 j (omega arith)) (opened.nested j k le lt)
+    | inr ge ↦ let same : k ≡ length ends = omega (arith, within, length-append ends (scope_end scope ∷ [])) in
+        rw (same, get_or-append_seam ends (scope_end scope) [] 0) (elim (cases_lt j (length ends)) [
+          | inl lt ↦ rw (get_or-append ends (scope_end scope ∷ []) 0 j lt) (longer j lt)
+          | inr also ↦ let e : j ≡ length ends = omega arith in rw (e, get_or-append_seam ends (scope_end scope) [] 0) (omega arith)
         ])
   ];
   later = λ k within. elim (cases_lt k (length ends)) [
-    | inl lt ↦ rw (get_or-append ends (end_of scope ∷ []) 0 k lt) (opened.later k lt)
-    | inr ge ↦ let same : k ≡ length ends = omega (arith, within, length-append ends (end_of scope ∷ [])) in
-        rw (same, get_or-append_seam ends (end_of scope) [] 0) (omega arith)
+    | inl lt ↦ rw (get_or-append ends (scope_end scope ∷ []) 0 k lt) (opened.later k lt)
+    | inr ge ↦ let same : k ≡ length ends = omega (arith, within, length-append ends (scope_end scope ∷ [])) in
+        rw (same, get_or-append_seam ends (scope_end scope) [] 0) (omega arith)
   ];
   begun = λ before earlier there sooner same. elim (cases_lt before row) [
     | inl lt ↦ opened.begun before earlier there lt same
@@ -161,12 +155,12 @@ open_pushed scopes row scope ends here opened longer some = record {
   others = λ before earlier there sooner same. elim (cases_lt before row) [
     | inl lt ↦ elim (opened.others before earlier there lt same) [
       | inl over ↦ inl over
-      | inr k ↦ inr (k.0, omega (arith, k.1, length-append ends (end_of scope ∷ [])), rw (get_or-append ends (end_of scope ∷ []) 0 k.0 k.1) k.2)
+      | inr k ↦ inr (k.0, omega (arith, k.1, length-append ends (scope_end scope ∷ [])), rw (get_or-append ends (scope_end scope ∷ []) 0 k.0 k.1) k.2)
     ]
     | inr ge ↦ let e : before ≡ row = omega arith in
         let h : row_at scopes row ≡ Some earlier = subst (λ (n : ℕ). row_at scopes n ≡ Some earlier) e there in
         let s : earlier ≡ scope = same_row scopes row earlier scope h here in
-        inr (length ends, omega (arith, length-append ends (end_of scope ∷ [])), rw (get_or-append_seam ends (end_of scope) [] 0, s) refl)
+        inr (length ends, omega (arith, length-append ends (scope_end scope ∷ [])), rw (get_or-append_seam ends (scope_end scope) [] 0, s) refl)
   ];
 }
 
@@ -177,8 +171,8 @@ pub at_new_method : (raw : RawTables) (row : ℕ) (scope before : ScopeRow) → 
 at_new_method raw row scope before clear here there other = none_open raw.scopes row scope.method scope.start
     (λ i x at sooner same. elim (cases_lt i (row - 1)) [
       | inl lt ↦
-          let low : IsAbove (extent_of x) (extent_of before) → ⊥ = scopes_in_order raw row 4 i (row - 1) x before clear at there lt (omega arith) in
-          let high : IsAbove (extent_of before) (extent_of scope) → ⊥ = not_below raw row (row - 1) 3 before scope clear here there (omega arith) in
+          let low : IsAbove x before → ⊥ = scopes_in_order raw row 4 i (row - 1) x before clear at there lt (omega arith) in
+          let high : IsAbove before scope → ⊥ = not_below raw row (row - 1) 3 before scope clear here there (omega arith) in
           other (grind arith)
       | inr ge ↦ let e : i ≡ row - 1 = omega arith in
           let h : row_at raw.scopes (row - 1) ≡ Some x = subst (λ (n : ℕ). row_at raw.scopes n ≡ Some x) e at in
@@ -194,7 +188,7 @@ pub at_same_method : (raw : RawTables) (row n : ℕ) (scope before : ScopeRow) (
     → (0 < n → scope.start < get_or (take n ends) (n - 1) 0)
     → AreOpen raw.scopes row scope.method scope.start (take n ends)
 at_same_method raw row n scope before ends clear here there second same opened short closed last =
-    let high : IsAbove (extent_of before) (extent_of scope) → ⊥ = not_below raw row (row - 1) 3 before scope clear here there (omega arith) in
+    let high : IsAbove before scope → ⊥ = not_below raw row (row - 1) 3 before scope clear here there (omega arith) in
     let later : before.start ≤ scope.start = grind arith in
     let o : AreOpen raw.scopes row scope.method before.start ends = subst (λ m. AreOpen raw.scopes row m before.start ends) same opened in
     open_closed raw.scopes row scope.method before.start scope.start n ends o later short closed last
@@ -203,13 +197,13 @@ at_same_method raw row n scope before ends clear here there second same opened s
 pub innermost_decides : (raw : RawTables) (row : ℕ) (scope : ScopeRow) (ends : List ℕ) (top : ℕ)
     → row_at raw.scopes row ≡ Some scope → ToCell raw 0x32 row 4 → AreOpen raw.scopes row scope.method scope.start ends
     → slice_get ends (length ends - 1) ≡ Some top
-    → IsTrue (nat_lt top (end_of scope)) ↔ CrossesEarlier raw.scopes row scope
+    → IsTrue (nat_lt top (scope_end scope)) ↔ CrossesEarlier raw.scopes row scope
 innermost_decides raw row scope ends top here clear opened last =
     let within : length ends - 1 < length ends = slice_get_within ends (length ends - 1) top last in
     let is_top : get_or ends (length ends - 1) 0 ≡ top = get_or_from_slice_get ends (length ends - 1) top 0 last in (
-      (λ yes. let lt : top < end_of scope = grind (arith, nat_tests) in
+      (λ yes. let lt : top < scope_end scope = grind (arith, nat_tests) in
           crossing_at raw row scope ends (length ends - 1) here clear opened within (rw is_top lt)),
-      (λ crossing. elim (cases_lt top (end_of scope)) [
+      (λ crossing. elim (cases_lt top (scope_end scope)) [
         | inl lt ↦ grind (arith, nat_tests)
         | inr ge ↦ absurd (none_crosses raw.scopes row scope ends opened
             (λ k short. let falls : get_or ends (length ends - 1) 0 ≤ get_or ends k 0 = opened.nested k (length ends - 1) (omega arith) within in
@@ -221,13 +215,13 @@ innermost_decides raw row scope ends top here clear opened last =
 pub after_row : (raw : RawTables) (row : ℕ) (scope b : ScopeRow) (ends : List ℕ)
     → row_at raw.scopes row ≡ Some scope → ToCell raw 0x32 row 6 → AreOpen raw.scopes row scope.method scope.start ends
     → row_at raw.scopes row ≡ Some b
-    → AreOpen raw.scopes (row + 1) b.method b.start (ends ++ end_of scope ∷ [])
+    → AreOpen raw.scopes (row + 1) b.method b.start (ends ++ scope_end scope ∷ [])
 after_row raw row scope b ends here clear opened again =
     let s : scope ≡ b = same_row raw.scopes row scope b here again in
     let before : ToCell raw 0x32 row 4 = λ code at invalid early. clear code at invalid (grind arith) in
-    subst (λ (x : ScopeRow). AreOpen raw.scopes (row + 1) x.method x.start (ends ++ end_of scope ∷ [])) s
+    subst (λ (x : ScopeRow). AreOpen raw.scopes (row + 1) x.method x.start (ends ++ scope_end scope ∷ [])) s
     (open_pushed raw.scopes row scope ends here opened
-    (λ k within. elim (cases_lt (get_or ends k 0) (end_of scope)) [
+    (λ k within. elim (cases_lt (get_or ends k 0) (scope_end scope)) [
       | inl lt ↦ absurd (clear ScopeCrossing (cell 0x32 row 4)
           (in_scope here (scope_crossing (crossing_at raw row scope ends k here before opened within lt)))
           (inr (refl, inr (refl, inr (refl, inl (omega arith))))))

@@ -13,7 +13,7 @@ use Rattle.ppdb_verify_rules.specs.Rows.RowFaults.{in_scope, in_machine, in_cust
 use Rattle.ppdb_verify_rules.specs.Rows.ScopeFault.{out_of_order as scope_order}
 use Rattle.ppdb_verify_rules.specs.Rows.MachineFault.{out_of_order as machine_order}
 use Rattle.ppdb_verify_rules.specs.Rows.CustomFault.{out_of_order as custom_order}
-use Rattle.ppdb_verify_rules.specs.Scopes.{Extent, IsAbove, extent_of}
+use Rattle.ppdb_verify_rules.specs.Scopes.{IsAbove}
 use Rattle.ppdb_tables.proofs.NumberedRows.{same_row}
 
 -- the row before forbids a row that some earlier one forbids, where earlier rows forbid none of one another
@@ -32,20 +32,20 @@ row_before Forbids rows row x before there in_order up h =
 
 -- where nothing is bad before a row, the earlier scopes are in order
 pub scopes_in_order : (raw : RawTables) (row column i j : ℕ) (x y : ScopeRow) → ToCell raw 0x32 row column
-    → row_at raw.scopes i ≡ Some x → row_at raw.scopes j ≡ Some y → i < j → j < row → IsAbove (extent_of x) (extent_of y) → ⊥
+    → row_at raw.scopes i ≡ Some x → row_at raw.scopes j ≡ Some y → i < j → j < row → IsAbove x y → ⊥
 scopes_in_order raw row column i j x y judged ix jy ij jr above =
     judged ScopeOrder (cell 0x32 j 0) (in_scope jy (scope_order (record { before = i; earlier = x; there = ix; sooner = ij; forbidden = above })))
     (inr (refl, inr (refl, inl jr)))
 
-above_up : (a b c : Extent) → IsAbove a c → (IsAbove a b → ⊥) → IsAbove b c
+above_up : (a b c : ScopeRow) → IsAbove a c → (IsAbove a b → ⊥) → IsAbove b c
 above_up a b c above not_above = grind arith
 
 pub scope_before : (raw : RawTables) (row column : ℕ) (scope before : ScopeRow) → ToCell raw 0x32 row column
-    → row_at raw.scopes (row - 1) ≡ Some before → HasEarlier (λ _ (e : ScopeRow). IsAbove (extent_of e) (extent_of scope)) raw.scopes row
-    → IsAbove (extent_of before) (extent_of scope)
+    → row_at raw.scopes (row - 1) ≡ Some before → HasEarlier (λ _ (e : ScopeRow). IsAbove e scope) raw.scopes row
+    → IsAbove before scope
 scope_before raw row column scope before judged there =
-    row_before (λ (a : ScopeRow) (b : ScopeRow). IsAbove (extent_of a) (extent_of b)) raw.scopes row scope before there
-    (λ i j a b. scopes_in_order raw row column i j a b judged) (λ a b. above_up (extent_of a) (extent_of b) (extent_of scope))
+    row_before IsAbove raw.scopes row scope before there
+    (λ i j a b. scopes_in_order raw row column i j a b judged) (λ a b. above_up a b scope)
 
 -- the earlier machines rise by their MoveNext methods
 pub machine_before : (raw : RawTables) (row : ℕ) (machine before : MachineRow) → ToCell raw 0x36 row 0

@@ -16,7 +16,7 @@ use Rattle.ppdb_verify_rules.specs.Lists.{list_of, table_of, column_of}
 use Rattle.ppdb_verify_rules.specs.Rows.{RowFaults, ScopeFault}
 use Rattle.ppdb_verify_rules.specs.Rows.RowFaults.{in_scope}
 use Rattle.ppdb_verify_rules.specs.Rows.ScopeFault.{no_method, out_of_order, no_import, no_variables, no_constants, crossing, no_range}
-use Rattle.ppdb_verify_rules.specs.Scopes.{AreCrossed, HasNoRange, IsAbove, IsListOut, extent_of}
+use Rattle.ppdb_verify_rules.specs.Scopes.{AreCrossed, HasNoRange, IsAbove, IsListOut}
 use Rattle.ppdb_verify_rules.proofs.CellFaults as cells
 
 inside : (raw : RawTables) (code : Code) (at : Place) → RowFaults raw code at → at.table ≡ 0x32
@@ -64,7 +64,7 @@ module _ (raw : RawTables) (row : ℕ) (scope : ScopeRow) (there : row_at raw.sc
       none _ _ (out_of_order _) lower = omega (arith, lower)
 
   pub order_first : (fault : Fault) → ToCell raw 0x32 row 0 → (NamesNoRow 1 (count raw 0x06) scope.method → ⊥)
-      → HasEarlier (λ _ (e : ScopeRow). IsAbove (extent_of e) (extent_of scope)) raw.scopes row
+      → HasEarlier (λ _ (e : ScopeRow). IsAbove e scope) raw.scopes row
       → fault ≡ record { code = ScopeOrder; place = in_blob 0x32 row 0 0 } → IsFirstOf raw fault
   order_first fault judged right wrong = first 0 ScopeOrder fault judged (out_of_order wrong) none
     where
@@ -73,7 +73,7 @@ module _ (raw : RawTables) (row : ℕ) (scope : ScopeRow) (there : row_at raw.sc
       none _ _ (out_of_order _) lower = omega (arith, lower)
 
   pub method_next : ToCell raw 0x32 row 0 → (NamesNoRow 1 (count raw 0x06) scope.method → ⊥)
-      → (HasEarlier (λ _ (e : ScopeRow). IsAbove (extent_of e) (extent_of scope)) raw.scopes row → ⊥) → ToCell raw 0x32 row 1
+      → (HasEarlier (λ _ (e : ScopeRow). IsAbove e scope) raw.scopes row → ⊥) → ToCell raw 0x32 row 1
   method_next judged right ordered = next 0 judged none
     where
       none : (b : ℕ) (other : Code) → ScopeFault raw row scope 0 b other → ⊥
@@ -120,7 +120,7 @@ module _ (raw : RawTables) (row : ℕ) (scope : ScopeRow) (there : row_at raw.sc
 
   -- the start
   pub crossing_first : (fault : Fault) → ToCell raw 0x32 row 4
-      → HasEarlier (λ _ (e : ScopeRow). AreCrossed (extent_of e) (extent_of scope)) raw.scopes row
+      → HasEarlier (λ _ (e : ScopeRow). AreCrossed e scope) raw.scopes row
       → fault ≡ record { code = ScopeCrossing; place = in_blob 0x32 row 4 0 } → IsFirstOf raw fault
   crossing_first fault judged wrong = first 4 ScopeCrossing fault judged (crossing wrong) none
     where
@@ -128,21 +128,21 @@ module _ (raw : RawTables) (row : ℕ) (scope : ScopeRow) (there : row_at raw.sc
       none _ _ (crossing _) lower = omega (arith, lower)
 
   pub crossing_next : ToCell raw 0x32 row 4
-      → (HasEarlier (λ _ (e : ScopeRow). AreCrossed (extent_of e) (extent_of scope)) raw.scopes row → ⊥) → ToCell raw 0x32 row 5
+      → (HasEarlier (λ _ (e : ScopeRow). AreCrossed e scope) raw.scopes row → ⊥) → ToCell raw 0x32 row 5
   crossing_next judged right = next 4 judged none
     where
       none : (b : ℕ) (other : Code) → ScopeFault raw row scope 4 b other → ⊥
       none _ _ (crossing w) = right w
 
   -- the length
-  pub range_first : (fault : Fault) → ToCell raw 0x32 row 5 → HasNoRange (extent_of scope)
+  pub range_first : (fault : Fault) → ToCell raw 0x32 row 5 → HasNoRange scope
       → fault ≡ record { code = ScopeRange; place = in_blob 0x32 row 5 0 } → IsFirstOf raw fault
   range_first fault judged wrong = first 5 ScopeRange fault judged (no_range wrong) none
     where
       none : (b : ℕ) (other : Code) → ScopeFault raw row scope 5 b other → number_of other < 27 → ⊥
       none _ _ (no_range _) lower = omega (arith, lower)
 
-  pub range_next : ToCell raw 0x32 row 5 → (HasNoRange (extent_of scope) → ⊥) → ToCell raw 0x32 row 6
+  pub range_next : ToCell raw 0x32 row 5 → (HasNoRange scope → ⊥) → ToCell raw 0x32 row 6
   range_next judged right = next 5 judged none
     where
       none : (b : ℕ) (other : Code) → ScopeFault raw row scope 5 b other → ⊥

@@ -10,7 +10,7 @@ use Rattle.ppdb_tables.specs.{declared.rows.{MachineRow.MachineRow, CustomRow.Cu
 use Rattle.sequence_points.specs.Records.{sequence_points}
 use Rattle.type_blobs.specs.{Constants.constants, Imports.imports}
 use Rattle.ppdb_verify_rules.specs.{Blobs.{HasFault, IsNil, NamesNoGuid, in_blob, point_limits, type_limits}, Customs.{HasNoParent, HasOtherParent, HasInvalidValue}}
-use Rattle.ppdb_verify_rules.specs.{Earlier.{HasEarlier, NamesNoRow}, Names.AreSameName, Scopes.{AreCrossed, AreSameText, HasNoRange, IsAbove, IsListOut, ShareOwner, extent_of}}
+use Rattle.ppdb_verify_rules.specs.{Earlier.{HasEarlier, NamesNoRow}, Names.AreSameName, Scopes.{AreCrossed, AreSameText, HasNoRange, IsAbove, IsListOut, ShareOwner}}
 
 -- Document: Name, HashAlgorithm, Hash, Language
 pub data DocumentFault (raw : RawTables) (row : ℕ) (document : DocumentRow) : ℕ → ℕ → Code → Type 0 where
@@ -39,16 +39,16 @@ pub data MethodDebugFault (raw : RawTables) (row : ℕ) (method : MethodDebugRow
 pub data ScopeFault (raw : RawTables) (row : ℕ) (scope : ScopeRow) : ℕ → ℕ → Code → Type 0 where
   -- F22: the method is no row; F26: an earlier scope is greater by method, start and then shorter length
   no_method : NamesNoRow 1 (count raw 0x06) scope.method → ScopeFault raw row scope 0 0 RowIndex
-  out_of_order : HasEarlier (λ _ (e : ScopeRow). IsAbove (extent_of e) (extent_of scope)) raw.scopes row → ScopeFault raw row scope 0 0 ScopeOrder
+  out_of_order : HasEarlier (λ _ (e : ScopeRow). IsAbove e scope) raw.scopes row → ScopeFault raw row scope 0 0 ScopeOrder
   -- F22: the import scope is no row
   no_import : NamesNoRow 0 (count raw 0x35) scope.import → ScopeFault raw row scope 1 0 RowIndex
   -- F29: a list is out of range or falls
   no_variables : IsListOut (λ s. s.variables) (count raw 0x33) raw.scopes row scope → ScopeFault raw row scope 2 0 ListRange
   no_constants : IsListOut (λ s. s.constants) (count raw 0x34) raw.scopes row scope → ScopeFault raw row scope 3 0 ListRange
   -- F28: an earlier scope of the method meets the scope, and neither holds the other
-  crossing : HasEarlier (λ _ (e : ScopeRow). AreCrossed (extent_of e) (extent_of scope)) raw.scopes row → ScopeFault raw row scope 4 0 ScopeCrossing
+  crossing : HasEarlier (λ _ (e : ScopeRow). AreCrossed e scope) raw.scopes row → ScopeFault raw row scope 4 0 ScopeCrossing
   -- F27: the range is empty or ends too late
-  no_range : HasNoRange (extent_of scope) → ScopeFault raw row scope 5 0 ScopeRange
+  no_range : HasNoRange scope → ScopeFault raw row scope 5 0 ScopeRange
 
 -- LocalVariable: Attributes, Index, Name
 pub data VariableFault (raw : RawTables) (row : ℕ) (variable : VariableRow) : ℕ → ℕ → Code → Type 0 where

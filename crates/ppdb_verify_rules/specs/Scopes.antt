@@ -5,38 +5,29 @@ use Rattle.ppdb_tables.specs.{declared.rows.ScopeRow.ScopeRow, RawTables.row_at}
 use Rattle.ppdb_verify_rules.specs.Earlier.{NamesNoRow}
 pub use Rattle.ppdb_tables.specs.Owners.{Owns}
 
--- a method and a range of its IL offsets: from the start, up to and without the end
-pub record Extent : Type 0 where
-  pub method : ℕ
-  pub start : ℕ
-  pub end : ℕ
-
--- Method, StartOffset, and StartOffset + Length
-abbrev pub extent_of : ScopeRow → Extent
-extent_of scope = record { method = scope.method; start = scope.start; end = scope.start + scope.length }
+-- where the range of a scope ends: its offsets are those from StartOffset up to and without StartOffset + Length
+abbrev pub scope_end : ScopeRow → ℕ
+scope_end scope = scope.start + scope.length
 
 -- the first is greater by method, start, and then the shorter range
-abbrev pub IsAbove : Extent → Extent → Type 0
-IsAbove a b = (b.method < a.method) ⊎ ((b.method ≡ a.method) × ((b.start < a.start) ⊎ ((b.start ≡ a.start) × (a.end < b.end))))
+abbrev pub IsAbove : ScopeRow → ScopeRow → Type 0
+IsAbove a b = (b.method < a.method) ⊎ ((b.method ≡ a.method) × ((b.start < a.start) ⊎ ((b.start ≡ a.start) × (scope_end a < scope_end b))))
 
 -- the range is empty, or ends at 2^31 or above
-abbrev pub HasNoRange : Extent → Type 0
-HasNoRange x = (x.end ≤ x.start) ⊎ (0x80000000 ≤ x.end)
+abbrev pub HasNoRange : ScopeRow → Type 0
+HasNoRange scope = (scope_end scope ≤ scope.start) ⊎ (0x80000000 ≤ scope_end scope)
 
 -- the offset lies in the range
-abbrev pub Covers : Extent → ℕ → Type 0
-Covers x offset = (x.start ≤ offset) × (offset < x.end)
+abbrev pub Covers : ScopeRow → ℕ → Type 0
+Covers scope offset = (scope.start ≤ offset) × (offset < scope_end scope)
 
--- two ranges meet, and each has an offset that the other lacks
-pub record Crosses (a b : Extent) : Type 0 where
+-- the scopes are of one method, their ranges meet, and each has an offset that the other lacks
+pub record AreCrossed (a b : ScopeRow) : Type 0 where
+  pub one_method : a.method ≡ b.method
   pub shared : ℕ
   pub in_both : Covers a shared × Covers b shared
   pub first : ((offset : ℕ) → Covers b offset → Covers a offset) → ⊥
   pub second : ((offset : ℕ) → Covers a offset → Covers b offset) → ⊥
-
--- two ranges of one method cross
-abbrev pub AreCrossed : Extent → Extent → Type 0
-AreCrossed a b = (a.method ≡ b.method) × Crosses a b
 
 -- the list is below 1 or above rows + 1; or, in row 1, not 1; or below that of the row before (VariableList, ConstantList)
 abbrev pub IsListOut : (ScopeRow → ℕ) → ℕ → List ScopeRow → ℕ → ScopeRow → Type 0

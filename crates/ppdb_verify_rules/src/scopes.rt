@@ -8,7 +8,7 @@ ghost use Rattle.ppdb_verify_rules.specs.Errors.{FaultIs};
 ghost use Rattle.ppdb_verify_rules.specs.Judged.{ToTable, ToRow, ToCell, IsFirstOf};
 ghost use Rattle.ppdb_verify_rules.specs.Lists.{list_of, table_of, column_of};
 ghost use Rattle.ppdb_verify_rules.specs.Open.{AreOpen};
-ghost use Rattle.ppdb_verify_rules.specs.Scopes.{AreCrossed, HasNoRange, IsAbove, IsListOut, extent_of};
+ghost use Rattle.ppdb_verify_rules.specs.Scopes.{AreCrossed, HasNoRange, IsAbove, IsListOut, scope_end};
 
 use crate::cells::{fault, names_no_row, row_count};
 use crate::errors::VerifyError;
@@ -20,14 +20,14 @@ use std::sync::ledger::Ledger;
 
 /// The offset after the scope's last one.
 fn end_of(scope: &ScopeRow) -> u64
-    ensures { result ≡ (extent_of scope.now).end }
+    ensures { result ≡ scope_end scope.now }
 {
     u64::from(scope.start) + u64::from(scope.length)
 }
 
 /// Whether a scope is greater by method, start and then shorter length.
 fn is_above(a: &ScopeRow, b: &ScopeRow) -> bool
-    ensures { IsTrue result ↔ IsAbove (extent_of a.now) (extent_of b.now) }
+    ensures { IsTrue result ↔ IsAbove a.now b.now }
 {
     if a.method != b.method {
         return b.method < a.method;
@@ -44,7 +44,7 @@ fn is_below_earlier<L: Ledger>(
 ) -> bool
     requires there { row_at (raw_of tables.now).scopes row ≡ Some scope.now }
     requires judged { ToCell (raw_of tables.now) 0x32 row 0 }
-    ensures { IsTrue result ↔ HasEarlier (λ _ (e : ScopeRow). IsAbove (extent_of e) (extent_of scope.now)) (raw_of tables.now).scopes row }
+    ensures { IsTrue result ↔ HasEarlier (λ _ (e : ScopeRow). IsAbove e scope.now) (raw_of tables.now).scopes row }
 {
     tables.shape();
     1 < row && is_above(&tables.scope(row - 1, steps), scope)
@@ -52,7 +52,7 @@ fn is_below_earlier<L: Ledger>(
 
 /// Whether the range of the scope is empty or ends too late.
 fn has_no_range(scope: &ScopeRow) -> bool
-    ensures { IsTrue result ↔ HasNoRange (extent_of scope.now) }
+    ensures { IsTrue result ↔ HasNoRange scope.now }
 {
     scope.length == 0 || 0x8000_0000 <= end_of(scope)
 }
@@ -175,7 +175,7 @@ fn crosses_earlier(tables: &Tables<'_>, row: u32, scope: &ScopeRow, ends: &Vec<u
     requires there { row_at (raw_of tables.now).scopes row ≡ Some scope.now }
     requires judged { ToCell (raw_of tables.now) 0x32 row 4 }
     requires opened { AreOpen (raw_of tables.now).scopes row scope.now.method scope.now.start ends.now.items }
-    ensures { IsTrue result ↔ HasEarlier (λ _ (e : ScopeRow). AreCrossed (extent_of e) (extent_of scope.now)) (raw_of tables.now).scopes row }
+    ensures { IsTrue result ↔ HasEarlier (λ _ (e : ScopeRow). AreCrossed e scope.now) (raw_of tables.now).scopes row }
 {
     match ends.last() {
         Some(end) => *end < end_of(scope),

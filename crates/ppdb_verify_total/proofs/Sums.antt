@@ -5,6 +5,7 @@ use Rattle.std.specs.Prelude.{sum_by}
 use Rattle.std.proofs.lemmas.Bool.{cases_lt}
 use Rattle.std.proofs.lemmas.List.Sums.{sum_by-cons}
 use Rattle.std.proofs.lemmas.Bool.Decides.{nat_tests}
+use Rattle.ppdb_base.specs.declared.limits.TheConstants.{MAX_SPAN}
 use Rattle.ppdb_base.specs.declared.code.Code.TheVariants.{SpanTotal}
 use Rattle.ppdb_base.specs.declared.code.Code.{Code}
 use Rattle.ppdb_base.specs.declared.fault.Fault.{Fault}
@@ -13,7 +14,7 @@ use Rattle.ppdb_base.specs.Place.{ComesBefore, numbers}
 use Rattle.ppdb_base.specs.First.{IsAccepted, IsFirst}
 use Rattle.ppdb_tables.specs.RawTables.{RawTables}
 use Rattle.ppdb_verify_total.specs.HeapUses.{HeapUse, heap_uses}
-use Rattle.ppdb_verify_total.specs.Spans.{SpanFaults, most_bytes, spanned}
+use Rattle.ppdb_verify_total.specs.Spans.{SpanFaults, spanned}
 use Rattle.ppdb_verify_total.specs.Spans.SpanFaults.{span_total}
 
 abbrev total_of : List HeapUse → ℕ
@@ -30,16 +31,16 @@ record Passing (total : ℕ) (rs : List HeapUse) (fault : Fault) : Type 0 where
   r : HeapUse
   there : slice_get rs k ≡ Some r
   is : fault ≡ record { code = SpanTotal; place = r.at }
-  within : total + total_of (take k rs) ≤ most_bytes
-  passes : most_bytes < total + total_of (take k rs) + r.len
+  within : total + total_of (take k rs) ≤ MAX_SPAN
+  passes : MAX_SPAN < total + total_of (take k rs) + r.len
 
-passing : (total : ℕ) (rs : List HeapUse) (fault : Fault) → total ≤ most_bytes → spanned total rs ≡ Err fault → Passing total rs fault
+passing : (total : ℕ) (rs : List HeapUse) (fault : Fault) → total ≤ MAX_SPAN → spanned total rs ≡ Err fault → Passing total rs fault
 unfolding spanned
 passing total [] fault small e = absurd cc
-passing total (r ∷ rs) fault small e = split (λ few h. passing (total + r.len) rs fault few h) (nat_lt most_bytes (total + r.len)) refl e
+passing total (r ∷ rs) fault small e = split (λ few h. passing (total + r.len) rs fault few h) (nat_lt MAX_SPAN (total + r.len)) refl e
   where
-    split : (total + r.len ≤ most_bytes → spanned (total + r.len) rs ≡ Err fault → Passing (total + r.len) rs fault) → (b : Bool)
-        → nat_lt most_bytes (total + r.len) ≡ b
+    split : (total + r.len ≤ MAX_SPAN → spanned (total + r.len) rs ≡ Err fault → Passing (total + r.len) rs fault) → (b : Bool)
+        → nat_lt MAX_SPAN (total + r.len) ≡ b
         → cond b (Err (record { code = SpanTotal; place = r.at })) (spanned (total + r.len) rs) ≡ Err fault → Passing total (r ∷ rs) fault
     split again true over e =
         let same : record { code = SpanTotal; place = r.at } ≡ fault = cc in
@@ -49,39 +50,39 @@ passing total (r ∷ rs) fault small e = split (λ few h. passing (total + r.len
           there = refl;
           is = sym same;
           within = omega (arith, small);
-          passes = let p : most_bytes < total + r.len = grind (arith, nat_tests, over) in omega (arith, p);
+          passes = let p : MAX_SPAN < total + r.len = grind (arith, nat_tests, over) in omega (arith, p);
         }
     split again false under e =
-        let few : total + r.len ≤ most_bytes = grind (arith, nat_tests, under) in
+        let few : total + r.len ≤ MAX_SPAN = grind (arith, nat_tests, under) in
         let p = again few e in
         record {
           k = suc p.k;
           r = p.r;
           there = p.there;
           is = p.is;
-          within = let w : total + r.len + total_of (take p.k rs) ≤ most_bytes = p.within in
+          within = let w : total + r.len + total_of (take p.k rs) ≤ MAX_SPAN = p.within in
               let sum : total_of (take (suc p.k) (r ∷ rs)) ≡ r.len + total_of (take p.k rs) =
               sum_by-cons (λ (y : HeapUse). y.len) r (take p.k rs) in omega (arith, w, sum);
-          passes = let w : most_bytes < total + r.len + total_of (take p.k rs) + p.r.len = p.passes in
+          passes = let w : MAX_SPAN < total + r.len + total_of (take p.k rs) + p.r.len = p.passes in
               let sum : total_of (take (suc p.k) (r ∷ rs)) ≡ r.len + total_of (take p.k rs) =
               sum_by-cons (λ (y : HeapUse). y.len) r (take p.k rs) in omega (arith, w, sum);
         }
 
 -- where the sum does not pass, none of the references does
 none_passes : (total last : ℕ) (rs : List HeapUse) → spanned total rs ≡ Ok last → (k : ℕ) (r : HeapUse) → slice_get rs k ≡ Some r
-    → most_bytes < total + total_of (take k rs) + r.len → ⊥
+    → MAX_SPAN < total + total_of (take k rs) + r.len → ⊥
 unfolding spanned
 none_passes total last [] e k r there over = let w : None ≡ Some r = there in cc
 none_passes total last (x ∷ rs) e k r there over =
-    split (λ h j at more. none_passes (total + x.len) last rs h j r at more) (nat_lt most_bytes (total + x.len)) refl e k there over
+    split (λ h j at more. none_passes (total + x.len) last rs h j r at more) (nat_lt MAX_SPAN (total + x.len)) refl e k there over
   where
-    split : (spanned (total + x.len) rs ≡ Ok last → (j : ℕ) → slice_get rs j ≡ Some r → most_bytes < total + x.len + total_of (take j rs) + r.len → ⊥)
-        → (b : Bool) → nat_lt most_bytes (total + x.len) ≡ b
+    split : (spanned (total + x.len) rs ≡ Ok last → (j : ℕ) → slice_get rs j ≡ Some r → MAX_SPAN < total + x.len + total_of (take j rs) + r.len → ⊥)
+        → (b : Bool) → nat_lt MAX_SPAN (total + x.len) ≡ b
         → cond b (Err (record { code = SpanTotal; place = x.at })) (spanned (total + x.len) rs) ≡ Ok last
-        → (k : ℕ) → slice_get (x ∷ rs) k ≡ Some r → most_bytes < total + total_of (take k (x ∷ rs)) + r.len → ⊥
+        → (k : ℕ) → slice_get (x ∷ rs) k ≡ Some r → MAX_SPAN < total + total_of (take k (x ∷ rs)) + r.len → ⊥
     split again true past e k there over = absurd cc
     split again false under e zero there over =
-        let few : total + x.len ≤ most_bytes = grind (arith, nat_tests, under) in
+        let few : total + x.len ≤ MAX_SPAN = grind (arith, nat_tests, under) in
         let same : x ≡ r = cc in
         let len : x.len ≡ r.len = ap (λ (y : HeapUse). y.len) same in
         omega (arith, few, len, over)
@@ -111,12 +112,12 @@ module _ (raw : RawTables) (rises : Rises (heap_uses raw)) where
   span_first fault e =
       let p = passing 0 (heap_uses raw) fault (omega arith) e in
       subst (λ (f : Fault). IsFirst (SpanFaults raw) f) (sym p.is) (record {
-        invalid = span_total p.k p.r p.there (let w : most_bytes < 0 + total_of (take p.k (heap_uses raw)) + p.r.len = p.passes in omega (arith, w));
-        least = λ code at invalid before. least p.k p.r p.there (let w : 0 + total_of (take p.k (heap_uses raw)) ≤ most_bytes = p.within in
+        invalid = span_total p.k p.r p.there (let w : MAX_SPAN < 0 + total_of (take p.k (heap_uses raw)) + p.r.len = p.passes in omega (arith, w));
+        least = λ code at invalid before. least p.k p.r p.there (let w : 0 + total_of (take p.k (heap_uses raw)) ≤ MAX_SPAN = p.within in
             omega (arith, w)) code at invalid before;
       })
     where
-      least : (k : ℕ) (r : HeapUse) → slice_get (heap_uses raw) k ≡ Some r → total_of (take k (heap_uses raw)) ≤ most_bytes
+      least : (k : ℕ) (r : HeapUse) → slice_get (heap_uses raw) k ≡ Some r → total_of (take k (heap_uses raw)) ≤ MAX_SPAN
           → (code : Code) (at : Place) → SpanFaults raw code at → ComesBefore (numbers code at) (numbers SpanTotal r.at) → ⊥
       least k r there within _ _ (span_total j s at over) before = elim (cases_lt j k) [
         | inl lt ↦ let h = prefixes (heap_uses raw) j k s lt at in omega (arith, h, within, over)
@@ -141,7 +142,7 @@ and_then (Err fault) goes_on = Err fault
 pub spanned-append : (total : ℕ) (xs ys : List HeapUse) → spanned total (xs ++ ys) ≡ and_then (spanned total xs) (λ t. spanned t ys)
 unfolding spanned
 spanned-append total [] ys = refl
-spanned-append total (x ∷ xs) ys = split (spanned-append (total + x.len) xs ys) (nat_lt most_bytes (total + x.len))
+spanned-append total (x ∷ xs) ys = split (spanned-append (total + x.len) xs ys) (nat_lt MAX_SPAN (total + x.len))
   where
     split : spanned (total + x.len) (xs ++ ys) ≡ and_then (spanned (total + x.len) xs) (λ t. spanned t ys) → (b : Bool)
         → cond b (Err (record { code = SpanTotal; place = x.at })) (spanned (total + x.len) (xs ++ ys))
@@ -168,13 +169,13 @@ module _ (start sum : ℕ) (all : List HeapUse) where
   sum-past few rs fault e one = sym (e ∙ (spanned-append sum few rs ∙ ap (λ (o : Result ℕ Fault). and_then o (λ t. spanned t rs)) (sym one)))
 
 -- one reference
-pub one-over : (total : ℕ) (r : HeapUse) → most_bytes < total + r.len → Err (record { code = SpanTotal; place = r.at }) ≡ spanned total (r ∷ [])
+pub one-over : (total : ℕ) (r : HeapUse) → MAX_SPAN < total + r.len → Err (record { code = SpanTotal; place = r.at }) ≡ spanned total (r ∷ [])
 unfolding spanned
-one-over total r over = let e : nat_lt most_bytes (total + r.len) ≡ true = grind (arith, nat_tests) in rw e refl
+one-over total r over = let e : nat_lt MAX_SPAN (total + r.len) ≡ true = grind (arith, nat_tests) in rw e refl
 
-pub one-within : (total : ℕ) (r : HeapUse) → total + r.len ≤ most_bytes → Ok (total + r.len) ≡ spanned total (r ∷ [])
+pub one-within : (total : ℕ) (r : HeapUse) → total + r.len ≤ MAX_SPAN → Ok (total + r.len) ≡ spanned total (r ∷ [])
 unfolding spanned
-one-within total r within = let e : nat_lt most_bytes (total + r.len) ≡ false = grind (arith, nat_tests) in rw e refl
+one-within total r within = let e : nat_lt MAX_SPAN (total + r.len) ≡ false = grind (arith, nat_tests) in rw e refl
 
 pub none-more : (total : ℕ) → Ok total ≡ spanned total []
 unfolding spanned

@@ -1,6 +1,6 @@
 -- The texts and blobs that the rows refer to, in the order of their places (Portable PDB v1.0, "Metadata Tables" and the formats
 -- of its blobs; ECMA-335 II.24.2.3, II.24.2.4).
-use Rattle.std.specs.Prelude.{ℕ, List, [], ◌∷◌, ◌++◌, length, map, Option, Some, None, flat_map}
+use Rattle.std.specs.{Prelude.{ℕ, List, [], ◌∷◌, ◌++◌, length, map, Option, flat_map}, Option.option_map_or}
 use Rattle.ppdb_base.specs.{declared.fault.Place.Place, Place.cell}
 use Rattle.blob_grammar.specs.declared.places.PlacedIndex.{PlacedIndex}
 use Rattle.ppdb_heaps.specs.{Heaps.{text_at, blob_at}, Names.name_indexes}
@@ -16,8 +16,7 @@ pub record HeapUse : Type 0 where
 
 -- an item that is not there has no bytes
 abbrev pub len_of : Option (List ℕ) → ℕ
-len_of (Some bytes) = length bytes
-len_of None = 0
+len_of item = option_map_or length item 0
 
 abbrev pub text_in : RawTables → ℕ → ℕ → ℕ → ℕ → HeapUse
 text_in raw table row column index = record { at = cell table row column; len = len_of (text_at raw.texts index) }
@@ -31,12 +30,10 @@ named_inside blobs table row column indexes =
     map (λ (x : PlacedIndex). record { at = in_blob table row column x.byte; len = len_of (blob_at blobs x.index) }) indexes
 
 abbrev pub in_name : RawTables → Option (List ℕ) → List PlacedIndex
-in_name raw (Some content) = name_indexes raw.blobs content
-in_name raw None = []
+in_name raw content = option_map_or (name_indexes raw.blobs) content []
 
 abbrev pub in_imports : RawTables → Option (List ℕ) → List PlacedIndex
-in_imports raw (Some content) = import_indexes (type_limits raw) (blob_at raw.blobs) content
-in_imports raw None = []
+in_imports raw content = option_map_or (import_indexes (type_limits raw) (blob_at raw.blobs)) content []
 
 -- the references of a row
 abbrev pub of_document : RawTables → ℕ × DocumentRow → List HeapUse

@@ -1,20 +1,16 @@
 -- How many bytes the references name in all: the rule F40.
 use Rattle.std.specs.Prelude.{◌≡◌, ℕ, ◌+◌, ◌<◌, List, [], ◌∷◌, take, sum_by, slice_get, Some, Result, Ok, Err, nat_lt, if◌then◌else◌}
-use Rattle.ppdb_base.specs.{declared.code.Code.{Code, TheVariants.SpanTotal}, declared.fault.{Fault.Fault, Place.Place}}
+use Rattle.ppdb_base.specs.{declared.code.Code.{Code, TheVariants.SpanTotal}, declared.fault.{Fault.Fault, Place.Place}, declared.limits.TheConstants.MAX_SPAN}
 use Rattle.ppdb_tables.specs.RawTables.{RawTables}
 use Rattle.ppdb_verify_total.specs.HeapUses.{HeapUse, heap_uses}
 
--- The most bytes that the references may name in all: 2^28.
-abbrev pub most_bytes : ℕ
-most_bytes = 268435456
-
--- F40: the references up to and with this one name more bytes
+-- F40: the references up to and with this one name more bytes than they may in all
 pub data SpanFaults (raw : RawTables) : Code → Place → Type 0 where
   span_total : (k : ℕ) (r : HeapUse) → slice_get (heap_uses raw) k ≡ Some r
-      → most_bytes < sum_by (λ (x : HeapUse). x.len) (take k (heap_uses raw)) + r.len
+      → MAX_SPAN < sum_by (λ (x : HeapUse). x.len) (take k (heap_uses raw)) + r.len
       → SpanFaults raw SpanTotal r.at
 
 -- the sum after these references more, or the first that passes the limit
 unfoldable pub spanned : ℕ → List HeapUse → Result ℕ Fault
 spanned total [] = Ok total
-spanned total (r ∷ rs) = if nat_lt most_bytes (total + r.len) then Err (record { code = SpanTotal; place = r.at }) else spanned (total + r.len) rs
+spanned total (r ∷ rs) = if nat_lt MAX_SPAN (total + r.len) then Err (record { code = SpanTotal; place = r.at }) else spanned (total + r.len) rs

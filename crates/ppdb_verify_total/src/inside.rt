@@ -1,11 +1,12 @@
 // The blobs that are named inside other blobs.
 ghost use Rattle.std.specs.Prelude.{◌≡◌, ◌<◌, ◌≤◌, ◌^◌, [], ◌∷◌, length, IfOk};
+ghost use Rattle.ppdb_base.specs.declared.limits.TheConstants.{MAX_SPAN};
 ghost use Rattle.ppdb_heaps.specs.Heaps.{blob_at};
 ghost use Rattle.ppdb_heaps.specs.Names.{name_indexes};
 ghost use Rattle.ppdb_heaps.specs.Views.{blobs_of};
 ghost use Rattle.type_blobs.specs.Imports.{import_indexes, text_index};
 ghost use Rattle.ppdb_verify_total.specs.HeapUses.{named_inside};
-ghost use Rattle.ppdb_verify_total.specs.Spans.{most_bytes, spanned};
+ghost use Rattle.ppdb_verify_total.specs.Spans.{spanned};
 
 use crate::sum::add;
 use blob_grammar::PlacedIndex;
@@ -23,9 +24,9 @@ fn add_index(
     at: PlacedIndex,
     total: u64,
 ) -> Result<u64, Fault>
-    requires within { total ≤ most_bytes }
+    requires within { total ≤ MAX_SPAN }
     ensures sum { result ≡ spanned total (named_inside (blobs_of blobs.entry) table row column (at ∷ [])) }
-    ensures within { IfOk result (λ after. after ≤ most_bytes) }
+    ensures within { IfOk result (λ after. after ≤ MAX_SPAN) }
 {
     match blobs.get(at.index) {
         Some(content) => add(total, content.len(), table, row, column, at.byte),
@@ -41,9 +42,9 @@ pub(crate) fn add_parts(
     total: u64,
 ) -> Result<u64, Fault>
     requires short { length content.now < 2 ^ 32 }
-    requires within { total ≤ most_bytes }
+    requires within { total ≤ MAX_SPAN }
     ensures sum { result ≡ spanned total (named_inside (blobs_of blobs.entry) 0x30 row 0 (name_indexes (blobs_of blobs.entry) content.now)) }
-    ensures within { IfOk result (λ after. after ≤ most_bytes) }
+    ensures within { IfOk result (λ after. after ≤ MAX_SPAN) }
 {
     let Ok(mut indexes) = NameIndexes::new(content, blobs) else {
         return Ok(total);
@@ -63,9 +64,9 @@ pub(crate) fn add_parts(
 
 /// Adds the text that a field of an import names, where it names one.
 fn add_field(blobs: Blobs<'_>, row: u32, field: ImportField, total: u64) -> Result<u64, Fault>
-    requires within { total ≤ most_bytes }
+    requires within { total ≤ MAX_SPAN }
     ensures sum { result ≡ spanned total (named_inside (blobs_of blobs.entry) 0x35 row 1 (text_index field)) }
-    ensures within { IfOk result (λ after. after ≤ most_bytes) }
+    ensures within { IfOk result (λ after. after ≤ MAX_SPAN) }
 {
     if !field.part.names_text() {
         return Ok(total);
@@ -86,9 +87,9 @@ pub(crate) fn add_imports(
     total: u64,
 ) -> Result<u64, Fault>
     requires short { length content.now < 2 ^ 32 }
-    requires within { total ≤ most_bytes }
+    requires within { total ≤ MAX_SPAN }
     ensures sum { result ≡ spanned total (named_inside (blobs_of blobs.entry) 0x35 row 1 (import_indexes limits (blob_at (blobs_of blobs.entry)) content.now)) }
-    ensures within { IfOk result (λ after. after ≤ most_bytes) }
+    ensures within { IfOk result (λ after. after ≤ MAX_SPAN) }
 {
     let mut fields = ImportFields::new(content, blobs, limits);
     let mut sum = total;

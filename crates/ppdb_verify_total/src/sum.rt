@@ -3,13 +3,10 @@ ghost use Rattle.std.specs.Prelude.{◌≡◌, ◌≤◌, [], ◌∷◌, IfOk};
 ghost use Rattle.ppdb_tables.specs.RawOf.{raw_of};
 ghost use Rattle.ppdb_verify_rules.specs.Blobs.{in_blob};
 ghost use Rattle.ppdb_verify_total.specs.HeapUses.{blob_in, text_in};
-ghost use Rattle.ppdb_verify_total.specs.Spans.{most_bytes, spanned};
+ghost use Rattle.ppdb_verify_total.specs.Spans.{spanned};
 
-use ppdb_base::{Code, Fault, Place};
+use ppdb_base::{Code, Fault, MAX_SPAN, Place};
 use ppdb_tables::Tables;
-
-/// The most bytes that the references may name in all.
-const MOST_BYTES: u64 = 0x1000_0000;
 
 /// Adds the length of an item that is named at a byte of a cell, and stops where the sum passes the limit.
 pub(crate) fn add(
@@ -20,12 +17,12 @@ pub(crate) fn add(
     column: u8,
     byte: u32,
 ) -> Result<u64, Fault>
-    requires within { total ≤ most_bytes }
+    requires within { total ≤ MAX_SPAN }
     ensures sum { result ≡ spanned total (record { at = in_blob table row column byte; len = len } ∷ []) }
-    ensures within { IfOk result (λ after. after ≤ most_bytes) }
+    ensures within { IfOk result (λ after. after ≤ MAX_SPAN) }
 {
     let len = len as u64;
-    if MOST_BYTES - total < len {
+    if MAX_SPAN - total < len {
         let place = Place {
             part: 5,
             table,
@@ -50,9 +47,9 @@ pub(crate) fn add_text(
     column: u8,
     index: u32,
 ) -> Result<u64, Fault>
-    requires within { total ≤ most_bytes }
+    requires within { total ≤ MAX_SPAN }
     ensures sum { result ≡ spanned total (text_in (raw_of tables.now) table row column index ∷ []) }
-    ensures within { IfOk result (λ after. after ≤ most_bytes) }
+    ensures within { IfOk result (λ after. after ≤ MAX_SPAN) }
 {
     match tables.strings().get(index) {
         Some(text) => add(total, text.len(), table, row, column, 0),
@@ -69,9 +66,9 @@ pub(crate) fn add_blob(
     column: u8,
     index: u32,
 ) -> Result<u64, Fault>
-    requires within { total ≤ most_bytes }
+    requires within { total ≤ MAX_SPAN }
     ensures sum { result ≡ spanned total (blob_in (raw_of tables.now) table row column index ∷ []) }
-    ensures within { IfOk result (λ after. after ≤ most_bytes) }
+    ensures within { IfOk result (λ after. after ≤ MAX_SPAN) }
 {
     match tables.blobs().get(index) {
         Some(blob) => add(total, blob.len(), table, row, column, 0),

@@ -1,9 +1,10 @@
 // The texts and blobs that all rows name.
 ghost use Rattle.std.specs.Prelude.{◌≡◌, ◌≤◌, OnOk, IfOk, IfErr};
+ghost use Rattle.ppdb_base.specs.declared.limits.TheConstants.{MAX_SPAN};
 ghost use Rattle.ppdb_base.specs.First.{IsAccepted, IsFirst};
 ghost use Rattle.ppdb_tables.specs.RawOf.{raw_of};
 ghost use Rattle.ppdb_verify_total.specs.HeapUses.{heap_uses};
-ghost use Rattle.ppdb_verify_total.specs.Spans.{SpanFaults, most_bytes, spanned};
+ghost use Rattle.ppdb_verify_total.specs.Spans.{SpanFaults, spanned};
 ghost use Rattle.ppdb_verify_total.specs.TableRows.{of_table};
 
 use crate::rows::{Table, add_row, number_of};
@@ -18,9 +19,9 @@ fn add_table<L: Ledger>(
     total: u64,
     steps: &mut Steps<L>,
 ) -> Result<u64, Fault>
-    requires within { total ≤ most_bytes }
+    requires within { total ≤ MAX_SPAN }
     ensures sum { result ≡ spanned total (of_table (raw_of tables.now) table) }
-    ensures within { IfOk result (λ after. after ≤ most_bytes) }
+    ensures within { IfOk result (λ after. after ≤ MAX_SPAN) }
 {
     tables.shape();
     let count = tables.rows(number_of(table));

@@ -9,12 +9,12 @@ use Rattle.ppdb_base.specs.First.{IsAccepted}
 use Rattle.ppdb_base.specs.Place.{at_byte}
 use Rattle.metadata_root.specs.declared.kind.StreamKind.TheVariants.{Blobs, Guids, Pdb, Strings, Tables}
 use Rattle.metadata_root.specs.Streams.{AreStreamsOf, ContainerFaults, Streams, bytes_of}
-use Rattle.ppdb_tables.specs.Counts.{counts_below}
+use Rattle.ppdb_tables.specs.Counts.{counts_below, count_place}
 use Rattle.ppdb_tables.specs.declared.head.PdbHead.{PdbHead}
-use Rattle.ppdb_tables.specs.Head.{PdbFaults, PdbFieldFaults, IsHeadOf, pdb_count_place, pdb_fields, pdb_rows, referenced, head_in}
+use Rattle.ppdb_tables.specs.Head.{PdbFaults, PdbFieldFaults, IsHeadOf, pdb_fields, pdb_rows, referenced, head_in}
 use Rattle.ppdb_tables.specs.Head.PdbFieldFaults.{rows as many_pdb_rows, short as short_pdb}
 use Rattle.ppdb_tables.specs.RawTables.{HasShape, count}
-use Rattle.ppdb_tables.specs.Tables.{TableFieldFaults, TablesFaults, count_in, sizes_in, table_count_place, table_fields, table_rows, valid}
+use Rattle.ppdb_tables.specs.Tables.{TableFieldFaults, TablesFaults, count_in, sizes_in, table_fields, table_rows, valid}
 use Rattle.ppdb_tables.specs.Tables.TableFieldFaults.{rows as many_table_rows, short as short_tables}
 use Rattle.ppdb_tables.proofs.RowCounts.{counts_mono, has_count, sum-fields}
 use Rattle.ppdb_verify_accepted_laws.proofs.Files.{rules_kept}
@@ -49,7 +49,7 @@ module _ (stream : List ℕ) (accepted : IsAccepted (PdbFieldFaults stream)) whe
     | inl over ↦
         let long = pdb_long in
         let up = counts_mono (referenced stream) table 64 (omega (arith, low)) in
-        absurd (accepted PdbRows (at_byte 3 (pdb_count_place stream table))
+        absurd (accepted PdbRows (at_byte 3 (count_place 32 (referenced stream) table))
         (many_pdb_rows table low (has_count stream 32 (referenced stream) table (λ none. omega (arith, none, over))) (omega (arith, long, up)) over))
     | inr within ↦ within
   ]
@@ -67,7 +67,7 @@ module _ (methods : ℕ) (stream : List ℕ) (accepted : IsAccepted (TableFieldF
     | inl over ↦
         let long = tables_long in
         let up = counts_mono (valid stream) table 64 (omega (arith, low)) in
-        absurd (accepted TableRows (at_byte 4 (table_count_place stream table))
+        absurd (accepted TableRows (at_byte 4 (count_place 24 (valid stream) table))
         (many_table_rows table low (has_count stream 24 (valid stream) table (λ none. omega (arith, none, over))) (omega (arith, long, up)) over))
     | inr within ↦ within
   ]

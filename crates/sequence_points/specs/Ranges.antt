@@ -15,7 +15,7 @@ is_offset offset = nat_lt offset number_limit
 abbrev pub IsDocument : ℕ → Type 0
 IsDocument row = (1 ≤ row) × (row < number_limit)
 
--- feefee marks a hidden point in other formats: it is no line
+-- 0xfeefee marks a hidden point in other formats: it is no line
 abbrev pub IsLine : ℕ → Type 0
 IsLine line = (line < number_limit) × (line ≢ 0xfe_efee)
 

@@ -20,7 +20,7 @@ use Rattle.serde_json.specs.Find.{get_member, as_str}
 use Rattle.serde_json.specs.Read.{read, of_json, of_items, of_members, number_of, max_depth}
 use Rattle.source_link.specs.declared.pair.Pair.{Pair}
 use Rattle.source_link.specs.Pairs.{is_key, fits_key, pair_of}
-use Rattle.source_link.specs.Record.{pair_in, pairs_in, documents_in, pairs_of, judged, links_of}
+use Rattle.source_link.specs.Record.{pairs_in, documents_in, pairs_of, judged, links_of}
 use Rattle.source_link.specs.Laws.{KeysDiffer}
 
 some_of : {A B : Type 0} (f : A → Option B) (o : Option A) (b : B) → option_and_then f o ≡ Some b → (a : A) × (o ≡ Some a) × (f a ≡ Some b)
@@ -153,7 +153,7 @@ pair_key key address pair e = step (is_key key && fits_key key address) e
 member_pairs : (key : List ℕ) (d : Data) (ms : Members) (pairs : List Pair) → pairs_in (member key d ms) ≡ Some pairs
     → (pair : Pair) × (rest : List Pair) × (pairs_in ms ≡ Some rest) × (pair.key ≡ key) × (pair ∷ rest ≡ pairs)
 member_pairs key d ms pairs e =
-    let one = some_of (λ pair. option_map (λ pairs. pair ∷ pairs) (pairs_in ms)) (pair_in key d) pairs e in
+    let one = some_of (λ pair. option_map (λ pairs. pair ∷ pairs) (pairs_in ms)) (option_and_then (pair_of key) (as_str d)) pairs e in
     let text = some_of (pair_of key) (as_str d) one.0 one.1 in
     let rest = mapped_of (λ pairs. one.0 ∷ pairs) (pairs_in ms) pairs one.2 in
     (one.0, rest.0, rest.1, pair_key key text.0 one.0 text.2, rest.2)

@@ -20,7 +20,7 @@ use Rattle.ppdb_values.specs.Value.{value_of}
 use Rattle.ppdb_queries.specs.declared.run.Run.{Run}
 use Rattle.ppdb_queries.specs.Runs.{customs_at, rows_in}
 use Rattle.ppdb_queries.proofs.Views.{run_step}
-use Rattle.source_link.specs.FileLinks.{module_row, is_link_record, bytes_in, link_record}
+use Rattle.source_link.specs.FileLinks.{is_link_record, bytes_in, link_record}
 use Rattle.source_link.specs.RecordRows.{link_between}
 use Rattle.source_link.proofs.Best.{found}
 
@@ -54,7 +54,7 @@ find_filtered p q (x ∷ xs) = step (p x) (find_filtered p q xs)
     step false rest = rest
 
 -- at the start it is that of the file
-pub link_all : (raw : RawFile) (run : Run) → rows_in run raw.tables.customs ≡ customs_at raw.tables module_row
+pub link_all : (raw : RawFile) (run : Run) → rows_in run raw.tables.customs ≡ customs_at raw.tables 0x00 1
     → link_between raw.tables run.first run.end ≡ link_record (value_of raw)
 link_all raw run all =
     let rows = raw.tables.customs in

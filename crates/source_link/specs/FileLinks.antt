@@ -1,13 +1,9 @@
 -- The Source Link record of a file (Portable PDB v1.0, "CustomDebugInformation Table", "Source Link").
-use Rattle.ppdb_values.specs.Names.{source_link, Parent}
+use Rattle.ppdb_values.specs.Names.{source_link}
 use Rattle.std.specs.Prelude.{ℕ, ◌&&◌, Bool, List, [], Option, find, option_map, bytes_eq}
 use Rattle.ppdb_values.specs.{declared.custom.{CustomBody.{CustomBody, TheVariants.Unread}, CustomValue.CustomValue}, declared.file.FileValue.FileValue, Parts.is_at}
 
--- the one row of Module
-abbrev pub module_row : Parent
-module_row = record { table = 0x00; row = 1 }
-
--- a record of this kind on it
+-- a record of this kind on the one row of Module
 abbrev pub is_link_record : CustomValue → Bool
 is_link_record custom = is_at 0x00 1 custom.parent && bytes_eq custom.kind source_link
 

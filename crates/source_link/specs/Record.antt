@@ -4,14 +4,10 @@ use Rattle.serde_json.specs.{Data.{Data, Members, no_members, member}, Read.read
 use Rattle.ppdb_base.specs.declared.link_error.LinkError.{LinkError, TheVariants.{NotJson, Shape, Memory}}
 use Rattle.source_link.specs.{declared.pair.Pair.Pair, Pairs.pair_of}
 
--- a member of `documents`: its key and a text
-abbrev pub pair_in : List ℕ → Data → Option Pair
-pair_in key d = option_and_then (pair_of key) (as_str d)
-
--- the members by key, of which each is a pair
+-- the members of `documents` by key, of which each is a pair: its key and a text
 abbrev pub pairs_in : Members → Option (List Pair)
 pairs_in no_members = Some []
-pairs_in (member key d more) = option_and_then (λ pair. option_map (λ pairs. pair ∷ pairs) (pairs_in more)) (pair_in key d)
+pairs_in (member key d more) = option_and_then (λ pair. option_map (λ pairs. pair ∷ pairs) (pairs_in more)) (option_and_then (pair_of key) (as_str d))
 
 -- without a member `documents` there are none
 abbrev pub documents_in : Option Data → Option (List Pair)

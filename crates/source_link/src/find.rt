@@ -5,7 +5,7 @@ ghost use Rattle.ppdb_values.specs.Value.{value_of};
 ghost use Rattle.ppdb_verify.specs.Views.{raw_file};
 ghost use Rattle.ppdb_queries.specs.Digits.{digits};
 ghost use Rattle.ppdb_queries.specs.Runs.{customs_at};
-ghost use Rattle.source_link.specs.FileLinks.{link_record, module_row};
+ghost use Rattle.source_link.specs.FileLinks.{link_record};
 ghost use Rattle.source_link.specs.RecordRows.{link_between as first_link};
 
 use custom_info::SOURCE_LINK;
@@ -45,7 +45,7 @@ pub fn find_link<'a, L: Ledger>(file: &Verified<'a>, steps: &mut Steps<L>) -> Op
     ensures record { option_map (λ bytes. bytes.now) result ≡ link_record (value_of (raw_file file.now)) }
     ensures later { steps.old ≤ steps.new }
     ensures cost { steps.new ≤ steps.old + 2 * digits (length (raw_file file.now).tables.customs) + length
-        (customs_at (raw_file file.now).tables module_row) }
+        (customs_at (raw_file file.now).tables 0x00 1) }
 {
     file.keeps();
     if count(file, 0x00) == 0 {

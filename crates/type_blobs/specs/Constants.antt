@@ -70,8 +70,8 @@ form (number code ∷ []) = after_code code
 form (number code ∷ second ∷ []) = after_two code
 form _ = None
 
--- A code comes first. After it comes a type that is there, a value, or a text; after a value a type that is there, and after
--- a type any bytes.
+-- The first field is a code. The second is a type that is there, a value or a text. The third is, after a value, a type that is there,
+-- and after a type any bytes.
 abbrev pub allows : TypeLimits → List Value → Value → Bool
 allows limits [] (number code) = is_code code
 allows limits (number code ∷ []) (octets xs) = if is_string code then is_text xs else true

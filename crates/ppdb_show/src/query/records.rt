@@ -7,7 +7,8 @@ ghost use Rattle.ppdb_verify.specs.Views.{tables_of};
 ghost use Rattle.ppdb_verify_rows.specs.Customs.{IsOfKind};
 ghost use Rattle.ppdb_show_lines.specs.Views.{content_of};
 ghost use Rattle.ppdb_show_lines.specs.Lines.{number, absent};
-ghost use Rattle.ppdb_show.specs.Query.{async_line, step_line, lines_of_record, customs_on};
+ghost use Rattle.ppdb_show.specs.Query.{async_line, step_line, lines_of_record};
+ghost use Rattle.ppdb_queries.specs.Runs.{customs_at};
 ghost use Rattle.ppdb_show.specs.QueryWalk.{Adds, customs_reads};
 
 use crate::query::customs::put_custom;
@@ -126,7 +127,7 @@ pub(crate) fn put_records<L: Ledger>(
 ) -> Result<(), Memory>
     requires { HasRow (raw_of (tables_of file.now)) 0x06 method }
     ensures ok { OnOk result (Adds printer.entry.form text.old text.new
-        (flat_map (lines_of_record (raw_of (tables_of file.now))) (customs_on (raw_of (tables_of file.now)) 0x06 method))) }
+        (flat_map (lines_of_record (raw_of (tables_of file.now))) (customs_at (raw_of (tables_of file.now)) 0x06 method))) }
     ensures later { steps.old ≤ steps.new }
     ensures cost { steps.new ≤ steps.old + customs_reads (raw_of (tables_of file.now)) 0x06 method }
 {

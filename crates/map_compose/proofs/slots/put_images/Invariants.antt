@@ -1,9 +1,9 @@
 use Rattle.std.proofs.Common.{map, take, length, ◌≤◌, ◌-◌}
 use Rattle.std.specs.List.{filter_map}
-use Rattle.ppdb_maps_text.specs.MapTexts.{slot_says}
 use Rattle.map_compose.specs.Composed.{slot_entry, slot_sources}
 use Rattle.map_compose.specs.Says.{PutsLines}
 use Rattle.map_compose.proofs.slots.put_images.Given as goal
+use Rattle.ppdb_maps_text.proofs.Parts.{slot_says}
 
 abbrev pub invariant-slots : goal.invariant-slots
 invariant-slots l = record {

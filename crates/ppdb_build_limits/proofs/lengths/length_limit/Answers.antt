@@ -7,7 +7,8 @@ use Rattle.ppdb_base.specs.declared.limits.Limit.{Limit}
 use Rattle.ppdb_base.specs.declared.limits.Limit.TheVariants.{ListPastEnd}
 use Rattle.ppdb_base.specs.Told.{told}
 use Rattle.ppdb_values.specs.declared.scope.ScopeValue.{ScopeValue}
-use Rattle.ppdb_build_canon.specs.Limits.{too_many_rows, list_past_end, met, owns_none, tables}
+use Rattle.ppdb_build_canon.specs.Limits.{too_many_rows, list_past_end, owns_none, tables}
+use Rattle.ppdb_build_canon.proofs.Limits.{met}
 use Rattle.ppdb_build_limits.proofs.Firsts.{first_met_three}
 use Rattle.ppdb_build_limits.proofs.lengths.length_limit.Goals as goal
 

@@ -1,6 +1,6 @@
 use Rattle.std.proofs.Common.{sym, ap, ◌∙◌, arith}
-use Rattle.std.specs.Prelude.{slice_index}
-use Rattle.ppdb_maps.specs.Map.{output_count}
+use Rattle.std.specs.Prelude.{unwrap_or, slice_index}
+use Rattle.ppdb_maps.specs.Map.{count_of}
 use Rattle.ppdb_values_sound_laws.proofs.Counts.{type_system}
 use Rattle.ppdb_verify.specs.Views.{raw_file}
 use Rattle.ppdb_merge_rows.specs.declared.inputs.RowInput.{RowInput}
@@ -15,6 +15,6 @@ returns c =
     let raw = raw_file first.file in
     let inputs = c.args.inputs.now in
     c.output_rows.ensures
-    ∙ ap (output_count first.map 0x06) (c.count.ensures.rows ∙ sym (type_system raw.tables.counts c.keeps.ensures.rules.shape.entries 0x06 (omega arith)))
-    ∙ ap (λ (i : RowInput). output_count i.map 0x06 (slice_index (moved_by i).value.rows 0x06)) c.index-inputs-0.is
+    ∙ ap (unwrap_or (count_of first.map 0x06)) (c.count.ensures.rows ∙ sym (type_system raw.tables.counts c.keeps.ensures.rules.shape.entries 0x06 (omega arith)))
+    ∙ ap (λ (i : RowInput). unwrap_or (count_of i.map 0x06) (slice_index (moved_by i).value.rows 0x06)) c.index-inputs-0.is
     ∙ sym (method_count c.joined_parts_are_flat.ensures inputs first (omega arith) (rows_long _))

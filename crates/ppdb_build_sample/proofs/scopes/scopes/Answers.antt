@@ -1,4 +1,4 @@
-use Rattle.ppdb_build_sample.specs.Sample.{outer_scope, inner_scope}
+use Rattle.ppdb_build_sample.proofs.Annotated.{outer_scope, inner_scope}
 use Rattle.ppdb_build_sample.proofs.Counting.{two_more}
 use Rattle.ppdb_build_sample.proofs.scopes.scopes.Goals as goal
 

@@ -1,6 +1,6 @@
 use Rattle.std.proofs.Common.{◌≡◌, ◌∷◌, [], flat_map}
 use Rattle.std.specs.List.{range_with_len}
-use Rattle.ppdb_build_sample.specs.Sample.{outer_scope, inner_scope}
+use Rattle.ppdb_build_sample.proofs.Annotated.{outer_scope, inner_scope}
 use Rattle.ppdb_build_sample.proofs.scopes.scopes.Given as goal
 
 abbrev pub invariant-loop-before : goal.invariant-loop-before

@@ -1,7 +1,8 @@
 use Rattle.std.proofs.Common.{◌≡◌, map}
 use Rattle.std.specs.List.{range_with_len}
-use Rattle.ppdb_maps.specs.Sample.{sample_row, sample_method}
+use Rattle.ppdb_maps.specs.Sample.{sample_method}
 use Rattle.ppdb_maps.proofs.sample.sample_map.Given as goal
+use Rattle.ppdb_maps.proofs.Parts.{sample_row}
 
 abbrev pub invariant-loop-before : goal.invariant-loop-before
 invariant-loop-before l = record {

@@ -7,11 +7,11 @@ use Rattle.ppdb_values.specs.Documents.{document_of}
 use Rattle.ppdb_values.specs.Value.{value_of}
 use Rattle.ppdb_values_reading.specs.Lent.{document_shown}
 use Rattle.ppdb_verify.specs.Views.{raw_file}
-use Rattle.ppdb_merge_fits.specs.Documents.{name_twice}
 use Rattle.ppdb_merge_fits.proofs.OneName.{told_by, leads_next}
 use Rattle.ppdb_merge_fits.proofs.First.{hit_row, miss_row, none_of_rows}
 use Rattle.ppdb_merge_fits.proofs.Rows.{item_at}
 use Rattle.ppdb_merge_fits.proofs.documents.first_name_twice.Goals as goal
+use Rattle.ppdb_merge_fits.proofs.Parts.{name_twice}
 
 pub returns-in-Some : goal.returns-in-Some
 returns-in-Some g c =

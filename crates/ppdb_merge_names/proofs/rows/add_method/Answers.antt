@@ -4,10 +4,11 @@ use Rattle.ppdb_base.specs.Place.{cell}
 use Rattle.ppdb_values.specs.declared.file.MethodValue.{MethodValue}
 use Rattle.ppdb_maps.specs.Map.{Map}
 use Rattle.ppdb_verify.specs.Views.{raw_file}
-use Rattle.ppdb_merge_names.specs.References.{names, of_signature, of_points, of_method}
+use Rattle.ppdb_merge_names.specs.References.{names, of_signature, of_method}
 use Rattle.ppdb_merge_names.proofs.Going.{goes-as, goes-none, goes-cut, goes-more, goes-at}
 use Rattle.ppdb_merge_names.proofs.RowNames.{method_is, method_dropped, method_names}
 use Rattle.ppdb_merge_names.proofs.rows.add_method.Goals as goal
+use Rattle.ppdb_merge_names.proofs.Parts.{of_points}
 
 pub returns-then-drops : goal.returns-then-drops
 returns-then-drops c =

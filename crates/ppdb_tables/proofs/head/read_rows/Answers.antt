@@ -1,8 +1,8 @@
 use Rattle.std.proofs.Common.{◌≡◌, ℕ, ◌≤◌, subst, ap, ◌∙◌, arith, below_more, slice_index, set}
 use Rattle.std.proofs.lemmas.List.{length-replicate, length-set, get_or-set_same, get_or-set_other}
 use Rattle.std.proofs.lemmas.Result.{err_from_is_err_and}
-use Rattle.ppdb_tables.specs.Counts.{IsCountFault}
-use Rattle.ppdb_tables.specs.Head.{referenced, pdb_count_place, pdb_rows}
+use Rattle.ppdb_tables.specs.Counts.{IsCountFault, count_place}
+use Rattle.ppdb_tables.specs.Head.{referenced, pdb_rows}
 use Rattle.ppdb_tables.proofs.RowCounts.{counts-zero, count_is, place_is}
 use Rattle.ppdb_tables.proofs.FirstOfHead.{pdb_part, count_is_first, fields_accepted}
 use Rattle.ppdb_tables.proofs.head.read_rows.Goals as goal
@@ -53,5 +53,5 @@ returns-clause-accepted c =
     let stream = c.args.bytes.now in
     let i = c.loop-table.invariant in
     let all : c.loop-table.table ≡ 64 = omega (arith, c.loop-table-test.false, c.loop-table.auto.table-end) in
-    let end : c.loop-table.at ≡ pdb_count_place stream 64 = i.place ∙ ap (pdb_count_place stream) all in
+    let end : c.loop-table.at ≡ count_place 32 (referenced stream) 64 = i.place ∙ ap (count_place 32 (referenced stream)) all in
     fields_accepted stream (omega (arith, end, i.inside)) (rw (← c.requires.bits) c.requires.known) (λ t lt. i.few t (omega (arith, all, lt)))

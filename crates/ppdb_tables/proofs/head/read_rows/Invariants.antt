@@ -1,10 +1,11 @@
 use Rattle.std.proofs.Common.{◌≡◌, ℕ, ◌+◌, ◌*◌, ◌<◌, ◌≤◌, length, slice_index}
-use Rattle.ppdb_tables.specs.Head.{pdb_count_place, pdb_rows}
+use Rattle.ppdb_tables.specs.Counts.{count_place}
+use Rattle.ppdb_tables.specs.Head.{pdb_rows, referenced}
 use Rattle.ppdb_tables.proofs.head.read_rows.Given as goal
 
 abbrev pub invariant-loop-table : goal.invariant-loop-table
 invariant-loop-table l = record {
-  place : l.at ≡ pdb_count_place l.bytes l.table;
+  place : l.at ≡ count_place 32 (referenced l.bytes) l.table;
   small : l.at ≤ 32 + 4 * l.table;
   inside : l.at ≤ length l.bytes;
   size : length l.rows ≡ 64;

@@ -6,8 +6,8 @@ use Rattle.std.proofs.lemmas.List.FromFn.{fill_by_all}
 use Rattle.std.proofs.lemmas.Result.{err_from_is_err_and}
 use Rattle.ppdb_base.specs.declared.code.Code.TheVariants.{MethodRows}
 use Rattle.ppdb_base.specs.Place.{at_byte}
-use Rattle.ppdb_tables.specs.Counts.{IsCountFault}
-use Rattle.ppdb_tables.specs.Tables.{valid, table_count_place, table_rows, count_in}
+use Rattle.ppdb_tables.specs.Counts.{IsCountFault, count_place}
+use Rattle.ppdb_tables.specs.Tables.{valid, table_rows, count_in}
 use Rattle.ppdb_tables.proofs.RowCounts.{counts-zero, count_is, place_is, has_count}
 use Rattle.ppdb_tables.proofs.FirstOfTables.{table_part, count_is_first, methods_are_first, fields_accepted, start_is, kept_is, fit_step}
 use Rattle.ppdb_tables.proofs.header.read_counts.Goals as goal
@@ -44,7 +44,7 @@ returns-then-differ_from_methods-clause-first c =
     let is : count ≡ table_rows stream table = count_is stream 24 c.args.bits (valid stream) table c.loop-table.at c.requires.bits i.place count found.count in
     let differ = c.differ_from_methods.ensures.0 c.if-differ_from_methods.true in
     let set = has_count stream 24 (valid stream) table (λ none. differ.1 (is ∙ none)) in
-    let end : table_count_place stream table + 4 ≤ length stream =
+    let end : count_place 24 (valid stream) table + 4 ≤ length stream =
     omega (arith, found.end.0, found.end.1, i.place, ap (λ bits. bit_at bits table) c.requires.bits, set) in
     methods_are_first (slice_index c.args.head.now.rows 6) stream table c.loop-table-test.true set c.requires.heap c.requires.known i.few i.methods
     c.fault.result differ.0
@@ -79,14 +79,14 @@ pub returns-clause-start : goal.returns-clause-start
 returns-clause-start c =
     let i = c.loop-table.invariant in
     let all : c.loop-table.table ≡ 64 = omega (arith, c.loop-table-test.false, c.loop-table.auto.table-end) in
-    (i.place ∙ ap (table_count_place c.args.bytes.now) all ∙ sym (start_is c.args.bytes.now), i.inside)
+    (i.place ∙ ap (count_place 24 (valid c.args.bytes.now)) all ∙ sym (start_is c.args.bytes.now), i.inside)
 
 pub returns-clause-accepted : goal.returns-clause-accepted
 returns-clause-accepted c =
     let stream = c.args.bytes.now in
     let i = c.loop-table.invariant in
     let all : c.loop-table.table ≡ 64 = omega (arith, c.loop-table-test.false, c.loop-table.auto.table-end) in
-    let end : c.loop-table.at ≡ table_count_place stream 64 = i.place ∙ ap (table_count_place stream) all in
+    let end : c.loop-table.at ≡ count_place 24 (valid stream) 64 = i.place ∙ ap (count_place 24 (valid stream)) all in
     fields_accepted (slice_index c.args.head.now.rows 6) stream (omega (arith, end, i.inside, start_is stream)) c.requires.heap c.requires.known (λ t lt.
     i.few t (omega (arith, all, lt))) (i.methods (omega (arith, all)))
 

@@ -1,11 +1,12 @@
 use Rattle.std.proofs.Common.{◌≡◌, ℕ, ◌+◌, ◌*◌, ◌<◌, ◌≤◌, length, slice_index}
-use Rattle.ppdb_tables.specs.Tables.{table_count_place, table_rows, count_in}
+use Rattle.ppdb_tables.specs.Counts.{count_place}
+use Rattle.ppdb_tables.specs.Tables.{table_rows, count_in, valid}
 use Rattle.ppdb_tables.proofs.FirstOfTables.{FitMethods}
 use Rattle.ppdb_tables.proofs.header.read_counts.Given as goal
 
 abbrev pub invariant-loop-table : goal.invariant-loop-table
 invariant-loop-table l = record {
-  place : l.at ≡ table_count_place l.bytes l.table;
+  place : l.at ≡ count_place 24 (valid l.bytes) l.table;
   small : l.at ≤ 24 + 4 * l.table;
   inside : l.at ≤ length l.bytes;
   size : length l.rows ≡ 64;

@@ -1,11 +1,15 @@
-use Rattle.std.proofs.Common.{◌≤◌, length, slice_index, refl, sym, ap, subst, ◌∙◌, arith, lit<}
+use Rattle.std.proofs.Common.{◌≡◌, ℕ, ◌+◌, ◌*◌, ◌≤◌, List, length, sum, slice_index, refl, sym, ap, subst, ◌∙◌, arith, lit<}
+use Rattle.std.specs.Prelude.{Some, slice_get}
 use Rattle.std.proofs.lemmas.Result.{err_from_is_err_and}
 use Rattle.std.proofs.lemmas.List.FromFn.{length-map-range_with_len}
 use Rattle.ppdb_base.specs.First.{IsAccepted, IsFirst}
 use Rattle.ppdb_base.proofs.Judging.{first_of_after, accepted_then}
 use Rattle.metadata_root.specs.declared.kind.StreamKind.TheVariants.{Pdb, Tables}
 use Rattle.metadata_root.specs.Streams.{bytes_of}
-use Rattle.ppdb_tables.specs.Layouts.{document_columns, method_columns, scope_columns, variable_columns, constant_columns}
+use Rattle.row_layout.specs.declared.column.Sizes.{Sizes}
+use Rattle.row_layout.specs.declared.column.Column.{Column}
+use Rattle.ppdb_tables.specs.Bounds.{StandsAt}
+use Rattle.ppdb_tables.specs.Layouts.{debug_tables, widths_of, document_columns, method_columns, scope_columns, variable_columns, constant_columns}
 use Rattle.ppdb_tables.specs.Layouts.{import_columns, machine_columns, custom_columns, document_row, method_row, scope_row, variable_row}
 use Rattle.ppdb_tables.specs.Layouts.{constant_row, import_row, machine_row, custom_row}
 use Rattle.ppdb_tables.specs.Tables.{TablesFaults, TableFieldFaults, BoundFaults, count_in, sizes_in}
@@ -32,6 +36,14 @@ returns-clause-accepted c =
     (accepted_then (TableFieldFaults (slice_index head.rows 6) stream) (BoundFaults (sizes_in head stream) stream) header.accepted
     (subst (λ sizes. IsAccepted (BoundFaults sizes stream)) header.sizes c.in_ok-places.ensures.accepted))
 
+-- a table that begins at its place ends in the stream, with the rows that are counted
+counted : (sizes : Sizes) (stream : List ℕ) (index number : ℕ) (columns : List Column) (widths : List ℕ) (place count : ℕ)
+    → slice_get debug_tables index ≡ Some (number, columns)
+    → StandsAt sizes stream index place → widths ≡ widths_of sizes columns → count ≡ slice_index sizes.rows number
+    → place + count * sum widths ≤ length stream
+counted sizes stream index number columns widths place count listed stands is rows =
+    rw rows (table_fits sizes stream index number columns widths place listed stands is)
+
 pub at-requires : goal.at-requires
 at-requires c = (
   lit< tt,
@@ -39,8 +51,9 @@ at-requires c = (
     lit< tt,
     (
       c.stream_bytes-stream.ensures.short,
-      table_fits c.in_ok-header.header.sizes c.stream_bytes-stream.result.now 0 48 document_columns c.of-layouts.result.documents
-          (slice_index c.in_ok-places.places 0) refl (c.in_ok-places.ensures.places 0 (lit< tt)) c.of-layouts.ensures.documents,
+      counted c.in_ok-header.header.sizes c.stream_bytes-stream.result.now 0 48 document_columns c.of-layouts.result.documents
+          (slice_index c.in_ok-places.places 0) c.rows.result refl (c.in_ok-places.ensures.places 0 (lit< tt)) c.of-layouts.ensures.documents
+          c.rows.ensures,
     ),
   ),
 )
@@ -52,8 +65,9 @@ at-requires-2 c = (
     lit< tt,
     (
       c.stream_bytes-stream.ensures.short,
-      table_fits c.in_ok-header.header.sizes c.stream_bytes-stream.result.now 1 49 method_columns c.of-layouts.result.methods
-          (slice_index c.in_ok-places.places 1) refl (c.in_ok-places.ensures.places 1 (lit< tt)) c.of-layouts.ensures.methods,
+      counted c.in_ok-header.header.sizes c.stream_bytes-stream.result.now 1 49 method_columns c.of-layouts.result.methods
+          (slice_index c.in_ok-places.places 1) c.rows-2.result refl (c.in_ok-places.ensures.places 1 (lit< tt)) c.of-layouts.ensures.methods
+          c.rows-2.ensures,
     ),
   ),
 )
@@ -65,9 +79,9 @@ at-requires-3 c = (
     lit< tt,
     (
       c.stream_bytes-stream.ensures.short,
-      table_fits c.in_ok-header.header.sizes c.stream_bytes-stream.result.now 2 50 scope_columns c.of-layouts.result.scopes
-          (slice_index c.in_ok-places.places 2)
-          refl (c.in_ok-places.ensures.places 2 (lit< tt)) c.of-layouts.ensures.scopes,
+      counted c.in_ok-header.header.sizes c.stream_bytes-stream.result.now 2 50 scope_columns c.of-layouts.result.scopes
+          (slice_index c.in_ok-places.places 2) c.rows-3.result refl (c.in_ok-places.ensures.places 2 (lit< tt)) c.of-layouts.ensures.scopes
+          c.rows-3.ensures,
     ),
   ),
 )
@@ -79,8 +93,9 @@ at-requires-4 c = (
     lit< tt,
     (
       c.stream_bytes-stream.ensures.short,
-      table_fits c.in_ok-header.header.sizes c.stream_bytes-stream.result.now 3 51 variable_columns c.of-layouts.result.variables
-          (slice_index c.in_ok-places.places 3) refl (c.in_ok-places.ensures.places 3 (lit< tt)) c.of-layouts.ensures.variables,
+      counted c.in_ok-header.header.sizes c.stream_bytes-stream.result.now 3 51 variable_columns c.of-layouts.result.variables
+          (slice_index c.in_ok-places.places 3) c.rows-4.result refl (c.in_ok-places.ensures.places 3 (lit< tt)) c.of-layouts.ensures.variables
+          c.rows-4.ensures,
     ),
   ),
 )
@@ -92,8 +107,9 @@ at-requires-5 c = (
     lit< tt,
     (
       c.stream_bytes-stream.ensures.short,
-      table_fits c.in_ok-header.header.sizes c.stream_bytes-stream.result.now 4 52 constant_columns c.of-layouts.result.constants
-          (slice_index c.in_ok-places.places 4) refl (c.in_ok-places.ensures.places 4 (lit< tt)) c.of-layouts.ensures.constants,
+      counted c.in_ok-header.header.sizes c.stream_bytes-stream.result.now 4 52 constant_columns c.of-layouts.result.constants
+          (slice_index c.in_ok-places.places 4) c.rows-5.result refl (c.in_ok-places.ensures.places 4 (lit< tt)) c.of-layouts.ensures.constants
+          c.rows-5.ensures,
     ),
   ),
 )
@@ -105,8 +121,9 @@ at-requires-6 c = (
     lit< tt,
     (
       c.stream_bytes-stream.ensures.short,
-      table_fits c.in_ok-header.header.sizes c.stream_bytes-stream.result.now 5 53 import_columns c.of-layouts.result.imports
-          (slice_index c.in_ok-places.places 5) refl (c.in_ok-places.ensures.places 5 (lit< tt)) c.of-layouts.ensures.imports,
+      counted c.in_ok-header.header.sizes c.stream_bytes-stream.result.now 5 53 import_columns c.of-layouts.result.imports
+          (slice_index c.in_ok-places.places 5) c.rows-6.result refl (c.in_ok-places.ensures.places 5 (lit< tt)) c.of-layouts.ensures.imports
+          c.rows-6.ensures,
     ),
   ),
 )
@@ -118,8 +135,9 @@ at-requires-7 c = (
     lit< tt,
     (
       c.stream_bytes-stream.ensures.short,
-      table_fits c.in_ok-header.header.sizes c.stream_bytes-stream.result.now 6 54 machine_columns c.of-layouts.result.machines
-          (slice_index c.in_ok-places.places 6) refl (c.in_ok-places.ensures.places 6 (lit< tt)) c.of-layouts.ensures.machines,
+      counted c.in_ok-header.header.sizes c.stream_bytes-stream.result.now 6 54 machine_columns c.of-layouts.result.machines
+          (slice_index c.in_ok-places.places 6) c.rows-7.result refl (c.in_ok-places.ensures.places 6 (lit< tt)) c.of-layouts.ensures.machines
+          c.rows-7.ensures,
     ),
   ),
 )
@@ -131,8 +149,9 @@ at-requires-8 c = (
     lit< tt,
     (
       c.stream_bytes-stream.ensures.short,
-      table_fits c.in_ok-header.header.sizes c.stream_bytes-stream.result.now 7 55 custom_columns c.of-layouts.result.customs
-          (slice_index c.in_ok-places.places 7) refl (c.in_ok-places.ensures.places 7 (lit< tt)) c.of-layouts.ensures.customs,
+      counted c.in_ok-header.header.sizes c.stream_bytes-stream.result.now 7 55 custom_columns c.of-layouts.result.customs
+          (slice_index c.in_ok-places.places 7) c.rows-8.result refl (c.in_ok-places.ensures.places 7 (lit< tt)) c.of-layouts.ensures.customs
+          c.rows-8.ensures,
     ),
   ),
 )
@@ -152,14 +171,14 @@ invariant_of-result c =
       entries = ap (λ sizes. length sizes.rows) sized ∙ length-map-range_with_len (count_in head stream) 0 64;
       small = λ table. subst (λ sizes. slice_index sizes.rows table ≤ 16777215) (sym sized)
           (small_counts head (bytes_of c.args.root.now Pdb) stream c.requires.judged c.requires.head c.in_ok-header.ensures.few table);
-      document_count = c.at.ensures.rows;
-      method_count = c.at-2.ensures.rows;
-      scope_count = c.at-3.ensures.rows;
-      variable_count = c.at-4.ensures.rows;
-      constant_count = c.at-5.ensures.rows;
-      import_count = c.at-6.ensures.rows;
-      machine_count = c.at-7.ensures.rows;
-      custom_count = c.at-8.ensures.rows;
+      document_count = c.at.ensures.rows ∙ c.rows.ensures;
+      method_count = c.at-2.ensures.rows ∙ c.rows-2.ensures;
+      scope_count = c.at-3.ensures.rows ∙ c.rows-3.ensures;
+      variable_count = c.at-4.ensures.rows ∙ c.rows-4.ensures;
+      constant_count = c.at-5.ensures.rows ∙ c.rows-5.ensures;
+      import_count = c.at-6.ensures.rows ∙ c.rows-6.ensures;
+      machine_count = c.at-7.ensures.rows ∙ c.rows-7.ensures;
+      custom_count = c.at-8.ensures.rows ∙ c.rows-8.ensures;
       narrow = (ap (λ widths. slice_index widths 0) variables, ap (λ widths. slice_index widths 1) variables);
     }
 
@@ -175,26 +194,26 @@ returns-clause-tables c =
     same_tables _ _ (ap (λ z. z.rows) (sized ∙ ap (sizes_in head) same))
     (c.new.ensures ∙ c.stream_bytes.ensures.bytes) (c.new-2.ensures ∙ c.stream_bytes-2.ensures.bytes) (c.new-3.ensures ∙ c.stream_bytes-3.ensures.bytes)
     (table_read document_row head sizes stream whole 48 document_columns (slice_index c.in_ok-places.places 0)
-    (slice_index sizes.rows 48) c.of-layouts.result.documents c.at.result sized same c.at.ensures refl c.of-layouts.ensures.documents
+    c.rows.result c.of-layouts.result.documents c.at.result sized same c.at.ensures c.rows.ensures c.of-layouts.ensures.documents
     (places 0 (lit< tt)).begins)
     (table_read method_row head sizes stream whole 49 method_columns (slice_index c.in_ok-places.places 1)
-    (slice_index sizes.rows 49) c.of-layouts.result.methods c.at-2.result sized same c.at-2.ensures refl c.of-layouts.ensures.methods
+    c.rows-2.result c.of-layouts.result.methods c.at-2.result sized same c.at-2.ensures c.rows-2.ensures c.of-layouts.ensures.methods
     (places 1 (lit< tt)).begins)
     (table_read scope_row head sizes stream whole 50 scope_columns (slice_index c.in_ok-places.places 2)
-    (slice_index sizes.rows 50) c.of-layouts.result.scopes c.at-3.result sized same c.at-3.ensures refl c.of-layouts.ensures.scopes
+    c.rows-3.result c.of-layouts.result.scopes c.at-3.result sized same c.at-3.ensures c.rows-3.ensures c.of-layouts.ensures.scopes
     (places 2 (lit< tt)).begins)
     (table_read variable_row head sizes stream whole 51 variable_columns (slice_index c.in_ok-places.places 3)
-    (slice_index sizes.rows 51) c.of-layouts.result.variables c.at-4.result sized same c.at-4.ensures refl c.of-layouts.ensures.variables
+    c.rows-4.result c.of-layouts.result.variables c.at-4.result sized same c.at-4.ensures c.rows-4.ensures c.of-layouts.ensures.variables
     (places 3 (lit< tt)).begins)
     (table_read constant_row head sizes stream whole 52 constant_columns (slice_index c.in_ok-places.places 4)
-    (slice_index sizes.rows 52) c.of-layouts.result.constants c.at-5.result sized same c.at-5.ensures refl c.of-layouts.ensures.constants
+    c.rows-5.result c.of-layouts.result.constants c.at-5.result sized same c.at-5.ensures c.rows-5.ensures c.of-layouts.ensures.constants
     (places 4 (lit< tt)).begins)
     (table_read import_row head sizes stream whole 53 import_columns (slice_index c.in_ok-places.places 5)
-    (slice_index sizes.rows 53) c.of-layouts.result.imports c.at-6.result sized same c.at-6.ensures refl c.of-layouts.ensures.imports
+    c.rows-6.result c.of-layouts.result.imports c.at-6.result sized same c.at-6.ensures c.rows-6.ensures c.of-layouts.ensures.imports
     (places 5 (lit< tt)).begins)
     (table_read machine_row head sizes stream whole 54 machine_columns (slice_index c.in_ok-places.places 6)
-    (slice_index sizes.rows 54) c.of-layouts.result.machines c.at-7.result sized same c.at-7.ensures refl c.of-layouts.ensures.machines
+    c.rows-7.result c.of-layouts.result.machines c.at-7.result sized same c.at-7.ensures c.rows-7.ensures c.of-layouts.ensures.machines
     (places 6 (lit< tt)).begins)
     (table_read custom_row head sizes stream whole 55 custom_columns (slice_index c.in_ok-places.places 7)
-    (slice_index sizes.rows 55) c.of-layouts.result.customs c.at-8.result sized same c.at-8.ensures refl c.of-layouts.ensures.customs
+    c.rows-8.result c.of-layouts.result.customs c.at-8.result sized same c.at-8.ensures c.rows-8.ensures c.of-layouts.ensures.customs
     (places 7 (lit< tt)).begins)

@@ -1,4 +1,4 @@
-use Rattle.std.proofs.Common.{◌-◌, arith, length, refl}
+use Rattle.std.proofs.Common.{arith, length, refl}
 use Rattle.ppdb_tables.specs.RawOf.{raw_of}
 use Rattle.ppdb_tables.specs.declared.rows.ImportRow.{ImportRow}
 use Rattle.ppdb_tables.proofs.NumberedRows.{row_within}

@@ -4,7 +4,6 @@ use Rattle.ppdb_verify.specs.Views.{raw_file}
 use Rattle.ppdb_queries.specs.Runs.{customs_at}
 use Rattle.ppdb_queries.proofs.Filters.{forward}
 use Rattle.ppdb_queries.proofs.Views.{rows_many}
-use Rattle.source_link.specs.FileLinks.{module_row}
 use Rattle.source_link.proofs.Records.{no_module, link_all}
 use Rattle.source_link.proofs.find.find_link.Goals as goal
 
@@ -24,7 +23,7 @@ returns-clause-record g c = c.link_between.ensures.record ∙ link_all (raw_file
 pub returns-clause-cost : goal.returns-clause-cost
 returns-clause-cost g c =
     let raw = (raw_file c.args.file.now).tables in
-    let many : c.customs_of-run.result.end - c.customs_of-run.result.first ≡ length (customs_at raw module_row) =
+    let many : c.customs_of-run.result.end - c.customs_of-run.result.first ≡ length (customs_at raw 0x00 1) =
     rows_many (λ (custom : CustomRow). custom.parent) _ raw.customs c.customs_of-run.result c.customs_of-run.ensures.run
     ∙ ap length c.customs_of-run.ensures.all in
     let run = c.customs_of-run.ensures.cost in let walk = c.link_between.ensures.cost in

@@ -1,5 +1,5 @@
 use Rattle.std.proofs.Common.{◌≡◌, None, length}
-use Rattle.break_lines.specs.Breaks.{breaks_of}
+use Rattle.break_lines.specs.Walks.{breaks_of}
 use Rattle.break_lines.proofs.method.MethodBreaks.next.Given as goal
 
 abbrev pub invariant-points : goal.invariant-points

@@ -1,5 +1,5 @@
-use Rattle.std.proofs.Common.{ap, ◌∙◌, fold}
-use Rattle.ppdb_build_canon.specs.Uses.{imports_pieces}
+use Rattle.std.proofs.Common.{ap, ◌∙◌, fold, flat_map}
+use Rattle.ppdb_build_canon.specs.Uses.{import_pieces}
 use Rattle.ppdb_build_items.specs.Making.{with_piece}
 use Rattle.ppdb_build_items.specs.Interned.{cell}
 use Rattle.ppdb_build_items.proofs.Made.{interned-is}
@@ -7,11 +7,11 @@ use Rattle.ppdb_build_items.proofs.blobs.BlobHeap.note_imports.Goals as goal
 
 pub returns-clause-interned : goal.returns-clause-interned
 returns-clause-interned c =
-    (interned-is c.args.self.now (imports_pieces c.args.imports.now) c.put_imports.new.blobs c.finish.new.self (c.in_ok-put_imports.ensures
-    ∙ ap (λ making. fold with_piece making (imports_pieces c.args.imports.now)) c.begin.ensures) c.in_ok-index.ensures.interned).interned
+    (interned-is c.args.self.now (flat_map import_pieces c.args.imports.now) c.put_imports.new.blobs c.finish.new.self (c.in_ok-put_imports.ensures
+    ∙ ap (λ making. fold with_piece making (flat_map import_pieces c.args.imports.now)) c.begin.ensures) c.in_ok-index.ensures.interned).interned
 
 pub returns-clause-index : goal.returns-clause-index
 returns-clause-index c =
     c.in_ok-index.ensures.index
-    ∙ ap cell (interned-is c.args.self.now (imports_pieces c.args.imports.now) c.put_imports.new.blobs c.finish.new.self (c.in_ok-put_imports.ensures
-    ∙ ap (λ making. fold with_piece making (imports_pieces c.args.imports.now)) c.begin.ensures) c.in_ok-index.ensures.interned).place
+    ∙ ap cell (interned-is c.args.self.now (flat_map import_pieces c.args.imports.now) c.put_imports.new.blobs c.finish.new.self (c.in_ok-put_imports.ensures
+    ∙ ap (λ making. fold with_piece making (flat_map import_pieces c.args.imports.now)) c.begin.ensures) c.in_ok-index.ensures.interned).place
