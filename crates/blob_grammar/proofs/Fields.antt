@@ -4,7 +4,7 @@ use Rattle.std.proofs.Common.{[], ◌∷◌, ◌++◌, length, take, drop, Some,
 use Rattle.std.proofs.Common.{inl, inr, ℤ, length-append}
 use Rattle.std.proofs.lemmas.List.{length-take, take-append-drop}
 use Rattle.std.proofs.Math.Seq.{drop-length, take-append_seam}
-use Rattle.std.specs.Int.{w32, from_le_bytes}
+use Rattle.std.specs.{Int.{w32, from_le_bytes}, Result.result_map_both}
 use Rattle.std.proofs.lemmas.Bool.{cases_lt, ltb-true, and_parts}
 use Rattle.cli_ints.specs.declared.IntFault.{IntFault}
 use Rattle.cli_ints.specs.declared.IntFault.TheVariants.{End, Form as NoForm}
@@ -14,7 +14,7 @@ use Rattle.ppdb_base.specs.declared.Code.{Code}
 use Rattle.ppdb_base.specs.declared.Code.TheVariants.{BlobEnd, IntegerForm, ValueRange}
 use Rattle.blob_grammar.specs.Grammar.{Value, number, integer, octets, Form, unsigned, signed, byte, word, fixed, rest, character, is_character, Spells}
 use Rattle.blob_grammar.specs.Reading.{BeginsNoNumber}
-use Rattle.blob_grammar.specs.Reader.{field_at, as_number, as_integer, word_at, unsigned_at, two_at, four_at, signed_at, signed_of, character_of, character_len}
+use Rattle.blob_grammar.specs.Reader.{field_at, as_value, word_at, unsigned_at, two_at, four_at, signed_at, character_of, character_len}
 
 -- What stands at the start: some bytes, and then the rest.
 pub record Prefix (P : List ℕ → Type 0) (bytes : List ℕ) (len : ℕ) : Type 0 where
@@ -109,6 +109,10 @@ unsigned-is (b ∷ bs) =
           ])
     ]
 
+-- what the signed number is by the unsigned one
+abbrev pub signed_of : Result (ℕ × ℕ) IntFault → Result (ℤ × ℕ) IntFault
+signed_of = result_map_both (λ x. (unrotated (2 ^ (bits_of x.1 - 1)) x.0, x.1)) (λ fault. fault)
+
 signed-from : (bytes : List ℕ) (r : Result (ℕ × ℕ) IntFault) → IntFound SpellsUnsigned bytes r → IntFound SpellsSigned bytes (signed_of r)
 signed-from bytes (Ok x) f = record {
   text = f.text;
@@ -139,7 +143,7 @@ FieldFound form bytes (Err _) = ⊥
 abbrev IsWord : List ℕ → ℕ → Type 0
 IsWord bytes n = (length bytes ≡ 4) × (n ≡ from_le_bytes w32 bytes)
 
-word-is : (bytes : List ℕ) → ¬ (BeginsNoNumber (Some word) bytes) × FieldFound word bytes (as_number (word_at bytes))
+word-is : (bytes : List ℕ) → ¬ (BeginsNoNumber (Some word) bytes) × FieldFound word bytes (as_value number (word_at bytes))
 word-is [] = (λ n. n, (λ n. n, λ e. absurd cc))
 word-is (a ∷ []) = (λ n. n, (λ n. n, λ e. absurd cc))
 word-is (a ∷ b ∷ []) = (λ n. n, (λ n. n, λ e. absurd cc))
@@ -155,14 +159,14 @@ word-all (a ∷ b ∷ c ∷ []) v after h = absurd (omega arith)
 word-all (a ∷ b ∷ c ∷ d ∷ []) v after h = rw (h.1) refl
 word-all (a ∷ b ∷ c ∷ d ∷ e ∷ es) v after h = absurd (omega arith)
 
-number-from : (bytes : List ℕ) (r : Result (ℕ × ℕ) IntFault) → IntFound SpellsUnsigned bytes r → FieldFound unsigned bytes (as_number r)
+number-from : (bytes : List ℕ) (r : Result (ℕ × ℕ) IntFault) → IntFound SpellsUnsigned bytes r → FieldFound unsigned bytes (as_value number r)
 number-from bytes (Ok x) f = record { text = f.text; parts = f.parts; spelled = f.spelled; len_is = f.len_is; positive = f.positive; within = f.within }
 number-from [] (Err End) f = (λ n. n, λ e. absurd cc)
 number-from (b ∷ bs) (Err End) f = (f, λ e. absurd cc)
 number-from [] (Err NoForm) f = f
 number-from (b ∷ bs) (Err NoForm) f = f
 
-integer-from : (bytes : List ℕ) (r : Result (ℤ × ℕ) IntFault) → IntFound SpellsSigned bytes r → FieldFound signed bytes (as_integer r)
+integer-from : (bytes : List ℕ) (r : Result (ℤ × ℕ) IntFault) → IntFound SpellsSigned bytes r → FieldFound signed bytes (as_value integer r)
 integer-from bytes (Ok x) f = record { text = f.text; parts = f.parts; spelled = f.spelled; len_is = f.len_is; positive = f.positive; within = f.within }
 integer-from [] (Err End) f = (λ n. n, λ e. absurd cc)
 integer-from (b ∷ bs) (Err End) f = (f, λ e. absurd cc)
@@ -234,13 +238,13 @@ character-found text xs after e h = rw (character-all text after h, e) (characte
 -- each field that stands there is found
 pub field-all : (form : Form) (text : List ℕ) (value : Value) (after : List ℕ) → Spells form text value after
     → field_at form (text ++ after) ≡ Ok (value, length text)
-field-all unsigned text (number n) after h = ap as_number (unsigned-all text n after h)
+field-all unsigned text (number n) after h = ap (as_value number) (unsigned-all text n after h)
 field-all unsigned text (integer z) after h = absurd h
 field-all unsigned text (octets xs) after h = absurd h
 field-all signed text (number n) after h = absurd h
 field-all signed text (octets xs) after h = absurd h
-field-all signed text (integer z) after h = ap as_integer (signed-all text z after h)
-field-all word text (number n) after h = ap as_number (word-all text n after h)
+field-all signed text (integer z) after h = ap (as_value integer) (signed-all text z after h)
+field-all word text (number n) after h = ap (as_value number) (word-all text n after h)
 field-all word text (integer z) after h = absurd h
 field-all word text (octets xs) after h = absurd h
 field-all byte text (number n) after h = rw h refl

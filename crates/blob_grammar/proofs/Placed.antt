@@ -3,7 +3,7 @@ use Rattle.std.proofs.Common.{◌≡◌, ℕ, ◌≤◌, List, length, Result, O
 use Rattle.cli_ints.specs.declared.IntFault.{IntFault}
 use Rattle.cli_ints.specs.Compressed.{SpellsUnsigned}
 use Rattle.ppdb_base.specs.declared.BlobFault.{BlobFault}
-use Rattle.blob_grammar.specs.Reader.{placed, code_of, word_at, as_number, field_at, unsigned_at}
+use Rattle.blob_grammar.specs.Reader.{placed, code_of, word_at, as_value, field_at, unsigned_at}
 use Rattle.blob_grammar.specs.Grammar.{number, Form, unsigned, word}
 use Rattle.ppdb_base.specs.declared.Code.{Code}
 use Rattle.blob_grammar.proofs.Fields.{IntFound, unsigned-is}
@@ -32,7 +32,7 @@ pub unsigned_within : (bytes : List ℕ) (x : ℕ × ℕ) → unsigned_at bytes 
 unsigned_within bytes x e = within (λ t v. SpellsUnsigned t v) bytes (unsigned_at bytes) x (unsigned-is bytes) e
 
 pub unsigned_there : (at : ℕ) (bytes : List ℕ) (v len : ℕ) → placed at (unsigned_at bytes) ≡ Ok (v, len) → field_at unsigned bytes ≡ Ok (number v, len)
-unsigned_there at bytes v len e = ap as_number (placed_ok at (unsigned_at bytes) (v, len) e)
+unsigned_there at bytes v len e = ap (as_value number) (placed_ok at (unsigned_at bytes) (v, len) e)
 
 pub record NotThere (form : Form) (at : ℕ) (bytes : List ℕ) (fault : BlobFault) : Type 0 where
   pub code : Code
@@ -42,12 +42,12 @@ pub record NotThere (form : Form) (at : ℕ) (bytes : List ℕ) (fault : BlobFau
 pub unsigned_not_there : (at : ℕ) (bytes : List ℕ) (fault : BlobFault) → placed at (unsigned_at bytes) ≡ Err fault → NotThere unsigned at bytes fault
 unsigned_not_there at bytes fault e =
     let r = placed_err at (unsigned_at bytes) fault e in
-    record { code = code_of r.cause; none = ap as_number r.was; fault_is = r.fault_is }
+    record { code = code_of r.cause; none = ap (as_value number) r.was; fault_is = r.fault_is }
 
 pub word_there : (at : ℕ) (bytes : List ℕ) (v len : ℕ) → placed at (word_at bytes) ≡ Ok (v, len) → field_at word bytes ≡ Ok (number v, len)
-word_there at bytes v len e = ap as_number (placed_ok at (word_at bytes) (v, len) e)
+word_there at bytes v len e = ap (as_value number) (placed_ok at (word_at bytes) (v, len) e)
 
 pub word_not_there : (at : ℕ) (bytes : List ℕ) (fault : BlobFault) → placed at (word_at bytes) ≡ Err fault → NotThere word at bytes fault
 word_not_there at bytes fault e =
     let r = placed_err at (word_at bytes) fault e in
-    record { code = code_of r.cause; none = ap as_number r.was; fault_is = r.fault_is }
+    record { code = code_of r.cause; none = ap (as_value number) r.was; fault_is = r.fault_is }

@@ -180,32 +180,3 @@ fields_from-step g whole begun bytes =
     (λ len w b. fields_for (suc (length (drop len bytes))) g (place w b) (drop len bytes)) (place whole begun) bytes (step g whole begun bytes)
     (takes_in g whole begun bytes (g.form whole begun))
     (λ len less w b. fields-enough g (length bytes) (suc (length (drop len bytes))) w b (drop len bytes) less (omega arith))
-
-fields_to : {R : Type 0} (g : Grammar R) (whole : List R) (begun : List Value) (bytes : List ℕ) (o : Option Form) (s : Step)
-    → g.form whole begun ≡ o → step_in g whole begun bytes o ≡ s
-    → fields_from g (place whole begun) bytes ≡ take_field g (λ len w b. fields_from g (place w b) (drop len bytes)) (place whole begun) bytes s
-fields_to g whole begun bytes o s e f =
-    fields_from-step g whole begun bytes ∙ ap (take_field g (λ len w b. fields_from g (place w b) (drop len bytes)) (place whole begun) bytes)
-    (ap (step_in g whole begun bytes) e ∙ f)
-
--- A field that is there and allowed is the first of them.
-pub fields-field : {R : Type 0} (g : Grammar R) (whole : List R) (begun : List Value) (bytes : List ℕ) (form : Form) (value : Value) (len : ℕ)
-    → g.form whole begun ≡ Some form → field_at form bytes ≡ Ok (value, len) → g.allows whole begun value ≡ true
-    → fields_from g (place whole begun) bytes
-    ≡ record { bytes = take len bytes; value = value } ∷ fields_from g (with_value g (place whole begun) value) (drop len bytes)
-fields-field g whole begun bytes form value len expected found allowed =
-    fields_to g whole begun bytes (Some form) (field value len) expected (ap (step_at g whole begun bytes) found ∙ ap (λ b. if_allowed b value len) allowed)
-
--- Where a field is there and not allowed there are no more.
-pub fields-out : {R : Type 0} (g : Grammar R) (whole : List R) (begun : List Value) (bytes : List ℕ) (form : Form) (value : Value) (len : ℕ)
-    → g.form whole begun ≡ Some form → field_at form bytes ≡ Ok (value, len) → g.allows whole begun value ≡ false → fields_from g (place whole begun) bytes ≡ []
-fields-out g whole begun bytes form value len expected found allowed =
-    fields_to g whole begun bytes (Some form) (step_at g whole begun bytes (Ok (value, len))) expected (ap (step_at g whole begun bytes) found)
-    ∙ ap (λ b. take_field g (λ len w b. fields_from g (place w b) (drop len bytes)) (place whole begun) bytes (if_allowed b value len)) allowed
-
--- Nor where no field of the form is there.
-pub fields-none : {R : Type 0} (g : Grammar R) (whole : List R) (begun : List Value) (bytes : List ℕ) (form : Form) (code : Code)
-    → g.form whole begun ≡ Some form → field_at form bytes ≡ Err code → fields_from g (place whole begun) bytes ≡ []
-fields-none g whole begun bytes form code expected none =
-    fields_to g whole begun bytes (Some form) (step_at g whole begun bytes (Err code)) expected (ap (step_at g whole begun bytes) none)
-    ∙ no_step g (λ len w b. fields_from g (place w b) (drop len bytes)) (place whole begun) bytes (is_empty bytes && g.may_stop whole begun) code

@@ -8,8 +8,8 @@ use Rattle.std.proofs.lemmas.Bool.{cases_lt}
 use Rattle.cli_ints.specs.declared.IntFault.{IntFault}
 use Rattle.cli_ints.specs.declared.IntFault.TheVariants.{End, Form as NoForm}
 use Rattle.cli_ints.specs.Compressed.{SpellsUnsigned, SpellsSigned, StandsAt, HasNoForm, IsCutOff, len_named}
-use Rattle.blob_grammar.specs.Reader.{unsigned_at, two_at, four_at, signed_at, signed_of}
-use Rattle.blob_grammar.proofs.Fields.{unsigned-all, signed-all}
+use Rattle.blob_grammar.specs.Reader.{unsigned_at, two_at, four_at, signed_at}
+use Rattle.blob_grammar.proofs.Fields.{unsigned-all, signed-all, signed_of}
 
 lt-true : (a b : ℕ) → a < b → ltb a b ≡ true
 lt-true a b h = grind arith

@@ -1,6 +1,6 @@
 -- The plain reader: it takes one field after the other, up to the end of the longest valid prefix.
 use Rattle.std.specs.Prelude.{◌≡◌, ℕ, zero, suc, ◌+◌, ◌-◌, ◌*◌, ◌^◌, List, [], ◌∷◌, ◌++◌, length, take, drop, nat_lt, if◌then◌else◌, Option, Some, None, Bool, true, false, ◌&&◌, ℤ, Result, Ok, Err}
-use Rattle.std.specs.{Prelude.{◌≤◌, fold, flat_map, option_and_then}, Int.{w32, from_le_bytes}, Option.option_map_or}
+use Rattle.std.specs.{Prelude.{◌≤◌, fold, flat_map, option_and_then}, Int.{w32, from_le_bytes}, Option.option_map_or, Result.result_map_both}
 use Rattle.ppdb_base.specs.{declared.code.Code.{Code, TheVariants.{BlobEnd, IntegerForm, ValueRange}}, declared.fault.BlobFault.BlobFault}
 use Rattle.cli_ints.specs.{declared.IntFault.{IntFault, TheVariants.{End, Form as NoForm}}, Compressed.{bits_of, unrotated}}
 use Rattle.blob_grammar.specs.Grammar.{Value, number, integer, octets, Form, unsigned, signed, byte, word, fixed, rest, character, Field, Grammar, Cut, with_value, is_character}
@@ -62,13 +62,9 @@ unfoldable pub unsigned_at : List ℕ → Result (ℕ × ℕ) IntFault
 unsigned_at [] = Err End
 unsigned_at (b ∷ bs) = if nat_lt b 0x80 then Ok (b, 1) else (if nat_lt b 0xC0 then two_at b bs else (if nat_lt b 0xE0 then four_at b bs else Err NoForm))
 
-abbrev pub signed_of : Result (ℕ × ℕ) IntFault → Result (ℤ × ℕ) IntFault
-signed_of (Ok x) = Ok (unrotated (2 ^ (bits_of x.1 - 1)) x.0, x.1)
-signed_of (Err e) = Err e
-
 -- the signed number at the start of the bytes
 unfoldable pub signed_at : List ℕ → Result (ℤ × ℕ) IntFault
-signed_at bytes = signed_of (unsigned_at bytes)
+signed_at bytes = result_map_both (λ x. (unrotated (2 ^ (bits_of x.1 - 1)) x.0, x.1)) (λ fault. fault) (unsigned_at bytes)
 
 -- how many bytes the character at the start has, by the rows of Unicode's table 3-7; 0 where none is there
 unfoldable pub character_len : List ℕ → ℕ
@@ -81,13 +77,8 @@ character_of [] len = Err BlobEnd
 character_of bytes zero = Err ValueRange
 character_of bytes (suc len) = Ok (octets (take (suc len) bytes), suc len)
 
-abbrev pub as_number : Result (ℕ × ℕ) IntFault → Result (Value × ℕ) Code
-as_number (Ok x) = Ok (number x.0, x.1)
-as_number (Err e) = Err (code_of e)
-
-abbrev pub as_integer : Result (ℤ × ℕ) IntFault → Result (Value × ℕ) Code
-as_integer (Ok x) = Ok (integer x.0, x.1)
-as_integer (Err e) = Err (code_of e)
+abbrev pub as_value : {V : Type 0} → (V → Value) → Result (V × ℕ) IntFault → Result (Value × ℕ) Code
+as_value value found = result_map_both (λ x. (value x.0, x.1)) code_of found
 
 abbrev pub word_at : List ℕ → Result (ℕ × ℕ) IntFault
 word_at (a ∷ b ∷ c ∷ d ∷ _) = Ok (from_le_bytes w32 (a ∷ b ∷ c ∷ d ∷ []), 4)
@@ -95,11 +86,11 @@ word_at _ = Err End
 
 -- the field at the start of the bytes: its value and its length, or why none is there
 abbrev pub field_at : Form → List ℕ → Result (Value × ℕ) Code
-field_at unsigned bytes = as_number (unsigned_at bytes)
-field_at signed bytes = as_integer (signed_at bytes)
+field_at unsigned bytes = as_value number (unsigned_at bytes)
+field_at signed bytes = as_value integer (signed_at bytes)
 field_at byte [] = Err BlobEnd
 field_at byte (b ∷ bytes) = Ok (number b, 1)
-field_at word bytes = as_number (word_at bytes)
+field_at word bytes = as_value number (word_at bytes)
 field_at (fixed zero) bytes = Err BlobEnd
 field_at (fixed (suc len)) bytes = if nat_lt len (length bytes) then Ok (octets (take (suc len) bytes), suc len) else Err BlobEnd
 field_at rest [] = Err BlobEnd

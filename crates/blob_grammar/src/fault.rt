@@ -18,3 +18,14 @@ pub fn fault_at(fault: IntFault, at: usize) -> BlobFault
         byte: at as u32,
     }
 }
+
+/// The fault of a field that is out of range, at its place.
+pub fn out_of_range(at: usize) -> BlobFault
+    requires { at < 2 ^ 32 }
+    ensures { result ≡ record { code = Code.ValueRange; byte = at } }
+{
+    BlobFault {
+        code: Code::ValueRange,
+        byte: at as u32,
+    }
+}

@@ -33,7 +33,7 @@ pub some_at : (raw : RawFile) (document line m signature : ℕ) (points : List P
     → breaks_of document line m points ≡ breaks_at_row raw.tables document line (m, row)
 some_at raw document line m signature points row there some = sym (ap (breaks_by document line) (method_is raw m row there ∙ some))
 
-from_row : {X : Type 0} (n : ℕ) (rows : List X) (i : ℕ) (x : X) → slice_get rows i ≡ Some x
+pub from_row : {X : Type 0} (n : ℕ) (rows : List X) (i : ℕ) (x : X) → slice_get rows i ≡ Some x
     → drop i (enumerate_from n rows) ≡ (n + i, x) ∷ drop (suc i) (enumerate_from n rows)
 from_row n [] i x e = cc
 from_row n (y ∷ ys) zero x e = let k : n ≡ n + 0 = omega arith in let same : y ≡ x = cc in rw same (ap (λ m. (m, x) ∷ enumerate_from (n + 1) ys) k)

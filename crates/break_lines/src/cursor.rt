@@ -10,14 +10,13 @@ ghost use Rattle.ppdb_queries.specs.Cursors.{next_of};
 ghost use Rattle.break_lines.specs.Breaks.{breaks_in};
 ghost use Rattle.break_lines.specs.Walks.{breaks_at_row, breaks_now};
 
-use crate::copied::copy_of;
 use crate::item::Break;
 use crate::laws::breaks_are_rows;
 use crate::method::MethodBreaks;
 use ppdb_base::Steps;
 use ppdb_tables::{DOCUMENT, METHOD_DEBUG};
 use ppdb_verify::Verified;
-use ppdb_verify_rows::{count, method_debug, points_of};
+use ppdb_verify_rows::{copy_of, count, method_debug, points_of};
 use std::marker::Model;
 use std::sync::ledger::Ledger;
 

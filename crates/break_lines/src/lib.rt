@@ -2,7 +2,6 @@
 //! after the other. No call takes memory; each counts the rows that it reads.
 #![tactic(auto)]
 
-mod copied;
 mod cursor;
 mod item;
 mod laws;

@@ -135,12 +135,3 @@ signed-one a b v p q = grind (arith, common_steps)
 
 pub is-short_signed : (bytes : List ℕ) (z : ℤ) → neg_ℤ (pos (2 ^ 28)) ≤ℤ z → z <ℤ pos (2 ^ 28) → IsShortest SpellsSigned bytes z → bytes ≡ short_signed z
 is-short_signed bytes z low high h = signed-one bytes (short_signed z) z h (short_signed-shortest z low high)
-
--- A spelling has at most four bytes.
-pub unsigned-at_most_four : (bytes : List ℕ) (n : ℕ) → SpellsUnsigned bytes n → length bytes ≤ 4
-unsigned-at_most_four [] n h = absurd h
-unsigned-at_most_four (b ∷ []) n h = omega arith
-unsigned-at_most_four (b ∷ c ∷ []) n h = omega arith
-unsigned-at_most_four (b ∷ c ∷ d ∷ []) n h = absurd h
-unsigned-at_most_four (b ∷ c ∷ d ∷ e ∷ []) n h = omega arith
-unsigned-at_most_four (b ∷ c ∷ d ∷ e ∷ f ∷ fs) n h = absurd h

@@ -5,7 +5,7 @@ use Rattle.ppdb_base.specs.declared.BlobFault.{BlobFault}
 use Rattle.ppdb_base.specs.declared.Code.TheVariants.{ValueRange}
 use Rattle.cli_ints.specs.declared.IntFault.{IntFault}
 use Rattle.blob_grammar.specs.Grammar.{Value, number, Form, Grammar}
-use Rattle.blob_grammar.specs.Reader.{placed, as_number, code_of, field_at, is_empty, close_and}
+use Rattle.blob_grammar.specs.Reader.{placed, as_value, code_of, field_at, is_empty, close_and}
 use Rattle.blob_grammar.proofs.Steps.{nothing_left, left_at, left-field, left-out, left-none}
 use Rattle.custom_info.specs.Fields.{checked}
 
@@ -20,7 +20,7 @@ refused false x fault other e = (refl, cc)
 -- A number that passes: the record goes on, or is whole.
 pub left-kept : {R : Type 0} (g : Grammar R) (whole : List R) (begun : List Value) (blob : List ℕ) (at : ℕ) (form : Form) (r : Result (ℕ × ℕ) IntFault)
     (v len : ℕ)
-    → g.form whole begun ≡ Some form → field_at form (drop at blob) ≡ as_number r → checked (λ n. g.allows whole begun (number n)) at (placed at r) ≡ Ok (
+    → g.form whole begun ≡ Some form → field_at form (drop at blob) ≡ as_value number r → checked (λ n. g.allows whole begun (number n)) at (placed at r) ≡ Ok (
       v,
       len,
     )
@@ -37,7 +37,7 @@ left-kept {R = R} g whole begun blob at form (Ok x) v len expected found is =
 -- A fault: nothing is left but it.
 pub left-refused : {R : Type 0} (g : Grammar R) (whole : List R) (begun : List Value) (blob : List ℕ) (at : ℕ) (form : Form) (r : Result (ℕ × ℕ) IntFault)
     (fault : BlobFault)
-    → g.form whole begun ≡ Some form → field_at form (drop at blob) ≡ as_number r → (is_empty (drop at blob) && g.may_stop whole begun) ≡ false
+    → g.form whole begun ≡ Some form → field_at form (drop at blob) ≡ as_value number r → (is_empty (drop at blob) && g.may_stop whole begun) ≡ false
     → checked (λ n. g.allows whole begun (number n)) at (placed at r) ≡ Err fault
     → left_at g whole begun blob at ≡ nothing_left (Some fault)
 left-refused g whole begun blob at form (Err e) fault expected found goes_on is =

@@ -2,13 +2,11 @@
 ghost use Rattle.std.specs.Prelude.{◌≡◌, ◌≤◌, ◌<◌, ◌^◌, ◌+◌, ◌++◌, length, drop, if◌then◌else◌, Ok, Err, IfOk, OnOk, OnErr};
 ghost use Rattle.std.specs.Int.{w32, to_le_bytes};
 ghost use Rattle.blob_grammar.specs.Reader.{unsigned_at};
-ghost use Rattle.cli_ints.specs.Shortest.{short_unsigned};
 ghost use Rattle.blob_grammar.specs.Reader.{placed, word_at};
 ghost use Rattle.blob_grammar.specs.Allowed.{is_row};
 ghost use Rattle.custom_info.specs.Fields.{is_offset, checked};
 
-use blob_grammar::{unsigned_field, word_field};
-use cli_ints::spell_unsigned;
+use blob_grammar::{is_row, out_of_range, unsigned_field, word_field};
 use ppdb_base::{BlobFault, Bytes, Code, Memory};
 
 /// The first offset that no method has.
@@ -26,10 +24,7 @@ pub fn field_where(
     if is_allowed {
         Ok(field)
     } else {
-        Err(BlobFault {
-            code: Code::ValueRange,
-            byte: at as u32,
-        })
+        Err(out_of_range(at))
     }
 }
 
@@ -52,7 +47,7 @@ pub fn row_field(blob: &[u8], at: usize, rows: u32) -> Result<(u32, usize), Blob
     ensures within { IfOk result (λ field. at + field.1 ≤ length blob.now) }
 {
     let field = unsigned_field(blob, at)?;
-    field_where(1 <= field.0 && field.0 <= rows, field, at)
+    field_where(is_row(rows, field.0), field, at)
 }
 
 /// Appends a number as four bytes.
@@ -61,13 +56,4 @@ pub fn word_into(number: u32, into: &mut Bytes) -> Result<(), Memory>
     ensures err { OnErr result (into.new ≡ into.old) }
 {
     into.append(&number.to_le_bytes())
-}
-
-/// Appends the shortest form of a compressed number.
-pub fn number_into(number: u32, into: &mut Bytes) -> Result<(), Memory>
-    requires { number < 0x2000_0000 }
-    ensures ok { OnOk result (into.new ≡ into.old ++ short_unsigned number) }
-    ensures err { OnErr result (into.new ≡ into.old) }
-{
-    into.append(spell_unsigned(number).as_slice())
 }

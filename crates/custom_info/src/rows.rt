@@ -5,9 +5,9 @@ ghost use Rattle.blob_grammar.specs.Reading.{Reading};
 ghost use Rattle.blob_grammar.specs.Reader.{Left, NextIs, answer, rest_of};
 ghost use Rattle.custom_info.specs.TypeDocuments.{type_documents, rows_left, IsRowNumber};
 
-use crate::fields::{number_into, row_field};
+use crate::fields::row_field;
 use crate::written::{Written, all_into};
-use blob_grammar::BlobCursor;
+use blob_grammar::{BlobCursor, number_into};
 use ppdb_base::{BlobFault, Bytes, Memory};
 use std::marker::Model;
 

@@ -6,9 +6,9 @@ ghost use Rattle.custom_info.specs.Fields.{checked};
 ghost use Rattle.custom_info.specs.AsyncStepping.{async_stepping, steps_left, is_stored, handler_of as the_handler, stored_of};
 ghost use Rattle.custom_info.specs.AsyncStepping.{entries_of, IsHandler, IsStep, step_spelling, async_spelling};
 
-use crate::fields::{OFFSET_LIMIT, field_where, number_into, offset_field, row_field, word_into};
+use crate::fields::{OFFSET_LIMIT, field_where, offset_field, row_field, word_into};
 use crate::written::{Written, all_into};
-use blob_grammar::{BlobCursor, word_field};
+use blob_grammar::{BlobCursor, number_into, word_field};
 use ppdb_base::{BlobFault, Bytes, Memory};
 use std::marker::Model;
 

@@ -1,10 +1,8 @@
 -- How many lines of a kind a readable map may have.
-use Rattle.std.proofs.Common.{ℕ, ◌+◌, ◌≤◌, ◌++◌, List, [], ◌∷◌, length, map, arith}
+use Rattle.std.proofs.Common.{ℕ, ◌+◌, ◌≤◌, List, [], ◌∷◌, length, map, arith}
 use Rattle.std.specs.List.{AllByRecursion}
 use Rattle.std.specs.List.Sorted.{IsStrictlySortedBy}
 use Rattle.std.proofs.lemmas.List.{length-map}
-use Rattle.ppdb_base.specs.declared.offsets.Run.{Run}
-use Rattle.ppdb_base.specs.Offsets.{RiseFrom, end_of, new_end_of}
 use Rattle.ppdb_maps.specs.declared.entries.SlotImage.{SlotImage}
 use Rattle.ppdb_maps.specs.Forms.{SLOTS}
 use Rattle.ppdb_maps.specs.Map.{Map, slots_of}
@@ -39,8 +37,3 @@ few_slots_of m method readable =
     let most = few SLOTS _ (slots_up m readable method) (slots_least _ (slots_hold m readable method)) in
     let same = length-map (slots_of m method) (λ (x : SlotImage). x.old) in
     omega (arith, most, same)
-
--- runs that rise are no more than the offsets before the size
-pub few_runs : (a b c d : ℕ) (rs : List Run) → RiseFrom a b (rs ++ record { old = c; new = d; length = 1 } ∷ []) → a + length rs ≤ c
-few_runs a b c d [] rise = omega (arith, rise.1)
-few_runs a b c d (r ∷ rs) rise = omega (arith, rise.0, rise.1, few_runs (end_of r) (new_end_of r) c d rs rise.3)

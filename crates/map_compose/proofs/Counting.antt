@@ -16,10 +16,10 @@ use Rattle.map_compose.specs.Says.{lines_text, table_says, documents_say, PutsLi
 use Rattle.map_compose.specs.Sizes.{SizesAgree}
 use Rattle.map_compose.proofs.Lengths.{text_short}
 use Rattle.map_compose.proofs.Named.{composed_fits}
-use Rattle.map_compose.proofs.Putting.{puts_then}
 use Rattle.map_compose.proofs.Readable.{composed_is_readable}
 use Rattle.map_compose.proofs.Saying.{text_is}
 use Rattle.ppdb_maps_text.proofs.Parts.{link_says, shares_says, has_newer}
+use Rattle.ppdb_maps_text.proofs.Putting.{puts_then}
 
 counts_text : (start end : Counted) (text : List ℕ) → start.length ≡ 0 → start.text ≡ [] → length text < 0xffffffffffffffff → Puts start end text
     → Counts end text

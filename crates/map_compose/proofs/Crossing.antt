@@ -9,12 +9,12 @@ use Rattle.ppdb_maps.specs.declared.entries.CrossLine.{CrossLine}
 use Rattle.ppdb_maps.specs.declared.image.RowImage.{RowImage}
 use Rattle.ppdb_maps.specs.declared.image.RowImage.TheVariants.{Row, Gone, Missing}
 use Rattle.ppdb_maps.specs.Map.{Map, count_of, row_line, has_gone_line, told_image, line_image, row_image, is_dropped}
+use Rattle.ppdb_maps.proofs.OneMap.{same_or_apart}
 use Rattle.ppdb_maps_text.specs.MapTexts.{has_items, olds_of}
 use Rattle.map_compose.specs.Composed.{tables, composed, composed_count, image_then, own_assembly, composed_image, sources, sources_of, cross_lined, gone_lined}
 use Rattle.map_compose.specs.Composed.{cross_entries, gone_entries}
 use Rattle.map_compose.specs.Leaving.{has_leaving, leaves, rows_leave}
 use Rattle.map_compose.specs.Parts.{source}
-use Rattle.ppdb_maps_text.proofs.Found.{either}
 use Rattle.map_compose.proofs.Imaging.{by_image}
 use Rattle.map_compose.proofs.Putting.{range_more}
 
@@ -199,7 +199,7 @@ range_none p n before is =
 
 pub range_some : (p : ℕ → Bool) (a k n : ℕ) → a ≤ n → n < a + k → p n ≡ true → list_any p (range_with_len a k) ≡ true
 range_some p a zero n from to is = absurd (omega (arith, from, to))
-range_some p a (suc k) n from to is = elim (either n a) [
+range_some p a (suc k) n from to is = elim (same_or_apart n a) [
   | inl same ↦ ap (λ b. b || list_any p (range_with_len (a + 1) k)) (subst (λ j. p j ≡ true) same is)
   | inr apart ↦ or_true (p a) (range_some p (a + 1) k n (omega (arith, from, apart)) (omega (arith, to)) is)
 ]

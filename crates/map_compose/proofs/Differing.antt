@@ -9,9 +9,9 @@ use Rattle.std.specs.Option.{option_map}
 use Rattle.std.proofs.lemmas.Bool.{cases_lt, eqb-true}
 use Rattle.ppdb_maps.specs.Map.{Map, MethodLine, method_line}
 use Rattle.ppdb_maps.specs.Readable.{IsReadable}
+use Rattle.ppdb_maps.proofs.OneMap.{same_or_apart}
 use Rattle.map_compose.specs.Composed.{has_image, second_line}
 use Rattle.map_compose.specs.Sizes.{SizesDiffer, SizesAgree, IsFirstDiffering, FirstDiffering, SizesAreJudged}
-use Rattle.ppdb_maps_text.proofs.Found.{either}
 use Rattle.ppdb_maps_text.proofs.Orders.{Up, Above, less}
 
 abbrev number : MethodLine → ℕ
@@ -135,7 +135,7 @@ judge_one f s method = of (has_image f s method) (method_line f method) (second_
     of false o p there before after = inr (λ a b found. let e : false ≡ true = sym there ∙ found.there in absurd (cc))
     of true None p there before after = inr (λ a b found. let e : None ≡ Some found.a = sym before ∙ found.before in absurd (cc))
     of true (Some l) None there before after = inr (λ a b found. let e : None ≡ Some found.b = sym after ∙ found.after in absurd (cc))
-    of true (Some l) (Some k) there before after = by l k there before after (either l.new_size k.old_size)
+    of true (Some l) (Some k) there before after = by l k there before after (same_or_apart l.new_size k.old_size)
 
 there_is : (ls : List MethodLine) (i : ℕ) → i < length ls → (l : MethodLine) × (slice_get ls i ≡ Some l)
 there_is [] i less = absurd (omega (arith, less))

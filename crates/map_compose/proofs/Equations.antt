@@ -27,14 +27,15 @@ use Rattle.ppdb_maps.specs.Readable.{IsReadable, IsCount}
 use Rattle.ppdb_maps.specs.Says.{sizes_of}
 use Rattle.map_compose.specs.Composition.{Follows, ComposedComposes, sizes_then}
 use Rattle.map_compose.specs.Laws.{Apart, MovesOn}
-use Rattle.ppdb_maps_text.proofs.Found.{either, has, given, made_found, filter_map_map, flat_found, has_append, has_filter, has_ascending, has_key, find_filter}
+use Rattle.ppdb_maps_text.proofs.Found.{has, given, made_found, filter_map_map, flat_found, has_append, has_filter, has_ascending, has_key, find_filter}
 use Rattle.ppdb_maps_text.specs.MapTexts.{olds_of}
-use Rattle.ppdb_maps_text.proofs.OneLine.{any_some}
 use Rattle.ppdb_maps_text.proofs.Starting.{olds_have as lines_have}
 use Rattle.map_compose.proofs.Imaging.{within, by_image, within_lined, told_lined, image_within, lineless, own_itself, may_cross, image_kept}
 use Rattle.map_compose.proofs.Meeting.{runs_compose}
 use Rattle.map_compose.proofs.Named.{names_are, named_are}
 use Rattle.ppdb_maps.proofs.Parts.{line_offsets}
+use Rattle.ppdb_maps.proofs.OneList.{any_is}
+use Rattle.ppdb_maps.proofs.OneMap.{same_or_apart}
 
 -- ---- small things
 
@@ -285,7 +286,7 @@ tables_known m readable = of m.counts readable.counts
 -- a table is one of those of the type system, or above them
 known : (a n table : ℕ) → a ≤ table → table < a + n → has table (range_with_len a n) ≡ true
 known a zero table from to = absurd (omega (arith, from, to))
-known a (suc n) table from to = elim (either table a) [
+known a (suc n) table from to = elim (same_or_apart table a) [
   | inl same ↦ rw (eq-eqb table a same) refl
   | inr apart ↦ rw (ne_eqb table a apart) (known (a + 1) n table (omega (arith, from, apart)) (omega (arith, to)))
 ]
@@ -397,7 +398,7 @@ pub gone_there : (f s : Map) (table old : ℕ)
     → has_gone_line (composed f s) table old
     ≡ is_some (given (has table tables) (given (has old (sources_of f s table)) (gone_entry f s table old)))
 gone_there f s table old =
-    any_some (λ (r : GoneLine). nat_eq r.table table && nat_eq r.old old) (composed f s).gone
+    any_is (λ (r : GoneLine). nat_eq r.table table && nat_eq r.old old) (composed f s).gone
     ∙ ap is_some (flat_found (λ (r : GoneLine). r.table) (λ (r : GoneLine). nat_eq r.old old) (gone_entries f s) (gone_named f s) table tables
     ∙ ap (given (has table tables)) (made_found (λ (r : GoneLine). r.old) (gone_entry f s table)
     (λ n r is. (gone_of_table table n (composed_image f s table n) r is).1) old (sources_of f s table)))
@@ -437,14 +438,6 @@ image_plain m table old live none = ap (λ b. by (row_line m table old) old b (c
 pub is_some_map : {A B : Type 0} (g : A → B) (o : Option A) → is_some (option_map g o) ≡ is_some o
 is_some_map g None = refl
 is_some_map g (Some a) = refl
-
--- a row has an image by both only where it has one by the first
-pub first_some : (f s : Map) (table old : ℕ) → is_some (option_and_then (row_within s table) (row_within f table old)) ≡ true → is_some (row_within f table old) ≡ true
-first_some f s table old some = of (row_within f table old) some
-  where
-    of : (o : Option ℕ) → is_some (option_and_then (row_within s table) o) ≡ true → is_some o ≡ true
-    of None some = some
-    of (Some n) some = refl
 
 and_first : (a b c : Bool) → (a && (b || c)) ≡ false → (a && b) ≡ false
 and_first true true c e = e

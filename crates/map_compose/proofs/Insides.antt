@@ -6,7 +6,7 @@ use Rattle.std.specs.Prelude.{nat_eq, nat_lt, option_to_list}
 use Rattle.std.specs.List.{filter_map, cons_option, AllByRecursion}
 use Rattle.std.specs.List.Sorted.{IsNonDecreasingBy, IsPartitionPoint}
 use Rattle.std.proofs.lemmas.Bool.{false≢true, eqb-true, eq-eqb, and_parts, lt-ltb, le-ltb, ltb-true, ltb-false}
-use Rattle.std.proofs.lemmas.List.{take-append-drop}
+use Rattle.std.proofs.lemmas.List.{take-append-drop, map-append}
 use Rattle.ppdb_base.specs.declared.offsets.Run.{Run}
 use Rattle.ppdb_base.specs.Offsets.{RiseFrom, end_of, new_end_of}
 use Rattle.ppdb_maps.specs.declared.line.Line.{Line}
@@ -23,7 +23,7 @@ use Rattle.map_compose.proofs.Digits.{Small, parted_count}
 use Rattle.map_compose.proofs.Prefixes.{all_drop, rise_drop, rest_is}
 use Rattle.map_compose.proofs.JoinedRuns.{joins_apart, joins_same, joins_then, runs_then}
 use Rattle.map_compose.proofs.Making.{made_join}
-use Rattle.map_compose.proofs.Putting.{says_one, says_then, says_same, take_at, take_over, map_join}
+use Rattle.map_compose.proofs.Putting.{says_one, says_then, says_same, take_at, take_over}
 use Rattle.map_compose.proofs.Rising.{run_same}
 
 -- ---- pieces of a list
@@ -214,7 +214,7 @@ inside_joins run o mid l before (Some h) s t u v first ends put more apart all =
   given = first.given ++ (h ∷ map (taken_on run) mid);
   joins = runs_then before (Some h) (Some (taken_on run l)) first.given (h ∷ map (taken_on run) mid) (taken_on run o ∷ [])
       (map (taken_on run) (mid ++ l ∷ [])) first.joins (apart_joins run h o mid l ends apart all);
-  puts = says_same s v _ _ (sym (map_join (λ r. Kept r) first.given (h ∷ map (taken_on run) mid)))
+  puts = says_same s v _ _ (sym (map-append (λ r. Kept r) first.given (h ∷ map (taken_on run) mid)))
       (says_then s t v (map (λ r. Kept r) first.given) (Kept h ∷ map (λ r. Kept r) (map (taken_on run) mid)) first.puts
       (says_then t u v (Kept h ∷ []) (map (λ r. Kept r) (map (taken_on run) mid)) put more));
 }
@@ -307,7 +307,7 @@ pub plain_counted : (runs : List Run) (last : ℕ) (d : Run) (s t u : Counted) (
     → Puts t u (ended (line_text (Kept (slice_index_or runs last d)))) → PutsLines s u (map (λ r. Kept r) runs)
 plain_counted runs last d s t u bytes is long counts put =
     says_same s u (map (λ r. Kept r) (take last runs) ++ Kept (slice_index_or runs last d) ∷ []) (map (λ r. Kept r) runs)
-    (sym (map_join (λ r. Kept r) (take last runs) (slice_index_or runs last d ∷ [])) ∙ ap (map (λ r. Kept r)) (last_of runs last d is))
+    (sym (map-append (λ r. Kept r) (take last runs) (slice_index_or runs last d ∷ [])) ∙ ap (map (λ r. Kept r)) (last_of runs last d is))
     (says_then s t u (map (λ r. Kept r) (take last runs)) (Kept (slice_index_or runs last d) ∷ [])
     (lines_counted s t (map (λ r. Kept r) (take last runs)) bytes counts (long ∙ ap runs_length (kept_same (take last runs))))
     (says_one t u (Kept (slice_index_or runs last d)) put))

@@ -2,7 +2,7 @@
 use Rattle.std.proofs.Common.{◌≡◌, ◌+◌, ◌++◌, ◌&&◌, Bool, true, false, cond, List, [], ◌∷◌, Option, Some, None, refl, sym, ◌∙◌, ap, arith, subst, map}
 use Rattle.std.specs.Prelude.{nat_eq, option_to_list}
 use Rattle.std.proofs.lemmas.Bool.{eqb-true, and_parts}
-use Rattle.std.proofs.lemmas.List.{append_assoc, append-nil}
+use Rattle.std.proofs.lemmas.List.{append_assoc, append-nil, map-append}
 use Rattle.ppdb_base.specs.declared.offsets.Run.{Run}
 use Rattle.ppdb_base.specs.Offsets.{end_of, new_end_of}
 use Rattle.ppdb_maps.specs.declared.line.Line.TheVariants.{Kept}
@@ -10,7 +10,7 @@ use Rattle.ppdb_maps_text.specs.declared.counted.Counted.{Counted}
 use Rattle.map_compose.specs.Runs.{goes_on, before, longest}
 use Rattle.map_compose.specs.Joining.{Holding, JoinsRuns, JoinsOne, Joins, EndsAlike}
 use Rattle.map_compose.specs.Says.{PutsLines}
-use Rattle.map_compose.proofs.Putting.{says_then, says_none, says_same, map_join}
+use Rattle.map_compose.proofs.Putting.{says_then, says_none, says_same}
 use Rattle.map_compose.proofs.Rising.{run_same}
 
 abbrev pub both : Run → Run → Run
@@ -21,10 +21,6 @@ abbrev behind : List Run → Run → List Run
 behind [] r = r ∷ []
 behind (p ∷ []) r = cond (goes_on p r) (both p r ∷ []) (p ∷ r ∷ [])
 behind (p ∷ q ∷ ps) r = p ∷ behind (q ∷ ps) r
-
--- a run goes on with two that are joined where it goes on with the first
-on_same : (x p r : Run) → goes_on x (both p r) ≡ goes_on x p
-on_same x p r = refl
 
 -- two that are joined go on as the second does
 on_joined : (x p r : Run) → goes_on x p ≡ true → goes_on (both x p) r ≡ goes_on p r
@@ -128,7 +124,7 @@ joins_then a b c s t u rs qs h k = record {
   given = h.given ++ k.given;
   joins = runs_then a b c h.given k.given rs qs h.joins k.joins;
   puts = says_same s u (map (λ r. Kept r) h.given ++ map (λ r. Kept r) k.given) (map (λ r. Kept r) (h.given ++ k.given))
-      (sym (map_join (λ r. Kept r) h.given k.given))
+      (sym (map-append (λ r. Kept r) h.given k.given))
       (says_then s t u (map (λ r. Kept r) h.given) (map (λ r. Kept r) k.given) h.puts k.puts);
 }
 
@@ -142,5 +138,5 @@ joins_all held s t u rs h k =
     let start : Holding [] [] None = record { are = refl; none = λ e. refl } in
     let end = h.joins [] [] start in
     says_same s u (map (λ r. Kept r) h.given ++ map (λ r. Kept r) (option_to_list held)) (map (λ r. Kept r) (longest rs))
-    (sym (ap (map (λ r. Kept r)) end.are ∙ map_join (λ r. Kept r) h.given (option_to_list held)))
+    (sym (ap (map (λ r. Kept r)) end.are ∙ map-append (λ r. Kept r) h.given (option_to_list held)))
     (says_then s t u (map (λ r. Kept r) h.given) (map (λ r. Kept r) (option_to_list held)) h.puts k)

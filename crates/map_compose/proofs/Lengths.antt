@@ -1,9 +1,9 @@
 -- The text of a readable map has fewer than 2 ^ 64 bytes.
-use Rattle.std.proofs.Common.{ℕ, zero, suc, ◌+◌, ◌*◌, ◌<◌, ◌≤◌, ◌++◌, Bool, true, false, cond, ◌≡◌, ◌∙◌, refl, sym, ap, subst, List, [], ◌∷◌, length, map}
+use Rattle.std.proofs.Common.{ℕ, zero, suc, ◌+◌, ◌*◌, ◌<◌, ◌≤◌, ◌++◌, Bool, true, false, ◌≡◌, ◌∙◌, refl, sym, ap, subst, List, [], ◌∷◌, length, map}
 use Rattle.std.proofs.Common.{arith, length-append, Option, Some, None}
 use Rattle.std.specs.Prelude.{nat_eq, codes, is_some, IfSome, if◌then◌else◌}
 use Rattle.std.specs.Fmt.{decimal}
-use Rattle.std.specs.List.{AllByRecursion, filter, flat_map}
+use Rattle.std.specs.List.{AllByRecursion, flat_map}
 use Rattle.std.proofs.lemmas.List.{length-map}
 use Rattle.ppdb_maps.specs.declared.entries.Count.{Count}
 use Rattle.ppdb_maps.specs.declared.entries.SlotImage.{SlotImage}
@@ -175,14 +175,6 @@ mapped : {A B : Type 0} (P : A → Type 0) (Q : B → Type 0) (g : A → B) → 
     → AllByRecursion Q (map g xs)
 mapped P Q g holds [] all = tt
 mapped P Q g holds (x ∷ xs) all = (holds x all.0, mapped P Q g holds xs all.1)
-
-chosen : {A : Type 0} (P : A → Type 0) (p : A → Bool) (xs : List A) → AllByRecursion P xs → AllByRecursion P (filter p xs)
-chosen P p [] all = tt
-chosen {A} P p (x ∷ xs) all = of (p x) (chosen P p xs all.1)
-  where
-    of : (b : Bool) → AllByRecursion P (filter p xs) → AllByRecursion P (cond b (x ∷ filter p xs) (filter p xs))
-    of true rest = (all.0, rest)
-    of false rest = rest
 
 -- the parts of a text
 short_sum : (all head says first rest value others names lines few : ℕ) → all ≡ head + says → head ≡ 10 → says ≡ first + rest

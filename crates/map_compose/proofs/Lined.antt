@@ -22,7 +22,6 @@ use Rattle.map_compose.specs.Laws.{Apart}
 use Rattle.map_compose.specs.Says.{lined_says, line_of_both}
 use Rattle.map_compose.specs.Sizes.{SizesAgree}
 use Rattle.map_compose.proofs.Equations.{there, first_offsets, second_are, runs_are}
-use Rattle.ppdb_maps_text.proofs.Found.{either}
 use Rattle.map_compose.proofs.Gathering.{few_runs}
 use Rattle.map_compose.proofs.Meeting.{runs_compose}
 use Rattle.map_compose.proofs.Merging.{few_own}
@@ -30,6 +29,7 @@ use Rattle.map_compose.proofs.Places.{long, line_short, no_runs}
 use Rattle.map_compose.proofs.Readable.{found_holds, met_all, all_met}
 use Rattle.map_compose.proofs.Rising.{met_rises, longest_rises, longest_apart, one_longest, size_run}
 use Rattle.ppdb_maps.proofs.Parts.{line_offsets}
+use Rattle.ppdb_maps.proofs.OneMap.{same_or_apart}
 
 -- ---- longest runs
 
@@ -136,7 +136,7 @@ module _ (f s : Map) (m image : ℕ) (f_readable : IsReadable f) (s_readable : I
   by_lines (Some a) (Some b) old new is also sizes =
       let fits = line_fits f m a f_readable is in
       let more = line_fits s image b s_readable also in
-      let same : a.new_size ≡ b.old_size = elim (either a.new_size b.old_size) [
+      let same : a.new_size ≡ b.old_size = elim (same_or_apart a.new_size b.old_size) [
         | inl eq ↦ eq
         | inr differ ↦ absurd (agree m a.new_size b.old_size
             (record { a = a; b = b; there = there f s m image follows; before = is; after = second_is ∙ also; sizes = (refl, refl, differ) }))

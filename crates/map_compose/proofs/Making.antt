@@ -2,13 +2,14 @@
 use Rattle.std.proofs.Common.{ℕ, ◌≡◌, ◌+◌, ◌<◌, ◌++◌, List, [], ◌∷◌, length, map, take, refl, sym, ap, ◌∙◌, Option, Some, None}
 use Rattle.std.specs.List.{filter_map, cons_option, slice_get}
 use Rattle.std.specs.Option.{option_map}
+use Rattle.std.proofs.lemmas.List.{map-append}
 use Rattle.ppdb_maps.specs.declared.line.Line.{Line}
 use Rattle.ppdb_maps.specs.declared.entries.SlotImage.{SlotImage}
 use Rattle.ppdb_maps.specs.Map.{Map}
 use Rattle.ppdb_maps_text.specs.declared.counted.Counted.{Counted}
 use Rattle.map_compose.specs.Composed.{slot_entry, composed_slot}
 use Rattle.map_compose.specs.Says.{PutsLines, slot_image_says}
-use Rattle.map_compose.proofs.Putting.{says_then, says_same, map_join, take_more, take_past, within}
+use Rattle.map_compose.proofs.Putting.{says_then, says_same, take_more, take_past, within}
 use Rattle.ppdb_maps_text.proofs.Parts.{slot_says}
 
 pub made_join : {X Y : Type 0} (make : X → Option Y) (xs ys : List X) → filter_map make (xs ++ ys) ≡ filter_map make xs ++ filter_map make ys
@@ -39,7 +40,7 @@ module _ {X Y : Type 0} (key : X → ℕ) (make : X → Option Y) (says : Y → 
       let x = key_of xs i k is in
       says_same old new (map says (filter_map make (take i xs)) ++ lines k) (map says (filter_map make (take (i + 1) xs)))
       (sym (ap (λ l. map says (filter_map make l)) (take_more xs i x.0 x.1.0) ∙ ap (map says) (made_join make (take i xs) (x.0 ∷ []))
-      ∙ map_join says (filter_map make (take i xs)) (filter_map make (x.0 ∷ []))
+      ∙ map-append says (filter_map make (take i xs)) (filter_map make (x.0 ∷ []))
       ∙ ap (λ l. map says (filter_map make (take i xs)) ++ l) (told x.0 ∙ ap lines x.1.1)))
       (says_then old mid new (map says (filter_map make (take i xs))) (lines k) h put)
 

@@ -9,11 +9,12 @@ use Rattle.std.specs.declared.cmp.Ordering.TheVariants.{Less}
 use Rattle.std.proofs.lemmas.Bool.{eq-eqb, ne_eqb, eqb-true, false≢true}
 use Rattle.ppdb_maps.specs.Map.{Map, count_of}
 use Rattle.ppdb_maps.specs.Readable.{IsReadable, IsRow}
+use Rattle.ppdb_maps.proofs.OneMap.{same_or_apart}
 use Rattle.map_compose.specs.declared.part.Part.{Part}
 use Rattle.map_compose.specs.declared.part.Part.TheVariants.{Drops, Slots, Signatures, Methods}
 use Rattle.ppdb_maps_text.specs.Ascending.{ascending}
 use Rattle.map_compose.specs.Parts.{part_numbers, other_numbers}
-use Rattle.ppdb_maps_text.proofs.Found.{either, has, has_append, has_ascending}
+use Rattle.ppdb_maps_text.proofs.Found.{has, has_append, has_ascending}
 use Rattle.ppdb_maps_text.proofs.Orders.{Up, Above, less, is_less, ascending_up}
 use Rattle.map_compose.proofs.Bounds.{few}
 use Rattle.map_compose.proofs.Putting.{drop_at, drop_past}
@@ -46,8 +47,8 @@ one_up (m ∷ ms) [] a b alike = absurd (false≢true (sym (alike m) ∙ ap (λ 
 one_up (m ∷ ms) (n ∷ ns) a b alike =
     let m_in : has m (n ∷ ns) ≡ true = sym (alike m) ∙ ap (λ t. t || has m ms) (eq-eqb m m refl) in
     let n_in : has n (m ∷ ms) ≡ true = alike n ∙ ap (λ t. t || has n ns) (eq-eqb n n refl) in
-    let same : m ≡ n = first (either m n) m_in n_in in
-    ap (λ k. k ∷ ms) same ∙ ap (λ l. n ∷ l) (one_up ms ns a.1 b.1 (λ k. tail k same (either k m)))
+    let same : m ≡ n = first (same_or_apart m n) m_in n_in in
+    ap (λ k. k ∷ ms) same ∙ ap (λ l. n ∷ l) (one_up ms ns a.1 b.1 (λ k. tail k same (same_or_apart k m)))
   where
     here : (k j : ℕ) (js : List ℕ) → Above j js → has k (j ∷ js) ≡ true → (k ≡ j → ⊥) → j < k
     here k j js above is apart = above_has j k js above (sym (ap (λ t. t || has k js) (ne_eqb k j apart)) ∙ is)

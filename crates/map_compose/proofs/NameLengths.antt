@@ -10,7 +10,7 @@ use Rattle.std.specs.Option.{option_map}
 use Rattle.std.specs.Ordering.{is_eq, is_lt}
 use Rattle.std.specs.declared.cmp.Ordering.{Ordering}
 use Rattle.std.specs.declared.cmp.Ordering.TheVariants.{Less, Greater}
-use Rattle.std.proofs.lemmas.List.{length-append}
+use Rattle.std.proofs.lemmas.List.{length-append, map-append}
 use Rattle.std.proofs.lemmas.Map.Text.{is_eq-slice_cmp}
 use Rattle.std.proofs.lemmas.Option.{slice_get-map, get_or_from_slice_get}
 use Rattle.ppdb_base.specs.Escaped.{is_plain, escaped_byte, escaped}
@@ -31,7 +31,7 @@ use Rattle.map_compose.proofs.Lengths.{two_words}
 use Rattle.map_compose.proofs.Named.{has_line, found_holds, olds_hold, both_hold}
 use Rattle.map_compose.proofs.Names.{Up, Above, below, above, same, eq_itself, has, ascending_hold}
 use Rattle.map_compose.proofs.Prefixes.{all_drop}
-use Rattle.map_compose.proofs.Putting.{take_more, map_join, within}
+use Rattle.map_compose.proofs.Putting.{take_more, within}
 
 -- ---- one byte more
 
@@ -98,7 +98,7 @@ pub lengths_next : (ds : List NameLine) (i one : ℕ) (name new : List ℕ) (was
 lengths_next ds i one name new was lengths is before made are =
     let d = names_at ds i name new is in
     are ∙ ap (λ l. l ++ one ∷ []) before ∙ ap (λ n. lengths_of (take i ds) ++ n ∷ []) (made ∙ ap spelled_length (sym d.1.2))
-    ∙ sym (ap lengths_of (take_more ds i d.0 d.1.0) ∙ map_join (λ (x : NameLine). spelled_length x.new) (take i ds) (d.0 ∷ []))
+    ∙ sym (ap lengths_of (take_more ds i d.0 d.1.0) ∙ map-append (λ (x : NameLine). spelled_length x.new) (take i ds) (d.0 ∷ []))
 
 -- ---- halving
 
@@ -187,10 +187,6 @@ counted_name m lengths name i e readable are is =
     ∙ get_or_from_slice_get (new_lengths m) i (spelled_length d.0.new) e
     (slice_get-map (λ (x : NameLine). spelled_length x.new) m.documents i ∙ ap (option_map (λ (x : NameLine). spelled_length x.new)) d.1.0)
     ∙ ap spelled_length (sym (line_moves m name i d.0 readable d.1))
-
--- a name that has no line stays
-pub stays : (m : Map) (name : List ℕ) → document_line m name ≡ None → moved_name m name ≡ name
-stays m name none = ap (λ o. unwrap_or o name) none
 
 -- ---- what is counted of a line
 

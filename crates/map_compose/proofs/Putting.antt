@@ -3,22 +3,13 @@ use Rattle.std.proofs.Common.{ℕ, zero, suc, ◌≡◌, ◌+◌, ◌<◌, ◌�
 use Rattle.std.proofs.Common.{add-one, subst, Some, None, Result, Ok, Err, OnOk}
 use Rattle.std.specs.List.{flat_map, range_with_len, slice_get}
 use Rattle.std.specs.Prelude.{slice_index_or}
-use Rattle.std.proofs.lemmas.List.{append_assoc, append-nil, length-append}
+use Rattle.std.proofs.lemmas.List.{append_assoc, append-nil, map-append}
 use Rattle.ppdb_maps.specs.declared.line.Line.{Line}
 use Rattle.ppdb_maps_text.specs.declared.counted.Counted.{Counted}
 use Rattle.ppdb_maps_text.specs.MapTexts.{ended, line_text}
 use Rattle.ppdb_maps_text.specs.Putting.{Puts}
+use Rattle.ppdb_maps_text.proofs.Putting.{puts_then}
 use Rattle.map_compose.specs.Says.{lines_text, PutsLines}
-
-pub puts_then : (old mid new : Counted) (s t : List ℕ) → Puts old mid s → Puts mid new t → Puts old new (s ++ t)
-puts_then old mid new s t h k =
-    let first = h.counted in
-    let second = k.counted in
-    let both = length-append s t in
-    record {
-      counted = omega (arith, first, second, both);
-      kept = λ few. k.kept few ∙ (ap (λ prefix. prefix ++ t) (h.kept (omega (arith, few, first, second))) ∙ append_assoc old.text s t);
-    }
 
 pub lines_join : (xs ys : List Line) → lines_text (xs ++ ys) ≡ lines_text xs ++ lines_text ys
 lines_join [] ys = refl
@@ -75,10 +66,6 @@ take_over [] (suc i) le = refl
 take_over (y ∷ ys) zero le = absurd (omega (arith, le))
 take_over (y ∷ ys) (suc i) le = ap (λ l. y ∷ l) (take_over ys i (omega (arith, le)))
 
-pub map_join : {X Y : Type 0} (g : X → Y) (xs ys : List X) → map g (xs ++ ys) ≡ map g xs ++ map g ys
-map_join g [] ys = refl
-map_join g (x ∷ xs) ys = ap (λ l. g x ∷ l) (map_join g xs ys)
-
 -- ---- what is left after some
 
 pub drop_at : {X : Type 0} (xs : List X) (i : ℕ) (x : X) → slice_get xs i ≡ Some x → drop i xs ≡ x ∷ drop (i + 1) xs
@@ -98,7 +85,7 @@ pub map_next : {X : Type 0} (says : X → Line) (old mid new : Counted) (xs : Li
     → Puts mid new (ended (line_text (says (slice_index_or xs i d)))) → PutsLines old new (map says (take (i + 1) xs))
 map_next says old mid new xs i d less h k =
     says_same old new (map says (take i xs) ++ says (slice_index_or xs i d) ∷ []) (map says (take (i + 1) xs))
-    (sym (ap (map says) (take_at xs i d less) ∙ map_join says (take i xs) (slice_index_or xs i d ∷ [])))
+    (sym (ap (map says) (take_at xs i d less) ∙ map-append says (take i xs) (slice_index_or xs i d ∷ [])))
     (says_then old mid new (map says (take i xs)) (says (slice_index_or xs i d) ∷ []) h (says_one mid new (says (slice_index_or xs i d)) k))
 
 pub map_done : {X : Type 0} (says : X → Line) (old new : Counted) (xs : List X) (i : ℕ) → length xs ≤ i → PutsLines old new (map says (take i xs))

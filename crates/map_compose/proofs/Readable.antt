@@ -31,7 +31,7 @@ use Rattle.map_compose.specs.Composition.{ComposedIsReadable, IsTextOfBoth}
 use Rattle.map_compose.specs.Sizes.{SizesAgree}
 use Rattle.ppdb_maps_text.specs.MapTexts.{map_text, olds_of}
 use Rattle.ppdb_maps_text.proofs.Reading.{texts_are_read}
-use Rattle.ppdb_maps_text.proofs.Found.{either, given, has}
+use Rattle.ppdb_maps_text.proofs.Found.{given, has}
 use Rattle.ppdb_maps_text.proofs.OneLine.{OneLine, by_row, by_cross, by_gone, one_line, methods_stay}
 use Rattle.ppdb_maps_text.proofs.Starting.{olds_have, olds_up, all_has, line_counted}
 use Rattle.map_compose.proofs.Imaging.{within, Reaches, stayed, crossed, ended, missed, reaches, image_kept}
@@ -44,6 +44,7 @@ use Rattle.map_compose.proofs.Names.{ascending_up as names_up}
 use Rattle.map_compose.proofs.Equations.{slot_named, signature_named, olds, numbers, came_by, live_image}
 use Rattle.ppdb_base.specs.declared.limits.TheConstants.{MAX_ROWS, MAX_OFFSET}
 use Rattle.ppdb_maps.proofs.Parts.{line_offsets}
+use Rattle.ppdb_maps.proofs.OneMap.{same_or_apart}
 
 -- ---- each item of a list
 
@@ -621,7 +622,7 @@ module _ (f s : Map) (f_readable : IsReadable f) (s_readable : IsReadable s) whe
           let fits = line_fits f f_readable k a at in
           let also_fits = second_fits b also in
           let e : record { method = k; old_size = a.old_size; new_size = b.new_size; runs = composed_runs f s k } ≡ line = cc in
-          let same : a.new_size ≡ b.old_size = elim (either a.new_size b.old_size) [
+          let same : a.new_size ≡ b.old_size = elim (same_or_apart a.new_size b.old_size) [
             | inl eq ↦ eq
             | inr differ ↦ absurd (agree k a.new_size b.old_size (record {
               a = a;

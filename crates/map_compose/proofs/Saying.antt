@@ -19,6 +19,7 @@ use Rattle.ppdb_maps.specs.declared.line.Line.TheVariants.{Rows, Dropped, Slots}
 use Rattle.ppdb_maps.specs.Map.{Map, MethodLine, row_line, cross_line, has_gone_line, told_image, line_image, method_line, count_of, is_dropped, row_within, rows_of}
 use Rattle.ppdb_maps.specs.Map.{signature_line}
 use Rattle.ppdb_maps.specs.Readable.{IsReadable, IsRow}
+use Rattle.ppdb_maps.proofs.OneMap.{same_or_apart}
 use Rattle.ppdb_maps_text.specs.MapTexts.{count_says, slots_say, method_says, map_text, ended, version_of, head_text}
 use Rattle.ppdb_maps_text.specs.MapTexts.{image_says, olds_of}
 use Rattle.map_compose.specs.declared.part.Part.{Part}
@@ -31,7 +32,7 @@ use Rattle.map_compose.specs.Says.{lines_text, rows_say, counted_says, table_say
 use Rattle.map_compose.specs.Says.{documents_say}
 use Rattle.map_compose.proofs.Equations.{olds, came_by, Came, moved, stayed, slots_named, spoken_has, rows_there, crossed_there, gone_there, lined_image, cross_entry}
 use Rattle.map_compose.proofs.Equations.{gone_entry}
-use Rattle.ppdb_maps_text.proofs.Found.{either, given, has, has_append, has_ascending, has_filter}
+use Rattle.ppdb_maps_text.proofs.Found.{given, has, has_append, has_ascending, has_filter}
 use Rattle.map_compose.proofs.Merging.{one_up}
 use Rattle.ppdb_maps_text.proofs.Orders.{Up, Above, less, ascending_up, filter_up}
 use Rattle.map_compose.proofs.Putting.{lines_join}
@@ -82,7 +83,7 @@ module _ {X : Type 0} (key : X → ℕ) (make : ℕ → List X) (keyed : (k : �
   unfolding IsStrictlySortedBy
   chosen_flat k [] up there = absurd (false≢true there)
   chosen_flat k (n ∷ ns) up there =
-      chosen_join k (make n) (flat_map make ns) ∙ elim (either k n) [
+      chosen_join k (make n) (flat_map make ns) ∙ elim (same_or_apart k n) [
         | inl same ↦
             ap (λ l. l ++ chosen k (flat_map make ns)) (subst (λ j. chosen k (make j) ≡ make k) same (all_chosen k (make k) (keyed k)))
             ∙ ap (λ l. make k ++ l) (above_none k ns (subst (λ j. Above j ns) (sym same) up.0)) ∙ append-nil (make k)
@@ -92,10 +93,6 @@ module _ {X : Type 0} (key : X → ℕ) (make : ℕ → List X) (keyed : (k : �
       ]
 
 -- ---- lines of what is made, and of what passes a test
-
-some_says : {X : Type 0} → (X → List Line) → Option X → List Line
-some_says g None = []
-some_says g (Some x) = g x
 
 -- each number of the list
 within_weaker : (n : ℕ) (ns ks : List ℕ) → AllByRecursion (λ k. has k ns ≡ true) ks → AllByRecursion (λ k. has k (n ∷ ns) ≡ true) ks

@@ -11,6 +11,7 @@ use Rattle.std.specs.Slice.{IsItemAt}
 use Rattle.std.proofs.lemmas.Bool.{eqb-true, eq-eqb}
 use Rattle.std.proofs.lemmas.Cmp.{nat_cmp_total}
 use Rattle.std.proofs.lemmas.Fmt.{length-decimal-le}
+use Rattle.std.proofs.lemmas.List.{map-append}
 use Rattle.ppdb_maps.specs.declared.entries.SlotImage.{SlotImage}
 use Rattle.ppdb_maps.specs.declared.line.Line.TheVariants.{Slot}
 use Rattle.ppdb_maps.specs.Forms.{SLOTS}
@@ -27,7 +28,7 @@ use Rattle.map_compose.specs.Slots.{slot_digits, slots_length, block_of, AreBloc
 use Rattle.map_compose.proofs.Bounds.{few_slots_of}
 use Rattle.map_compose.proofs.Following.{follows_image, slot_follows}
 use Rattle.ppdb_maps_text.proofs.Found.{find_filter}
-use Rattle.map_compose.proofs.Putting.{map_join, take_more, take_past, within}
+use Rattle.map_compose.proofs.Putting.{take_more, take_past, within}
 use Rattle.map_compose.proofs.Readable.{filter_hold, slots_up}
 use Rattle.ppdb_maps_text.proofs.Parts.{slot_says}
 
@@ -129,7 +130,7 @@ pub blocks_next : (m : Map) (i method : ℕ) (one : SlotBlock) (old new : List S
     → old ≡ map (block_of m) (take i m.slotted) → one ≡ block_of m method → new ≡ old ++ one ∷ [] → new ≡ map (block_of m) (take (i + 1) m.slotted)
 blocks_next m i method one old new is was made are =
     are ∙ ap (λ l. l ++ one ∷ []) was ∙ ap (λ b. map (block_of m) (take i m.slotted) ++ b ∷ []) made
-    ∙ sym (ap (map (block_of m)) (take_more m.slotted i method is) ∙ map_join (block_of m) (take i m.slotted) (method ∷ []))
+    ∙ sym (ap (map (block_of m)) (take_more m.slotted i method is) ∙ map-append (block_of m) (take i m.slotted) (method ∷ []))
 
 -- ---- finding a block
 

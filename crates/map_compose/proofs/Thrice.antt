@@ -10,8 +10,9 @@ use Rattle.ppdb_maps.specs.declared.entries.CrossLine.{CrossLine}
 use Rattle.ppdb_maps.specs.declared.entries.GoneLine.{GoneLine}
 use Rattle.ppdb_maps.specs.Map.{Map, rows_of, crossed_of, gone_of}
 use Rattle.ppdb_maps.specs.Readable.{IsReadable, IsRowOf, IsCrossOf, IsGoneOf}
+use Rattle.ppdb_maps.proofs.OneMap.{same_or_apart}
 use Rattle.ppdb_maps_text.specs.Ascending.{ascending}
-use Rattle.ppdb_maps_text.proofs.Found.{either, has, has_append}
+use Rattle.ppdb_maps_text.proofs.Found.{has, has_append}
 use Rattle.ppdb_maps_text.proofs.Orders.{Up, Above, is_less, key_up}
 use Rattle.map_compose.specs.Parts.{passed_on, least_of}
 use Rattle.map_compose.proofs.Bounds.{few}
@@ -111,7 +112,7 @@ rest_of xs up i z None is low = record {
 rest_of xs up i z (Some x) is low =
     let cut = drop_at xs i x is in
     let rising : Up (x ∷ drop (i + 1) xs) = subst Up cut (up_drop xs i up) in
-    elim (either x z) [
+    elim (same_or_apart x z) [
       | inl same ↦
           let on : passed_on i (Some x) z ≡ i + 1 = ap (λ b. cond b (i + 1) i) (eq-eqb x z same) in
           record {

@@ -1,5 +1,5 @@
 -- Two maps are one whose lists ascend and answer alike.
-use Rattle.std.proofs.Common.{◌≡◌, ℕ, ◌&&◌, ◌||◌, Bool, true, false, cond, List, [], ◌∷◌, Some, None, refl, sym, ◌∙◌, ap, inl, inr, map, subst}
+use Rattle.std.proofs.Common.{◌≡◌, ℕ, ◌&&◌, true, cond, List, [], ◌∷◌, Some, None, refl, sym, ◌∙◌, ap, inl, inr, map, subst}
 use Rattle.std.specs.Prelude.{nat_eq}
 use Rattle.std.specs.List.{find, list_any}
 use Rattle.std.specs.Str.{bytes_eq}
@@ -12,7 +12,6 @@ use Rattle.std.proofs.lemmas.Cmp.{nat_cmp_total, nat_list_cmp_total}
 use Rattle.ppdb_maps.specs.declared.entries.Count.{Count}
 use Rattle.ppdb_maps.specs.declared.entries.RowLine.{RowLine}
 use Rattle.ppdb_maps.specs.declared.entries.CrossLine.{CrossLine}
-use Rattle.ppdb_maps.specs.declared.entries.GoneLine.{GoneLine}
 use Rattle.ppdb_maps.specs.declared.entries.SlotImage.{SlotImage}
 use Rattle.ppdb_maps.specs.declared.entries.SignatureImage.{SignatureImage}
 use Rattle.ppdb_maps.specs.declared.entries.NameLine.{NameLine}
@@ -21,26 +20,10 @@ use Rattle.ppdb_maps.specs.Map.{Map, MethodLine, Ascends, pair_cmp, count_of, ro
 use Rattle.ppdb_maps.specs.Map.{signature_line}
 use Rattle.ppdb_maps.specs.Map.{document_line}
 use Rattle.ppdb_maps.proofs.OneList.{one_list}
-use Rattle.ppdb_maps.proofs.OneMap.{same_number, number_same, pair_is, is_pair, pair_total}
-use Rattle.ppdb_maps_text.proofs.Found.{either}
+use Rattle.ppdb_maps.proofs.OneMap.{same_number, number_same, pair_is, is_pair, pair_total, same_or_apart, alike, gone_one}
 use Rattle.map_compose.proofs.Names.{same as same_bytes, eq_itself as bytes_itself}
 
 -- ---- lists that answer alike by their keys
-
--- an item that is found is made of what it was found by and what it says
-rebuilt : {X V : Type 0} (p : X → Bool) (val : X → V) (make : V → X) → ((x : X) → p x ≡ true → make (val x) ≡ x) → (xs : List X)
-    → find p xs ≡ option_map make (option_map val (find p xs))
-rebuilt p val make is [] = refl
-rebuilt {X} p val make is (x ∷ xs) = step (p x) refl (rebuilt p val make is xs)
-  where
-    step : (b : Bool) → p x ≡ b → find p xs ≡ option_map make (option_map val (find p xs))
-        → cond b (Some x) (find p xs) ≡ option_map make (option_map val (cond b (Some x) (find p xs)))
-    step false miss rest = rest
-    step true hit rest = ap Some (sym (is x hit))
-
-alike : {X V : Type 0} (p : X → Bool) (val : X → V) (make : V → X) → ((x : X) → p x ≡ true → make (val x) ≡ x) → (xs ys : List X)
-    → option_map val (find p xs) ≡ option_map val (find p ys) → find p xs ≡ find p ys
-alike p val make is xs ys e = rebuilt p val make is xs ∙ ap (option_map make) e ∙ sym (rebuilt p val make is ys)
 
 -- items by one number
 pub by_number : {X : Type 0} (key : X → ℕ) (xs ys : List X) → IsStrictlySortedBy nat_cmp (map key xs) → IsStrictlySortedBy nat_cmp (map key ys)
@@ -88,7 +71,7 @@ by_name xs ys a b same_names =
 -- numbers
 number_found : (n : ℕ) (xs : List ℕ) → find (λ x. nat_eq x n) xs ≡ cond (list_any (nat_eq n) xs) (Some n) None
 number_found n [] = refl
-number_found n (x ∷ xs) = elim (either x n) [
+number_found n (x ∷ xs) = elim (same_or_apart x n) [
   | inl same ↦ rw (eq-eqb x n same, eq-eqb n x (sym same)) (ap Some same)
   | inr apart ↦ rw (ne_eqb x n apart, ne_eqb n x (λ e. apart (sym e))) (number_found n xs)
 ]
@@ -109,31 +92,6 @@ pub by_pair : {X : Type 0} (first second : X → ℕ) (xs ys : List X) → IsStr
     → ((j k : ℕ) → find (λ x. nat_eq (first x) j && nat_eq (second x) k) xs ≡ find (λ x. nat_eq (first x) j && nat_eq (second x) k) ys) → xs ≡ ys
 by_pair first second xs ys a b same =
     one_list (λ x. (first x, second x)) same_pair pair_cmp pair_is is_pair pair_total xs ys a b (λ p. same p.0 p.1)
-
--- items that are two numbers alone
-pair_found : {X : Type 0} (test : X → Bool) (item : X) → ((x : X) → test x ≡ true → x ≡ item) → (xs : List X)
-    → find test xs ≡ cond (list_any test xs) (Some item) None
-pair_found test item is [] = refl
-pair_found {X} test item is (x ∷ xs) = step (test x) refl (pair_found test item is xs)
-  where
-    step : (b : Bool) → test x ≡ b → find test xs ≡ cond (list_any test xs) (Some item) None
-        → cond b (Some x) (find test xs) ≡ cond (b || list_any test xs) (Some item) None
-    step true hit rest = ap Some (is x hit)
-    step false miss rest = rest
-
-gone_lines : (xs ys : List GoneLine) → IsStrictlySortedBy pair_cmp (map (λ (r : GoneLine). (r.table, r.old)) xs)
-    → IsStrictlySortedBy pair_cmp (map (λ (r : GoneLine). (r.table, r.old)) ys)
-    → ((t o : ℕ) → list_any (λ (r : GoneLine). nat_eq r.table t && nat_eq r.old o) xs ≡ list_any (λ (r : GoneLine). nat_eq r.table t && nat_eq r.old o) ys)
-    → xs ≡ ys
-gone_lines xs ys a b same = by_pair (λ (r : GoneLine). r.table) (λ r. r.old) xs ys a b
-    (λ t o. pair_found (λ (r : GoneLine). nat_eq r.table t && nat_eq r.old o) (record { table = t; old = o }) (own t o) xs
-    ∙ ap (λ b. cond b (Some (record { table = t; old = o })) None) (same t o)
-    ∙ sym (pair_found (λ (r : GoneLine). nat_eq r.table t && nat_eq r.old o) (record { table = t; old = o }) (own t o) ys))
-  where
-    own : (t o : ℕ) (r : GoneLine) → (nat_eq r.table t && nat_eq r.old o) ≡ true → r ≡ record { table = t; old = o }
-    own t o r hit =
-        let parts = and_parts (nat_eq r.table t) (nat_eq r.old o) hit in
-        ap (λ n. record { table = n; old = r.old }) (eqb-true r.table t parts.0) ∙ ap (λ n. record { table = t; old = n }) (eqb-true r.old o parts.1)
 
 -- ---- maps
 
@@ -172,7 +130,7 @@ one_map a b x y same =
     a.rows b.rows x.rows y.rows same.rows)
     ∙ ap (λ l. record rowed { crossed = l })
     (by_pair (λ (r : CrossLine). r.table) (λ r. r.old) a.crossed b.crossed x.crossed y.crossed same.crossed)
-    ∙ ap (λ l. record crossed { gone = l }) (gone_lines a.gone b.gone x.gone y.gone same.gone)
+    ∙ ap (λ l. record crossed { gone = l }) (gone_one a.gone b.gone x.gone y.gone same.gone)
     ∙ ap (λ l. record ended { methods = l }) (by_number (λ (l : MethodLine). l.method) a.methods b.methods x.methods y.methods same.methods)
     ∙ ap (λ l. record lined { drops = l }) (numbers a.drops b.drops x.drops y.drops same.drops)
     ∙ ap (λ l. record dropped { slotted = l }) (numbers a.slotted b.slotted x.slotted y.slotted same.slotted)

@@ -159,9 +159,6 @@ module _ (f s : Map) (composes : IsComposition f s (composed f s)) (first : IsRe
       → (is_gone_row f table row || is_gone_row s (table_in (row_image f table row)) (row_in (row_image f table row))) ≡ is_gone_row c table row
   gone_on table row = gone_then (row_image f table row) ∙ sym (gone_own table (image_then s (row_image f table row))) ∙ sym (ap is_gone (composes.rows table row))
 
-  abbrev gone_type : TypeToken → Bool
-  gone_type t = is_gone_type c t
-
   modifiers_on : (xs : List Modifier)
       → (list_any (λ (x : Modifier). is_gone_type f x.target) xs || list_any (λ (x : Modifier). is_gone_type s x.target) (map (moved_modifier f) xs))
       ≡ list_any (λ (x : Modifier). is_gone_type c x.target) xs

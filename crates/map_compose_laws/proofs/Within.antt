@@ -1,5 +1,5 @@
 -- The offsets of what a file means at an offset of a method are within the method's old size, so they compose where those do.
-use Rattle.std.proofs.Common.{◌≡◌, ℕ, ◌+◌, ◌≤◌, ◌&&◌, ◌++◌, Bool, true, false, cond, List, [], ◌∷◌, Option, Some, None, refl, sym, subst, arith}
+use Rattle.std.proofs.Common.{◌≡◌, ℕ, ◌≤◌, ◌&&◌, Bool, true, false, cond, List, [], ◌∷◌, Option, Some, None, refl, sym, subst, arith}
 use Rattle.std.specs.Prelude.{nat_eq, nat_le, nat_lt, if◌then◌else◌}
 use Rattle.std.specs.List.{enumerate_from, filter, filter_map, flat_map}
 use Rattle.std.specs.Option.{option_and_then, option_map}
@@ -24,7 +24,7 @@ use Rattle.ppdb_merge_items.specs.Each.{Each}
 use Rattle.ppdb_merge_items.specs.Laws.{MeaningsAreAnnotated}
 use Rattle.ppdb_merge_items.specs.Annotated.{annotated_file}
 use Rattle.ppdb_merge_items.specs.AnnotatedMeaning.{document_at, held, last_of, method_of, on_method, point_at, point_meaning, scope_meaning}
-use Rattle.ppdb_merge_items.proofs.Lists.{Each-filter}
+use Rattle.ppdb_merge_items.proofs.Lists.{Each-filter, Each-append, Each-enumerate}
 use Rattle.ppdb_merge_moved.specs.Fits.{AreWithin, EndsWithin}
 use Rattle.ppdb_merge_moved.proofs.Fitting.{offsets_rise}
 use Rattle.ppdb_merge_moved.proofs.Lists.{Each-filter_map}
@@ -36,18 +36,10 @@ use Rattle.map_compose_laws.proofs.Fitting.{each_shown}
 
 -- ---- lists
 
-each_join : {A : Type 0} (P : A → Type 0) (xs ys : List A) → Each P xs → Each P ys → Each P (xs ++ ys)
-each_join P [] ys one other = other
-each_join P (x ∷ xs) ys one other = (one.0, each_join P xs ys one.1 other)
-
 each_flat : {A B : Type 0} (P : A → Type 0) (Q : B → Type 0) (make : A → List B) → ((x : A) → P x → Each Q (make x)) → (xs : List A) → Each P xs
     → Each Q (flat_map make xs)
 each_flat P Q make makes [] all = tt
-each_flat P Q make makes (x ∷ xs) all = each_join Q (make x) (flat_map make xs) (makes x all.0) (each_flat P Q make makes xs all.1)
-
-each_numbered : {A : Type 0} (P : A → Type 0) (n : ℕ) (xs : List A) → Each P xs → Each (λ (p : ℕ × A). P p.1) (enumerate_from n xs)
-each_numbered P n [] all = tt
-each_numbered P n (x ∷ xs) all = (all.0, each_numbered P (n + 1) xs all.1)
+each_flat P Q make makes (x ∷ xs) all = Each-append Q (make x) (flat_map make xs) (makes x all.0) (each_flat P Q make makes xs all.1)
 
 passed : {A : Type 0} (test : A → Bool) (xs : List A) → Each (λ x. test x ≡ true) (filter test xs)
 passed test [] = tt
@@ -137,9 +129,9 @@ module _ (f s : Map) (value : FileValue) (annotated : MeaningsAreAnnotated) (fit
     slots = each_flat (λ (h : ℕ × List Slot). Each (EndsWithin size) h.1) (λ (m : SlotMeaning). RangeComposes f s method image m.range)
         (λ hoisted. filter_map (slot_at x hoisted.0) (enumerate_from 0 hoisted.1))
         (λ h ends. Each-filter_map (slot_at x h.0) (λ (p : ℕ × Slot). EndsWithin size p.1) (λ (m : SlotMeaning). RangeComposes f s method image m.range)
-        (λ p m is e. slot_on h.0 p m is e) (enumerate_from 0 h.1) (each_numbered (EndsWithin size) 0 h.1 ends))
+        (λ p m is e. slot_on h.0 p m is e) (enumerate_from 0 h.1) (Each-enumerate (EndsWithin size) 0 h.1 ends))
         (enumerate_from 0 (filter_map (λ (c : CustomValue). slots_in c.value) (on_method (annotated_file value) method)))
-        (each_numbered (Each (EndsWithin size)) 0 (filter_map (λ (c : CustomValue). slots_in c.value) (on_method (annotated_file value) method))
+        (Each-enumerate (Each (EndsWithin size)) 0 (filter_map (λ (c : CustomValue). slots_in c.value) (on_method (annotated_file value) method))
         (Each-filter_map (λ (c : CustomValue). slots_in c.value) (λ (c : CustomValue). AreWithin size c.value) (Each (EndsWithin size))
         (λ c slots is ends. slots_within c.value slots is ends) (on_method (annotated_file value) method) customs_on));
   })

@@ -53,7 +53,7 @@ pub no_windows_pdb : (file : List ℕ) → BeginsWith (codes "BSJB") file → Be
 no_windows_pdb file b m = absurd (omega (arith, first_byte _ _ _ _ file 3 19 b m))
 
 module _ (file : List ℕ) (signed : BeginsWith (codes "BSJB") file) where
-  -- nothing bad begins before a cut of the fields that lies in the file, where the names before it are good
+  -- no fault begins before a cut of the fields that lies in the file, where the names before it are good
   judged_case : (k b : ℕ) (before after : List ℕ) → root_fields file ≡ before ++ after → b ≡ sum before → b ≤ length file → AreGoodTo file k
       → ((j : ℕ) → name_place file j < b → j < k)
       → (code : Code) (at : Place) → RootFaults file code at → ComesBefore (numbers code at) (1 ∷ 0 ∷ 0 ∷ 0 ∷ b ∷ []) → ⊥
@@ -81,7 +81,7 @@ module _ (file : List ℕ) (signed : BeginsWith (codes "BSJB") file) where
       → IsJudgedTo (RootFaults file) (1 ∷ 0 ∷ 0 ∷ 0 ∷ b ∷ [])
   judged k b before after split is le names earlier = judged_case k b before after split is le names earlier
 
-  -- no code below RootTruncated is bad
+  -- no code below RootTruncated is a fault
   least_cut : (code : Code) (at : Place) → RootFaults file code at → 3 ≤ number_of code
   least_cut _ _ (not_metadata none _) = absurd (none signed)
   least_cut _ _ (windows_pdb m) = absurd (no_windows_pdb file signed m)
@@ -152,7 +152,7 @@ module _ (file : List ℕ) (signed : BeginsWith (codes "BSJB") file) where
         ((code ≡ StreamName) × IsInvalidName (name_at file (name_place file k)))
         ⊎ (((code ≡ StreamUnknown) × ((kind : StreamKind) → name_at file (name_place file k) ≢ name_of kind)) ⊎ (code ≡ StreamRepeated))
 
-    -- what is bad at the name, whose field fits, is one of the three rules of names
+    -- what is at fault at the name, whose field fits, is one of the three rules of names
     at_name : (code : Code) (at : Place) → RootFaults file code at → at ≡ at_byte 1 (name_place file k) → Breaks code
     unfolding Breaks
     at_name _ _ (not_metadata none _) e = absurd (none signed)
@@ -223,7 +223,7 @@ module _ (file : List ℕ) (signed : BeginsWith (codes "BSJB") file) where
   header_is_first k lt names listing l _ (cut byte le cuts) = header_cut k byte lt names le cuts
   header_is_first k lt names listing l _ (name code fits breaks) = name_is_first k lt fits names listing l code breaks
 
-  -- all headers are good, and end within the file: nothing of the root is bad
+  -- all headers are good, and end within the file: nothing of the root is at fault
   accepted_case : header_place file (stream_count file) ≤ length file → AreGoodTo file (stream_count file) → (code : Code) (at : Place) → RootFaults file code at
       → ⊥
   accepted_case le names _ _ (not_metadata none _) = none signed

@@ -41,17 +41,6 @@ ends_by_place file j (suc k) lt =
           rw e (omega (arith, next_place file k))
     ]
 
--- two headers whose names begin at one place are one
-pub same_header : (file : List ℕ) (j k : ℕ) → header_place file j + 8 ≡ header_place file k + 8 → j ≡ k
-same_header file j k e =
-    elim (cases_lt j k) [
-      | inl lt ↦ absurd (omega (arith, e, ends_by_place file j k lt, name_len_pos file (header_place file j + 8)))
-      | inr ge ↦ elim (cases_lt k j) [
-        | inl gt ↦ absurd (omega (arith, e, ends_by_place file k j gt, name_len_pos file (header_place file k + 8)))
-        | inr le ↦ omega (arith, ge, le)
-      ]
-    ]
-
 -- a name that begins before the end of the name of header k is that of an earlier header, or of k
 pub earlier_header : (file : List ℕ) (j k b : ℕ) → header_place file j + 8 < b → b ≤ header_place file k + 8 → j < k
 earlier_header file j k b lt le =

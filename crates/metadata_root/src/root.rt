@@ -153,7 +153,7 @@ fn judge_streams(bytes: &[u8], listing: &Listing) -> Result<(), Fault>
 /// Reads the root and its stream headers.
 pub fn read_root<'a>(bytes: &'a [u8]) -> Result<Root<'a>, Fault>
     requires { length bytes.now ≤ MAX_FILE_BYTES }
-    // Where nothing is bad, the streams are those slices of the file.
+    // If nothing is at fault, the streams are those slices of the file.
     ensures accepted { OnOk result (IsAccepted (ContainerFaults bytes.now)) }
     ensures streams { IfOk result (AreStreamsOf bytes.now) }
     // Else the fault is the first.

@@ -1,5 +1,5 @@
 -- How a function that judges a file in the order of places is shown to answer the first fault: it keeps
--- `IsJudgedTo Faults here`, that nothing bad comes before here, and moves here on.
+-- `IsJudgedTo Faults here`, that no fault comes before here, and moves here on.
 use Rattle.std.proofs.Common.{◌≡◌, ℕ, suc, ◌<◌, ◌≤◌, ◌⊎◌, inl, inr, List, [], ◌∷◌, ap, subst, ◌∙◌, arith}
 use Rattle.ppdb_base.specs.declared.code.Code.{Code}
 use Rattle.ppdb_base.specs.declared.fault.Place.{Place}
@@ -17,7 +17,7 @@ before_code : (d c : Code) (q p : Place) → ComesBefore (numbers d q) (numbers 
 before_code d c q p h = grind arith
 
 module _ (Faults : Code → Place → Type 0) where
-  -- nothing bad comes before a place: the least code that is bad there is the first fault
+  -- no fault comes before a place: the least code that is a fault there is the first fault
   pub first_at : (code : Code) (at : Place) → IsJudgedTo Faults (place_numbers at) → Faults code at
       → ((other : Code) → Faults other at → number_of code ≤ number_of other) → IsFirst Faults (record { code = code; place = at })
   first_at code at judged invalid least = record {
@@ -76,15 +76,11 @@ byte_before part code at here h = grind arith
 -- ---- the rows of tables: here is a prefix of a cell's numbers
 
 module _ (Faults : Code → Place → Type 0) (part table row column : ℕ) where
-  -- before the first column of a row stands nothing of the row
-  pub first_column : IsJudgedTo Faults (part ∷ table ∷ row ∷ []) → IsJudgedTo Faults (part ∷ table ∷ row ∷ 0 ∷ [])
-  first_column judged = λ code at invalid before. judged code at invalid (grind arith)
-
   -- before byte 0 of a cell stands nothing of the cell
   pub first_byte : IsJudgedTo Faults (part ∷ table ∷ row ∷ column ∷ []) → IsJudgedTo Faults (part ∷ table ∷ row ∷ column ∷ 0 ∷ [])
   first_byte judged = λ code at invalid before. judged code at invalid (grind arith)
 
-  -- a column in which nothing is bad is passed
+  -- a column in which nothing is at fault is passed
   pub next_column : IsJudgedTo Faults (part ∷ table ∷ row ∷ column ∷ [])
       → ((code : Code) (at : Place) → Faults code at → at.part ≡ part → at.table ≡ table → at.row ≡ row → at.column ≡ column → ⊥)
       → IsJudgedTo Faults (part ∷ table ∷ row ∷ suc column ∷ [])
@@ -98,7 +94,7 @@ module _ (Faults : Code → Place → Type 0) (part table row column : ℕ) wher
           → ComesBefore (numbers code at) (part ∷ table ∷ row ∷ column ∷ []) ⊎ ((at.part ≡ part) × (at.table ≡ table) × (at.row ≡ row) × (at.column ≡ column))
       before_next code at h = grind arith
 
-  -- the rest of a row in which nothing is bad is passed
+  -- the rest of a row in which nothing is at fault is passed
   pub next_row : IsJudgedTo Faults (part ∷ table ∷ row ∷ column ∷ [])
       → ((code : Code) (at : Place) → Faults code at → at.part ≡ part → at.table ≡ table → at.row ≡ row → column ≤ at.column → ⊥)
       → IsJudgedTo Faults (part ∷ table ∷ suc row ∷ [])
@@ -112,7 +108,7 @@ module _ (Faults : Code → Place → Type 0) (part table row column : ℕ) wher
           → ComesBefore (numbers code at) (part ∷ table ∷ row ∷ column ∷ []) ⊎ ((at.part ≡ part) × (at.table ≡ table) × (at.row ≡ row) × (column ≤ at.column))
       before_next code at h = grind arith
 
-  -- the rest of a table in which nothing is bad is passed, and so are tables that have no rules
+  -- the rest of a table in which nothing is at fault is passed, and so are tables that have no rules
   pub next_table : (next : ℕ) → IsJudgedTo Faults (part ∷ table ∷ row ∷ [])
       → ((code : Code) (at : Place) → Faults code at → at.part ≡ part → (((at.table ≡ table) × (row ≤ at.row)) ⊎ ((table < at.table) × (at.table < next))) → ⊥)
       → IsJudgedTo Faults (part ∷ next ∷ [])

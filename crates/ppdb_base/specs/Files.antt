@@ -33,13 +33,6 @@ Answers is (Err Memory) into = Unit {0}
 abbrev pub with_file : Option Files → List ℕ → List ℕ → Option Files
 with_file files name bytes = option_map (λ all. insert all name bytes) files
 
--- the files with a prefix of the bytes as this one
-pub record HasPrefix (old new : Option Files) (name bytes : List ℕ) : Type 0 where
-  pub prefix : List ℕ
-  pub rest : List ℕ
-  pub is_prefix : bytes ≡ prefix ++ rest
-  pub files : new ≡ with_file old name prefix
-
--- a write that failed left the file as it was, or with a prefix of the bytes
+-- a write that failed left the files as they were, or with a prefix of the bytes as this one
 abbrev pub LeavesPrefix : Option Files → Option Files → List ℕ → List ℕ → Type 0
-LeavesPrefix old new name bytes = (new ≡ old) ⊎ HasPrefix old new name bytes
+LeavesPrefix old new name bytes = (new ≡ old) ⊎ ((prefix rest : List ℕ) × (bytes ≡ prefix ++ rest) × (new ≡ with_file old name prefix))

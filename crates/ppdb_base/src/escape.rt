@@ -49,7 +49,8 @@ fn put_code<O: Sink>(out: &mut O, byte: u8) -> Result<(), WriteError>
     out.put(&hex_digits(byte))
 }
 
-fn stands_for_itself(byte: u8) -> bool
+/// Whether a byte stands for itself: printable ASCII but the backslash.
+pub fn stands_for_itself(byte: u8) -> bool
     ensures { result ≡ is_plain byte }
 {
     byte.is_ascii_graphic() && byte != b'\\'

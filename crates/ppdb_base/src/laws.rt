@@ -5,11 +5,11 @@ ghost use Rattle.ppdb_base.specs.First.{AcceptedWithoutFirst};
 
 /// Rules, by what breaks them.
 pub trait Rules {
-    /// The code is bad at the place.
+    /// The code is a fault at the place.
     ghost invalid: { Code → Place → Type 0 };
 }
 
-/// Where no fault is the first one, nothing is bad.
+/// If no fault is the first one, nothing is at fault.
 pub fn none_first<R: Rules>()
     ensures { AcceptedWithoutFirst R.invalid }
 {}

@@ -18,7 +18,7 @@ mod steady;
 mod steps;
 
 pub use code::Code;
-pub use escape::put_escaped;
+pub use escape::{put_escaped, stands_for_itself};
 pub use fault::{BlobFault, Fault, Place};
 pub use folder::{Folder, ReadError};
 pub use laws::none_first;

@@ -14,7 +14,7 @@ use Rattle.ppdb_values.specs.Types.{IsGuid, HasTypes}
 use Rattle.ppdb_build_heaps.specs.Items.{first_uses}
 use Rattle.ppdb_build_canon.specs.Uses.{variables_of, constants_of, guid_uses}
 use Rattle.ppdb_build_canon.specs.Canonical.{counts, document_row, method_rows, scope_row, variable_row, constant_row, import_row, custom_row, canonical_tables}
-use Rattle.ppdb_build_canon.specs.Limits.{too_many_rows, tables, IsWithinLimits}
+use Rattle.ppdb_build_canon.specs.Limits.{too_many_rows, tables}
 use Rattle.ppdb_build_canon.proofs.Counts as known
 use Rattle.ppdb_build_items.specs.Interned.{cell}
 use Rattle.ppdb_build_draft.specs.Draft.{Draft}
@@ -124,19 +124,3 @@ counts_same value draft are is =
     (length (constants_of value)) (length value.imports) n (cell (length held.customs))) g
     ∙ ap (λ n. counts_with rows (length value.documents) (length (method_rows value value.methods)) (length value.scopes) (length (variables_of value))
     (length (constants_of value)) (length value.imports) (length value.machines) n) h
-
--- a value that meets no limit has no table with too many rows
-pub within_few : (value : FileValue) → length value.rows ≡ 64 → IsWithinLimits value → AreFew value
-within_few value entries within = record {
-  documents = at 0x30 _ (known.counted_documents value entries) (within.rows 0x30 (0, omega arith, refl));
-  methods = at 0x31 _ (known.counted_methods value entries) (within.rows 0x31 (1, omega arith, refl));
-  scopes = at 0x32 _ (known.counted_scopes value entries) (within.rows 0x32 (2, omega arith, refl));
-  variables = at 0x33 _ (known.counted_variables value entries) (within.rows 0x33 (3, omega arith, refl));
-  constants = at 0x34 _ (known.counted_constants value entries) (within.rows 0x34 (4, omega arith, refl));
-  imports = at 0x35 _ (known.counted_imports value entries) (within.rows 0x35 (5, omega arith, refl));
-  machines = at 0x36 _ (known.counted_machines value entries) (within.rows 0x36 (6, omega arith, refl));
-  customs = at 0x37 _ (known.counted_customs value entries) (within.rows 0x37 (7, omega arith, refl));
-}
-  where
-    at : (table n : ℕ) → slice_index (counts value) table ≡ n → slice_index (counts value) table ≤ 16777215 → n ≤ 16777215
-    at table n is most = omega (arith, is, most)

@@ -26,6 +26,7 @@ use Rattle.ppdb_build_draft.specs.Drafted.{held_document, held_method, held_scop
 use Rattle.ppdb_build_draft.specs.Drafted.{drafted, IsDraftOf, DraftsAreCanonical}
 use Rattle.ppdb_build_from_rows.specs.Unlimited.{PassesNoEarlyLimit}
 use Rattle.ppdb_merge_items.specs.Each.{Each}
+use Rattle.ppdb_merge_items.proofs.Lists.{Each-weaker}
 use Rattle.ppdb_merge_rows.specs.Methods.{HasForms}
 use Rattle.ppdb_build.specs.Building.{IsDraftedFrom, early_limit_of}
 use Rattle.ppdb_build.specs.Joining.{AreRowsFew, IsHeadOf}
@@ -44,10 +45,6 @@ none_found : {X : Type 0} (p : X → Bool) (xs : List X) → All (λ x. p x ≡ 
 none_found p [] all = refl
 none_found p (x ∷ xs) all =
     ap (λ b. cond b (Some x) (find p xs)) (All-head (λ y. p y ≡ false) x xs all) ∙ none_found p xs (All-tail (λ y. p y ≡ false) x xs all)
-
-each_weaker : {X : Type 0} (P Q : X → Type 0) → ((x : X) → P x → Q x) → (xs : List X) → Each P xs → Each Q xs
-each_weaker P Q f [] each = tt
-each_weaker P Q f (x ∷ xs) each = (f x each.0, each_weaker P Q f xs each.1)
 
 -- ---- L1: rows
 
@@ -98,8 +95,8 @@ pub passes : (value : FileValue) (draft : Draft) → length value.rows ≡ 64 �
     → PassesNoEarlyLimit value
 passes value draft entries forms is few = record {
   rows = rows_few value draft entries is few;
-  offsets = none_first large_offset value.methods (each_weaker HasForms (λ (m : MethodValue). large_offset m ≡ None) no_offset value.methods forms);
-  steps = none_first large_step_of value.methods (each_weaker HasForms (λ (m : MethodValue). large_step_of m ≡ None) no_step value.methods forms);
+  offsets = none_first large_offset value.methods (Each-weaker HasForms (λ (m : MethodValue). large_offset m ≡ None) no_offset value.methods forms);
+  steps = none_first large_step_of value.methods (Each-weaker HasForms (λ (m : MethodValue). large_step_of m ≡ None) no_step value.methods forms);
 }
 
 -- L2 alone is left
@@ -116,7 +113,7 @@ of_joined value head draft sound types early forms is_head is = record {
   sound = sound;
   types = types;
   early = early;
-  steps = none_first large_step_of value.methods (each_weaker HasForms (λ (m : MethodValue). large_step_of m ≡ None) no_step value.methods forms);
+  steps = none_first large_step_of value.methods (Each-weaker HasForms (λ (m : MethodValue). large_step_of m ≡ None) no_step value.methods forms);
   id = is_head.id;
   entry = is_head.entry;
   rows = is_head.rows;

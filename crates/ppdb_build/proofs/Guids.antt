@@ -8,6 +8,7 @@ use Rattle.std.proofs.lemmas.List.Elements.{All-map, All-weaker}
 use Rattle.ppdb_maps.specs.Map.{Map}
 use Rattle.ppdb_tables.specs.declared.parent.Parent.{Parent}
 use Rattle.ppdb_tables.specs.declared.rows.VariableRow.{VariableRow}
+use Rattle.ppdb_tables.specs.Parents.{coded_of}
 use Rattle.ppdb_values.specs.Customs.{custom_of, kind_in}
 use Rattle.ppdb_values.specs.Documents.{document_of}
 use Rattle.ppdb_values.specs.RawFile.{RawFile}
@@ -19,7 +20,7 @@ use Rattle.ppdb_values.specs.declared.file.DocumentValue.{DocumentValue}
 use Rattle.ppdb_values.specs.declared.file.FileValue.{FileValue}
 use Rattle.ppdb_values.specs.declared.scope.ScopeValue.{ScopeValue}
 use Rattle.ppdb_values.proofs.Typed.{any_all, each_all, guid_length, guid_or_none}
-use Rattle.ppdb_values_sound_laws.specs.Customs.{coded_of, SoundCustoms}
+use Rattle.ppdb_values_sound_laws.specs.Customs.{SoundCustoms}
 use Rattle.ppdb_verify.specs.Views.{raw_file}
 use Rattle.ppdb_build_canon.specs.Canonical.{canonical_tables, variable_row}
 use Rattle.ppdb_build_canon.specs.Uses.{variables_of}

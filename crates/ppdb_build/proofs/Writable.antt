@@ -1,10 +1,10 @@
 -- The parts of a sound value that passes no early limit can be written.
-use Rattle.std.proofs.Common.{◌≡◌, ℕ, zero, suc, ◌<◌, ◌≤◌, Bool, true, false, List, [], ◌∷◌, length, take, get_or, refl, ap, ◌∙◌, arith}
+use Rattle.std.proofs.Common.{◌≡◌, ℕ, ◌<◌, ◌≤◌, Bool, true, false, List, [], length, take, get_or, ap, ◌∙◌, arith}
 use Rattle.std.proofs.Common.{Some, None, All}
 use Rattle.std.specs.Prelude.{nat_le, ◌==◌, if◌then◌else◌}
 use Rattle.std.specs.List.{filter_map, find}
 use Rattle.std.proofs.lemmas.Bool.{leb-false}
-use Rattle.std.proofs.lemmas.List.Elements.{All-nil, All-cons, All-weaker, All-contains}
+use Rattle.std.proofs.lemmas.List.Elements.{All-weaker, All-contains}
 use Rattle.std.proofs.lemmas.List.Concat.{length-flat_map}
 use Rattle.sequence_points.specs.declared.point.Point.{Point}
 use Rattle.sequence_points.specs.Written.{first_of}
@@ -14,8 +14,8 @@ use Rattle.ppdb_tables.specs.RawTables.{row_at}
 use Rattle.ppdb_values.specs.declared.file.FileValue.{FileValue}
 use Rattle.ppdb_values.specs.declared.file.MethodValue.{MethodValue}
 use Rattle.ppdb_values.specs.declared.scope.ScopeValue.{ScopeValue}
-use Rattle.ppdb_values.specs.Ordered.{EachRow}
 use Rattle.ppdb_values.specs.Types.{HasTypes}
+use Rattle.ppdb_values.proofs.Typed.{each_all}
 use Rattle.ppdb_values_sound_laws.specs.Named.{count}
 use Rattle.ppdb_values_sound_laws.specs.Sound.{IsSound}
 use Rattle.ppdb_values_sound_laws.specs.Writing.{HasSpelling, SoundPartsCanBeWritten}
@@ -29,15 +29,6 @@ use Rattle.ppdb_build.specs.Building.{IsLimit, early_limit_of, IsWritableMethod,
 use Rattle.ppdb_build.specs.Building.{IsWritableCustom, ArePartsWritable}
 use Rattle.ppdb_build.proofs.Limits.{neither}
 use Rattle.ppdb_build.proofs.Counted.{AreFew, are_few}
-
--- each row is so, one after another
-pub each_all : {X : Type 0} (P : X → Type 0) (rows : List X) → EachRow P rows → All P rows
-each_all P [] each = All-nil P
-each_all {X} P (x ∷ rows) each = All-cons P x rows (each 1 x refl) (each_all P rows (later each))
-  where
-    later : EachRow P (x ∷ rows) → EachRow P rows
-    later each zero y is = cc
-    later each (suc row) y is = each (suc (suc row)) y is
 
 -- the first step that has no form
 pub step_at : (methods : List MethodValue) (i : ℕ) (method : MethodValue) → i < length methods → filter_map large_step_of (take i methods) ≡ []

@@ -1,8 +1,7 @@
 -- What the file that inputs are joined into is laid out from.
-use Rattle.ppdb_values.specs.Names.{PdbHead}
+use Rattle.ppdb_values.specs.{Names.{PdbHead}, declared.file.FileValue.{FileValue}}
 use Rattle.std.specs.Prelude.{◌≡◌, ◌≤◌, length, take}
 use Rattle.ppdb_maps.specs.Map.{moved_row}
-use Rattle.ppdb_values.specs.declared.file.FileValue.{FileValue}
 use Rattle.ppdb_build_layout.specs.declared.rows.Rows.{Rows}
 use Rattle.ppdb_merge_moved.specs.Moved.{moved_counts}
 use Rattle.ppdb_merge_parts.specs.Flat.{MovedBy}

@@ -137,9 +137,6 @@ index_same : (b : Bool) (n : ℕ) → n < 256 ^ index_width b → cell n ≡ n
 index_same true n h = let small : n < 4294967296 = h in omega arith
 index_same false n h = let small : n < 65536 = h in omega arith
 
-short_same : (n : ℕ) → n < 256 ^ 2 → cell n ≡ n
-short_same n h = let small : n < 65536 = h in omega arith
-
 map_same : {X : Type 0} (f : X → X) (P : X → Type 0) (xs : List X) → ((x : X) → P x → f x ≡ x) → All P xs → map f xs ≡ xs
 map_same f P [] same all = refl
 map_same {X} f P (x ∷ xs) same all =

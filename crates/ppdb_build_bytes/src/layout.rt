@@ -11,7 +11,7 @@ use ppdb_build_draft::Drafting;
 use ppdb_build_layout::{Rows, put_prefix};
 use ppdb_tables::{
     CUSTOM, DOCUMENT, IMPORT_SCOPE, LOCAL_CONSTANT, LOCAL_SCOPE, LOCAL_VARIABLE, METHOD_DEBUG,
-    STATE_MACHINE,
+    STATE_MACHINE, TYPE_TABLES,
 };
 use std::alloc::Global;
 
@@ -43,7 +43,7 @@ pub fn counts_of(system: &[u32; 64], draft: &Drafting) -> [u32; 64]
     ensures { result ≡ counts_in system.now draft.now.rows }
 {
     let mut counts = debug_counts(draft.rows());
-    for i in 0..0x2d {
+    for i in 0..TYPE_TABLES as usize {
         counts[i] = system[i];
     }
     counts

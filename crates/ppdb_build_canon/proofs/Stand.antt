@@ -1,19 +1,16 @@
 -- What a value uses stands at its index in the heaps of the canonical file.
-use Rattle.std.proofs.Common.{◌≡◌, ◌≢◌, ℕ, zero, suc, ◌+◌, ◌*◌, ◌<◌, ◌≤◌, Bool, true, false, cond, not, List, [], ◌∷◌, ◌++◌, length, filter, flat_map}
-use Rattle.std.proofs.Common.{replicate, sym, ap, subst, ◌∙◌, arith, bytes_eq, length-append, min, nat_le, take, drop, inl, inr, if◌then◌else◌}
-use Rattle.std.proofs.lemmas.Bool.{cases_Bool, leb-true}
-use Rattle.std.proofs.lemmas.Option.{none-some}
-use Rattle.std.specs.Prelude.{All, Some, None}
-use Rattle.std.specs.List.{Contains, before_first}
-use Rattle.std.proofs.lemmas.List.Concat.{flat_map-append, length-flat_map}
+use Rattle.std.proofs.Common.{◌≡◌, ◌≢◌, ℕ, ◌+◌, ◌<◌, ◌≤◌, Bool, true, false, cond, not, List, [], ◌∷◌, ◌++◌, length, filter, flat_map}
+use Rattle.std.proofs.Common.{replicate, sym, subst, arith, bytes_eq, length-append, min}
+use Rattle.std.specs.Prelude.{All, Some}
+use Rattle.std.specs.List.{Contains}
 use Rattle.std.proofs.lemmas.List.Elements.{All-cons, All-head, All-tail, All-filter, All-contains}
 use Rattle.cli_ints.specs.Shortest.{short_unsigned}
 use Rattle.ppdb_heaps.specs.Heaps.{text_at, blob_at, guid_at}
 use Rattle.ppdb_build_heaps.specs.Items.{IsIn, first_uses, index_of, as_text, as_blob, shortest}
 use Rattle.ppdb_build_heaps.specs.Uses.{Piece, blob_bytes}
-use Rattle.ppdb_build_heaps.proofs.Items.{there}
 use Rattle.ppdb_build_heaps.proofs.Stable.{after-adds}
 use Rattle.ppdb_build_heaps.proofs.Stands.{text-there, blob-there, guid-there}
+use Rattle.ppdb_build_heaps.proofs.Stays.{within as index_within}
 use Rattle.ppdb_values.specs.declared.file.FileValue.{FileValue}
 use Rattle.ppdb_values.specs.Types.{IsGuid}
 use Rattle.ppdb_build_layout.specs.Bytes.{padding, padded}
@@ -24,26 +21,8 @@ use Rattle.ppdb_build_canon.proofs.Used.{item_used, blob_used}
 
 -- ---- an item ends within its heap
 
-index_within : (spelled : List ℕ → List ℕ) (items : List (List ℕ)) (item : List ℕ) → IsIn items item
-    → index_of spelled items item + length (spelled item) ≤ length (flat_map spelled items)
-index_within spelled items item is =
-    let stands = there items item is in
-    let before = before_first (bytes_eq item) items in
-    let split : flat_map spelled items ≡ flat_map spelled before ++ (spelled item ++ flat_map spelled stands.after) =
-    ap (flat_map spelled) stands.split ∙ flat_map-append spelled before (item ∷ stands.after) in
-    omega (
-      arith,
-      ap length split,
-      length-append (flat_map spelled before) (spelled item ++ flat_map spelled stands.after),
-      length-append (spelled item) (flat_map spelled stands.after),
-      length-flat_map spelled before,
-    )
-
 padded_longer : (bytes : List ℕ) → length bytes ≤ length (padded bytes)
 padded_longer bytes = omega (arith, length-append bytes (replicate (padding (length bytes)) 0))
-
-as_text_len : (item : List ℕ) → length (as_text item) ≡ length item + 1
-as_text_len item = length-append item (0 ∷ [])
 
 -- a length has a byte at least
 some_bytes : (b c : Bool) (x y1 y2 z1 z2 z3 z4 : ℕ) → 1 ≤ length (cond b (x ∷ []) (cond c (y1 ∷ y2 ∷ []) (z1 ∷ z2 ∷ z3 ∷ z4 ∷ [])))
@@ -66,15 +45,6 @@ all_first_uses P (item ∷ uses) all =
     All-cons P item (filter (λ other. not (bytes_eq item other)) (first_uses uses)) (All-head P item uses all)
     (All-filter (λ other. not (bytes_eq item other)) P (first_uses uses) (all_first_uses P uses (All-tail P item uses all)))
 
--- a GUID that is there ends within its heap
-guid_at_within : (guids : List ℕ) (number : ℕ) (guid : List ℕ) → guid_at guids number ≡ Some guid → 16 * number ≤ length guids
-unfolding guid_at
-guid_at_within guids zero guid there = cc
-guid_at_within guids (suc i) guid there = elim (cases_Bool (nat_le (16 * i + 16) (length guids))) [
-  | inl fits ↦ let within = leb-true (16 * i + 16) (length guids) fits in omega (arith, within)
-  | inr past ↦ absurd (none-some guid (sym (ap (λ b. if b then Some (take 16 (drop (16 * i) guids)) else None) past) ∙ there))
-]
-
 module _ (value : FileValue) where
   -- ---- texts
 
@@ -88,11 +58,6 @@ module _ (value : FileValue) where
   text_stands text is whole =
       text-there (filter (λ other. not (bytes_eq [] other)) (first_uses (text_uses value))) text
       (replicate (padding (length (flat_map as_text (texts value)))) 0) (text_in text is) whole
-
-  pub text_within : (text : List ℕ) → Contains (text_uses value) text → text_cell value text + length text < length (canonical_tables value).texts
-  unfolding canonical_tables
-  text_within text is =
-      omega (arith, index_within as_text (texts value) text (text_in text is), as_text_len text, padded_longer (flat_map as_text (texts value)))
 
   -- ---- blobs
 
@@ -131,8 +96,3 @@ module _ (value : FileValue) where
   unfolding canonical_tables
   guid_stands guid is all =
       guid-there (guids value) guid (guid_in guid is) (all_first_uses IsGuid (guid_uses value) all) (All-contains IsGuid (guid_uses value) guid all is)
-
-  -- each GUID has 16 bytes in the heap
-  pub guid_within : (guid : List ℕ) → Contains (guid_uses value) guid → All IsGuid (guid_uses value)
-      → 16 * guid_cell value (Some guid) ≤ length (canonical_tables value).guids
-  guid_within guid is all = guid_at_within (canonical_tables value).guids (guid_cell value (Some guid)) guid (guid_stands guid is all)

@@ -1,27 +1,17 @@
 -- What is used stands in its heap.
-use Rattle.std.proofs.Common.{◌≡◌, ℕ, zero, suc, Bool, true, false, cond, not, List, [], ◌∷◌, ◌||◌, filter, refl, sym, ap, ◌∙◌, subst, arith, bytes_eq}
+use Rattle.std.proofs.Common.{◌≡◌, ℕ, zero, suc, Bool, true, false, not, List, [], ◌∷◌, ◌||◌, filter, refl, sym, ap, ◌∙◌, subst, arith, bytes_eq}
 use Rattle.std.specs.List.{Contains, list_any}
-use Rattle.std.specs.Cmp.Lexicographic.{bytes_decides}
 use Rattle.ppdb_build_heaps.specs.Items.{IsIn, first_uses}
 use Rattle.ppdb_build_heaps.specs.Uses.{Piece, blob_bytes, with_held, heap_of}
 use Rattle.ppdb_build_heaps.proofs.Items.{itself}
 use Rattle.ppdb_build_heaps.proofs.Stable.{AreUsed, all-used}
+use Rattle.ppdb_build_heaps.proofs.FirstUses.{any-others}
 use Rattle.std.specs.Prelude.{flat_map}
 
 -- ---- texts and GUIDs
 
 abbrev others : List ℕ → List (List ℕ) → List (List ℕ)
 others item items = filter (λ other. not (bytes_eq item other)) items
-
-any_others : (item used : List ℕ) (items : List (List ℕ)) → bytes_eq used item ≡ false
-    → list_any (bytes_eq used) (others item items) ≡ list_any (bytes_eq used) items
-any_others item used [] apart = refl
-any_others item used (y ∷ items) apart = by (bytes_eq item y) refl (any_others item used items apart)
-  where
-    by : (b : Bool) → bytes_eq item y ≡ b → list_any (bytes_eq used) (others item items) ≡ list_any (bytes_eq used) items
-        → list_any (bytes_eq used) (cond (not b) (y ∷ others item items) (others item items)) ≡ list_any (bytes_eq used) (y ∷ items)
-    by true e rest = rest ∙ sym (ap (λ b. b || list_any (bytes_eq used) items) (ap (bytes_eq used) (sym ((bytes_decides item y).0 e)) ∙ apart))
-    by false e rest = ap (λ r. bytes_eq used y || r) rest
 
 -- an item is among the first uses exactly where it is among the uses
 pub first_uses_have : (uses : List (List ℕ)) (item : List ℕ) → list_any (bytes_eq item) (first_uses uses) ≡ list_any (bytes_eq item) uses
@@ -32,7 +22,7 @@ first_uses_have (used ∷ uses) item = by (bytes_eq item used) refl (first_uses_
     by : (b : Bool) → bytes_eq item used ≡ b → list_any (bytes_eq item) (first_uses uses) ≡ list_any (bytes_eq item) uses
         → (bytes_eq item used || list_any (bytes_eq item) (others used (first_uses uses))) ≡ (bytes_eq item used || list_any (bytes_eq item) uses)
     by true e rest = ap (λ b. b || list_any (bytes_eq item) (others used (first_uses uses))) e ∙ sym (ap (λ b. b || list_any (bytes_eq item) uses) e)
-    by false e rest = ap (λ all. bytes_eq item used || all) (any_others used item (first_uses uses) e ∙ rest)
+    by false e rest = ap (λ all. bytes_eq item used || all) (any-others used item (first_uses uses) e ∙ rest)
 
 among_any : (items : List (List ℕ)) (item : List ℕ) → Contains items item → list_any (bytes_eq item) items ≡ true
 among_any [] item is = absurd (omega (arith, is.1))

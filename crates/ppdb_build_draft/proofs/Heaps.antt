@@ -5,12 +5,11 @@ use Rattle.std.proofs.lemmas.List.{append-nil}
 use Rattle.std.proofs.lemmas.List.Sums.{fold-append, sum_by-append, sum_by-cons}
 use Rattle.std.specs.List.{position_or_len}
 use Rattle.ppdb_base.specs.Told.{told}
-use Rattle.ppdb_build_heaps.specs.Items.{IsIn, first_uses, with_use, index_of, as_text, as_blob}
+use Rattle.ppdb_build_heaps.specs.Items.{IsIn, with_use, index_of, as_text, as_blob}
 use Rattle.ppdb_build_heaps.specs.Uses.{Piece, plain, held_by, with_held, blob_bytes, blobs_after}
 use Rattle.ppdb_build_heaps.proofs.Items.{index-stable, with_use-adds, used-there}
 use Rattle.ppdb_build_heaps.proofs.Stable.{AreIn, AreUsed, after-adds, spelled-stable, after-used, all-ready}
 use Rattle.ppdb_build_heaps.proofs.Stays.{items-stay}
-use Rattle.ppdb_build_heaps.proofs.FirstUses.{first_uses-push}
 use Rattle.ppdb_build_items.specs.Interned.{Annotation, with_text, with_blob, with_guid, text_place, blob_place, guid_place}
 use Rattle.ppdb_build_items.proofs.Made.{sum-plain}
 
@@ -141,12 +140,3 @@ blobs_interned interned (pieces ∷ blobs) =
             sum_by-append (λ (used : List Piece). length (blob_bytes final used)) (with_held pieces) (flat_map with_held blobs),
           );
     }
-
--- ---- what the uses make
-
-pub fold_first : (uses more : List (List ℕ)) → fold with_use (first_uses uses) more ≡ first_uses (uses ++ more)
-fold_first uses [] = ap first_uses (sym (append-nil uses))
-fold_first uses (used ∷ more) =
-    ap (λ items. fold with_use items more) (sym (first_uses-push uses used))
-    ∙ fold_first (uses ++ used ∷ []) more
-    ∙ ap first_uses (append_assoc uses (used ∷ []) more)

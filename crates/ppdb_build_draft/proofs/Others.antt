@@ -4,9 +4,9 @@ use Rattle.std.proofs.lemmas.List.{append-nil}
 use Rattle.ppdb_tables.specs.declared.rows.ImportRow.{ImportRow}
 use Rattle.ppdb_tables.specs.declared.rows.MachineRow.{MachineRow}
 use Rattle.ppdb_tables.specs.declared.rows.CustomRow.{CustomRow}
+use Rattle.ppdb_tables.specs.Parents.{coded_of}
 use Rattle.ppdb_values.specs.declared.import.ImportScopeValue.{ImportScopeValue}
 use Rattle.ppdb_values.specs.declared.custom.CustomValue.{CustomValue}
-use Rattle.ppdb_values_sound_laws.specs.Customs.{coded_of}
 use Rattle.ppdb_build_heaps.specs.Items.{with_use}
 use Rattle.ppdb_build_canon.specs.Uses.{import_blob, custom_blob}
 use Rattle.ppdb_build_items.specs.Interned.{with_blob, blob_place, guid_place, cell}

@@ -28,6 +28,7 @@ use Rattle.ppdb_values_sound_laws.specs.Sound.{IsSound}
 use Rattle.ppdb_base.specs.Told.{told}
 use Rattle.ppdb_build_heaps.specs.Items.{first_uses, with_use}
 use Rattle.ppdb_build_heaps.specs.Uses.{Piece, blob_bytes}
+use Rattle.ppdb_build_heaps.proofs.FirstUses.{fold-first}
 use Rattle.ppdb_build_layout.specs.declared.rows.Rows.{Rows}
 use Rattle.ppdb_build_canon.specs.Uses.{texts, guids, blobs, method_blob, constant_blob, import_blob, custom_blob}
 use Rattle.ppdb_build_canon.proofs.Uses.{document_blobs}
@@ -40,7 +41,7 @@ use Rattle.ppdb_build_draft.specs.Draft.{Draft, empty_draft, no_rows, with_docum
 use Rattle.ppdb_build_draft.specs.Draft.{with_constant, with_constants, with_import, with_machine}
 use Rattle.ppdb_build_draft.specs.Drafted.{drafted, held_document, held_method, held_scope, held_variable, held_constant, held_import}
 use Rattle.ppdb_build_draft.specs.Drafted.{held_custom, held_rows, IsDraftOf, DraftsAreCanonical}
-use Rattle.ppdb_build_draft.proofs.Heaps.{Grows, grows_not, grows_then, texts_interned, blobs_interned, fold_first}
+use Rattle.ppdb_build_draft.proofs.Heaps.{Grows, grows_not, grows_then, texts_interned, blobs_interned}
 use Rattle.ppdb_build_draft.proofs.Documents.{document_in, guids_on, DocumentsDrafted, documents_drafted}
 use Rattle.ppdb_build_draft.proofs.Methods.{next_method, MethodsDrafted, methods_drafted, RiseFrom, row_by, found, all_rows, methods_spread}
 use Rattle.ppdb_build_draft.proofs.Scopes.{variable_in, variable_names, scope_rows_from, ScopesDrafted, scopes_drafted, constant_in}
@@ -219,7 +220,7 @@ module _ (value : FileValue) (d1 d2 d4 d5 d6 d8 : Draft) (chain : IsChain value 
   texts_are =
       ap (λ (interned : Annotation). interned.items) (texts_left ∙ texts_all)
       ∙ (texts_interned none_interned (text_uses value)).items
-      ∙ fold_first ([] ∷ []) (text_uses value)
+      ∙ fold-first ([] ∷ []) (text_uses value)
 
   guids_between : (after_machines d6 value.machines).guids ≡ d1.guids
   unfolding with_all_methods
@@ -234,7 +235,7 @@ module _ (value : FileValue) (d1 d2 d4 d5 d6 d8 : Draft) (chain : IsChain value 
       chain.customs.guids
       ∙ ap (λ guids. fold with_use guids kinds) (guids_between ∙ chain.documents.guids)
       ∙ sym (fold-append with_use [] (flat_map guids_on value.documents) kinds)
-      ∙ fold_first [] (guid_uses value)
+      ∙ fold-first [] (guid_uses value)
 
   blobs_2 : d2.blobs ≡ fold with_blob none_interned (flat_map document_blobs value.documents ++ map method_blob value.methods)
   blobs_2 = chain.methods.blobs ∙ ap (λ (interned : Annotation). fold with_blob interned (map method_blob value.methods)) chain.documents.blobs

@@ -4,7 +4,8 @@ use Rattle.ppdb_values.specs.Names.{constant_spelling, Range, common_document, M
 use Rattle.std.specs.Prelude.{ℕ, ◌+◌, ◌-◌, List, [], ◌∷◌, ◌++◌, length, fold, replicate, Some}
 use Rattle.ppdb_values.specs.{declared.file.{DocumentValue.DocumentValue, MethodValue.MethodValue}, declared.scope.{ScopeValue.ScopeValue, VariableValue.VariableValue, ConstantValue.ConstantValue}}
 use Rattle.ppdb_values.specs.{declared.import.ImportScopeValue.ImportScopeValue, declared.custom.CustomValue.CustomValue}
-use Rattle.ppdb_values_sound_laws.specs.{Customs.{coded_of}, Scopes.{stored_body}}
+use Rattle.ppdb_tables.specs.Parents.{coded_of}
+use Rattle.ppdb_values_sound_laws.specs.Scopes.{stored_body}
 use Rattle.ppdb_build_heaps.specs.Uses.{plain}
 use Rattle.ppdb_build_layout.specs.declared.rows.Rows.{Rows}
 use Rattle.ppdb_build_canon.specs.Uses.{name_pieces, method_blob, import_blob, custom_blob}

@@ -44,7 +44,6 @@ impl<'a> Drafting<'a> {
     ghost use Rattle.sequence_points.specs.Points.{common_document};
     ghost use Rattle.sequence_points.specs.Written.{CanBeWritten, large_steps, points_blob, IsRefused};
     ghost use Rattle.ppdb_values.specs.declared.file.MethodValue.{MethodValue};
-    ghost use Rattle.ppdb_values.specs.declared.custom.CustomBody.TheVariants.{Unread};
     ghost use Rattle.ppdb_values_sound_laws.specs.Writing.{HasSpelling, IsWritable};
     ghost use Rattle.ppdb_build_draft.specs.Draft.{empty_draft, with_document, with_method, with_all_methods, with_variable, with_scope_row};
     ghost use Rattle.ppdb_build_draft.specs.Draft.{with_signature, with_import, with_machine, with_custom};
@@ -242,27 +241,6 @@ impl<'a> Drafting<'a> {
     {
         let kind = note_guid(&mut self.guids, Some(kind))?;
         let value = self.blobs.note_custom(value)?;
-        self.rows.customs.push(CustomRow {
-            parent: coded_parent(parent).unwrap_or(0),
-            kind,
-            value,
-        })?;
-        Ok(())
-    }
-
-    /// Adds a custom record whose value is given as the bytes of its blob.
-    #[tactic(auto, unfolding(crate::specs::Draft::with_custom))]
-    pub fn custom_bytes(
-        &mut self,
-        parent: Parent,
-        kind: [u8; 16],
-        content: &[u8],
-    ) -> Result<(), Memory>
-        requires { parent.row ≤ 16777215 }
-        ensures { OnOk result (self.new ≡ with_custom self.old (record { parent = parent; kind = kind; value = Unread content.now })) }
-    {
-        let kind = note_guid(&mut self.guids, Some(kind))?;
-        let value = self.blobs.note(content)?;
         self.rows.customs.push(CustomRow {
             parent: coded_parent(parent).unwrap_or(0),
             kind,

@@ -4,7 +4,7 @@ use Rattle.std.specs.Prelude.{All, is_some}
 use Rattle.std.proofs.lemmas.List.Elements.{All-weaker}
 use Rattle.std.specs.Option.{option_map_or}
 use Rattle.type_blobs.specs.declared.types.Modifier.{Modifier}
-use Rattle.type_blobs.specs.Constants.{constants, body_of, ConstantBody as StoredBody, primitive, enumerated, general, object}
+use Rattle.type_blobs.specs.Constants.{constants, body_of, ConstantBody as StoredBody}
 use Rattle.type_blobs.specs.Spelling.{IsBody}
 use Rattle.type_blobs.specs.Types.{IsToken}
 use Rattle.ppdb_tables.specs.declared.rows.ConstantRow.{ConstantRow}
@@ -17,15 +17,8 @@ use Rattle.ppdb_values.specs.Rules.{KeepsRules, IsConstant}
 use Rattle.ppdb_values_sound_laws.specs.Scopes.{stored_body}
 use Rattle.ppdb_values_sound_laws.proofs.Listed.{row_of_map}
 use Rattle.ppdb_values_sound_laws.proofs.ReadConstants.{IsModifier, modifiers_read, body_read}
-use Rattle.ppdb_values_sound_laws.proofs.Scopes.{limits_small}
+use Rattle.ppdb_values_sound_laws.proofs.Scopes.{limits_small, stored_again}
 use Rattle.ppdb_values_reading.specs.Lent.{constants_of}
-
--- a body is stored as it was read
-pub stored_again : (body : StoredBody) → stored_body (body_value body) ≡ body
-stored_again (primitive code value) = refl
-stored_again (enumerated code value target) = refl
-stored_again (general code target rest) = refl
-stored_again object = refl
 
 -- A constant that its writer takes.
 pub record IsTaken (constant : ConstantValue) : Type 0 where

@@ -14,7 +14,7 @@ abbrev pub others : List ℕ → List (List ℕ) → List (List ℕ)
 others item items = filter (λ other. not (bytes_eq item other)) items
 
 -- another item is among the others where it is among all
-any-others : (item used : List ℕ) (items : List (List ℕ)) → bytes_eq used item ≡ false
+pub any-others : (item used : List ℕ) (items : List (List ℕ)) → bytes_eq used item ≡ false
     → list_any (bytes_eq used) (others item items) ≡ list_any (bytes_eq used) items
 any-others item used [] apart = refl
 any-others item used (y ∷ items) apart = by (bytes_eq item y) refl (any-others item used items apart)
@@ -61,7 +61,7 @@ first_uses-push (item ∷ uses) used =
         ∙ sym (stays false (ap (λ b. b || list_any (bytes_eq used) (others item (first_uses uses))) e ∙ any-others item used (first_uses uses) e ∙ is))
 
 -- some more uses
-fold-first : (uses more : List (List ℕ)) → fold with_use (first_uses uses) more ≡ first_uses (uses ++ more)
+pub fold-first : (uses more : List (List ℕ)) → fold with_use (first_uses uses) more ≡ first_uses (uses ++ more)
 fold-first uses [] = ap first_uses (sym (append-nil uses))
 fold-first uses (used ∷ more) =
     ap (λ items. fold with_use items more) (sym (first_uses-push uses used))

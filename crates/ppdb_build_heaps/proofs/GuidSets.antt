@@ -2,8 +2,8 @@
 use Rattle.std.proofs.Common.{◌≡◌, ℕ, ◌+◌, Bool, true, false, cond, List, [], ◌∷◌, ◌++◌, length, sym, ap, refl, ◌∙◌}
 use Rattle.std.proofs.Common.{bytes_eq, min, Some, None, if◌then◌else◌}
 use Rattle.std.proofs.lemmas.Map.Text.{is_eq-slice_cmp}
-use Rattle.std.specs.{List.{list_any, position_or_len}, Map.lookup, BTreeMap.{BTreeMap, is_at}, Cmp.Lexicographic.slice_cmp, Ordering.nat_cmp}
-use Rattle.ppdb_build_heaps.specs.Guids.{number_of, AreNumbers}
+use Rattle.std.specs.{List.{list_any, position_or_len}, BTreeMap.is_at, Cmp.Lexicographic.slice_cmp, Ordering.nat_cmp}
+use Rattle.ppdb_build_heaps.specs.Guids.{number_of}
 use Rattle.ppdb_build_heaps.specs.Items.{with_use}
 use Rattle.ppdb_build_heaps.proofs.Items.{before-new, itself}
 use Rattle.ppdb_build_heaps.proofs.Stays.{before-length, number}
@@ -39,7 +39,3 @@ pub number_new : (guids : List (List ℕ)) (guid : List ℕ) → list_any (bytes
     → min (1 + length guids) 0xffffffff ≡ min (1 + position_or_len (bytes_eq guid) (with_use guids guid)) 0xffffffff
 number_new guids guid h = ap (λ n. min (1 + n) 0xffffffff) (sym (last_place guids guid h))
     ∙ ap (λ b. min (1 + position_or_len (bytes_eq guid) (if b then guids else guids ++ guid ∷ [])) 0xffffffff) (sym h)
-
--- a map without entries has no number
-pub no_numbers : (map : BTreeMap (List ℕ) ℕ) → map.entries ≡ [] → AreNumbers [] map
-no_numbers map empty guid = ap (lookup (is_at (slice_cmp nat_cmp guid))) empty

@@ -3,7 +3,7 @@ use Rattle.std.proofs.Common.{◌≡◌, ℕ, ◌+◌, Bool, true, false, cond, 
 use Rattle.std.proofs.Common.{Ordering, Result, Ok, Err, OnOk, is_err, true≢false, bytes_eq, Option, Some, None, IfSome, IfNone, min, if◌then◌else◌}
 use Rattle.std.proofs.lemmas.List.Sums.{sum_by_push}
 use Rattle.std.proofs.lemmas.Map.Text.{is_eq-slice_cmp}
-use Rattle.std.specs.{Borrow.Bor, List.list_any, Map.lookup, BTreeMap.{BTreeMap, get, get_by, is_at}}
+use Rattle.std.specs.{Borrow.Bor, List.list_any, BTreeMap.{BTreeMap, get, get_by, is_at}}
 use Rattle.std.specs.{Cmp.Lexicographic.{slice_cmp, bytes_decides}, Ordering.nat_cmp}
 use Rattle.ppdb_build_heaps.specs.declared.heap.HeapKind.{HeapKind}
 use Rattle.ppdb_build_heaps.specs.Kinds.{spelled}
@@ -115,7 +115,3 @@ pub index_new : (kind : HeapKind) (items : List (List ℕ)) (item : List ℕ) �
     → told (length_of kind items) ≡ told (index_of (spelled kind) (with_use items item) item)
 index_new kind items item h = ap told (sym (index-new (spelled kind) items item h))
     ∙ ap (λ b. told (index_of (spelled kind) (if b then items else items ++ item ∷ []) item)) (sym h)
-
--- a map without entries has no index
-pub no_indexes : (kind : HeapKind) (map : BTreeMap (Bor (List ℕ)) ℕ) → map.entries ≡ [] → AreIndexes kind [] map
-no_indexes kind map empty item = ap (lookup (is_at (λ (key : Bor (List ℕ)). slice_cmp nat_cmp item key.now))) empty

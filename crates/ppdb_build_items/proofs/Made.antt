@@ -1,9 +1,8 @@
 -- A blob that is made piece by piece is the blob of its pieces, with what it holds before it.
-use Rattle.std.proofs.Common.{◌≡◌, ℕ, ◌+◌, List, [], ◌∷◌, ◌++◌, length, min, map, fold, sum_by, refl, sym, ap, subst, ◌∙◌, append_assoc, arith, flat_map}
+use Rattle.std.proofs.Common.{◌≡◌, ℕ, ◌+◌, List, [], ◌∷◌, ◌++◌, length, map, fold, sum_by, refl, sym, ap, subst, ◌∙◌, append_assoc, arith, flat_map}
 use Rattle.std.proofs.lemmas.List.{append-nil, map_push}
 use Rattle.std.proofs.lemmas.List.Sums.{fold_push, sum_by-append, sum_by-cons}
 use Rattle.std.proofs.lemmas.List.Concat.{flat_map-append}
-use Rattle.cli_ints.specs.Shortest.{short_unsigned}
 use Rattle.ppdb_base.specs.Told.{told}
 use Rattle.ppdb_build_heaps.specs.Items.{IsIn, with_use, index_of, as_blob, shortest}
 use Rattle.ppdb_build_heaps.specs.Uses.{Piece, octets, index, plain, held_by, piece_bytes, blob_bytes, with_held, blobs_after}
@@ -18,12 +17,6 @@ pub record IsMade (before : Making) (pieces : List Piece) (now : Making) : Type 
   pub held : AreIn now.items (flat_map held_by pieces)
   pub blob_is : now.blob ≡ blob_bytes now.items pieces
   pub total_is : (more : ℕ) → told (now.total + more) ≡ told (before.total + (sum_by length (flat_map held_by pieces) + more))
-
-pub told-shortest : (n : ℕ) → shortest (told n) ≡ shortest n
-told-shortest n = ap short_unsigned (capped n)
-  where
-    capped : (n : ℕ) → min (told n) 0x1fffffff ≡ min n 0x1fffffff
-    capped n = omega arith
 
 in-more : (items : List (List ℕ)) (more contents : List (List ℕ)) → AreIn items contents → AreIn (items ++ more) contents
 in-more items more [] are = tt

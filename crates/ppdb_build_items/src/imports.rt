@@ -9,26 +9,14 @@ ghost use Rattle.ppdb_build_items.specs.Making.{with_piece};
 use crate::blobs::BlobHeap;
 use ppdb_base::Memory;
 use ppdb_values::ImportValue;
-use type_blobs::TypeToken;
-
-/// The tag of a table of types.
-fn tag_of(table: u8) -> u32
-    ensures value { result ≡ types.tag_of table }
-    ensures small { result < 4 }
-{
-    match table {
-        0x02 => 0,
-        0x01 => 1,
-        _ => 2,
-    }
-}
+use type_blobs::{TypeToken, number_of};
 
 /// Puts the number of a type after the blob that is being made.
 fn put_type(blobs: &mut BlobHeap<'_>, target: &TypeToken) -> Result<(), Memory>
     requires { types.IsToken target.now }
     ensures { OnOk result (blobs.new ≡ with_piece blobs.old (number (types.number_of target.now))) }
 {
-    blobs.put_number(4 * target.row + tag_of(target.table))
+    blobs.put_number(number_of(target))
 }
 
 /// Puts the kind of an import after it, and a text, which is noted as a blob of its own.

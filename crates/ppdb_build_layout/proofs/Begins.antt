@@ -1,12 +1,7 @@
 -- What a list that is appended to begins with.
-use Rattle.std.proofs.Common.{◌≡◌, ℕ, List, [], ◌++◌, ap, sym, ◌∙◌, append_assoc}
+use Rattle.std.proofs.Common.{◌≡◌, ℕ, List, ◌++◌, ap, ◌∙◌, append_assoc}
 use Rattle.std.specs.Prelude.{Result, Ok, Err, OnErr}
-use Rattle.std.proofs.lemmas.List.{append-nil}
 use Rattle.ppdb_base.specs.Written.{BeginsWith}
-
--- one that is the same
-pub begins-same : (a c : List ℕ) → c ≡ a → BeginsWith a c
-begins-same a c e = ([], e ∙ sym (append-nil a))
 
 -- what begins with more begins with less
 pub begins-more : (a x b c : List ℕ) → BeginsWith b c → b ≡ a ++ x → BeginsWith a c

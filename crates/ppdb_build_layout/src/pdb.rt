@@ -7,9 +7,7 @@ ghost use Rattle.std.specs.Prelude.{List as Seq, ℕ};
 use crate::counts::{bits, count, put_counts};
 use crate::numbers::{padding, put_padding, put_u32, put_u64};
 use ppdb_base::{Bytes, Memory};
-
-/// The tables of the type system: 00 to 2c.
-const TYPE_TABLES: usize = 0x2d;
+use ppdb_tables::TYPE_TABLES;
 
 /// The token of the entry point, or 0.
 fn token(entry: u32) -> u32
@@ -24,7 +22,7 @@ pub fn pdb_len(counts: &[u32; 64]) -> u64
     ensures exact { (id : Seq ℕ) (entry : ℕ) → length id ≡ 20 → result ≡ length (pdb_stream id entry counts.now) }
     ensures small { result ≤ 216 }
 {
-    let len = 32 + 4 * count(counts, 0, TYPE_TABLES);
+    let len = 32 + 4 * count(counts, 0, TYPE_TABLES as usize);
     len + padding(len)
 }
 
@@ -42,8 +40,8 @@ pub fn put_pdb(
     let start = into.len();
     into.append(id)?;
     put_u32(token(entry), into)?;
-    put_u64(bits(counts, 0, TYPE_TABLES), into)?;
-    put_counts(counts, 0, TYPE_TABLES, into)?;
+    put_u64(bits(counts, 0, TYPE_TABLES as usize), into)?;
+    put_counts(counts, 0, TYPE_TABLES as usize, into)?;
     put_padding(into.len() - start, into)?;
     Ok(())
 }

@@ -148,10 +148,6 @@ module _ (counts : List ℕ) (all : Rows) (heaps : HeapLens) (small : (t : ℕ)
   len-6 = length-rows cell_sizes machine_columns machine_cells (λ row. refl) all.machines
       ∙ ap (λ n. n * sum (widths_of cell_sizes machine_columns)) lens.machines ∙ mul_comm (slice_index counts 0x36) (sum (widths_of cell_sizes machine_columns))
 
-  len-7 : length t7 ≡ row_len cell_sizes (0x37, custom_columns) * slice_index counts 0x37
-  len-7 = length-rows cell_sizes custom_columns custom_cells (λ row. refl) all.customs
-      ∙ ap (λ n. n * sum (widths_of cell_sizes custom_columns)) lens.customs ∙ mul_comm (slice_index counts 0x37) (sum (widths_of cell_sizes custom_columns))
-
   place-0 : length (f) ≡ table_place cell_sizes file_stream 0x30
   place-0 = omega (arith, begins, sum-rows cell_sizes ([]))
 

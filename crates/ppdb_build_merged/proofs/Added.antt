@@ -1,6 +1,6 @@
 -- What was added of the rows of keys, key by key.
 use Rattle.std.proofs.Common.{◌≡◌, ℕ, zero, suc, ◌+◌, ◌<◌, ◌≤◌, ◌++◌, List, [], ◌∷◌, Option, Some, None, length, get_or, take, fold, refl, sym, ap, subst, ◌∙◌, arith}
-use Rattle.std.proofs.Common.{slice_get, append-nil, append_assoc}
+use Rattle.std.proofs.Common.{slice_get}
 use Rattle.std.specs.Prelude.{flat_map}
 use Rattle.std.specs.List.{filter_map, cons_option}
 use Rattle.std.specs.Option.{option_to_list, option_and_then}
@@ -9,6 +9,8 @@ use Rattle.std.proofs.lemmas.List.Sums.{fold-append}
 use Rattle.ppdb_merge_items.specs.Each.{Each}
 use Rattle.ppdb_merge_items.proofs.Lists.{Each-append}
 use Rattle.ppdb_merge_parts.proofs.Lists.{filter_map_append}
+use Rattle.ppdb_merge_joined.proofs.Placed.{flat_append}
+use Rattle.ppdb_merge_joined.proofs.Each.{Each-split}
 
 -- ---- what stays of a list, and one item more
 
@@ -73,17 +75,13 @@ each_at P (y ∷ ys) (suc k) x here each = each_at P ys k x here each.1
 
 -- ---- lists of several parts
 
-pub flat_one : {A B : Type 0} (f : A → List B) (xs : List A) (x : A) → flat_map f (xs ++ x ∷ []) ≡ flat_map f xs ++ f x
-flat_one f [] x = append-nil (f x)
-flat_one f (y ∷ ys) x = ap (λ l. f y ++ l) (flat_one f ys x) ∙ sym (append_assoc (f y) (flat_map f ys) (f x))
-
 module _ {A B D : Type 0} (f : A → List B) (add : D → B → D) (xs : List A) where
   -- the parts of an item were added
   pub part_added : (start draft more : D) (k : ℕ) (x : A) → k < length xs → x ≡ get_or xs k x → draft ≡ fold add start (flat_map f (take k xs))
       → more ≡ fold add draft (f x) → more ≡ fold add start (flat_map f (take (k + 1) xs))
   part_added start draft more k x within here is added =
       added ∙ ap (λ e. fold add e (f x)) is ∙ sym (fold-append add start (flat_map f (take k xs)) (f x))
-      ∙ ap (fold add start) (sym (flat_one f (take k xs) x))
+      ∙ ap (fold add start) (sym (flat_append f (take k xs) x))
       ∙ ap (λ y. fold add start (flat_map f (take k xs ++ y ∷ []))) here
       ∙ ap (λ l. fold add start (flat_map f l)) (sym (take_more xs k x within))
 
@@ -91,17 +89,13 @@ module _ {A B D : Type 0} (f : A → List B) (add : D → B → D) (xs : List A)
   pub parts_added : (start draft : D) (k : ℕ) → length xs ≤ k → draft ≡ fold add start (flat_map f (take k xs)) → draft ≡ fold add start (flat_map f xs)
   parts_added start draft k past is = is ∙ ap (λ l. fold add start (flat_map f l)) (take_all k xs past)
 
-each_left : {B : Type 0} (P : B → Type 0) (xs ys : List B) → Each P (xs ++ ys) → Each P xs × Each P ys
-each_left P [] ys each = (tt, each)
-each_left P (x ∷ xs) ys each = let both = each_left P xs ys each.1 in ((each.0, both.0), both.1)
-
 -- of the parts of an item
 pub each_part : {A B : Type 0} (P : B → Type 0) (f : A → List B) (xs : List A) (k : ℕ) (x : A) → k < length xs → x ≡ get_or xs k x
     → Each P (flat_map f xs) → Each P (f x)
 each_part P f [] k x within here each = absurd (omega (arith, within))
-each_part P f (y ∷ ys) zero x within here each = subst (λ z. Each P (f z)) (sym here) (each_left P (f y) (flat_map f ys) each).0
+each_part P f (y ∷ ys) zero x within here each = subst (λ z. Each P (f z)) (sym here) (Each-split P (f y) (flat_map f ys) each).0
 each_part P f (y ∷ ys) (suc k) x within here each =
-    each_part P f ys k x (omega (arith, within)) here (each_left P (f y) (flat_map f ys) each).1
+    each_part P f ys k x (omega (arith, within)) here (Each-split P (f y) (flat_map f ys) each).1
 
 -- of a list, at one item
 pub item_each_of : {A : Type 0} (P : A → Type 0) (xs : List A) (k : ℕ) (x : A) → k < length xs → x ≡ get_or xs k x → Each P xs → P x

@@ -5,7 +5,6 @@ mod NoneGone
 mod Counted
 mod Found
 mod Named
-mod Taken
 mod Tables
 mod Written
 mod Past

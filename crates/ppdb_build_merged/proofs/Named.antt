@@ -1,6 +1,6 @@
 -- Documents of several inputs, one document or one input more.
 use Rattle.std.proofs.Common.{◌≡◌, ◌≢◌, ℕ, zero, suc, ◌+◌, ◌-◌, ◌≤◌, ◌++◌, true, cond, List, [], ◌∷◌, length, map, take, fold, refl, sym, ap}
-use Rattle.std.proofs.Common.{subst, ◌∙◌, arith, append-nil, append_assoc, slice_get}
+use Rattle.std.proofs.Common.{subst, ◌∙◌, arith, append_assoc, slice_get}
 use Rattle.std.specs.declared.vec.Vec.{Vec}
 use Rattle.std.specs.declared.alloc.Global.{Global}
 use Rattle.std.specs.Prelude.{bytes_eq, flat_map, sum_by}
@@ -21,6 +21,7 @@ use Rattle.ppdb_merge_joined.specs.Joined.{firsts, row_named}
 use Rattle.ppdb_merge_joined.proofs.Gathering.{AllNamed, all_named, firsts_new_name, firsts_old_name, rows_new, rows_push, rows_stay}
 use Rattle.ppdb_merge_joined.proofs.Names.{bytes_same, is_named}
 use Rattle.ppdb_merge_joined.proofs.PutFiles.{named_behind, own_named}
+use Rattle.ppdb_merge_joined.proofs.Placed.{flat_append}
 use Rattle.ppdb_merge_parts.specs.Flat.{counted, moved_documents, documents_of, document_rows}
 use Rattle.ppdb_build_merged.specs.declared.names.Names.{Names}
 use Rattle.ppdb_merge_rows.specs.declared.inputs.RowInput.{RowInput}
@@ -182,10 +183,6 @@ rows_more before these d rows new row are is more =
 abbrev pub all_documents : List RowInput → List DocumentValue
 all_documents inputs = flat_map documents_in inputs
 
-pub flat_more : {A B : Type 0} (f : A → List B) (xs : List A) (x : A) → flat_map f (xs ++ x ∷ []) ≡ flat_map f xs ++ f x
-flat_more f [] x = append-nil (f x)
-flat_more f (y ∷ ys) x = ap (λ l. f y ++ l) (flat_more f ys x) ∙ sym (append_assoc (f y) (flat_map f ys) (f x))
-
 abbrev EachNamed : List DocumentValue → List RowInput → Type 0
 EachNamed xs inputs = Each (λ (i : RowInput). AllNamed (bares xs) (bares (documents_in i))) inputs
 
@@ -251,7 +248,7 @@ placed_more inputs input placed before count p are is from rows counts = record 
       ∙ ap (λ l. l ++ p.documents ∷ []) (are.documents ∙ sym (all_stay (all_documents inputs) (documents_in input) inputs (each_named inputs)))
       ∙ ap (λ r. all_rows (all_documents inputs ++ documents_in input) inputs ++ r ∷ []) rows
       ∙ sym (map-append (λ (i : RowInput). rows_among (all_documents inputs ++ documents_in input) (documents_in i)) inputs (input ∷ []))
-      ∙ ap (λ xs. all_rows xs (inputs ++ input ∷ [])) (sym (flat_more documents_in inputs input));
+      ∙ ap (λ xs. all_rows xs (inputs ++ input ∷ [])) (sym (flat_append documents_in inputs input));
   imports = sums;
 }
   where

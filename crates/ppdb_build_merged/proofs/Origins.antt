@@ -4,7 +4,7 @@ use Rattle.std.proofs.Common.{refl, sym, ap, subst, ◌∙◌, arith, get_or, sl
 use Rattle.std.specs.Prelude.{◌&&◌, filter, flat_map, is_some, nat_eq, not, position, slice_range, sum_by, unwrap_or}
 use Rattle.std.specs.List.{enumerate_from, range_with_len}
 use Rattle.std.specs.Option.{option_and_then, option_map, option_to_list}
-use Rattle.std.proofs.lemmas.List.{length-drop, length-map, length-take, take_more}
+use Rattle.std.proofs.lemmas.List.{length-drop, length-map, length-take, take_more, map-append}
 use Rattle.std.proofs.lemmas.List.FromFn.{length-enumerate_from}
 use Rattle.std.proofs.lemmas.List.Sums.{sum_by_push}
 use Rattle.ppdb_maps.specs.Map.{Map, moved_row, offsets_in}
@@ -18,6 +18,7 @@ use Rattle.ppdb_values.specs.Owners.{list_end}
 use Rattle.ppdb_values.specs.Parts.{first_item}
 use Rattle.ppdb_values.specs.Rules.{HasRow, KeepsLists, KeepsRules}
 use Rattle.ppdb_values.specs.Value.{scope_of as scope_of_row, value_of, variable_of}
+use Rattle.ppdb_values.proofs.Mapped.{row_map, filter_map_both}
 use Rattle.ppdb_values_sound_laws.proofs.Listed.{row_of_numbered}
 use Rattle.ppdb_values_reading.specs.declared.scopes.ListRange.{ListRange}
 use Rattle.ppdb_values_reading.specs.declared.scopes.Scope.{Scope}
@@ -29,14 +30,14 @@ use Rattle.ppdb_merge_items.specs.Each.{Each}
 use Rattle.ppdb_merge_items.specs.NamedRows.{goes_constant}
 use Rattle.ppdb_merge_items.specs.Sorted.{in_order}
 use Rattle.ppdb_merge_items.proofs.Lists.{Each-append, Each-filter, Each-map, Each-weaker}
-use Rattle.ppdb_merge_items.proofs.Mapped.{filter_map_both, map_map_both, row_map}
+use Rattle.ppdb_merge_items.proofs.Mapped.{map_map_both}
 use Rattle.ppdb_merge_items.proofs.Orders.{in_order_each}
 use Rattle.ppdb_merge_joined.proofs.Names.{position_cons}
+use Rattle.ppdb_merge_joined.proofs.Placed.{flat_append}
 use Rattle.ppdb_merge_moved.specs.Moved.{is_empty, moved_range}
 use Rattle.ppdb_merge_order.specs.declared.keys.Key.{Key}
 use Rattle.ppdb_merge_order.specs.NewRows.{AreNewRows, new_row}
 use Rattle.ppdb_merge_parts.specs.Flat.{MovedBy, constant_image, moved_scope_value, scope_image}
-use Rattle.ppdb_merge_parts.proofs.Lists.{map_append}
 use Rattle.ppdb_merge_parts.proofs.Ordered.{in_order_map}
 use Rattle.ppdb_merge_records_laws.specs.Records.{Numbered, Origin, constant_origins, origins_in, row_of, rows_left, scope_origins, scopes_left, variable_origins}
 use Rattle.ppdb_merge_records_laws.proofs.Placed.{filter_each}
@@ -49,7 +50,6 @@ use Rattle.ppdb_build_merged.specs.Inputs.{counted_of, raw_of}
 use Rattle.ppdb_build_merged.specs.Keyed.{key_of, keys_from, keys_in, scope_in as scope_image_in, scope_of}
 use Rattle.ppdb_build_merged.specs.Origins.{HaveNewRows, count_of, item_stays, kept_scopes, left_at, left_in, left_of, list_keys, list_of, origin_in, owned_key, table_of}
 use Rattle.ppdb_build_merged.specs.Records.{inputs_of}
-use Rattle.ppdb_build_merged.proofs.Added.{flat_one}
 use Rattle.ppdb_build_merged.proofs.Named.{flat_mapped}
 use Rattle.ppdb_build_merged.proofs.Tables.{scope_methods}
 
@@ -101,7 +101,7 @@ keys_are_of n p =
 keys_are : (n : ℕ) (placed : List Placed) → map row_key (rows_of n placed) ≡ keys_from n placed Scopes
 keys_are n [] = refl
 keys_are n (p ∷ placed) =
-    map_append row_key (rows_of_one (n, moved_by p.input.now)) (rows_of (n + 1) placed)
+    map-append row_key (rows_of_one (n, moved_by p.input.now)) (rows_of (n + 1) placed)
     ∙ ap (λ (l : List Key). l ++ map row_key (rows_of (n + 1) placed)) (keys_are_of n p)
     ∙ ap (λ (l : List Key). keys_in n p Scopes ++ l) (keys_are (n + 1) placed)
 
@@ -410,7 +410,7 @@ item_row tables shape Constants list row within low less =
 
 pub flat_more : {A B : Type 0} (f : A → List B) (xs : List A) (k : ℕ) (d : A) → k < length xs
     → flat_map f (take (k + 1) xs) ≡ flat_map f (take k xs) ++ f (get_or xs k d)
-flat_more f xs k d within = ap (flat_map f) (take_more xs k d within) ∙ flat_one f (take k xs) (get_or xs k d)
+flat_more f xs k d within = ap (flat_map f) (take_more xs k d within) ∙ flat_append f (take k xs) (get_or xs k d)
 
 -- the keys of what one more scope owns were put
 pub left_more : (f : Key → List Origin) (scopes : List Key) (k : ℕ) (d : Key) (old new : List Key) → k < length scopes

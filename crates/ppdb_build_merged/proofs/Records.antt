@@ -18,10 +18,11 @@ use Rattle.ppdb_values.specs.Value.{value_of}
 use Rattle.ppdb_values_sound_laws.specs.Customs.{SoundCustoms}
 use Rattle.ppdb_values_sound_laws.specs.Named.{HasRow}
 use Rattle.ppdb_values_sound_laws.specs.Sound.{IsSound}
+use Rattle.ppdb_values_sound_laws.proofs.Listed.{row_of_map}
 use Rattle.ppdb_merge_items.specs.Each.{Each}
 use Rattle.ppdb_merge_items.specs.NamedRows.{is_type_documents, live_custom}
 use Rattle.ppdb_merge_items.proofs.Lists.{Each-unmap, Each-weaker}
-use Rattle.ppdb_merge_items.proofs.Mapped.{map_map_both, row_map}
+use Rattle.ppdb_merge_items.proofs.Mapped.{map_map_both}
 use Rattle.ppdb_merge_joined.specs.Joined.{row_in, with_documents}
 use Rattle.ppdb_merge_moved.specs.Moved.{linked, moved_body, moved_parent}
 use Rattle.ppdb_merge_parts.specs.Flat.{FitsAlone, InputsFit, MovedBy, in_turn, Counted, counted, documents_of, document_rows}
@@ -79,17 +80,10 @@ module _ (inputs : List MovedBy) (input : Numbered) (documents : List ℕ) (are 
 
 -- ---- the record of a row
 
-row_made : {A B : Type 0} (f : A → B) (xs : List A) (row : ℕ) (y : B) → row_at (map f xs) row ≡ Some y → (x : A) × (row_at xs row ≡ Some x) × (f x ≡ y)
-row_made {A} {B} f xs row y is = step (row_at xs row) refl (sym (row_map f xs row) ∙ is)
-  where
-    step : (o : Option A) → row_at xs row ≡ o → option_map f o ≡ Some y → (x : A) × (row_at xs row ≡ Some x) × (f x ≡ y)
-    step None here none = let e : ◌≡◌ {A = Option B} None (Some y) = none in absurd cc
-    step (Some x) here some = let e : ◌≡◌ {A = Option B} (Some (f x)) (Some y) = some in (x, here, cc)
-
 module _ (placed : List Placed) (number : ℕ) (one : Placed) (is_input : IsInput placed number one) (row : ℕ) (custom : CustomValue)
     (read : row_at (records_after (raw_of one) one.input.now.map one.documents) row ≡ Some custom) where
   abbrev own : (c : CustomValue) × (row_at (value_of (raw_of one)).customs row ≡ Some c) × (read_as one.input.now.map one.documents c ≡ custom)
-  own = row_made (read_as one.input.now.map one.documents) (value_of (raw_of one)).customs row custom read
+  own = row_of_map (read_as one.input.now.map one.documents) (value_of (raw_of one)).customs row custom read
 
   -- its parent is there
   pub parent_there : IsSound (value_of (raw_of one)) → HasRow (value_of (raw_of one)) custom.parent.table custom.parent.row

@@ -20,6 +20,7 @@ use Rattle.ppdb_build_merged.specs.declared.customs_said.RecordKey.{RecordKey}
 use Rattle.ppdb_build_merged.specs.contracts.customs_said.RecordKeyOrd.TheImpl as key_ord
 use Rattle.ppdb_build_merged.specs.Said.{Said, bytes_in, form_of, handler_numbers, numbers_in, said, same_said, shown, slot_numbers, step_numbers}
 use Rattle.std.specs.Option.{option_eq}
+use Rattle.ppdb_maps.proofs.Named.{bytes_turned}
 
 -- ---- tests
 
@@ -39,12 +40,6 @@ bool_same false false there back = refl
 number_turned : (a b : ℕ) → nat_eq a b ≡ nat_eq b a
 number_turned a b =
     bool_same (nat_eq a b) (nat_eq b a) (λ is. eq-eqb b a (sym (eqb-true a b is))) (λ is. eq-eqb a b (sym (eqb-true b a is)))
-
-bytes_turned : (xs ys : List ℕ) → bytes_eq xs ys ≡ bytes_eq ys xs
-bytes_turned [] [] = refl
-bytes_turned [] (y ∷ ys) = refl
-bytes_turned (x ∷ xs) [] = refl
-bytes_turned (x ∷ xs) (y ∷ ys) = ap (λ t. t && bytes_eq xs ys) (number_turned x y) ∙ ap (λ t. nat_eq y x && t) (bytes_turned xs ys)
 
 both_same : (a b c d : Bool) → a ≡ c → b ≡ d → (a && b) ≡ (c && d)
 both_same a b c d first second = ap (λ t. t && b) first ∙ ap (λ t. c && t) second

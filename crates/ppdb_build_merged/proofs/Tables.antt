@@ -1,10 +1,9 @@
 -- What the keys of each table find: the parts of the file that the inputs are joined into.
-use Rattle.std.proofs.Common.{◌≡◌, ℕ, zero, suc, ◌+◌, ◌<◌, ◌≤◌, Bool, true, false, cond, List, [], ◌∷◌, Option, Some, None, length, get_or, map, refl, sym, ap, subst}
+use Rattle.std.proofs.Common.{◌≡◌, ℕ, zero, suc, ◌+◌, ◌<◌, ◌≤◌, Bool, true, false, List, [], ◌∷◌, Option, Some, None, length, get_or, map, refl, sym, ap, subst}
 use Rattle.std.proofs.Common.{◌∙◌, arith}
-use Rattle.std.specs.Prelude.{◌==◌, All, bytes_eq, flat_map, find, slice_index, unwrap_or}
+use Rattle.std.specs.Prelude.{All, bytes_eq, flat_map, slice_index, unwrap_or}
 use Rattle.std.specs.List.{filter_map, enumerate_from, range_with_len}
 use Rattle.std.specs.Option.{option_map, option_and_then}
-use Rattle.std.proofs.lemmas.Bool.{eqb-true}
 use Rattle.std.proofs.lemmas.List.{length-map}
 use Rattle.std.proofs.lemmas.List.Elements.{All-nil, All-cons}
 use Rattle.std.proofs.lemmas.List.FromFn.{length-enumerate_from}
@@ -33,6 +32,7 @@ use Rattle.ppdb_merge_items.proofs.Lists.{Each-map, Each-unmap, Each-weaker}
 use Rattle.ppdb_merge_items.proofs.Mapped.{map_map_both}
 use Rattle.ppdb_merge_joined.specs.Joined.{firsts, row_named}
 use Rattle.ppdb_merge_joined.proofs.Names.{firsts_has, found_within, is_named}
+use Rattle.ppdb_merge_joined.proofs.Each.{Each-with}
 use Rattle.ppdb_merge_moved.specs.Fits.{Fits}
 use Rattle.ppdb_merge_moved.specs.Moved.{moved_counts}
 use Rattle.ppdb_merge_order.specs.declared.keys.Key.{Key}
@@ -46,6 +46,7 @@ use Rattle.ppdb_merge_rows.specs.declared.inputs.RowInput.{RowInput}
 use Rattle.ppdb_build_merged.specs.declared.inputs.Placed.{Placed}
 use Rattle.ppdb_build_merged.specs.declared.keys.Table.TheVariants.{Methods, Scopes, Machines}
 use Rattle.ppdb_merge_rows.specs.Inputs.{moved_by, moved_inputs}
+use Rattle.ppdb_merge_rows.proofs.RowImages.{found_is}
 use Rattle.ppdb_build_merged.specs.Inputs.{ArePlaced, IsReady, counted_of, documents_in, raw_of}
 use Rattle.ppdb_build_merged.specs.Keyed.{imports_of, keys_from, machine_of, method_in, method_of, placed_at, scope_of}
 use Rattle.ppdb_build_merged.proofs.Added.{each_at}
@@ -111,16 +112,6 @@ methods_listed raw =
     each : (rows : List ℕ) → Each (λ row. method_at (value_of raw) row ≡ method_in_row raw.tables row (row_at raw.tables.methods row)) rows
     each [] = tt
     each (row ∷ rows) = (method_is_row raw row, each rows)
-
-found_is : (row : ℕ) (methods : List MethodValue) (method : MethodValue) → find (λ (e : MethodValue). e.method == row) methods ≡ Some method
-    → method.method ≡ row
-found_is row [] method found = absurd cc
-found_is row (e ∷ es) method found = step (e.method == row) refl found (found_is row es method)
-  where
-    step : (b : Bool) → (e.method == row) ≡ b → cond b (Some e) (find (λ (e : MethodValue). e.method == row) es) ≡ Some method
-        → (find (λ (e : MethodValue). e.method == row) es ≡ Some method → method.method ≡ row) → method.method ≡ row
-    step true is found rest = let same : e ≡ method = cc in subst (λ (x : MethodValue). x.method ≡ row) same (eqb-true e.method row is)
-    step false is found rest = rest found
 
 module _ (flat : JoinedPartsAreFlat) (images : RowsAreImages) (inputs : List RowInput) (placed : List Placed) (are : ArePlaced inputs placed) where
   abbrev documents : List DocumentValue
@@ -232,10 +223,6 @@ turned_fits (first ∷ others) each = (
       (λ input fits. (false, fits.fits)) others (Each-unmap (λ (input : MovedBy). (false, input)) FitsAlone others each.1),
 )
 
-each_both : {A : Type 0} (P Q R : A → Type 0) → ((x : A) → P x → Q x → R x) → (xs : List A) → Each P xs → Each Q xs → Each R xs
-each_both P Q R make [] p q = tt
-each_both P Q R make (x ∷ xs) p q = (make x p.0 q.0, each_both P Q R make xs p.1 q.1)
-
 -- the rows of documents that are named
 rows_small : (all these : List DocumentValue) → length (firsts [] all) ≤ 16777215 → Each (λ (d : DocumentValue). is_named all d.name ≡ true) these
     → All IsDocument (map (λ (d : DocumentValue). row_named (firsts [] all) d.name) these)
@@ -280,7 +267,7 @@ module _ (fitting : FittingPointsFit) (inputs : List RowInput) (placed : List Pl
 
   pub all_ready : Each IsReady placed
   all_ready =
-      each_both (λ (p : Placed). p.documents ≡ document_rows (documents_of (moved_inputs inputs)) (moved_by p.input.now))
+      Each-with (λ (p : Placed). p.documents ≡ document_rows (documents_of (moved_inputs inputs)) (moved_by p.input.now))
       (λ (p : Placed). FitsInput (moved_by p.input.now) × IsNamed (moved_by p.input.now)) IsReady one_ready placed (each_document inputs placed are)
-      (each_both (λ (p : Placed). FitsInput (moved_by p.input.now)) (λ (p : Placed). IsNamed (moved_by p.input.now))
+      (Each-with (λ (p : Placed). FitsInput (moved_by p.input.now)) (λ (p : Placed). IsNamed (moved_by p.input.now))
       (λ (p : Placed). FitsInput (moved_by p.input.now) × IsNamed (moved_by p.input.now)) (λ p a b. (a, b)) placed placed_fit placed_named)

@@ -18,7 +18,7 @@ use ppdb_base::Steps;
 use ppdb_maps::{MapText, RowImage};
 use ppdb_merge_moved::custom_stays;
 use ppdb_merge_records_laws::import_scopes_follow;
-use ppdb_tables::{DOCUMENT, IMPORT_SCOPE, Parent};
+use ppdb_tables::{DOCUMENT, IMPORT_SCOPE, Parent, TYPE_TABLES};
 use ppdb_values::CustomValue;
 use std::alloc::Global;
 use std::sync::ledger::Ledger;
@@ -125,7 +125,7 @@ pub(crate) fn parent_image<L: Ledger>(
     ensures made { AreMade placed.now rows.new }
 {
     let table = custom.parent.table;
-    if table < 0x2d {
+    if table < TYPE_TABLES {
         return Ok(moved_parent(&one.input.map, custom));
     }
     match parent_row(alloc, placed, number, one, custom.parent, rows, steps)? {

@@ -1,5 +1,5 @@
 -- The sample with its records at their items.
-use Rattle.std.proofs.Common.{◌≡◌, ℕ, zero, suc, ◌+◌, ◌*◌, ◌≤◌, ◌<◌, ◌++◌, Bool, true, false, cond, List, [], ◌∷◌, map, flat_map}
+use Rattle.std.proofs.Common.{◌≡◌, ℕ, zero, suc, ◌+◌, ◌*◌, ◌≤◌, ◌<◌, ◌++◌, Bool, List, [], ◌∷◌, map, flat_map}
 use Rattle.std.proofs.Common.{refl, sym, ◌∙◌, ap, arith, append-nil}
 use Rattle.std.specs.Prelude.{◌%◌, nat_eq, codes}
 use Rattle.std.specs.List.{filter, range_with_len}
@@ -13,7 +13,7 @@ use Rattle.ppdb_values.specs.declared.file.MethodValue.{MethodValue}
 use Rattle.ppdb_values.specs.declared.annotation.Custom.{Custom}
 use Rattle.ppdb_values.specs.declared.annotation.Annotation.{Annotation}
 use Rattle.ppdb_values.specs.WorkedSmall.{zeros}
-use Rattle.ppdb_values_sound_laws.specs.Customs.{coded_of}
+use Rattle.ppdb_tables.specs.Parents.{coded_of}
 use Rattle.ppdb_merge_items.specs.declared.file.AnnotatedScope.{AnnotatedScope}
 use Rattle.ppdb_merge_items.specs.declared.file.AnnotatedFile.{AnnotatedFile}
 use Rattle.ppdb_merge_items.specs.Each.{Each, Pairs}
@@ -28,6 +28,7 @@ use Rattle.ppdb_merge_items.proofs.Orders.{in_order_is, rises_of}
 use Rattle.ppdb_merge_joined.proofs.Each.{Each-flat}
 use Rattle.ppdb_build_sample.specs.Sample.{counted, document_of, sample_document, sample_method, sample_scope, sample_constant}
 use Rattle.ppdb_build_sample.specs.Sample.{sample_custom, sample_of}
+use Rattle.ppdb_merge_moved.proofs.Lists.{Pairs-filter}
 
 -- ---- numbers from 1 on
 
@@ -51,14 +52,6 @@ each_counted P n holds = each_range P 1 n (λ i le less. holds i (le, omega (ari
 pub pairs_counted : (R : ℕ → ℕ → Type 0) (n : ℕ) → ((i j : ℕ) → IsIn n i → IsIn n j → i < j → R i j) → Pairs R (counted n)
 pairs_counted R n holds = pairs_range R 1 n
     (λ i j le less within. holds i j (le, omega (arith, less, within)) (omega (arith, le, less), omega (arith, within)) less)
-
-pub pairs_left : {A : Type 0} (R : A → A → Type 0) (p : A → Bool) (xs : List A) → Pairs R xs → Pairs R (filter p xs)
-pairs_left R p [] pairs = tt
-pairs_left R p (x ∷ xs) pairs = step (p x) (pairs_left R p xs pairs.1)
-  where
-    step : (b : Bool) → Pairs R (filter p xs) → Pairs R (cond b (x ∷ filter p xs) (filter p xs))
-    step true rest = (Each-filter (R x) (R x) p (λ y is holds. holds) xs pairs.0, rest)
-    step false rest = rest
 
 -- ---- the sample's parts, none of which has records on it
 
@@ -149,7 +142,7 @@ scopes_back (i ∷ is) = ap (λ l. outer_scope i ∷ inner_scope i ∷ l) (scope
 module _ (n : ℕ) where
   pub customs_rise : Pairs (λ (a b : CustomValue). coded_of a.parent ≤ coded_of b.parent) (sample_annotated n).customs
   customs_rise = Pairs-map sample_custom (λ (a b : CustomValue). coded_of a.parent ≤ coded_of b.parent) (filter is_fourth (counted n))
-      (pairs_left (λ i j. coded_of (sample_custom i).parent ≤ coded_of (sample_custom j).parent) is_fourth (counted n)
+      (Pairs-filter (λ i j. coded_of (sample_custom i).parent ≤ coded_of (sample_custom j).parent) is_fourth (counted n)
       (pairs_counted (λ i j. coded_of (sample_custom i).parent ≤ coded_of (sample_custom j).parent) n (λ i j of_i of_j less. codes i j less)))
     where
       codes : (i j : ℕ) → i < j → i * 32 + 0 ≤ j * 32 + 0

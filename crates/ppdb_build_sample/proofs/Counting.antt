@@ -5,6 +5,7 @@ use Rattle.std.specs.List.{filter, range_with_len}
 use Rattle.std.proofs.lemmas.List.{map-append}
 use Rattle.std.proofs.lemmas.List.Elements.{filter-append}
 use Rattle.std.proofs.lemmas.List.FromFn.{map-range_with_len_more}
+use Rattle.ppdb_merge_joined.proofs.Placed.{flat_append}
 
 last_number : (a n : ℕ) → range_with_len a (suc n) ≡ range_with_len a n ++ (a + n) ∷ []
 last_number a zero = let e : a ≡ a + 0 = omega arith in ap (λ k. k ∷ []) e
@@ -21,10 +22,6 @@ pub one_more : {A : Type 0} (f : ℕ → A) (old new : List A) (x : A) (i : ℕ)
     → new ≡ map f (range_with_len 1 (i + 1))
 one_more f old new x i are same is =
     is ∙ ap (λ l. l ++ x ∷ []) are ∙ ap (λ y. map f (range_with_len 1 i) ++ y ∷ []) same ∙ sym (map-range_with_len_more f 1 i (i + 1) (omega arith))
-
-flat_append : {A B : Type 0} (f : A → List B) (xs : List A) (x : A) → flat_map f (xs ++ x ∷ []) ≡ flat_map f xs ++ f x
-flat_append f [] x = append-nil (f x)
-flat_append f (y ∷ ys) x = ap (λ l. f y ++ l) (flat_append f ys x) ∙ sym (append_assoc (f y) (flat_map f ys) (f x))
 
 pub two_more : {A : Type 0} (f g : ℕ → A) (old between new : List A) (x y : A) (i : ℕ)
     → old ≡ flat_map (λ k. f k ∷ g k ∷ []) (range_with_len 1 i) → x ≡ f (i + 1) → y ≡ g (i + 1) → between ≡ old ++ x ∷ [] → new ≡ between ++ y ∷ []

@@ -1,11 +1,11 @@
 -- The sample file of n methods (docs/FORMAT.md, "Sample"): eight methods a document, and in each points, two scopes with variables and a
 -- constant, and in every fourth a hoisted local (Portable PDB v1.0, "Metadata Tables" and the formats of its blobs).
-use Rattle.std.specs.{Prelude.{ℕ, zero, suc, ◌+◌, ◌*◌, ◌/◌, ◌%◌, List, [], ◌∷◌, ◌++◌, None, Bool, nat_eq, codes, map, filter, flat_map, decimal}, List.range_with_len, Int.{w32, to_le_bytes}}
+use Rattle.std.specs.{Prelude.{ℕ, zero, suc, ◌+◌, ◌*◌, ◌/◌, ◌%◌, List, [], ◌∷◌, ◌++◌, None, nat_eq, codes, map, filter, flat_map, decimal}, List.range_with_len, Int.{w32, to_le_bytes}}
 use Rattle.custom_info.specs.{Kinds.hoisted_scopes, declared.slots.{Range.Range, Slot.TheVariants.Held}}
 use Rattle.ppdb_values.specs.{declared.custom.{CustomBody.TheVariants.Hoisted, CustomValue.CustomValue}, declared.file.{DocumentValue.DocumentValue, FileValue.FileValue, MethodValue.MethodValue}}
-use Rattle.ppdb_values.specs.{declared.import.{ImportScopeValue.ImportScopeValue, ImportValue.TheVariants.Namespace}, declared.scope.{ConstantBody.TheVariants.Primitive, ConstantValue.ConstantValue}}
+use Rattle.ppdb_values.specs.{declared.import.ImportValue.TheVariants.Namespace, declared.scope.{ConstantBody.TheVariants.Primitive, ConstantValue.ConstantValue}}
 use Rattle.ppdb_values.specs.{declared.scope.ScopeValue.ScopeValue, WorkedSmall.{zeros, empty_value}}
-use Rattle.sequence_points.specs.declared.point.{Point.Point, Span.TheVariants.{Hidden, Lines}}
+use Rattle.sequence_points.specs.declared.point.Span.TheVariants.{Hidden, Lines}
 
 -- from 1 on
 abbrev pub counted : ℕ → List ℕ

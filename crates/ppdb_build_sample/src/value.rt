@@ -7,7 +7,7 @@ use crate::methods::methods;
 use crate::parts::{documents, imports};
 use crate::scopes::scopes;
 use ppdb_base::{List, Memory};
-use ppdb_tables::METHOD_DEF;
+use ppdb_tables::{ASSEMBLY_REF, METHOD_DEF, STAND_ALONE_SIG, TYPE_REF};
 use ppdb_values::FileValue;
 use std::alloc::Global;
 
@@ -16,10 +16,10 @@ fn rows(n: u32) -> [u32; 64]
     ensures { result ≡ (sample_of n).rows }
 {
     let mut rows = [0; 64];
-    rows[0x01] = 1;
+    rows[TYPE_REF as usize] = 1;
     rows[METHOD_DEF as usize] = n;
-    rows[0x11] = 1;
-    rows[0x23] = 1;
+    rows[STAND_ALONE_SIG as usize] = 1;
+    rows[ASSEMBLY_REF as usize] = 1;
     rows
 }
 

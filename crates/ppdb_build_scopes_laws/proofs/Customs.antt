@@ -24,7 +24,7 @@ use Rattle.row_layout.specs.Columns.{parent_tables}
 use Rattle.ppdb_heaps.specs.Heaps.{blob_at, guid_at}
 use Rattle.ppdb_tables.specs.declared.parent.Parent.{Parent}
 use Rattle.ppdb_tables.specs.declared.rows.CustomRow.{CustomRow}
-use Rattle.ppdb_tables.specs.Parents.{parent_in, coded_in, CodesAreParents}
+use Rattle.ppdb_tables.specs.Parents.{parent_in, coded_in, CodesAreParents, coded_of}
 use Rattle.ppdb_tables.specs.RawTables.{RawTables, count, row_at}
 use Rattle.ppdb_values.specs.declared.custom.CustomBody.{CustomBody}
 use Rattle.ppdb_values.specs.declared.custom.CustomBody.TheVariants.{Async, Hoisted, TypeDocuments, Unread}
@@ -35,7 +35,7 @@ use Rattle.ppdb_values.specs.Ordered.{IsSorted}
 use Rattle.ppdb_values.specs.RawFile.{blob, records_of}
 use Rattle.ppdb_values.specs.Rules.{HasRow, IsCustom, IsWholeOfKind, KeepsCustoms, StandsOn}
 use Rattle.ppdb_values.proofs.Readings.{records_are, stepping_is}
-use Rattle.ppdb_values_sound_laws.specs.Customs.{IsBodyOfKind, coded_of, SoundCustom, SoundCustoms}
+use Rattle.ppdb_values_sound_laws.specs.Customs.{IsBodyOfKind, SoundCustom, SoundCustoms}
 use Rattle.ppdb_values_sound_laws.specs.Named.{HasRow as HasValueRow}
 use Rattle.ppdb_values_sound_laws.proofs.Listed.{row_of_map}
 use Rattle.ppdb_build_canon.specs.Canonical.{canonical_tables, custom_row, guid_cell}

@@ -38,9 +38,6 @@ module _ {S X : Type 0} (part : S → List X) where
   abbrev pub before : List S → ℕ → ℕ
   before all k = sum_by (λ s. length (part s)) (take k all)
 
-  pub before_first : (all : List S) → before all 0 ≡ 0
-  before_first all = refl
-
   pub before_all : (all : List S) (k : ℕ) → length all ≤ k → before all k ≡ length (flat_map part all)
   before_all [] zero past = refl
   before_all [] (suc k) past = refl

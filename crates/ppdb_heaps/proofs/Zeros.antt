@@ -1,8 +1,8 @@
 -- After the last zero of #Strings stands no text.
 use Rattle.std.proofs.Common.{◌≡◌, ◌≢◌, ℕ, zero, suc, ◌+◌, ◌-◌, ◌≤◌, ◌==◌, ◌||◌, Bool, true, false, not, List, [], ◌∷◌, length, drop}
-use Rattle.std.proofs.Common.{slice_index, None, refl, ap, subst, ◌∙◌, arith}
+use Rattle.std.proofs.Common.{None, refl, ap, subst, ◌∙◌, arith}
 use Rattle.std.specs.List.{list_any, prefix_len, position}
-use Rattle.std.proofs.lemmas.List.{at_drop_more, drop_all, drop-drop}
+use Rattle.std.proofs.lemmas.List.{drop_all, drop-drop}
 use Rattle.ppdb_heaps.specs.Heaps.{text_at}
 
 abbrev pub HasZero : List ℕ → Bool
@@ -34,18 +34,6 @@ later (suc n) (b ∷ bytes) none = later n bytes (rest (b == 0) none)
 -- after the whole list
 pub none_behind : (bytes : List ℕ) → HasZero (drop (length bytes) bytes) ≡ false
 none_behind bytes = rw (drop_all (length bytes) bytes (omega arith)) refl
-
--- one byte more before a list without a zero
-pub step_back : (bytes : List ℕ) (end : ℕ) → end ≢ 0 → end ≤ length bytes → slice_index bytes (end - 1) ≢ 0 → HasZero (drop end bytes) ≡ false
-    → HasZero (drop (end - 1) bytes) ≡ false
-step_back bytes end some within nonzero none =
-    let e : end - 1 + 1 ≡ end = omega (arith, some) in
-    let rest : HasZero (drop (end - 1 + 1) bytes) ≡ false = rw e none in
-    let here : (slice_index bytes (end - 1) == 0) ≡ false = other (slice_index bytes (end - 1)) nonzero in
-    at_drop_more HasZero bytes (end - 1) 0 (omega (arith, some, within)) ∙ rw (here, rest) refl
-  where
-    other : (n : ℕ) → n ≢ 0 → (n == 0) ≡ false
-    other n h = grind arith
 
 -- no text stands there
 pub no_text : (bytes : List ℕ) (end at : ℕ) → HasZero (drop end bytes) ≡ false → end ≤ at → at ≢ 0 → text_at bytes at ≡ None

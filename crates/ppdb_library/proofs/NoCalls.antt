@@ -9,14 +9,8 @@ use Rattle.ppdb_library.proofs.Spelled.{spelling}
 use Rattle.ppdb_library.proofs.Splits.{ended_whole}
 
 module _ (words files : List ℕ) (pieces : List PpdbPiece) where
-  pub no_text : (IsUtf8 words → ⊥) → NoCall words files pieces
-  no_text none = λ told call. none call.text
-
   pub not_ended : (text : List ℕ) → text ≡ words → (IsWhole text → ⊥) → NoCall words files pieces
   not_ended text same none = λ told call. none (subst IsWhole (sym call.are.are ∙ sym same) (ended_whole told))
-
-  pub not_lying : (AreApart 0 pieces (length files) → ⊥) → NoCall words files pieces
-  not_lying none = λ told call. none call.apart
 
   -- a text whose words are ended has words
   pub is_call : (text : List ℕ) → text ≡ words → IsUtf8 words → IsWhole text → AreApart 0 pieces (length files) → NoCall words files pieces → ⊥

@@ -24,23 +24,6 @@ zero_is_done NoDocument e = absurd (omega arith)
 zero_is_done Uncomposed e = absurd (omega arith)
 zero_is_done Unlisted e = absurd (omega arith)
 
-pub five_is_memory : (status : Status) → status_number status ≡ 5 → status ≡ Memory
-five_is_memory Done e = absurd (omega arith)
-five_is_memory Refused e = absurd (omega arith)
-five_is_memory Usage e = absurd (omega arith)
-five_is_memory ReadFault e = absurd (omega arith)
-five_is_memory WriteFault e = absurd (omega arith)
-five_is_memory Memory e = refl
-five_is_memory Absent e = absurd (omega arith)
-five_is_memory TooLong e = absurd (omega arith)
-five_is_memory Unfit e = absurd (omega arith)
-five_is_memory Limit e = absurd (omega arith)
-five_is_memory NoMethod e = absurd (omega arith)
-five_is_memory Unlinked e = absurd (omega arith)
-five_is_memory NoDocument e = absurd (omega arith)
-five_is_memory Uncomposed e = absurd (omega arith)
-five_is_memory Unlisted e = absurd (omega arith)
-
 -- a status is that of a run that is done, or of one that makes nothing
 pub data IsDoneOrNot (status : Status) : Type 0 where
   is_done : status ≡ Done → IsDoneOrNot status

@@ -1,7 +1,6 @@
 -- The sequence points of frames, as a caller in C sees them.
-use Rattle.ppdb_values.specs.Names.{count, Point, Span, Hidden, Lines}
+use Rattle.ppdb_values.specs.{Names.{count, Point, Span, Hidden, Lines}, Parts.{last_point, points_of}, RawFile.RawFile, Value.value_of}
 use Rattle.std.specs.Prelude.{ℕ, ◌&&◌, nat_le, if◌then◌else◌, Option, Some, None}
-use Rattle.ppdb_values.specs.{Parts.{last_point, points_of}, RawFile.RawFile, Value.value_of}
 use Rattle.ppdb_library.specs.declared.lines.{PpdbFrame.PpdbFrame, PpdbLine.PpdbLine, TheConstants.{NO_METHOD, NO_POINT, HIDDEN, LINES}}
 
 -- a line of this kind, all else 0

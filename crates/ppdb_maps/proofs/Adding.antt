@@ -25,7 +25,7 @@ use Rattle.ppdb_maps.specs.declared.draft.Draft.{Draft}
 use Rattle.ppdb_maps.specs.declared.refusal.Refusal.{Refusal}
 use Rattle.ppdb_maps.specs.declared.refusal.Refusal.TheVariants.{Breaks as refused, Memory}
 use Rattle.ppdb_maps.specs.declared.line.Line.{Line}
-use Rattle.ppdb_maps.specs.declared.line.Line.TheVariants.{Silent, Row, Cross, Gone, Method, Kept, Slot, Signature, Document, Link, Shares}
+use Rattle.ppdb_maps.specs.declared.line.Line.TheVariants.{Row, Cross, Gone, Method, Kept, Slot, Signature, Document, Link, Shares}
 use Rattle.ppdb_maps.specs.declared.entries.NameLine.{NameLine}
 use Rattle.std.specs.Cmp.Lexicographic.{slice_cmp}
 use Rattle.std.specs.Ordering.{nat_cmp}
@@ -482,14 +482,6 @@ method_closed before draft methods listed line holds is pushes marks = record {
           ∙ ap (λ ls. is_some (find_at method_key k ls)) (sym h.1)));
     }
 
--- where no method is open
-pub none_closed : (before : List Line) (draft : Draft) → Holds before draft → draft.current ≡ None → IsClosed before draft
-none_closed before draft holds is = record {
-  others = holds.others;
-  methods = (subst (λ (m : Option MethodLine). HoldsMethods before m draft) is holds.methods).0;
-  closed = is;
-}
-
 pub method_added : (before : List Line) (draft : Draft) (m o n : ℕ) → IsClosed before draft → is_some (method_in before m) ≡ false
     → Holds (Method m o n ∷ before) (record draft { current = Some (record { method = m; old_size = o; new_size = n; runs = [] }) })
 method_added before draft m o n closed fresh = record {
@@ -514,37 +506,6 @@ method_added before draft m o n closed fresh = record {
   };
   methods = (methods_of before, refl, closed.methods, refl, fresh);
 }
-
-pub silent_added : (before : List Line) (draft : Draft) → Holds before draft → Holds (Silent ∷ before) draft
-silent_added before draft holds = record {
-  others = record {
-    counts = holds.others.counts;
-    rows = holds.others.rows;
-    distinct = holds.others.distinct;
-    crossed = holds.others.crossed;
-    crossed_once = holds.others.crossed_once;
-    gone = holds.others.gone;
-    gone_once = holds.others.gone_once;
-    moved = holds.others.moved;
-    drops = holds.others.drops;
-    slotted = holds.others.slotted;
-    slots = holds.others.slots;
-    signatures = holds.others.signatures;
-    signed_once = holds.others.signed_once;
-    signed = holds.others.signed;
-    documents = holds.others.documents;
-    link = holds.others.link;
-    shares = holds.others.shares;
-  };
-  methods = of draft.current holds.methods;
-}
-  where
-    of : (m : Option MethodLine) → HoldsMethods before m draft → HoldsMethods (Silent ∷ before) m draft
-    of None h = (h.0, h.1)
-    of (Some line) h = (h.0, h.1, h.2, h.3, h.4)
-
-pub silent_keeps : (before : List Line) (rule : Rule) → Breaks before rule Silent → ⊥
-silent_keeps before rule h = elim h [ ]
 
 -- a run is refused where no method is open
 pub run_unowned : (before : List Line) (draft : Draft) (run : Run) → Holds before draft → draft.current ≡ None → RefusedBy before (Kept run) (refused NoMethod)

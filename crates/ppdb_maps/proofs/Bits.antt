@@ -1,28 +1,13 @@
 -- The bits of a set of numbers, when words are added and when a bit is set.
-use Rattle.std.proofs.Common.{inl, inr, ◌⊎◌, ℕ, ◌≡◌, ◌<◌, ◌≤◌, ◌*◌, ◌/◌, ◌%◌, ◌^◌, ◌||◌, false, List, length, sym, ap, ◌∙◌, arith, slice_index_or, slice_set}
+use Rattle.std.proofs.Common.{inl, inr, ◌⊎◌, ℕ, ◌≡◌, ◌<◌, ◌*◌, ◌/◌, ◌%◌, ◌^◌, ◌||◌, false, List, length, sym, ap, ◌∙◌, arith, slice_index_or, slice_set}
 use Rattle.std.proofs.Common.{bit_or, w64}
 use Rattle.std.specs.Prelude.{nat_eq}
 use Rattle.std.specs.Int.{bit_at}
-use Rattle.std.proofs.lemmas.Bool.{cases_lt, eq-eqb, ne_eqb}
-use Rattle.std.proofs.lemmas.List.{get_or_past, get_or-set_same, get_or-set_other}
+use Rattle.std.proofs.lemmas.Bool.{eq-eqb, ne_eqb}
+use Rattle.std.proofs.lemmas.List.{get_or-set_same, get_or-set_other}
 use Rattle.std.proofs.lemmas.Nat.Bits.{bit_at_set_same, bit_at_set_other}
 use Rattle.ppdb_maps.specs.BitSets.{has_bit}
 use Rattle.ppdb_maps.proofs.OneMap.{same_or_apart}
-
--- a list and the same list with zeros after it have the same bits
-pub grown_bits : (old new : List ℕ) → ((k : ℕ) → k < length new → k < length old → slice_index_or new k 0 ≡ slice_index_or old k 0)
-    → ((k : ℕ) → length old ≤ k → k < length new → slice_index_or new k 0 ≡ 0) → length old ≤ length new → (number : ℕ)
-    → has_bit new number ≡ has_bit old number
-grown_bits old new kept added longer number = ap (λ word. nat_eq (bit_at word (number % 64)) 1) (word (number / 64))
-  where
-    word : (k : ℕ) → slice_index_or new k 0 ≡ slice_index_or old k 0
-    word k = elim (cases_lt k (length old)) [
-      | inl inside ↦ kept k (omega (arith, inside, longer)) inside
-      | inr past ↦ elim (cases_lt k (length new)) [
-        | inl inside ↦ added k past inside ∙ sym (get_or_past old k 0 past)
-        | inr end ↦ get_or_past new k 0 end ∙ sym (get_or_past old k 0 past)
-      ]
-    ]
 
 apart_bits : (n k : ℕ) → (n / 64 ≡ k / 64 → ⊥) ⊎ (n % 64 ≡ k % 64 → ⊥) → nat_eq n k ≡ false
 apart_bits n k (inl words) = ne_eqb n k (λ e. words (ap (λ x. x / 64) e))

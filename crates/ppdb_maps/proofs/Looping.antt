@@ -1,5 +1,5 @@
 -- Lines that are read one after another.
-use Rattle.std.proofs.Common.{ℕ, ◌≡◌, ◌<◌, ◌+◌, ◌++◌, List, [], ◌∷◌, Result, Ok, Err, length, append_assoc, append-nil, length-append, refl, sym, ap, ◌∙◌}
+use Rattle.std.proofs.Common.{ℕ, ◌≡◌, ◌<◌, ◌+◌, ◌++◌, List, [], ◌∷◌, Result, Ok, Err, length, append_assoc, length-append, refl, sym, ap, ◌∙◌}
 use Rattle.std.proofs.Common.{subst, arith}
 use Rattle.std.specs.Prelude.{MatchResult}
 use Rattle.std.specs.Str.Lines.{lines}
@@ -9,7 +9,7 @@ use Rattle.ppdb_maps.specs.Cuts.{IsLineOf}
 use Rattle.ppdb_maps.specs.Rules.{by_lines}
 use Rattle.ppdb_maps.specs.Text.{Read, start, further, Refused, at_line, at_head}
 use Rattle.ppdb_maps.specs.Drafts.{Holds, AddsLine, HasLength}
-use Rattle.ppdb_maps.specs.Loops.{TextAdded, TextRefused, IsAt, ReadWhole, RefusedIn, RefusedAs}
+use Rattle.ppdb_maps.specs.Loops.{TextAdded, TextRefused, IsAt, RefusedIn, RefusedAs}
 use Rattle.ppdb_maps.specs.Reading.{RefusedAlone}
 use Rattle.ppdb_maps.specs.declared.draft.Draft.{Draft}
 use Rattle.ppdb_maps.specs.declared.line.Form.{Form}
@@ -126,12 +126,6 @@ so_far_refused version all rest line others number old new result why e so some 
           at = so.at;
           is = refl;
         })
-
-pub whole : (version : ℕ) (all : List (List ℕ)) (rest : List ℕ) (number : ℕ) (draft : Draft) → rest ≡ [] → SoFar version all (lines rest) number draft
-    → ReadWhole version all draft
-whole version all rest number draft empty so =
-    let e : so.prefix ≡ all = sym (so.cut ∙ (ap (λ (t : List ℕ). so.prefix ++ lines t) empty ∙ append-nil so.prefix)) in
-    record { said = so.said; read = subst (λ (ls : List (List ℕ)). Read version ls so.said) e so.read; holds = so.holds }
 
 -- the text's refused line
 pub refused_as : (text head rest : List ℕ) (version : ℕ) (e : MapError) → IsLineOf text head rest → IsHead head version → RefusedIn version (lines rest) e

@@ -13,7 +13,7 @@ use Rattle.std.proofs.lemmas.Bool.{false≢true}
 use Rattle.std.proofs.lemmas.Map.Lookups.{exact_bytes}
 use Rattle.std.proofs.lemmas.Map.Text.{is_eq-slice_cmp}
 
-abbrev Name : Type 0
+abbrev pub Name : Type 0
 Name = Vec ℕ Global
 
 abbrev pub names : List ℕ → List ℕ → Ordering

@@ -1,5 +1,5 @@
 -- How decimal numbers below 2^32 are spelled, and what a table's two digits say.
-use Rattle.std.proofs.Common.{zero, suc, ◌≡◌, ℕ, ◌+◌, ◌*◌, ◌<◌, ◌≤◌, ◌^◌, ◌≢◌, List, [], ◌∷◌, length, get_or, sym, ap, ◌∙◌, subst, inl, inr, arith, Result, Ok, Err, IfSome}
+use Rattle.std.proofs.Common.{zero, suc, ◌≡◌, ℕ, ◌+◌, ◌*◌, ◌<◌, ◌≤◌, ◌^◌, ◌≢◌, List, [], ◌∷◌, length, get_or, sym, ap, ◌∙◌, subst, arith, Result, Ok, Err, IfSome}
 use Rattle.std.proofs.Common.{IfNone}
 use Rattle.std.specs.Fmt.{decimal}
 use Rattle.std.specs.Result.{result_ok, OkIff}
@@ -66,16 +66,6 @@ may_spell_word n word below is = subst (λ w. MaySpell w) (sym is) (may_spell_de
 pub one_number : (word : List ℕ) (least most m n : ℕ) → most < 2 ^ 32 → IsNumber word least most m → IsNumber word least most n → m ≡ n
 one_number word least most m n below a b =
     decimal_injective m n (let h : m ≤ most = a.to in omega (arith, h)) (let h : n ≤ most = b.to in omega (arith, h)) (cc (a.spelled, b.spelled))
-
--- a digit has one value
-pub one_digit : (c x y : ℕ) → IsHexDigit c x → IsHexDigit c y → x ≡ y
-one_digit c x y (inl a) (inl b) = omega (arith, a.1, b.1)
-one_digit c x y (inl a) (inr b) = elim b.2 [ inl h ↦ absurd (omega (arith, a.0, a.1, b.0, h)) | inr h ↦ absurd (omega (arith, a.0, a.1, b.0, h)) ]
-one_digit c x y (inr a) (inl b) = elim a.2 [ inl h ↦ absurd (omega (arith, b.0, b.1, a.0, h)) | inr h ↦ absurd (omega (arith, b.0, b.1, a.0, h)) ]
-one_digit c x y (inr a) (inr b) = elim a.2 [
-  | inl h ↦ elim b.2 [ inl k ↦ omega (arith, h, k) | inr k ↦ absurd (omega (arith, a.0, a.1, b.0, b.1, h, k)) ]
-  | inr h ↦ elim b.2 [ inl k ↦ absurd (omega (arith, a.0, a.1, b.0, b.1, h, k)) | inr k ↦ omega (arith, h, k) ]
-]
 
 -- what a digit says is its value
 digit_is : (c d : ℕ) → IsHexDigit c d → digit_value c ≡ d

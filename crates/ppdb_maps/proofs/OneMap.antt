@@ -28,7 +28,7 @@ use Rattle.ppdb_maps.proofs.OneReading.{read_same}
 use Rattle.ppdb_maps.proofs.Named.{same_bytes, bytes_same}
 
 -- an item that is found is made of what it was found by and what it says
-rebuilt : {X V : Type 0} (p : X → Bool) (val : X → V) (make : V → X) → ((x : X) → p x ≡ true → make (val x) ≡ x) → (xs : List X)
+pub rebuilt : {X V : Type 0} (p : X → Bool) (val : X → V) (make : V → X) → ((x : X) → p x ≡ true → make (val x) ≡ x) → (xs : List X)
     → find p xs ≡ option_map make (option_map val (find p xs))
 rebuilt p val make is [] = refl
 rebuilt {X} p val make is (x ∷ xs) = step (p x) refl (rebuilt p val make is xs)
@@ -38,7 +38,7 @@ rebuilt {X} p val make is (x ∷ xs) = step (p x) refl (rebuilt p val make is xs
     step false miss rest = rest
     step true hit rest = ap Some (sym (is x hit))
 
-alike : {X V : Type 0} (p : X → Bool) (val : X → V) (make : V → X) → ((x : X) → p x ≡ true → make (val x) ≡ x) → (xs ys : List X)
+pub alike : {X V : Type 0} (p : X → Bool) (val : X → V) (make : V → X) → ((x : X) → p x ≡ true → make (val x) ≡ x) → (xs ys : List X)
     → option_map val (find p xs) ≡ option_map val (find p ys) → find p xs ≡ find p ys
 alike p val make is xs ys e = rebuilt p val make is xs ∙ ap (option_map make) e ∙ sym (rebuilt p val make is ys)
 
@@ -108,7 +108,7 @@ gone_is t o r hit =
     let make : ℕ → ℕ → GoneLine = λ a b. record { table = a; old = b } in
     ap (λ a. make a r.old) (eqb-true r.table t parts.0) ∙ ap (λ b. make t b) (eqb-true r.old o parts.1)
 
-gone_one : (xs ys : List GoneLine) → IsStrictlySortedBy pair_cmp (map (λ (r : GoneLine). (r.table, r.old)) xs)
+pub gone_one : (xs ys : List GoneLine) → IsStrictlySortedBy pair_cmp (map (λ (r : GoneLine). (r.table, r.old)) xs)
     → IsStrictlySortedBy pair_cmp (map (λ (r : GoneLine). (r.table, r.old)) ys)
     → ((t o : ℕ) → list_any (λ (r : GoneLine). nat_eq r.table t && nat_eq r.old o) xs ≡ list_any (λ (r : GoneLine). nat_eq r.table t && nat_eq r.old o) ys)
     → xs ≡ ys

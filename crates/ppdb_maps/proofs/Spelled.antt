@@ -163,12 +163,6 @@ code_cut byte rest text is = is ∙ ap (λ t. t ++ rest) (code_is byte)
 pub code_long : (byte : ℕ) (rest text : List ℕ) → text ≡ code_of byte ++ rest → 4 ≤ length text
 code_long byte rest text is = let e = ap length (code_cut byte rest text is) in omega (arith, e)
 
-pub code_slash : (byte : ℕ) (rest text : List ℕ) → text ≡ code_of byte ++ rest → get_or text 0 0 ≡ 92
-code_slash byte rest text is = ap (λ t. get_or t 0 0) (code_cut byte rest text is)
-
-pub code_letter : (byte : ℕ) (rest text : List ℕ) → text ≡ code_of byte ++ rest → get_or text 1 0 ≡ 120
-code_letter byte rest text is = ap (λ t. get_or t 1 0) (code_cut byte rest text is)
-
 pub code_high : (byte : ℕ) (rest text : List ℕ) → byte < 256 → text ≡ code_of byte ++ rest → IsLowerDigit (get_or text 2 0) (byte / 16)
 code_high byte rest text below is =
     subst (λ c. IsLowerDigit c (byte / 16)) (sym (ap (λ t. get_or t 2 0) (code_cut byte rest text is))) (digit_lower (byte / 16) (omega arith))
@@ -269,11 +263,6 @@ pub one_spelling : (word xs ys : List ℕ) → IsEscaped word xs → IsEscaped w
 one_spelling word xs ys a b = one_escaped xs ys a.within b.within (sym a.spelled ∙ b.spelled)
 
 -- ---- a word that is read byte by byte
-
--- no spelling is empty
-pub empty_none : (bytes : List ℕ) → [] ≡ escaped bytes → ⊥
-empty_none [] e = let h : ◌≡◌ {A = List ℕ} [] (92 ∷ 45 ∷ []) = e in cc
-empty_none (b ∷ bs) e = byte_some b (text_of bs) e
 
 pub bytes_more : (bytes : List ℕ) (b : ℕ) → AreBytes bytes → b < 256 → AreBytes (bytes ++ b ∷ [])
 bytes_more [] b all lt = (lt, tt)

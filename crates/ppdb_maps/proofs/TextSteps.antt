@@ -1,5 +1,5 @@
 -- Lines that report something and break no rule.
-use Rattle.std.proofs.Common.{◌≡◌, ℕ, ◌+◌, ◌/◌, ◌%◌, ◌<◌, ◌≤◌, ◌++◌, Bool, true, false, List, [], ◌∷◌, length, Option, Some, None, refl}
+use Rattle.std.proofs.Common.{◌≡◌, ℕ, ◌+◌, ◌<◌, ◌≤◌, ◌++◌, Bool, true, false, List, [], ◌∷◌, length, Option, Some, None, refl}
 use Rattle.std.proofs.Common.{sym, ap, subst, ◌∙◌, arith, inl, inr}
 use Rattle.std.specs.Prelude.{codes, IsSome, IsTrue}
 use Rattle.std.specs.Fmt.{decimal}
@@ -22,9 +22,6 @@ use Rattle.ppdb_maps.proofs.Numbers.{table_of_digits}
 
 digit : (n : ℕ) → n < 10 → (48 + n) ∷ [] ≡ decimal n
 digit n h = sym (decimal_digit n h)
-
-two_digits : (n : ℕ) → 10 ≤ n → n < 20 → decimal n ≡ decimal (n / 10) ++ (48 + n % 10) ∷ []
-two_digits n low high = decimal_step n low (omega arith)
 
 pub number_of_digit : (n most : ℕ) → n < 10 → n ≤ most → IsNumber ((48 + n) ∷ []) 0 most n
 number_of_digit n most small high = record { spelled = digit n small; from = omega arith; to = high }

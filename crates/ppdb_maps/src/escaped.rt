@@ -4,15 +4,8 @@ ghost use Rattle.ppdb_base.specs.Escaped.{is_plain, code_of, escaped_byte};
 ghost use Rattle.ppdb_maps.specs.Forms.{IsEscaped};
 ghost use Rattle.ppdb_maps.specs.Escapes.{IsLowerDigit};
 
-use ppdb_base::{Bytes, Memory};
+use ppdb_base::{Bytes, Memory, stands_for_itself};
 use std::alloc::Global;
-
-/// Whether a byte stands for itself: printable ASCII but the backslash.
-fn stands_for_itself(byte: u8) -> bool
-    ensures { result ≡ is_plain byte }
-{
-    byte.is_ascii_graphic() && byte != b'\\'
-}
 
 /// The value of a lower-case hexadecimal digit.
 fn lower_digit(byte: u8) -> Option<u8>

@@ -62,7 +62,7 @@ pub fn row(word: &[u8]) -> Option<u32>
     ensures some { IfSome result (IsNumber word.now 1 MAX_ROWS) }
     ensures none { IfNone result ((n : ℕ) → IsNumber word.now 1 MAX_ROWS n → ⊥) }
 {
-    number(word, 1, 16_777_215)
+    number(word, 1, ppdb_base::MAX_ROWS)
 }
 
 /// A row or 0 for none, or a count of rows: 0 to 16777215.
@@ -70,7 +70,7 @@ pub fn row_or_zero(word: &[u8]) -> Option<u32>
     ensures some { IfSome result (IsNumber word.now 0 MAX_ROWS) }
     ensures none { IfNone result ((n : ℕ) → IsNumber word.now 0 MAX_ROWS n → ⊥) }
 {
-    number(word, 0, 16_777_215)
+    number(word, 0, ppdb_base::MAX_ROWS)
 }
 
 /// An offset or a size, 0 to 2147483647.

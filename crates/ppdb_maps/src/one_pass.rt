@@ -6,7 +6,7 @@ use crate::entries::CrossLine;
 use crate::line::Line;
 use crate::number::{may_spell, table};
 use crate::reading::crosses;
-use ppdb_base::Run;
+use ppdb_base::{MAX_ROWS, Run};
 
 /// The decimal number, of at most nine digits, that stands before the first `end`, and what stands
 /// after that.
@@ -57,7 +57,7 @@ fn method_before(text: &[u8]) -> Option<(Line, &[u8])>
     let (old_size, values) = number_before(values, b' ')?;
     let (new_size, rest) = number_before(values, b'\n')?;
     let most = 2_147_483_647;
-    if 1 <= method && method <= 16_777_215 && old_size <= most && new_size <= most {
+    if 1 <= method && method <= MAX_ROWS && old_size <= most && new_size <= most {
         let line = Line::Method {
             method,
             old_size,
@@ -79,7 +79,7 @@ fn row_before(text: &[u8]) -> Option<(Line, &[u8])>
     let table = table(&text[4..6])?;
     let (old, values) = number_before(values, b' ')?;
     let (new, rest) = number_before(values, b'\n')?;
-    let most = 16_777_215;
+    let most = MAX_ROWS;
     if 1 <= old && old <= most && 1 <= new && new <= most {
         Some((Line::Row { table, old, new }, rest))
     } else {
@@ -124,7 +124,7 @@ fn cross_before(text: &[u8]) -> Option<(Line, &[u8])>
         to,
         new,
     };
-    let most = 16_777_215;
+    let most = MAX_ROWS;
     if 1 <= old && old <= most && 1 <= new && new <= most && crosses(line) {
         Some((Line::Cross(line), rest))
     } else {
@@ -141,7 +141,7 @@ fn gone_before(text: &[u8]) -> Option<(Line, &[u8])>
     };
     let table = table(&text[5..7])?;
     let (old, rest) = number_before(values, b'\n')?;
-    if table != 0x06 && 1 <= old && old <= 16_777_215 {
+    if table != 0x06 && 1 <= old && old <= MAX_ROWS {
         Some((Line::Gone { table, old }, rest))
     } else {
         None
@@ -170,7 +170,7 @@ fn signature_before(text: &[u8]) -> Option<(Line, &[u8])>
     };
     let (method, values) = number_before(values, b' ')?;
     let (new, rest) = number_before(values, b'\n')?;
-    let most = 16_777_215;
+    let most = MAX_ROWS;
     if 1 <= method && method <= most && new <= most {
         Some((Line::Signature { method, new }, rest))
     } else {

@@ -1,5 +1,5 @@
 -- What is found by its number in a list that is made from numbers.
-use Rattle.std.proofs.Common.{◌≡◌, ℕ, ◌⊎◌, ◌&&◌, ◌||◌, ◌++◌, Bool, true, false, cond, List, [], ◌∷◌, Option, Some, None, refl, sym, ◌∙◌, ap, arith, inl, inr}
+use Rattle.std.proofs.Common.{◌≡◌, ℕ, ◌&&◌, ◌||◌, ◌++◌, Bool, true, false, cond, List, [], ◌∷◌, Option, Some, None, refl, sym, ◌∙◌, ap, inl, inr}
 use Rattle.std.proofs.Common.{map, subst}
 use Rattle.std.specs.Prelude.{nat_eq, is_some}
 use Rattle.std.specs.List.{filter, filter_map, flat_map, find, list_any, cons_option}
@@ -7,12 +7,7 @@ use Rattle.std.specs.Option.{option_or}
 use Rattle.std.proofs.lemmas.Bool.{cases_lt, eq-eqb, ne_eqb, lt-ltb, le-ltb}
 use Rattle.std.proofs.lemmas.List.Folds.{find-append}
 use Rattle.ppdb_maps_text.specs.Ascending.{put_once, ascending}
-
-pub either : (j k : ℕ) → (j ≡ k) ⊎ (j ≡ k → ⊥)
-either j k = elim (cases_lt j k) [
-  | inl less ↦ inr (λ e. omega (arith, e))
-  | inr ge ↦ elim (cases_lt k j) [ inl more ↦ inr (λ e. omega (arith, e)) | inr le ↦ inl (omega arith) ]
-]
+use Rattle.ppdb_maps.proofs.OneMap.{same_or_apart}
 
 abbrev pub has : ℕ → List ℕ → Bool
 has n ns = list_any (nat_eq n) ns
@@ -29,7 +24,7 @@ given_none false = refl
 pub made_found : {X : Type 0} (key : X → ℕ) (make : ℕ → Option X) → ((k : ℕ) (x : X) → make k ≡ Some x → key x ≡ k) → (n : ℕ) (ns : List ℕ)
     → find (λ x. nat_eq (key x) n) (filter_map make ns) ≡ given (has n ns) (make n)
 made_found key make keyed n [] = refl
-made_found {X} key make keyed n (k ∷ ks) = elim (either k n) [
+made_found {X} key make keyed n (k ∷ ks) = elim (same_or_apart k n) [
   | inl same ↦ subst (λ j. find (λ x. nat_eq (key x) n) (cons_option (make j) (filter_map make ks)) ≡ given (nat_eq n j || has n ks) (make n)) (sym same)
       (rw (eq-eqb n n refl) (of_same (make n) refl (made_found key make keyed n ks)))
   | inr apart ↦ rw (ne_eqb n k (λ e. apart (sym e))) (of_other (make k) refl apart (made_found key make keyed n ks))
@@ -71,7 +66,7 @@ pub flat_found : {X : Type 0} (key : X → ℕ) (q : X → Bool) (make : ℕ →
     → find (λ x. nat_eq (key x) n && q x) (flat_map make ns) ≡ given (has n ns) (find q (make n))
 flat_found key q make keyed n [] = refl
 flat_found {X} key q make keyed n (k ∷ ks) =
-    find-append (λ x. nat_eq (key x) n && q x) (make k) (flat_map make ks) ∙ ap (option_or _) (flat_found key q make keyed n ks) ∙ elim (either k n) [
+    find-append (λ x. nat_eq (key x) n && q x) (make k) (flat_map make ks) ∙ ap (option_or _) (flat_found key q make keyed n ks) ∙ elim (same_or_apart k n) [
       | inl same ↦ subst (λ j. option_or (find (λ x. nat_eq (key x) n && q x) (make j)) (given (has n ks) (find q (make n)))
           ≡ given (nat_eq n j || has n ks) (find q (make n))) (sym same)
           (rw (eq-eqb n n refl) (ap (λ o. option_or o (given (has n ks) (find q (make n)))) (all_there key q n (make n) (keyed n))
@@ -96,7 +91,7 @@ has_append n (x ∷ xs) ys = step (nat_eq n x) (has_append n xs ys)
 
 pub has_filter : (p : ℕ → Bool) (n : ℕ) (ns : List ℕ) → has n (filter p ns) ≡ (has n ns && p n)
 has_filter p n [] = refl
-has_filter p n (k ∷ ks) = elim (either k n) [
+has_filter p n (k ∷ ks) = elim (same_or_apart k n) [
   | inl same ↦ subst (λ j. has n (cond (p j) (j ∷ filter p ks) (filter p ks)) ≡ ((nat_eq n j || has n ks) && p n)) (sym same)
       (rw (eq-eqb n n refl) (of_same (p n) refl (has_filter p n ks)))
   | inr apart ↦ rw (ne_eqb n k (λ e. apart (sym e))) (of_other (p k) apart (has_filter p n ks))
@@ -118,7 +113,7 @@ has_put : (n k : ℕ) (ms : List ℕ) → has n (put_once k ms) ≡ (nat_eq n k 
 has_put n k [] = refl
 has_put n k (m ∷ ms) = elim (cases_lt k m) [
   | inl less ↦ rw (lt-ltb k m less) refl
-  | inr le ↦ rw (le-ltb k m le) (elim (either k m) [
+  | inr le ↦ rw (le-ltb k m le) (elim (same_or_apart k m) [
     | inl same ↦ rw (eq-eqb k m same) (subst (λ j. (nat_eq n m || has n ms) ≡ (nat_eq n j || (nat_eq n m || has n ms))) (sym same) (again (nat_eq n m)))
     | inr apart ↦ rw (ne_eqb k m apart) (ap (λ b. nat_eq n m || b) (has_put n k ms) ∙ swap (nat_eq n m) (nat_eq n k))
   ])
@@ -140,7 +135,7 @@ has_ascending n (k ∷ ks) = has_put n k (ascending ks) ∙ ap (λ b. nat_eq n k
 -- a number is among the keys exactly where an item is found by it
 pub has_key : {X : Type 0} (key : X → ℕ) (n : ℕ) (xs : List X) → has n (map key xs) ≡ is_some (find (λ x. nat_eq (key x) n) xs)
 has_key key n [] = refl
-has_key key n (x ∷ xs) = elim (either (key x) n) [
+has_key key n (x ∷ xs) = elim (same_or_apart (key x) n) [
   | inl same ↦ rw (eq-eqb n (key x) (sym same), eq-eqb (key x) n same) refl
   | inr apart ↦ rw (ne_eqb n (key x) (λ e. apart (sym e)), ne_eqb (key x) n apart) (has_key key n xs)
 ]

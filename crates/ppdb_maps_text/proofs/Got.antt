@@ -24,12 +24,12 @@ use Rattle.ppdb_maps.specs.Before.{link_in}
 use Rattle.ppdb_maps.specs.Gathered.{same_pair}
 use Rattle.ppdb_maps.specs.Map.{Map, MethodLine, pair_cmp, count_of, row_line, cross_line, has_gone_line, is_dropped, has_slots, slot_line, signature_line, document_line}
 use Rattle.ppdb_maps.specs.Readable.{IsCount, IsRow, IsRowOf, IsCrossOf, IsGoneOf, IsSlottedOf, IsSlotOf, IsSignatureOf, AreNames}
-use Rattle.ppdb_maps.specs.Rules.{Breaks, second_rows, second_row, second_cross, second_gone, row_alone, cross_alone, gone_alone, dropped_row, second_drop, second_slots}
+use Rattle.ppdb_maps.specs.Rules.{Breaks, second_rows, second_drop, second_slots}
 use Rattle.ppdb_maps.specs.Rules.{drop_named, dropped_slots}
 use Rattle.ppdb_maps.specs.Text.{Read, further}
 use Rattle.ppdb_maps.proofs.OneMap.{same_number, pair_is, pair_total}
 use Rattle.ppdb_maps.proofs.Named.{same_bytes}
-use Rattle.ppdb_maps.proofs.Refusing.{slot_keeps, signature_keeps, document_keeps}
+use Rattle.ppdb_maps.proofs.Refusing.{slot_keeps, signature_keeps, document_keeps, row_keeps, cross_keeps, gone_keeps}
 use Rattle.ppdb_maps.proofs.Saying.{breaks_said}
 use Rattle.ppdb_maps_text.specs.MapTexts.{version_of, has_items, line_text}
 use Rattle.ppdb_maps_text.proofs.Ahead.{Ahead, AheadOf, ahead_same, none_ahead, not_yet, steps, not_before, before, not_yet_of, steps_of, not_before_of, none_of_them}
@@ -255,25 +255,6 @@ same_step m said line t o adds this others u k is = of (same_pair (t, o) (u, k))
         ∙ ap (λ a. is_some (row_in said u k) || (is_some (cross_in said u k) || a)) (adds.gone u k miss)) ∙ is in
         let h = others u k there in
         (adds.rows u k miss ∙ h.0, adds.crossed u k miss ∙ h.1, adds.gone u k miss ∙ h.2)
-
-none_and_some : {A : Type 0} (o : Option A) → o ≡ None → is_some o ≡ true → ⊥
-none_and_some None is there = false≢true there
-none_and_some (Some x) is there = cc
-
-row_keeps : (said : List Line) (t o n : ℕ) → has_image_in said t o ≡ false → is_some (count_in said t) ≡ true → (t ≡ 0x06 → drop_in said o ≡ true → ⊥)
-    → (rule : Rule) → Breaks said rule (Row t o n) → ⊥
-row_keeps said t o n new count kept rule (second_row h) = false≢true (sym new ∙ h)
-row_keeps said t o n new count kept rule (row_alone h) = none_and_some (count_in said t) h count
-row_keeps said t o n new count kept rule (dropped_row h k) = kept h k
-
-cross_keeps : (said : List Line) (line : CrossLine) → has_image_in said line.table line.old ≡ false → is_some (count_in said line.table) ≡ true
-    → (rule : Rule) → Breaks said rule (Cross line) → ⊥
-cross_keeps said line new count rule (second_cross h) = false≢true (sym new ∙ h)
-cross_keeps said line new count rule (cross_alone h) = none_and_some (count_in said line.table) h count
-
-gone_keeps : (said : List Line) (t o : ℕ) → has_image_in said t o ≡ false → is_some (count_in said t) ≡ true → (rule : Rule) → Breaks said rule (Gone t o) → ⊥
-gone_keeps said t o new count rule (second_gone h) = false≢true (sym new ∙ h)
-gone_keeps said t o new count rule (gone_alone h) = none_and_some (count_in said t) h count
 
 module _ (m : Map) (texts : List (List ℕ)) where
   abbrev version : ℕ

@@ -1,12 +1,11 @@
 -- Entries that ascend by a number, kept apart by the numbers that they have, are the entries in their order.
 use Rattle.std.proofs.Common.{ℕ, ◌≡◌, ◌<◌, ◌≤◌, ◌||◌, ◌++◌, Bool, true, false, cond, List, [], ◌∷◌, Some, refl, sym, ◌∙◌, ap, map, subst, arith, inl, inr}
-use Rattle.std.specs.Prelude.{nat_eq, is_some, filter}
+use Rattle.std.specs.Prelude.{nat_eq, filter}
 use Rattle.std.specs.List.{find, list_any, flat_map, AllByRecursion}
 use Rattle.std.specs.List.Sorted.{IsStrictlySortedBy}
-use Rattle.std.specs.Option.{option_map}
 use Rattle.std.specs.Ordering.{nat_cmp}
 use Rattle.std.specs.declared.cmp.Ordering.TheVariants.{Less, Equal, Greater}
-use Rattle.std.proofs.lemmas.Bool.{false≢true, eqb-true, eq-eqb, ne_eqb, cases_lt, le-ltb}
+use Rattle.std.proofs.lemmas.Bool.{false≢true, eqb-true, ne_eqb, cases_lt, le-ltb}
 use Rattle.ppdb_maps.specs.Map.{pair_cmp}
 
 -- below by the order is below
@@ -90,22 +89,6 @@ module _ {C X : Type 0} (group : C → ℕ) (member : X → ℕ) where
           → AllByRecursion (λ y. member x ≤ member y) ys
       later [] below = tt
       later (y ∷ ys) below = (pair_less (member x, second x) (member y, second y) below.0, later ys below.1)
-
--- what is found is in the list
-pub found_among : {C V : Type 0} (group : C → ℕ) (val : C → V) (n : ℕ) (cs : List C) → is_some (option_map val (find (λ c. nat_eq (group c) n) cs)) ≡ true
-    → list_any (λ c. nat_eq n (group c)) cs ≡ true
-found_among group val n [] some = some
-found_among {C} {V} group val n (c ∷ cs) some = of (nat_eq (group c) n) refl some (found_among group val n cs)
-  where
-    or_true : (b : Bool) → (b || true) ≡ true
-    or_true true = refl
-    or_true false = refl
-
-    of : (b : Bool) → nat_eq (group c) n ≡ b → is_some (option_map val (cond b (Some c) (find (λ c. nat_eq (group c) n) cs))) ≡ true
-        → (is_some (option_map val (find (λ c. nat_eq (group c) n) cs)) ≡ true → list_any (λ c. nat_eq n (group c)) cs ≡ true)
-        → (nat_eq n (group c) || list_any (λ c. nat_eq n (group c)) cs) ≡ true
-    of true hit some rest = ap (λ b. b || list_any (λ c. nat_eq n (group c)) cs) (eq-eqb n (group c) (sym (eqb-true (group c) n hit)))
-    of false miss some rest = ap (λ b. nat_eq n (group c) || b) (rest some) ∙ or_true (nat_eq n (group c))
 
 -- what holds of all holds of what is found
 pub of_found : {X : Type 0} (P : X → Type 0) (test : X → Bool) (xs : List X) (x : X) → AllByRecursion P xs → find test xs ≡ Some x → P x × (test x ≡ true)

@@ -23,7 +23,7 @@ use Rattle.ppdb_maps.specs.Map.{Map, MethodLine, map_of, pair_cmp, method_line}
 use Rattle.ppdb_maps.specs.Text.{HoldsWhat}
 use Rattle.ppdb_maps.proofs.Named.{same_bytes}
 use Rattle.ppdb_maps.proofs.OneMap.{same_number, pair_is, pair_total, pair_exact}
-use Rattle.ppdb_maps_text.proofs.OneLine.{any_some}
+use Rattle.ppdb_maps.proofs.OneList.{any_is}
 use Rattle.ppdb_maps_text.proofs.Entries.{put, put_found, put_rises, any_found}
 
 -- ---- an item more in each list
@@ -248,7 +248,7 @@ gone_held said m t o h = record {
   rows = h.rows;
   crossed = h.crossed;
   gone = λ table old.
-      any_some (λ (r : GoneLine). same_pair (gone_of r) (table, old)) (with_gone (record { table = t; old = o }) m.gone)
+      any_is (λ (r : GoneLine). same_pair (gone_of r) (table, old)) (with_gone (record { table = t; old = o }) m.gone)
       ∙ ap is_some (put_found gone_of same_pair pair_cmp pair_is pair_total pair_exact (table, old) (record { table = t; old = o }) m.gone)
       ∙ of table old (same_pair (t, o) (table, old));
   methods = h.methods;
@@ -277,7 +277,7 @@ gone_held said m t o h = record {
         → is_some (cond b (Some (record { table = t; old = o })) (find (λ (r : GoneLine). same_pair (gone_of r) (table, old)) m.gone))
         ≡ cond b true (gone_in said table old)
     of table old true = refl
-    of table old false = sym (any_some (λ (r : GoneLine). same_pair (gone_of r) (table, old)) m.gone) ∙ h.gone table old
+    of table old false = sym (any_is (λ (r : GoneLine). same_pair (gone_of r) (table, old)) m.gone) ∙ h.gone table old
 
 -- a line of a method, in place of that which there was
 line_held : (said more : List Line) (m : Map) (line : MethodLine) → HoldsWhat said m

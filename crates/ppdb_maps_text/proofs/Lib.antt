@@ -1,6 +1,6 @@
 pub mod Found
 pub mod Orders
-mod Putting
+pub mod Putting
 mod Words
 mod Ahead
 pub mod Groups

@@ -1,7 +1,7 @@
 -- A row has one line at most: of four words, of five, or `gone`.
 use Rattle.std.proofs.Common.{ℕ, ◌≡◌, ◌&&◌, ◌||◌, Bool, true, false, cond, List, [], ◌∷◌, Option, Some, None, refl, sym, ap, ◌∙◌, subst, arith, inl, inr}
 use Rattle.std.specs.Prelude.{nat_eq, is_some}
-use Rattle.std.specs.List.{find, list_any}
+use Rattle.std.specs.List.{find}
 use Rattle.std.specs.Option.{option_map}
 use Rattle.std.proofs.lemmas.Bool.{false≢true, eqb-true, and_parts, eq-eqb, ne_eqb}
 use Rattle.ppdb_maps.specs.declared.entries.RowLine.{RowLine}
@@ -12,6 +12,7 @@ use Rattle.ppdb_maps.specs.declared.line.Line.TheVariants.{Row, Cross, Gone}
 use Rattle.ppdb_maps.specs.Forms.{Crosses}
 use Rattle.ppdb_maps.specs.Map.{Map, row_line, cross_line, has_gone_line, told_image, line_image}
 use Rattle.ppdb_maps.specs.Readable.{IsReadable, IsRowOf, IsCrossOf, IsGoneOf}
+use Rattle.ppdb_maps.proofs.OneList.{any_is}
 use Rattle.ppdb_maps_text.specs.MapTexts.{image_says, has_items}
 use Rattle.ppdb_maps_text.proofs.Groups.{of_found}
 
@@ -41,15 +42,6 @@ some_items : {X : Type 0} (test : X → Bool) (xs : List X) (x : X) → find tes
 some_items test [] x is = absurd (cc)
 some_items test (y ∷ ys) x is = refl
 
--- some item passes where one is found
-pub any_some : {X : Type 0} (test : X → Bool) (xs : List X) → list_any test xs ≡ is_some (find test xs)
-any_some test [] = refl
-any_some {X} test (x ∷ xs) = of (test x) (any_some test xs)
-  where
-    of : (b : Bool) → list_any test xs ≡ is_some (find test xs) → (b || list_any test xs) ≡ is_some (cond b (Some x) (find test xs))
-    of true rest = refl
-    of false rest = rest
-
 module _ (m : Map) (readable : IsReadable m) (table old : ℕ) where
   pub row_found : (new : ℕ) → row_line m table old ≡ Some new → IsRowLine m table old new
   row_found new is = of (find p m.rows) refl is
@@ -72,7 +64,7 @@ module _ (m : Map) (readable : IsReadable m) (table old : ℕ) where
       record { of = h.0; table_is = eqb-true line.table table parts.0; old_is = eqb-true line.old old parts.1; some = some_items p m.crossed line is }
 
   pub gone_found : has_gone_line m table old ≡ true → IsGoneLine m table old
-  gone_found is = of (find p m.gone) refl (sym (any_some p m.gone) ∙ is)
+  gone_found is = of (find p m.gone) refl (sym (any_is p m.gone) ∙ is)
     where
       p : GoneLine → Bool
       p r = nat_eq r.table table && nat_eq r.old old

@@ -9,8 +9,8 @@ use Rattle.std.specs.declared.cmp.Ordering.TheVariants.{Less, Equal, Greater}
 use Rattle.std.proofs.lemmas.Bool.{eqb-true, eq-eqb, ne_eqb, cases_lt, lt-ltb, le-ltb}
 use Rattle.std.proofs.Common.{zero, suc}
 use Rattle.ppdb_maps.specs.Map.{pair_cmp}
+use Rattle.ppdb_maps.proofs.OneMap.{same_or_apart}
 use Rattle.ppdb_maps_text.specs.Ascending.{put_once, ascending}
-use Rattle.ppdb_maps_text.proofs.Found.{either}
 
 -- below by the order is below
 pub less : (x y : ℕ) → nat_cmp x y ≡ Less → x < y
@@ -60,7 +60,7 @@ unfolding IsStrictlySortedBy
 put_up n [] up = (tt, tt)
 put_up n (k ∷ ks) up = elim (cases_lt n k) [
   | inl below ↦ rw (lt-ltb n k below) ((is_less n k below, above_up n k ks below up.0), up)
-  | inr le ↦ rw (le-ltb n k le) (elim (either n k) [
+  | inr le ↦ rw (le-ltb n k le) (elim (same_or_apart n k) [
     | inl same ↦ rw (eq-eqb n k same) up
     | inr apart ↦ rw (ne_eqb n k apart) (put_above k n ks (omega (arith, le, apart)) up.0, put_up n ks up.1)
   ])

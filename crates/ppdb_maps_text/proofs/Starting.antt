@@ -16,11 +16,12 @@ use Rattle.ppdb_maps.specs.Gathered.{same_pair}
 use Rattle.ppdb_maps.specs.Map.{Map, pair_cmp, count_of, row_line, cross_line, has_gone_line, rows_of, crossed_of, gone_of}
 use Rattle.ppdb_maps.specs.Readable.{IsReadable}
 use Rattle.ppdb_maps.proofs.OneMap.{pair_is, pair_total}
+use Rattle.ppdb_maps.proofs.OneList.{any_is}
 use Rattle.ppdb_maps_text.specs.MapTexts.{olds_of}
 use Rattle.ppdb_maps_text.proofs.Ahead.{Ahead, starts}
 use Rattle.ppdb_maps_text.proofs.Found.{has, given, has_append, has_ascending, has_key, find_filter, flat_found}
 use Rattle.ppdb_maps_text.proofs.Got.{RowKey, key_of, no_value, there_if, SameImage, Unsaid, unsaid}
-use Rattle.ppdb_maps_text.proofs.OneLine.{has_line, OneLine, by_row, by_cross, by_gone, one_line, any_some}
+use Rattle.ppdb_maps_text.proofs.OneLine.{has_line, OneLine, by_row, by_cross, by_gone, one_line}
 use Rattle.ppdb_maps_text.proofs.Orders.{Up, ascending_up, flat_pairs}
 
 -- ---- the rows with a line
@@ -44,7 +45,7 @@ gone_there : (m : Map) (t o : ℕ) → has o (map (λ (r : GoneLine). r.old) (go
 gone_there m t o =
     has_key (λ (r : GoneLine). r.old) o (gone_of m t)
     ∙ ap is_some (find_filter (λ (r : GoneLine). nat_eq r.table t) (λ (r : GoneLine). nat_eq r.old o) m.gone)
-    ∙ sym (any_some (λ (r : GoneLine). nat_eq r.table t && nat_eq r.old o) m.gone)
+    ∙ sym (any_is (λ (r : GoneLine). nat_eq r.table t && nat_eq r.old o) m.gone)
 
 -- the rows of a table that have a line are those of which the map has one
 pub olds_have : (m : Map) (t o : ℕ) → has o (olds_of m t) ≡ has_line m t o

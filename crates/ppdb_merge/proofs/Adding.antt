@@ -38,6 +38,7 @@ use Rattle.ppdb_merge_meaning_laws.specs.Kept.{MovedBy, InputsFit, joined_inputs
 use Rattle.ppdb_merge_names.specs.declared.imaged.Imaged.{Imaged}
 use Rattle.ppdb_merge_fits.specs.Clashes.{first_clash}
 use Rattle.ppdb_merge_fits.specs.Signatures.{all_images}
+use Rattle.ppdb_merge_fits.proofs.First.{nil_parts, no_first}
 use Rattle.ppdb_merge.specs.declared.index.Index.{Index}
 use Rattle.ppdb_merge.specs.declared.trace.Trace.{Trace}
 use Rattle.ppdb_merge.specs.Indexes.{Indexes}
@@ -51,7 +52,6 @@ use Rattle.ppdb_merge.proofs.Apart.{all_apart, one_by_name, Pairs-push}
 use Rattle.ppdb_merge.proofs.Counted.{can_be_joined, counts_rows}
 use Rattle.ppdb_merge.proofs.Few.{few_rows}
 use Rattle.ppdb_merge.proofs.Indexing.{documents_more}
-use Rattle.ppdb_merge.proofs.Told.{empty_of, empty_both}
 use Rattle.ppdb_merge_meaning_laws.proofs.Counts.{moved_counts_sound}
 use Rattle.ppdb_merge.proofs.Traced.{file_sound, moved_images, moved_entry}
 
@@ -68,7 +68,7 @@ length_next (y ∷ ys) x = let rest = length_next ys x in omega (arith, rest)
 -- a file that is not refused does not clash
 pub none_before : (marks : List (List ℕ)) (traces : List Trace) (m : Map) (raw : RawFile) → refusal_of marks traces m raw ≡ None
     → clashes_before traces m (trace_of (is_first traces) m raw).rows (value_of raw) ≡ []
-none_before marks traces m raw is = empty_of _ (by (first_clash marks (is_first traces) m raw) is)
+none_before marks traces m raw is = no_first _ (by (first_clash marks (is_first traces) m raw) is)
   where
     by : (o : Option MergeError)
         → option_or o (slice_get (clashes_before traces m (trace_of (is_first traces) m raw).rows (value_of raw)) 0) ≡ None
@@ -119,9 +119,9 @@ module _ (annotated : SoundnessIsAnnotated) (named : ReferencesAreNamed) (m : Ma
       → SoundTraces (traces ++ trace_of (is_first traces) m raw ∷ [])
   added_sound marks traces all few fits is =
       let t : Trace = trace_of (is_first traces) m raw in
-      let none = empty_both (methods_taken traces t.rows) (documents_differ traces m (value_of raw).documents ++ links_differ traces m (value_of raw).customs)
+      let none = nil_parts (methods_taken traces t.rows) (documents_differ traces m (value_of raw).documents ++ links_differ traces m (value_of raw).customs)
       (none_before marks traces m raw is) in
-      let agree = empty_both (documents_differ traces m (value_of raw).documents) (links_differ traces m (value_of raw).customs) none.1 in
+      let agree = nil_parts (documents_differ traces m (value_of raw).documents) (links_differ traces m (value_of raw).customs) none.1 in
       record {
         few = let more = length_next traces t in omega (arith, few, more);
         each = Each-append SoundTrace traces (t ∷ []) all.each (trace_sound (is_first traces) fits, tt);

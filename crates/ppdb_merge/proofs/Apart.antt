@@ -13,8 +13,10 @@ use Rattle.ppdb_merge_items.specs.Sorted.{in_order}
 use Rattle.ppdb_merge_items.proofs.Lists.{Each-weaker, Each-unmap, Each-append, Pairs-weaker}
 use Rattle.ppdb_merge_joined.specs.Joined.{firsts}
 use Rattle.ppdb_merge_joined.proofs.Names.{same_bytes, bytes_same}
+use Rattle.ppdb_merge_joined.proofs.Each.{Pairs-append}
 use Rattle.ppdb_merge_moved.specs.Moved.{moved_document}
 use Rattle.ppdb_merge_moved.proofs.Elements.{each_made}
+use Rattle.ppdb_merge_moved.proofs.Lists.{Each-both}
 use Rattle.ppdb_merge_names.specs.declared.imaged.Imaged.{Imaged}
 use Rattle.ppdb_merge.specs.declared.trace.Trace.{Trace}
 use Rattle.ppdb_merge.specs.Refusals.{methods_in, claims, taken, methods_taken, same_contents, conflict, moved_conflict}
@@ -45,17 +47,13 @@ pub Each-unnumbered : {A : Type 0} (P : A → Type 0) (n : ℕ) (xs : List A) �
 Each-unnumbered P n [] each = tt
 Each-unnumbered P n (x ∷ xs) each = (each.0, Each-unnumbered P (n + 1) xs each.1)
 
-Each-with : {A : Type 0} (P Q : A → Type 0) (xs : List A) → Each P xs → Each Q xs → Each (λ x. P x × Q x) xs
-Each-with P Q [] each also = tt
-Each-with P Q (x ∷ xs) each also = ((each.0, also.0), Each-with P Q xs each.1 also.1)
-
 Each-none : {A B : Type 0} (R : A → B → Type 0) (xs : List A) → Each (λ x. Each (R x) []) xs
 Each-none R [] = tt
 Each-none R (x ∷ xs) = (tt, Each-none R xs)
 
 Each-swap : {A B : Type 0} (R : A → B → Type 0) (xs : List A) (ys : List B) → Each (λ y. Each (λ x. R x y) xs) ys → Each (λ x. Each (R x) ys) xs
 Each-swap R xs [] each = Each-none R xs
-Each-swap {A} {B} R xs (y ∷ ys) each = Each-with (λ x. R x y) (λ x. Each (R x) ys) xs each.0 (Each-swap R xs ys each.1)
+Each-swap {A} {B} R xs (y ∷ ys) each = Each-both (λ x. R x y) (λ x. Each (R x) ys) xs each.0 (Each-swap R xs ys each.1)
 
 -- one more after the others
 pub Pairs-push : {A : Type 0} (R : A → A → Type 0) (xs : List A) (y : A) → Pairs R xs → Each (λ x. R x y) xs → Pairs R (xs ++ y ∷ [])
@@ -193,10 +191,6 @@ all_one (d ∷ ds) e pairs first = step (bytes_eq d.name e.name) refl (λ other.
       (λ name. absurd (both_ways (bytes_eq d.name e.name) is (subst (λ n. bytes_eq d.name n ≡ true) name (bytes_same d.name)))),
       rest (λ f found. first f (ap (λ b. cond b (Some d) (find (has_name e.name) ds)) is ∙ found)),
     )
-
-Pairs-append : {A : Type 0} (R : A → A → Type 0) (xs ys : List A) → Pairs R xs → Pairs R ys → Each (λ x. Each (R x) ys) xs → Pairs R (xs ++ ys)
-Pairs-append R [] ys pairs also across = also
-Pairs-append R (x ∷ xs) ys pairs also across = (Each-append (R x) xs ys pairs.0 across.0, Pairs-append R xs ys pairs.1 also across.1)
 
 -- a further input's documents get names that differ, and do not clash
 pub one_by_name : (m : Map) (all documents : List DocumentValue) → Pairs OneByName all

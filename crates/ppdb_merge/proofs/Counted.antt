@@ -30,13 +30,11 @@ use Rattle.ppdb_merge.specs.Refusals.{methods_in}
 use Rattle.ppdb_merge.specs.Sound.{SoundTrace, SoundTraces, IsImageIn, AreMethodsApart}
 use Rattle.ppdb_merge.specs.Together.{count_in, differs, rows_differ, above, images_above, misfit_of}
 use Rattle.ppdb_merge.proofs.Apart.{none_made, Each-unnumbered}
-use Rattle.ppdb_merge.proofs.Told.{empty_of, empty_both}
+use Rattle.ppdb_merge_fits.proofs.First.{nil_parts, no_first}
+use Rattle.ppdb_merge_fits.proofs.Fitting.{flat_none}
+use Rattle.ppdb_merge_meaning_laws.proofs.Inputs.{pairs_given}
 
 -- ---- lists
-
-no_several : {A B : Type 0} (f : A → List B) (xs : List A) → flat_map f xs ≡ [] → Each (λ x. f x ≡ []) xs
-no_several f [] is = tt
-no_several f (x ∷ xs) is = let parts = empty_both (f x) (flat_map f xs) is in (parts.0, no_several f xs parts.1)
 
 range_each : (P : ℕ → Type 0) (from n : ℕ) → Each P (range_with_len from n) → (k : ℕ) → k < n → P (from + k)
 range_each P from zero each k within = absurd (omega (arith, within))
@@ -126,15 +124,6 @@ traces_apart a b sound also apart =
         (each_left (λ (x : Imaged). Each (λ (y : Imaged). x.image ≢ y.image) (methods_in b.rows)) (λ (x : Imaged). nat_eq x.to 0x06) a.rows apart)
         in_a (eq-eqb i.to 0x06 table))) in_b (eq-eqb j.to 0x06 other)
 
-pairs_given : {A : Type 0} (P : A → Type 0) (R S : A → A → Type 0) → ((x y : A) → P x → P y → R x y → S x y) → (xs : List A) → Each P xs → Pairs R xs
-    → Pairs S xs
-pairs_given P R S holds [] each pairs = tt
-pairs_given P R S holds (x ∷ xs) each pairs = (heads xs each.1 pairs.0, pairs_given P R S holds xs each.1 pairs.1)
-  where
-    heads : (ys : List _) → Each P ys → Each (R x) ys → Each (S x) ys
-    heads [] also related = tt
-    heads (y ∷ ys) also related = (holds x y each.0 also.0 related.0, heads ys also.1 related.1)
-
 abbrev OneByName : DocumentValue → DocumentValue → Type 0
 OneByName d e = d.name ≡ e.name → d ≡ e
 
@@ -192,7 +181,7 @@ same_count first others sound also none =
         (none_made (differs first table) (enumerate_from 2 others)
         (subst (λ t. filter_map (differs first t) (enumerate_from 2 others) ≡ []) from_zero
         (range_each (λ t. filter_map (differs first t) (enumerate_from 2 others) ≡ []) 0 0x2d
-        (no_several (λ t. filter_map (differs first t) (enumerate_from 2 others)) (range_with_len 0 0x2d) none) table low))))
+        (flat_none (λ t. filter_map (differs first t) (enumerate_from 2 others)) (range_with_len 0 0x2d) none) table low))))
       where
         from_zero : 0 + table ≡ table
         from_zero = omega arith
@@ -229,7 +218,7 @@ images_there traces none =
     (Each-weaker (λ (x : ℕ × Trace). filter_map (above x) x.1.rows ≡ []) (λ (x : ℕ × Trace). Each (λ (i : Imaged). i.image ≤ count_in x.1 i.to) x.1.rows)
     (λ x is. Each-weaker (λ i. above x i ≡ None) (λ (i : Imaged). i.image ≤ count_in x.1 i.to) (λ i no_more. image_there x.1 i x.0 no_more) x.1.rows
     (none_made (above x) x.1.rows is)) (numbered traces)
-    (no_several (λ (x : ℕ × Trace). filter_map (above x) x.1.rows) (numbered traces) none))
+    (flat_none (λ (x : ℕ × Trace). filter_map (above x) x.1.rows) (numbered traces) none))
 
 named_there : (t : Trace) (n : Named) → Each (λ (i : Imaged). i.image ≤ count_in t i.to) t.rows → IsImageIn t.rows n → n.row ≤ count_in t n.table
 named_there t n each is =
@@ -247,7 +236,7 @@ entry_there t each is = by (nat_eq t.moved.entry 0) refl is
 pub counts_rows : (first : Trace) (others : List Trace) → SoundTraces (first ∷ others) → misfit_of (first ∷ others) ≡ None
     → CountsRows first.moved (moved_files (first ∷ others))
 counts_rows first others sound none =
-    let parts = empty_both (rows_differ (first ∷ others)) (images_above (first ∷ others)) (empty_of _ none) in
+    let parts = nil_parts (rows_differ (first ∷ others)) (images_above (first ∷ others)) (no_first _ none) in
     let images = images_there (first ∷ others) parts.1 in
     let counts = same_count first others sound.each.0 sound.each.1 parts.0 in
     record {

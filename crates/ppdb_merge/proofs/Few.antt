@@ -25,6 +25,7 @@ use Rattle.ppdb_merge_items.specs.NamedRows.{live_constants, with_live_body}
 use Rattle.ppdb_merge_moved.specs.Moved.{moved_document, moved_variable, moved_constant, moved_scope, moved_import_scope, moved_file, scope_image, is_empty}
 use Rattle.ppdb_merge_joined.specs.Small.{HasFewRows}
 use Rattle.ppdb_merge_items.proofs.Parts.{live_constant}
+use Rattle.ppdb_values_reading.proofs.Rows.{length-numbered}
 
 -- ---- sums
 
@@ -117,10 +118,6 @@ length_map : {A B : Type 0} (f : A → B) (xs : List A) → length (map f xs) �
 length_map f [] = refl
 length_map f (x ∷ xs) = ap suc (length_map f xs)
 
-length_numbered : {A : Type 0} (from : ℕ) (xs : List A) → length (enumerate_from from xs) ≡ length xs
-length_numbered from [] = refl
-length_numbered from (x ∷ xs) = ap suc (length_numbered (from + 1) xs)
-
 fewer : {A B : Type 0} (f : A → Option B) (xs : List A) → length (filter_map f xs) ≤ length xs
 fewer f [] = omega arith
 fewer {A} {B} f (x ∷ xs) = step (f x) (fewer f xs)
@@ -156,7 +153,7 @@ scope_is m s t eq = by (is_empty (scope_image m s).range) eq
     by false e = cc
 
 length_annotated : {X : Type 0} (value : FileValue) (table first : ℕ) (items : List X) → length (annotated_from value table first items) ≡ length items
-length_annotated value table first items = length_map _ (enumerate_from first items) ∙ length_numbered first items
+length_annotated value table first items = length_map _ (enumerate_from first items) ∙ length-numbered first items
 
 unnumbered : {A : Type 0} (f : A → ℕ) (from : ℕ) (xs : List A) → total (λ (x : ℕ × A). f x.1) (enumerate_from from xs) ≡ total f xs
 unfolding total
@@ -180,7 +177,7 @@ owned_moved m raw of_annotated of_value owner items kept annotated owned =
     let of_owned = total_same (λ x. of_value (scope_of raw.tables x)) (λ x. length (filter (λ item. option_map_or (nat_eq x.0) (owner item) false) (numbered items))) owned
     (numbered raw.tables.scopes) in
     let few = owned_few owner 1 raw.tables.scopes (numbered items) in
-    let many = length_numbered 1 items in
+    let many = length-numbered 1 items in
     omega (arith, is, moved, of_file, of_values, plain, of_rows, of_owned, few, many)
 
 pub few_rows : (m : Map) (raw : RawFile) → HasShape raw.tables → HasFewRows (moved_file m (annotated_file (value_of raw)))
@@ -193,9 +190,9 @@ few_rows m raw shape = record {
   scopes =
       let moved = fewer (moved_scope m) (annotated_file (value_of raw)).scopes in
       let annotated = length_map (annotated_scope (value_of raw)) (numbered (value_of raw).scopes) in
-      let numbers = length_numbered 1 (value_of raw).scopes in
+      let numbers = length-numbered 1 (value_of raw).scopes in
       let made = length_map (scope_of raw.tables) (numbered raw.tables.scopes) in
-      let rows = length_numbered 1 raw.tables.scopes in
+      let rows = length-numbered 1 raw.tables.scopes in
       let counted = shape.scopes in let small = shape.small 0x32 in omega (arith, moved, annotated, numbers, made, rows, counted, small);
   variables =
       let owned = owned_moved m raw (λ s. length s.variables) (λ s. length s.variables)

@@ -20,8 +20,8 @@ use Rattle.ppdb_merge.specs.declared.documents.Documents.{Documents}
 use Rattle.ppdb_merge.specs.declared.documents.Standing.{Standing}
 use Rattle.ppdb_merge.specs.Indexes.{HoldsDocuments, standing}
 use Rattle.ppdb_merge.specs.Refusals.{conflict, same_contents}
-use Rattle.ppdb_merge_fits.proofs.ByName.{Name, names, found_after}
 use Rattle.ppdb_merge_fits.proofs.Looking.{absent, some_mapped}
+use Rattle.ppdb_maps.proofs.Named.{Name, names, found_after}
 
 -- ---- the first document of each name
 

@@ -60,9 +60,6 @@ pub more_traces : (inputs new : List RowInput) (i : RowInput) → new ≡ inputs
     → traces_in new ≡ traces_in inputs ++ trace_of (is_first (traces_in inputs)) i.map (raw_file i.file) ∷ []
 more_traces inputs new i is = ap traces_in is ∙ ap traces_of (map_push read_input inputs i) ∙ traces_more (read_inputs inputs) (read_input i)
 
-pub more_inputs : (inputs new : List RowInput) (i : RowInput) → new ≡ inputs ++ i ∷ [] → moved_inputs new ≡ moved_inputs inputs ++ moved_by i ∷ []
-more_inputs inputs new i is = ap moved_inputs is ∙ map_push moved_by inputs i
-
 pub added_rows : (marks : List (List ℕ)) (inputs new : List RowInput) (i : RowInput) → new ≡ inputs ++ i ∷ []
     → refusal_of marks (traces_in inputs) i.map (raw_file i.file) ≡ None → added marks (traces_in inputs) i.map (raw_file i.file) ≡ Ok (traces_in new)
 added_rows marks inputs new i is none =
@@ -116,16 +113,6 @@ pub read_trace : (inputs : List RowInput) (m : Map) (raw : RawFile) (counts : Li
 read_trace inputs m raw counts rows counted same =
     ap (λ (l : List ℕ). record { counts = l; rows = rows }) counted
     ∙ ap (λ (l : List Imaged). record { counts = moved_counts m 0 (value_of raw).rows; rows = l }) same
-
--- ---- what is kept, after a refusal and after none
-
-pub kept_rows : (marks : List (List ℕ)) (inputs left : List RowInput) (kept more : List RowTrace) (before index : RowIndex) → left ≡ inputs → more ≡ kept
-    → AreKept marks inputs kept before → IsIndexOf (traces_in inputs) index → AreKept marks left more index
-kept_rows marks inputs left kept more before index is also kept_before holds = record {
-  fitting = subst (λ l. AreFitting marks (read_inputs l)) (sym is) kept_before.fitting;
-  traces = also ∙ kept_before.traces ∙ ap row_traces (sym is);
-  index = subst (λ l. IsIndexOf (traces_in l) index) (sym is) holds;
-}
 
 -- ---- all inputs together
 

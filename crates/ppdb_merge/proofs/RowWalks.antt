@@ -1,24 +1,17 @@
 -- Rows of a file that are read one after the other, and which is reported first.
-use Rattle.std.proofs.Common.{◌≡◌, ℕ, zero, suc, ◌+◌, ◌-◌, ◌<◌, ◌≤◌, true, false, List, [], ◌∷◌, ◌++◌, Option, Some, None, length, map, take, refl}
+use Rattle.std.proofs.Common.{◌≡◌, ℕ, zero, suc, ◌+◌, ◌-◌, ◌<◌, true, false, List, [], ◌∷◌, ◌++◌, Option, Some, None, length, map, take, refl}
 use Rattle.std.proofs.Common.{sym, ap, ◌∙◌, subst, arith, append_assoc, append-nil}
 use Rattle.std.specs.Prelude.{IfSome, is_some, slice_get}
 use Rattle.std.specs.List.{filter_map, cons_option}
 use Rattle.std.specs.Option.{option_to_list}
 use Rattle.std.proofs.lemmas.List.Elements.{filter_map-append}
+use Rattle.std.proofs.lemmas.List.{map-append}
 use Rattle.ppdb_tables.specs.RawTables.{numbered, row_at}
 use Rattle.ppdb_values_reading.proofs.Rows.{given_all, given_more, numbered_row, take_row}
-use Rattle.ppdb_merge.proofs.Told.{none_left, none_of, some_of}
+use Rattle.ppdb_merge.proofs.Told.{none_left, some_of}
+use Rattle.ppdb_maps.proofs.Refusing.{none_of}
 
 -- ---- what is said of a row that is there
-
-pub there : {X : Type 0} (xs : List X) (row : ℕ) → 1 ≤ row → row ≤ length xs → (x : X) × (row_at xs row ≡ Some x)
-there xs zero low high = absurd (omega (arith, low))
-there xs (suc i) low high = walk xs i (omega (arith, high))
-  where
-    walk : {X : Type 0} (ys : List X) (k : ℕ) → k < length ys → (x : X) × (slice_get ys k ≡ Some x)
-    walk [] k within = absurd (omega (arith, within))
-    walk (y ∷ ys) zero within = (y, refl)
-    walk (y ∷ ys) (suc k) within = walk ys k (omega (arith, within))
 
 pub said : {X : Type 0} (P : X → Type 0) (xs : List X) (row : ℕ) (x : X) → IfSome (row_at xs row) P → row_at xs row ≡ Some x → P x
 said P xs row x holds is = subst (λ o. IfSome o P) is holds
@@ -54,16 +47,12 @@ all_silent f xs row past before = ap (λ l. slice_get l 0) (given_all f xs [] ro
 
 -- ---- what rows become
 
-map_append : {X Y : Type 0} (f : X → Y) (xs ys : List X) → map f (xs ++ ys) ≡ map f xs ++ map f ys
-map_append f [] ys = refl
-map_append f (x ∷ xs) ys = ap (λ l. f x ∷ l) (map_append f xs ys)
-
 pub mapped_row : {X Y : Type 0} (f : X → Y) (all : List Y) (xs : List X) (row : ℕ) (x : X) → row_at xs row ≡ Some x
     → (all ++ map f (take (row - 1) xs)) ++ f x ∷ [] ≡ all ++ map f (take row xs)
 mapped_row f all xs row x at =
     let up : row + 1 - 1 ≡ row = omega arith in
     append_assoc all (map f (take (row - 1) xs)) (f x ∷ [])
-    ∙ ap (λ l. all ++ l) (sym (map_append f (take (row - 1) xs) (x ∷ [])) ∙ ap (map f) (sym (take_row xs row x at) ∙ ap (λ n. take n xs) up))
+    ∙ ap (λ l. all ++ l) (sym (map-append f (take (row - 1) xs) (x ∷ [])) ∙ ap (map f) (sym (take_row xs row x at) ∙ ap (λ n. take n xs) up))
 
 one_given : {X Y : Type 0} (f : X → Option Y) (x : X) → filter_map f (x ∷ []) ≡ option_to_list (f x)
 one_given {X} {Y} f x = by (f x)

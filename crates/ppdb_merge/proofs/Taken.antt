@@ -7,7 +7,7 @@ use Rattle.std.specs.Option.{option_and_then}
 use Rattle.std.specs.Ordering.{nat_cmp}
 use Rattle.std.specs.BTreeMap as tree
 use Rattle.std.proofs.lemmas.Bool.{eqb-true, cases_lt, lt-ltb, le-ltb, le-leb, lt-leb}
-use Rattle.std.proofs.lemmas.List.{append-nil, append_assoc, take_more}
+use Rattle.std.proofs.lemmas.List.{append_assoc, take_more}
 use Rattle.ppdb_maps.proofs.Refusing.{at_number}
 use Rattle.ppdb_merge_items.specs.Sorted.{put, in_order}
 use Rattle.ppdb_merge_items.proofs.Orders.{in_order_filter}
@@ -22,11 +22,6 @@ use Rattle.ppdb_merge.specs.Refusals.{methods_in, taken}
 row_claims : (input : ℕ) (i : Imaged) (b : Bool) → nat_eq i.to 0x06 ≡ b → claims_of input (i ∷ []) ≡ cond b ((input, i) ∷ []) []
 row_claims input i true is = ap (λ b. map (λ (j : Imaged). (input, j)) (cond b (i ∷ []) [])) is
 row_claims input i false is = ap (λ b. map (λ (j : Imaged). (input, j)) (cond b (i ∷ []) [])) is
-
-pub other_row : (claimed : List (ℕ × Imaged)) (methods : Methods) (input : ℕ) (i : Imaged) → nat_eq i.to 0x06 ≡ false → HoldsMethods claimed methods
-    → HoldsMethods (claimed ++ claims_of input (i ∷ [])) methods
-other_row claimed methods input i not_one holds =
-    subst (λ l. HoldsMethods l methods) (sym (ap (λ l. claimed ++ l) (row_claims input i false not_one) ∙ append-nil claimed)) holds
 
 pub kept_method : (claimed : List (ℕ × Imaged)) (methods : Methods) (input : ℕ) (i : Imaged) → nat_eq i.to 0x06 ≡ true
     → is_some (tree.get nat_cmp methods.by_image i.image) ≡ true → HoldsMethods claimed methods → HoldsMethods (claimed ++ claims_of input (i ∷ [])) methods
@@ -51,9 +46,6 @@ claims_append : (input : ℕ) (xs ys : List Imaged) → claims_of input (xs ++ y
 claims_append input [] ys = refl
 claims_append input (x ∷ xs) ys = step (nat_eq x.to 0x06) (claims_append input xs ys)
   where
-    pairs : List Imaged → List (ℕ × Imaged)
-    pairs = map (λ (j : Imaged). (input, j))
-
     step : (b : Bool) → claims_of input (xs ++ ys) ≡ claims_of input xs ++ claims_of input ys
         → map (λ (j : Imaged). (input, j)) (cond b (x ∷ methods_in (xs ++ ys)) (methods_in (xs ++ ys)))
         ≡ map (λ (j : Imaged). (input, j)) (cond b (x ∷ methods_in xs) (methods_in xs)) ++ claims_of input ys

@@ -3,26 +3,16 @@ use Rattle.std.proofs.Common.{◌≡◌, ℕ, zero, suc, ◌+◌, ◌<◌, ◌�
 use Rattle.std.proofs.Common.{sym, ap, ◌∙◌, subst, arith}
 use Rattle.std.specs.Prelude.{is_some, slice_get, get_or, flat_map}
 use Rattle.std.specs.List.{filter_map, cons_option, enumerate_from, range_with_len}
+use Rattle.ppdb_merge_fits.proofs.First.{there, nil_parts, no_first, first_back}
+use Rattle.ppdb_maps.proofs.Refusing.{none_of}
 
 pub none_left : {A : Type 0} (o : Option A) (xs : List A) → cons_option o xs ≡ [] → (o ≡ None) × (xs ≡ [])
 none_left None xs is = (refl, is)
 none_left (Some x) xs is = absurd cc
 
-pub empty_both : {A : Type 0} (xs ys : List A) → xs ++ ys ≡ [] → (xs ≡ []) × (ys ≡ [])
-empty_both [] ys is = (refl, is)
-empty_both (x ∷ xs) ys is = absurd cc
-
-pub empty_of : {A : Type 0} (xs : List A) → slice_get xs 0 ≡ None → xs ≡ []
-empty_of [] is = refl
-empty_of (x ∷ xs) is = absurd cc
-
 pub get_first : {A : Type 0} (x : A) (xs ys : List A) → slice_get xs 0 ≡ Some x → slice_get (xs ++ ys) 0 ≡ Some x
 get_first x [] ys is = absurd cc
 get_first x (y ∷ xs) ys is = is
-
-pub get_second : {A : Type 0} (xs ys : List A) → slice_get xs 0 ≡ None → slice_get (xs ++ ys) 0 ≡ slice_get ys 0
-get_second [] ys is = refl
-get_second (x ∷ xs) ys is = absurd cc
 
 -- ---- of single items
 
@@ -94,7 +84,7 @@ several_at f n (y ∷ ys) zero x e within here before is =
     get_first e (f (n, y)) (flat_map f (enumerate_from (n + 1) ys))
     (ap (λ m. slice_get (f (m, y)) 0) same ∙ ap (λ z. slice_get (f (n + 0, z)) 0) (sym here) ∙ is)
 several_at f n (y ∷ ys) (suc k) x e within here before is =
-    let parts = empty_both (f (n, y)) (flat_map f (enumerate_from (n + 1) (take k ys))) before in
+    let parts = nil_parts (f (n, y)) (flat_map f (enumerate_from (n + 1) (take k ys))) before in
     let same : n + 1 + k ≡ n + suc k = omega arith in
     ap (λ l. slice_get (l ++ flat_map f (enumerate_from (n + 1) ys)) 0) parts.0
     ∙ several_at f (n + 1) ys k x e (omega (arith, within)) here parts.1 (ap (λ m. slice_get (f (m, x)) 0) same ∙ is)
@@ -113,9 +103,9 @@ none_several f n xs k x within here before is =
     walk f n (y ∷ ys) zero x within here before is =
         let same : n ≡ n + 0 = omega arith in
         ap (λ l. l ++ [])
-        (empty_of (f (n, y)) (ap (λ m. slice_get (f (m, y)) 0) same ∙ ap (λ z. slice_get (f (n + 0, z)) 0) (sym here) ∙ is))
+        (no_first (f (n, y)) (ap (λ m. slice_get (f (m, y)) 0) same ∙ ap (λ z. slice_get (f (n + 0, z)) 0) (sym here) ∙ is))
     walk f n (y ∷ ys) (suc k) x within here before is =
-        let parts = empty_both (f (n, y)) (flat_map f (enumerate_from (n + 1) (take k ys))) before in
+        let parts = nil_parts (f (n, y)) (flat_map f (enumerate_from (n + 1) (take k ys))) before in
         let same : n + 1 + k ≡ n + suc k = omega arith in
         ap (λ l. l ++ flat_map f (enumerate_from (n + 1) (take (suc k) ys))) parts.0
         ∙ walk f (n + 1) ys k x (omega (arith, within)) here parts.1 (ap (λ m. slice_get (f (m, x)) 0) same ∙ is)
@@ -129,7 +119,7 @@ range_at f start (suc n) zero e within before is =
     let same : start ≡ start + 0 = omega arith in
     get_first e (f start) (flat_map f (range_with_len (start + 1) n)) (ap (λ m. slice_get (f m) 0) same ∙ is)
 range_at f start (suc n) (suc k) e within before is =
-    let parts = empty_both (f start) (flat_map f (range_with_len (start + 1) k)) before in
+    let parts = nil_parts (f start) (flat_map f (range_with_len (start + 1) k)) before in
     let same : start + 1 + k ≡ start + suc k = omega arith in
     ap (λ l. slice_get (l ++ flat_map f (range_with_len (start + 1) n)) 0) parts.0
     ∙ range_at f (start + 1) n k e (omega (arith, within)) parts.1 (ap (λ m. slice_get (f m) 0) same ∙ is)
@@ -144,9 +134,9 @@ none_range f start k before is = subst (λ m. flat_map f (range_with_len start m
     walk : (start k : ℕ) → flat_map f (range_with_len start k) ≡ [] → slice_get (f (start + k)) 0 ≡ None → flat_map f (range_with_len start (suc k)) ≡ []
     walk start zero before is =
         let same : start ≡ start + 0 = omega arith in
-        ap (λ l. l ++ []) (empty_of (f start) (ap (λ m. slice_get (f m) 0) same ∙ is))
+        ap (λ l. l ++ []) (no_first (f start) (ap (λ m. slice_get (f m) 0) same ∙ is))
     walk start (suc k) before is =
-        let parts = empty_both (f start) (flat_map f (range_with_len (start + 1) k)) before in
+        let parts = nil_parts (f start) (flat_map f (range_with_len (start + 1) k)) before in
         let same : start + 1 + k ≡ start + suc k = omega arith in
         ap (λ l. l ++ flat_map f (range_with_len (start + 1) (suc k))) parts.0
         ∙ walk (start + 1) k parts.1 (ap (λ m. slice_get (f m) 0) same ∙ is)
@@ -156,10 +146,6 @@ none_range f start k before is = subst (λ m. flat_map f (range_with_len start m
 pub some_of : {A : Type 0} (o : Option A) → is_some o ≡ true → (x : A) × (o ≡ Some x)
 some_of None is = absurd cc
 some_of (Some x) is = (x, refl)
-
-pub none_of : {A : Type 0} (o : Option A) → is_some o ≡ false → o ≡ None
-none_of None is = refl
-none_of (Some x) is = absurd cc
 
 pub numbered_told : {A B : Type 0} (f : ℕ × A → Option B) (n : ℕ) (xs : List A) (k : ℕ) (x : A) (o : Option B) → k < length xs → x ≡ get_or xs k x
     → filter_map f (enumerate_from n (take k xs)) ≡ [] → f (n + k, x) ≡ o → is_some o ≡ true → o ≡ slice_get (filter_map f (enumerate_from n xs)) 0
@@ -194,23 +180,18 @@ pub first_told : {A : Type 0} (o : Option A) (xs ys : List A) → o ≡ slice_ge
 first_told o xs ys is some = let e = some_of o some in e.1 ∙ sym (get_first e.0 xs ys (sym is ∙ e.1))
 
 pub second_told : {A : Type 0} (o : Option A) (xs ys : List A) → o ≡ slice_get xs 0 → is_some o ≡ false → slice_get (xs ++ ys) 0 ≡ slice_get ys 0
-second_told o xs ys is none = get_second xs ys (sym is ∙ none_of o none)
-
-any_default : {A : Type 0} (xs : List A) (k : ℕ) (d e : A) → k < length xs → get_or xs k d ≡ get_or xs k e
-any_default [] k d e within = absurd (omega (arith, within))
-any_default (x ∷ xs) zero d e within = refl
-any_default (x ∷ xs) (suc k) d e within = any_default xs k d e (omega (arith, within))
+second_told o xs ys is none = first_back xs ys (sym is ∙ none_of o none)
 
 pub plain_told : {A B : Type 0} (f : A → Option B) (xs : List A) (k : ℕ) (d : A) (o : Option B) → k < length xs → filter_map f (take k xs) ≡ []
     → f (get_or xs k d) ≡ o → is_some o ≡ true → o ≡ slice_get (filter_map f xs) 0
 plain_told f xs k d o within before is some =
     let e = some_of o some in
-    e.1 ∙ sym (told_at f xs k (get_or xs k d) e.0 within (any_default xs k d (get_or xs k d) within) before (is ∙ e.1))
+    e.1 ∙ sym (told_at f xs k (get_or xs k d) e.0 within (there xs k d (get_or xs k d) within) before (is ∙ e.1))
 
 pub plain_past : {A B : Type 0} (f : A → Option B) (xs : List A) (k : ℕ) (d : A) (o : Option B) → k < length xs → filter_map f (take k xs) ≡ []
     → f (get_or xs k d) ≡ o → is_some o ≡ false → filter_map f (take (k + 1) xs) ≡ []
 plain_past f xs k d o within before is none =
-    none_told f xs k (get_or xs k d) within (any_default xs k d (get_or xs k d) within) before (is ∙ none_of o none)
+    none_told f xs k (get_or xs k d) within (there xs k d (get_or xs k d) within) before (is ∙ none_of o none)
 
 pub nothing_told : {A B : Type 0} (f : A → Option B) (items xs : List A) (k : ℕ) → items ≡ xs → length items ≤ k → filter_map f (take k items) ≡ []
     → ◌≡◌ {A = Option B} None (slice_get (filter_map f xs) 0)

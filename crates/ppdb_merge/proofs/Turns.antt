@@ -1,14 +1,13 @@
 -- Inputs that were added one after the other are inputs that fit.
-use Rattle.std.proofs.Common.{◌≡◌, ◌≢◌, ℕ, suc, ◌+◌, ◌<◌, ◌≤◌, ◌&&◌, Bool, true, false, cond, List, [], ◌∷◌, ◌++◌, Option, Some, None, map, length}
+use Rattle.std.proofs.Common.{◌≡◌, ◌≢◌, ℕ, suc, ◌+◌, ◌<◌, ◌≤◌, Bool, true, false, List, [], ◌∷◌, ◌++◌, Option, Some, None, map, length}
 use Rattle.std.proofs.Common.{refl, sym, ◌∙◌, ap, subst, arith, append_assoc, append-nil}
 use Rattle.std.specs.Prelude.{Ok, Contains, nat_eq, slice_get}
 use Rattle.std.specs.Option.{option_or}
 use Rattle.std.proofs.lemmas.Bool.{ne_eqb}
 use Rattle.std.proofs.lemmas.List.{length-append}
 use Rattle.ppdb_base.specs.declared.merge_error.MergeError.{MergeError}
-use Rattle.ppdb_maps.specs.Map.{Map, count_of, cross_line, has_gone_line, is_dropped, line_image, row_image, row_line, row_within, told_image}
-use Rattle.ppdb_maps.specs.declared.image.RowImage.{RowImage}
-use Rattle.ppdb_maps.specs.declared.image.RowImage.TheVariants.{Row, Missing}
+use Rattle.ppdb_maps.specs.Map.{row_image, row_within}
+use Rattle.ppdb_maps.specs.declared.image.RowImage.TheVariants.{Row}
 use Rattle.ppdb_values.specs.RawFile.{RawFile}
 use Rattle.ppdb_values.specs.Rules.{KeepsRules}
 use Rattle.ppdb_values.specs.Value.{value_of}
@@ -23,6 +22,7 @@ use Rattle.ppdb_merge_names_laws.specs.Laws.{ReferencesAreNamed}
 use Rattle.ppdb_merge_names.specs.declared.imaged.Imaged.{Imaged}
 use Rattle.ppdb_merge_joined.specs.Joinable.{AgreeOnDocuments}
 use Rattle.ppdb_merge_moved.proofs.Elements.{each_left, in_each}
+use Rattle.ppdb_merge_moved.proofs.ImageRows.{within_is}
 use Rattle.ppdb_merge_meaning_laws.specs.Kept.{Input, FitsAlone, MethodsApart, InputsFit, in_turn, moved_input}
 use Rattle.ppdb_merge_fits.specs.Clashes.{first_clash}
 use Rattle.ppdb_merge_fits.specs.Laws.{NothingClashes}
@@ -101,27 +101,6 @@ is_added marks traces input more e = by (refusal_of marks traces input.map input
     by (Some told) some e = absurd cc
 
 -- ---- the row of the same table
-
--- where a row becomes a row of the same table, that is its image
-within_is : (m : Map) (table row image : ℕ) → row_within m table row ≡ Some image → row_image m table row ≡ Row table image
-within_is m table row image is = by_drop (nat_eq table 0x06 && is_dropped m row) is
-  where
-    some_of : (a b : ℕ) → Some a ≡ Some b → a ≡ b
-    some_of a b e = cc
-
-    by_row : (r : Option ℕ) → r ≡ Some image → told_image table r (cross_line m table row) (has_gone_line m table row) ≡ Row table image
-    by_row None e = absurd cc
-    by_row (Some new) e = ap (Row table) (some_of new image e)
-
-    by_count : (c : Option ℕ) → elim c as (λ _. Option ℕ) [ None ↦ Some row | Some count ↦ row_line m table row ] ≡ Some image
-        → elim c as (λ _. RowImage) [ None ↦ Row table row | Some count ↦ line_image m table row ] ≡ Row table image
-    by_count None e = ap (Row table) (some_of row image e)
-    by_count (Some count) e = by_row (row_line m table row) e
-
-    by_drop : (b : Bool) → cond b None (elim (count_of m table) as (λ _. Option ℕ) [ None ↦ Some row | Some count ↦ row_line m table row ]) ≡ Some image
-        → cond b Missing (elim (count_of m table) as (λ _. RowImage) [ None ↦ Row table row | Some count ↦ line_image m table row ]) ≡ Row table image
-    by_drop true e = absurd cc
-    by_drop false e = by_count (count_of m table) e
 
 module _ (sounds : (raw : RawFile) → KeepsRules raw → IsSound (value_of raw)) (annotated : SoundnessIsAnnotated) (named : ReferencesAreNamed)
     (clashes : NothingClashes) (marks : List (List ℕ)) where

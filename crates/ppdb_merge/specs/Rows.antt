@@ -1,8 +1,7 @@
 -- What is kept of inputs whose rows are read again when they are joined.
-use Rattle.ppdb_values.specs.Names.{list_any, source_link}
+use Rattle.ppdb_values.specs.{Names.{list_any, source_link}, declared.custom.CustomValue.{CustomValue}}
 use Rattle.std.specs.Prelude.{◌≡◌, ◌≤◌, ℕ, ◌&&◌, cond, nat_lt, bytes_eq, List, Option, None, length, map, take}
 use Rattle.ppdb_maps.specs.Map.{Map}
-use Rattle.ppdb_values.specs.declared.custom.CustomValue.{CustomValue}
 use Rattle.ppdb_verify.specs.Views.{raw_file}
 use Rattle.ppdb_merge_items.specs.Worked.{empty_annotated}
 use Rattle.ppdb_merge_moved.specs.Moved.{moved_custom}

@@ -1,7 +1,6 @@
 -- What the inputs of a merge come to together, and why they do not (docs/FORMAT.md, "Joining").
-use Rattle.ppdb_values.specs.Names.{enumerate_from, range_with_len, MergeError, RowsDiffer, ImageRange, numbered}
+use Rattle.ppdb_values.specs.{Names.{enumerate_from, range_with_len, MergeError, RowsDiffer, ImageRange, numbered}, declared.file.FileValue.{FileValue}}
 use Rattle.std.specs.Prelude.{ℕ, cond, nat_eq, nat_lt, List, [], ◌∷◌, ◌++◌, Option, Some, None, Result, Ok, slice_get, slice_index, flat_map, filter_map}
-use Rattle.ppdb_values.specs.declared.file.FileValue.{FileValue}
 use Rattle.ppdb_merge_items.specs.Unannotated.{value_of_annotated}
 use Rattle.ppdb_merge_names.specs.declared.imaged.Imaged.{Imaged}
 use Rattle.ppdb_merge_joined.specs.Joined.{joined}

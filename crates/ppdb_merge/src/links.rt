@@ -10,6 +10,7 @@ use custom_info::SOURCE_LINK;
 use ppdb_base::MergeError;
 use ppdb_maps::MapText;
 use ppdb_merge_moved::{is_gone_row, is_link};
+use ppdb_tables::MODULE;
 use ppdb_values::{CustomBody, CustomValue};
 
 /// Whether a value that is not read has other bytes.
@@ -26,7 +27,7 @@ fn says_other(body: &CustomBody, value: &[u8]) -> bool
 fn is_other_link(custom: &CustomValue, row: u32, value: &[u8]) -> bool
     ensures { result ≡ is_other_link row value.now custom.now }
 {
-    custom.parent.table == 0x00
+    custom.parent.table == MODULE
         && custom.parent.row == row
         && custom.kind == SOURCE_LINK
         && says_other(&custom.value, value)
@@ -60,7 +61,7 @@ fn has_other_link(traces: &[Trace], row: u32, value: &[u8]) -> bool
 fn says_other_before(traces: &[Trace], map: &MapText, value: &[u8]) -> bool
     ensures { result ≡ says_other_before traces.now map.now value.now }
 {
-    !is_gone_row(map, 0x00, 1) && has_other_link(traces, map.moved_row(0x00, 1), value)
+    !is_gone_row(map, MODULE, 1) && has_other_link(traces, map.moved_row(MODULE, 1), value)
 }
 
 /// The row of a record, if it is a Source Link record on row 1 of Module.

@@ -18,7 +18,7 @@ use ppdb_base::{List, Memory, MergeError, Steps};
 use ppdb_maps::MapText;
 use ppdb_merge_moved::{Stays, is_gone_row, is_link};
 use ppdb_merge_rows::RowInput;
-use ppdb_tables::CUSTOM;
+use ppdb_tables::{CUSTOM, MODULE, TYPE_TABLES};
 use ppdb_values::{CustomBody, CustomValue};
 use ppdb_values_reading::{Scratch, custom_value, read_custom};
 use ppdb_verify::Verified;
@@ -52,7 +52,7 @@ fn moved_link<L: Ledger>(
     ensures { IfOk result (λ link. IfSome (row_at (value_of (raw_file input.now.file)).customs row) (λ custom. link ≡ link_after input.now.map custom)) }
 {
     let lent = read_custom(alloc, &input.file, row, steps);
-    if lent.parent.table >= 0x2d || lent.kind != SOURCE_LINK {
+    if lent.parent.table >= TYPE_TABLES || lent.kind != SOURCE_LINK {
         return Ok(None);
     }
     let custom = custom_value(alloc, &input.file, row, scratch, steps)?;
@@ -104,7 +104,7 @@ fn is_link_in<L: Ledger>(alloc: Global, file: &Verified<'_>, row: u32, steps: &m
     ensures { IfSome (row_at (value_of (raw_file file.now)).customs row) (λ custom. result ≡ is_link custom) }
 {
     let lent = read_custom(alloc, file, row, steps);
-    lent.parent.table == 0x00 && lent.parent.row == 1 && lent.kind == SOURCE_LINK
+    lent.parent.table == MODULE && lent.parent.row == 1 && lent.kind == SOURCE_LINK
 }
 
 /// The row of the first Source Link record on row 1 of Module.
@@ -127,7 +127,7 @@ fn first_link_in<L: Ledger>(alloc: Global, file: &Verified<'_>, steps: &mut Step
 fn says_other_among(links: &[CustomValue], map: &MapText, value: &[u8]) -> bool
     ensures { result ≡ (not (is_gone_row map.now 0x00 1) && list_any (is_other_link (moved_row map.now 0x00 1) value.now) links.now) }
 {
-    !is_gone_row(map, 0x00, 1) && input_has_other(links, map.moved_row(0x00, 1), value)
+    !is_gone_row(map, MODULE, 1) && input_has_other(links, map.moved_row(MODULE, 1), value)
 }
 
 /// What is reported first of the records of a further input, where those of the inputs before it are these.

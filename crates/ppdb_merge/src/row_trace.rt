@@ -1,15 +1,15 @@
 // What is kept of an input beside its file and its map.
 ghost use Rattle.std.specs.Prelude.{◌≡◌};
 ghost use Rattle.ppdb_merge_moved.specs.Moved.{moved_counts};
-ghost use Rattle.ppdb_values.specs.Value.{type_system_rows, value_of};
+ghost use Rattle.ppdb_values.specs.Value.{value_of};
 ghost use Rattle.ppdb_verify.specs.Views.{raw_file};
 
 use crate::together::Counted;
 use ppdb_base::List;
 use ppdb_maps::MapText;
 use ppdb_merge_names::Imaged;
+use ppdb_values_reading::type_rows;
 use ppdb_verify::Verified;
-use ppdb_verify_rows::count;
 
 /// What is kept of an input whose file and map are kept too.
 #[derive(Drop)]
@@ -33,18 +33,6 @@ impl Counted for RowTrace {
     fn images(&self) -> &[Imaged] {
         self.rows.as_slice()
     }
-}
-
-/// The rows of each table of the type system in the file.
-fn type_rows(file: &Verified<'_>) -> [u32; 64]
-    ensures { result ≡ type_system_rows (raw_file file.now).tables.counts }
-{
-    file.keeps();
-    let mut rows = [0; 64];
-    'tables: for table in 0..0x2d {
-        rows[table as usize] = count(file, table);
-    }
-    rows
 }
 
 /// The rows of each table of the type system in the output.

@@ -6,6 +6,7 @@ ghost use Rattle.ppdb_merge.specs.Together.{above, count_in, differs, images_abo
 use crate::trace::Trace;
 use ppdb_base::MergeError;
 use ppdb_merge_names::Imaged;
+use ppdb_tables::TYPE_TABLES;
 
 /// What counts the output's rows and names images, as an input does.
 pub(crate) trait Counted {
@@ -83,7 +84,7 @@ fn rows_differ<T: Counted>(first: &T, others: &[T]) -> Option<MergeError>
     requires { length others.now < 2 ^ 32 - 2 }
     ensures { result ≡ slice_get (rows_differ (T.trace first.now ∷ map T.trace others.now)) 0 }
 {
-    for table in 0..0x2d {
+    for table in 0..TYPE_TABLES {
         let told = first_differing(first, others, table);
         if told.is_some() {
             return told;

@@ -1,7 +1,6 @@
 -- What is reported of items that stand side by side.
-use Rattle.std.proofs.Common.{◌≡◌, ℕ, zero, suc, ◌+◌, ◌-◌, ◌<◌, ◌≤◌, ◌++◌, List, [], ◌∷◌, Some, length, drop, slice_get, get_or, refl, sym, ◌∙◌, ap, arith}
+use Rattle.std.proofs.Common.{◌≡◌, ℕ, zero, suc, ◌+◌, ◌-◌, ◌<◌, ◌≤◌, ◌++◌, List, [], ◌∷◌, length, drop, slice_get, get_or, refl, sym, ◌∙◌, ap, arith}
 use Rattle.ppdb_merge_fits.specs.Twice.{beside, beside_from}
-use Rattle.ppdb_merge_fits.proofs.First.{first_prefix}
 
 module _ {A B : Type 0} (told : A → A → List B) where
   -- two neighbours, and what is after the first
@@ -36,9 +35,3 @@ module _ {A B : Type 0} (told : A → A → List B) where
   no_more xs at x y above less before is none =
       let e : at ≡ at + 1 - 1 = omega arith in
       ap (λ l. slice_get l 0) (two xs at x y above less before is ∙ ap (λ l. l ++ beside told (drop at xs)) none ∙ ap (λ n. beside told (drop n xs)) e)
-
-  -- the next two have something to report
-  pub first_two : (xs : List A) (at : ℕ) (x y : A) (e : B) → 1 ≤ at → at < length xs → x ≡ get_or xs (at - 1) x → y ≡ get_or xs at y
-      → slice_get (told x y) 0 ≡ Some e → slice_get (beside told (drop (at - 1) xs)) 0 ≡ Some e
-  first_two xs at x y e above less before is tells =
-      ap (λ l. slice_get l 0) (two xs at x y above less before is) ∙ first_prefix (told x y) (beside told (drop at xs)) e tells

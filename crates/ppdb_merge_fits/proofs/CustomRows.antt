@@ -42,6 +42,3 @@ module _ (m : Map) (told : ℕ → CustomBody → List MergeError) (c : CustomVa
   pub record_there : (custom : CustomValue) → c ≡ custom → live_custom m c ≡ true
       → slice_get (told c.parent.row c.value) 0 ≡ slice_get (record_told m told custom) 0
   record_there custom same stays = sym (by_stay true stays) ∙ ap (λ (x : CustomValue). slice_get (record_told m told x) 0) same
-
-pub one_row : {X : Type 0} (rows : List X) (row : ℕ) (x y : X) → row_at rows row ≡ Some x → row_at rows row ≡ Some y → x ≡ y
-one_row rows row x y a b = cc

@@ -1,6 +1,6 @@
 -- The first of what is reported of items, one after the other.
 use Rattle.std.proofs.Common.{◌≡◌, ℕ, zero, suc, ◌+◌, ◌<◌, ◌≤◌, ◌++◌, List, [], ◌∷◌, Option, Some, None, length, take, flat_map, slice_get, get_or, refl, sym}
-use Rattle.std.proofs.Common.{Bool, true, false, ◌||◌, map, append-nil}
+use Rattle.std.proofs.Common.{Bool, true, false, ◌||◌, append-nil}
 use Rattle.std.specs.Option.{option_to_list}
 use Rattle.std.specs.List.{enumerate_from, filter_map, cons_option, list_any}
 use Rattle.std.proofs.lemmas.List.FromFn.{length-enumerate_from}
@@ -100,9 +100,6 @@ module _ {A B : Type 0} (f : A → List B) where
       ap (λ l. slice_get l 0) (flat_append xs (flat_map g cs)) ∙ first_back (flat_map f xs) (flat_map f (flat_map g cs)) none
       ∙ ap (λ l. slice_get l 0) (flat_nested g cs)
 
-  pub first_of_both : (xs ys : List A) (e : B) → slice_get (flat_map f xs) 0 ≡ Some e → slice_get (flat_map f (xs ++ ys)) 0 ≡ Some e
-  first_of_both xs ys e is = ap (λ l. slice_get l 0) (flat_append xs ys) ∙ first_prefix (flat_map f xs) (flat_map f ys) e is
-
 module _ {A B : Type 0} (f : ℕ × A → List B) where
   -- the same of items by their rows from 1
   pub row_is : (xs : List A) (i row : ℕ) (x : A) → row ≡ i → i < length xs → x ≡ get_or xs i x → (row + 1, x) ≡ get_or (enumerate_from 1 xs) i (row + 1, x)
@@ -126,14 +123,6 @@ module _ {A B : Type 0} (f : ℕ × A → List B) where
   none_of_rows xs i none all = none_left f (enumerate_from 1 xs) i none (omega (arith, all, length-enumerate_from 1 xs))
 
 -- ---- other lists that are made item by item
-
-pub map_next : {A B : Type 0} (f : A → B) (xs : List A) (i : ℕ) (x : A) → i < length xs → x ≡ get_or xs i x
-    → map f (take (i + 1) xs) ≡ map f (take i xs) ++ f x ∷ []
-map_next f xs i x less is = ap (map f) (take_next xs i x less is) ∙ split (take i xs)
-  where
-    split : (ys : List _) → map f (ys ++ x ∷ []) ≡ map f ys ++ f x ∷ []
-    split [] = refl
-    split (y ∷ ys) = ap (λ l. f y ∷ l) (split ys)
 
 pub flat_next : {A B : Type 0} (f : A → List B) (xs : List A) (i : ℕ) (x : A) → i < length xs → x ≡ get_or xs i x
     → flat_map f (take (i + 1) xs) ≡ flat_map f (take i xs) ++ f x

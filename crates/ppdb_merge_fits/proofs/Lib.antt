@@ -1,7 +1,5 @@
 pub mod Apart
 pub mod Beside
-pub mod ByName
-pub mod Constants
 pub mod Counted
 pub mod CustomRows
 pub mod Far

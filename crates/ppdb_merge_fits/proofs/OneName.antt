@@ -1,13 +1,14 @@
 -- Documents that get one name, found one after the other.
 use Rattle.std.proofs.Common.{◌≡◌, ◌≢◌, ℕ, zero, suc, ◌+◌, ◌<◌, ◌≤◌, ◌&&◌, Bool, true, false, cond, List, [], ◌∷◌, ◌++◌, Option, Some, None}
 use Rattle.std.proofs.Common.{length, take, flat_map, slice_get, get_or, refl, sym, ◌∙◌, ap, subst, arith}
-use Rattle.std.specs.Prelude.{find, is_some, bytes_eq, nat_eq, nat_lt}
+use Rattle.std.specs.Prelude.{find, is_some, bytes_eq, nat_lt}
 use Rattle.std.specs.List.{enumerate_from}
 use Rattle.std.specs.Option.{option_map}
-use Rattle.std.proofs.lemmas.Bool.{eqb-true, eq-eqb, and_parts, lt-ltb, le-ltb, both_ways}
+use Rattle.std.proofs.lemmas.Bool.{lt-ltb, le-ltb, both_ways}
 use Rattle.ppdb_base.specs.declared.merge_error.MergeError.TheVariants.{DocumentTwice}
 use Rattle.ppdb_maps.specs.Map.{Map, moved_name}
 use Rattle.ppdb_maps.specs.declared.entries.NameLine.{NameLine}
+use Rattle.ppdb_maps.proofs.Named.{same_bytes, bytes_same}
 use Rattle.ppdb_tables.specs.RawTables.{numbered}
 use Rattle.ppdb_values.specs.Ordered.{EachPair}
 use Rattle.ppdb_values.specs.declared.file.DocumentValue.{DocumentValue}
@@ -21,21 +22,6 @@ use Rattle.ppdb_merge_fits.proofs.First.{row_is, inside, take_next}
 use Rattle.ppdb_merge_fits.proofs.Fitting.{flat_none, fails}
 use Rattle.ppdb_merge_fits.proofs.Looking.{absent}
 use Rattle.ppdb_merge_fits.proofs.Parts.{name_twice}
-
-pub same_bytes : (xs ys : List ℕ) → bytes_eq xs ys ≡ true → xs ≡ ys
-same_bytes [] [] is = refl
-same_bytes [] (y ∷ ys) is = cc
-same_bytes (x ∷ xs) [] is = cc
-same_bytes (x ∷ xs) (y ∷ ys) is =
-    let both = and_parts (nat_eq x y) (bytes_eq xs ys) is in
-    ap (λ z. z ∷ xs) (eqb-true x y both.0) ∙ ap (λ l. y ∷ l) (same_bytes xs ys both.1)
-
-bytes_same : (xs : List ℕ) → bytes_eq xs xs ≡ true
-bytes_same [] = refl
-bytes_same (x ∷ xs) = same x (bytes_same xs)
-  where
-    same : (n : ℕ) → bytes_eq xs xs ≡ true → (nat_eq n n && bytes_eq xs xs) ≡ true
-    same n rest = ap (λ b. b && bytes_eq xs xs) (eq-eqb n n refl) ∙ rest
 
 module _ (m : Map) where
   abbrev pub gets : List ℕ → ℕ × DocumentValue → Bool

@@ -25,6 +25,7 @@ use custom_info::Marks;
 use ppdb_base::{List, Memory, MergeError, Steps};
 use ppdb_maps::MapText;
 use ppdb_merge_names::{Imaged, ReferenceError, images};
+use ppdb_tables::{ASSEMBLY_REF, TYPE_DEF, TYPE_REF, TYPE_SPEC};
 use ppdb_verify::Verified;
 use std::alloc::Global;
 use std::sync::ledger::Ledger;
@@ -89,7 +90,7 @@ fn all_stay(rows: &[Imaged]) -> bool
 fn may_share(map: &MapText, table: u8) -> bool
     ensures { result ≡ may_share map.now table }
 {
-    map.shares() && matches!(table, 0x01 | 0x02 | 0x1b | 0x23)
+    map.shares() && matches!(table, TYPE_REF | TYPE_DEF | TYPE_SPEC | ASSEMBLY_REF)
 }
 
 /// Adds a row, unless it may share its image.

@@ -10,7 +10,7 @@ use crate::twice::by_all;
 use ppdb_base::{List, Memory, Steps};
 use ppdb_maps::MapText;
 use ppdb_merge_names::Imaged;
-use ppdb_tables::METHOD_DEBUG;
+use ppdb_tables::{METHOD_DEBUG, STAND_ALONE_SIG};
 use ppdb_values::values_are_rows;
 use ppdb_verify::Verified;
 use ppdb_verify_rows::{count, method_debug, points_of};
@@ -34,9 +34,9 @@ fn given_signature<L: Ledger>(
     let cells = method_debug(file, row, steps);
     let cursor = points_of(file, row, &cells)?;
     Some(Imaged {
-        table: 0x11,
+        table: STAND_ALONE_SIG,
         row: cursor.signature(),
-        to: 0x11,
+        to: STAND_ALONE_SIG,
         image,
     })
 }

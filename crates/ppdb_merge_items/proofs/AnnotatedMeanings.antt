@@ -16,11 +16,12 @@ use Rattle.ppdb_values.specs.Parts.{slots_in, points_of, last_point, scopes_at, 
 use Rattle.ppdb_values.specs.declared.annotation.Annotation.{Annotation}
 use Rattle.ppdb_values.specs.Links.{links}
 use Rattle.ppdb_values.specs.Meaning.{meaning, point_meaning, scope_meaning, slots_at, annotated_on, without_parent}
+use Rattle.ppdb_values.proofs.Mapped.{filter_map_both}
 use Rattle.ppdb_merge_items.specs.declared.file.AnnotatedScope.{AnnotatedScope}
 use Rattle.ppdb_merge_items.specs.Annotated.{annotated_scope, annotated_file}
 use Rattle.ppdb_merge_items.specs.AnnotatedMeaning as annotated
 use Rattle.ppdb_merge_items.specs.AnnotatedMeaning.{annotated_meaning, annotated_links, last_of, imported}
-use Rattle.ppdb_merge_items.proofs.Mapped.{map_map_both, filter_map_both, row_numbered, chain_of_numbered}
+use Rattle.ppdb_merge_items.proofs.Mapped.{map_map_both, row_numbered, chain_of_numbered}
 
 -- ---- the point
 

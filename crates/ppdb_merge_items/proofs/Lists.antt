@@ -50,10 +50,6 @@ pub Pairs-unmap : {A B : Type 0} (f : A → B) (R : B → B → Type 0) (xs : Li
 Pairs-unmap f R [] pairs = tt
 Pairs-unmap f R (x ∷ xs) pairs = (Each-unmap f (R (f x)) xs pairs.0, Pairs-unmap f R xs pairs.1)
 
-pub Pairs-enumerate : {A : Type 0} (R : A → A → Type 0) (n : ℕ) (xs : List A) → Pairs R xs → Pairs (λ (a b : ℕ × A). R a.1 b.1) (enumerate_from n xs)
-Pairs-enumerate R n [] pairs = tt
-Pairs-enumerate R n (x ∷ xs) pairs = (Each-enumerate (R x) (n + 1) xs pairs.0, Pairs-enumerate R (n + 1) xs pairs.1)
-
 pub Pairs-weaker : {A : Type 0} (R S : A → A → Type 0) → ((x y : A) → R x y → S x y) → (xs : List A) → Pairs R xs → Pairs S xs
 Pairs-weaker R S holds [] pairs = tt
 Pairs-weaker R S holds (x ∷ xs) pairs = (Each-weaker (R x) (S x) (holds x) xs pairs.0, Pairs-weaker R S holds xs pairs.1)

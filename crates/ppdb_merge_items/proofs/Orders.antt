@@ -1,11 +1,12 @@
 -- Setting items in order by a key keeps the items of each key as they were.
-use Rattle.std.proofs.Common.{◌≡◌, ℕ, ◌≤◌, ◌<◌, ◌⊎◌, Bool, true, false, cond, List, [], ◌∷◌, refl, sym, ◌∙◌, ap, inl, inr, arith, subst}
+use Rattle.std.proofs.Common.{◌≡◌, ℕ, ◌≤◌, ◌<◌, Bool, true, false, cond, List, [], ◌∷◌, refl, sym, ◌∙◌, ap, inl, inr, arith, subst}
 use Rattle.std.specs.Prelude.{nat_eq, nat_le}
 use Rattle.std.specs.List.{filter}
 use Rattle.std.proofs.lemmas.Bool.{cases_lt, le-leb, lt-leb, eq-eqb, ne_eqb, eqb-true}
 use Rattle.ppdb_merge_items.specs.Each.{Each, Pairs}
 use Rattle.ppdb_merge_items.specs.Sorted.{put, in_order}
 use Rattle.ppdb_merge_items.proofs.Lists.{Each-weaker}
+use Rattle.ppdb_maps.proofs.OneMap.{same_or_apart}
 
 -- items that pass the test have one key
 abbrev pub OneKey : {A : Type 0} → (A → ℕ) → (A → Bool) → Type 0
@@ -68,12 +69,6 @@ skip_key key k x xs apart = rw (ne_eqb (key x) k apart) refl
 tail_of : {A : Type 0} (x y : A) (xs ys : List A) → ◌≡◌ {A = List A} (x ∷ xs) (y ∷ ys) → (x ≡ y) × (xs ≡ ys)
 tail_of x y xs ys e = (cc, cc)
 
-either : (j k : ℕ) → (j ≡ k) ⊎ (j ≡ k → ⊥)
-either j k = elim (cases_lt j k) [
-  | inl less ↦ inr (λ e. omega (arith, e))
-  | inr ge ↦ elim (cases_lt k j) [ inl more ↦ inr (λ e. omega (arith, e)) | inr le ↦ inl (omega arith) ]
-]
-
 -- two lists whose keys rise and that have the same items of each key, in order, are the same
 pub one_order : {A : Type 0} (key : A → ℕ) (from : ℕ) (xs ys : List A) → Rises key from xs → Rises key from ys
     → ((k : ℕ) → of_key key k xs ≡ of_key key k ys) → xs ≡ ys
@@ -97,7 +92,7 @@ one_order key from (x ∷ xs) (y ∷ ys) rise also same = elim (cases_lt (key x)
         let e : ◌≡◌ {A = List _} (x ∷ of_key key (key x) xs) (y ∷ of_key key (key x) ys) =
         sym (cons_key key (key x) x xs refl) ∙ same (key x) ∙ cons_key key (key x) y ys k in
         let parts = tail_of x y (of_key key (key x) xs) (of_key key (key x) ys) e in
-        let rest : (j : ℕ) → of_key key j xs ≡ of_key key j ys = λ j. elim (either j (key x)) [
+        let rest : (j : ℕ) → of_key key j xs ≡ of_key key j ys = λ j. elim (same_or_apart j (key x)) [
           | inl is ↦ subst (λ n. of_key key n xs ≡ of_key key n ys) (sym is) parts.1
           | inr apart ↦ sym (skip_key key j x xs (λ h. apart (sym h))) ∙ same j ∙ skip_key key j y ys (λ h. apart (sym h ∙ k))
         ] in

@@ -6,9 +6,8 @@ use Rattle.std.specs.Option.{option_map}
 use Rattle.std.proofs.lemmas.Bool.{ltb-true, eqb-true, eq-eqb, and_parts}
 use Rattle.row_layout.specs.Columns.{parent_tables}
 use Rattle.ppdb_tables.specs.declared.parent.Parent.{Parent}
-use Rattle.ppdb_tables.specs.Parents.{parent_in, coded_in, CodesAreParents}
+use Rattle.ppdb_tables.specs.Parents.{parent_in, coded_in, CodesAreParents, coded_of}
 use Rattle.ppdb_values.specs.declared.custom.CustomValue.{CustomValue}
-use Rattle.ppdb_values_sound_laws.specs.Customs.{coded_of}
 use Rattle.ppdb_merge_items.specs.Each.{Each}
 use Rattle.ppdb_merge_items.proofs.Orders.{of_key}
 use Rattle.ppdb_merge_items.proofs.Rows.{at}

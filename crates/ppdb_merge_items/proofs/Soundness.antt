@@ -7,7 +7,7 @@ use Rattle.std.proofs.lemmas.List.{length-append, length-map}
 use Rattle.std.proofs.lemmas.List.Sums.{sum_by-cons}
 use Rattle.std.proofs.lemmas.Bool.{cases_lt, eqb-true, and_parts, ltb-true}
 use Rattle.custom_info.specs.Kinds.{kind_of}
-use Rattle.ppdb_tables.specs.Parents.{CodesAreParents, coded_in}
+use Rattle.ppdb_tables.specs.Parents.{CodesAreParents, coded_in, coded_of}
 use Rattle.ppdb_tables.specs.RawTables.{row_at}
 use Rattle.ppdb_values.specs.declared.custom.CustomValue.{CustomValue}
 use Rattle.ppdb_values.specs.declared.file.FileValue.{FileValue}
@@ -21,7 +21,8 @@ use Rattle.ppdb_values.specs.Ordered.{IsSorted}
 use Rattle.ppdb_values.specs.Parts.{first_item}
 use Rattle.ppdb_values.specs.Ranges.{ComesAfter, IsInOrAfter}
 use Rattle.ppdb_values.specs.Rules.{StandsOn}
-use Rattle.ppdb_values_sound_laws.specs.Customs.{SoundCustom, coded_of}
+use Rattle.ppdb_values.proofs.Mapped.{row_map}
+use Rattle.ppdb_values_sound_laws.specs.Customs.{SoundCustom}
 use Rattle.ppdb_values_sound_laws.specs.Imports.{SoundImportScope}
 use Rattle.ppdb_values_sound_laws.specs.Methods.{SoundMethod}
 use Rattle.ppdb_values_sound_laws.specs.Named.{count, HasRowOrNone}
@@ -35,7 +36,6 @@ use Rattle.ppdb_merge_items.specs.SoundParts.{SoundNote, SoundAnnotatedScope, So
 use Rattle.ppdb_merge_items.specs.Unannotated.{value_of_annotated}
 use Rattle.ppdb_merge_items.proofs.Lists.{each_row, row_each, pairs_row, row_pairs, key_pairs, pairs_key, Each-append, Each-filter, Each-weaker, Each-map}
 use Rattle.ppdb_merge_items.proofs.Lists.{Pairs-map, Pairs-unmap, Pairs-weaker}
-use Rattle.ppdb_merge_items.proofs.Mapped.{row_map}
 use Rattle.ppdb_merge_items.proofs.Orders.{in_order_each, in_order_rises, rises_filter, rises_of, pairs_of}
 use Rattle.ppdb_merge_items.proofs.Rows.{at}
 use Rattle.ppdb_merge_items.proofs.Files.{both_lengths, scopes_of, variables_of, constants_of}

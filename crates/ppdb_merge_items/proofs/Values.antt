@@ -6,14 +6,14 @@ use Rattle.std.specs.List.{enumerate_from, flat_map}
 use Rattle.std.proofs.lemmas.Bool.{eqb-true, and_parts, lt-ltb, ltb-true}
 use Rattle.std.proofs.lemmas.List.{length-append}
 use Rattle.std.proofs.lemmas.List.Sums.{sum_by-append, sum_by-cons}
-use Rattle.ppdb_tables.specs.Parents.{CodesAreParents}
+use Rattle.ppdb_tables.specs.Parents.{CodesAreParents, coded_of}
 use Rattle.ppdb_values.specs.declared.custom.CustomValue.{CustomValue}
 use Rattle.ppdb_values.specs.declared.file.FileValue.{FileValue}
 use Rattle.ppdb_values.specs.declared.scope.ScopeValue.{ScopeValue}
 use Rattle.ppdb_values.specs.Meaning.{annotated_on, annotated_from}
 use Rattle.ppdb_values.specs.Parts.{first_item}
 use Rattle.ppdb_values_sound_laws.specs.Named.{HasRow}
-use Rattle.ppdb_values_sound_laws.specs.Customs.{SoundCustom, SoundCustoms, coded_of}
+use Rattle.ppdb_values_sound_laws.specs.Customs.{SoundCustom, SoundCustoms}
 use Rattle.ppdb_merge_items.specs.Each.{Each, Pairs}
 use Rattle.ppdb_merge_items.specs.Annotated.{placed, items_of, customs_of, all_customs, scope_of, annotated_scope, annotated_file}
 use Rattle.ppdb_merge_items.specs.Sorted.{in_order}

@@ -1,16 +1,12 @@
 -- What a file says of an IL offset of a method, and of a method as a whole, where its records stand at their items (Portable PDB v1.0:
 -- sequence points, local scopes, import scopes, hoisted local scopes, custom debug information).
 use Rattle.ppdb_values.specs.Names.{enumerate_from, Point, Range, row_at}
-use Rattle.std.specs.Prelude.{ℕ, ◌&&◌, nat_eq, nat_le, Bool, List, [], ◌∷◌, Option, Some, None, is_none, map, filter, filter_map, flat_map, find, option_map, option_and_then}
+pub use Rattle.ppdb_values.specs.Names.{last_of}
+use Rattle.std.specs.Prelude.{ℕ, ◌&&◌, nat_eq, nat_le, Bool, List, Option, is_none, map, filter, filter_map, flat_map, find, option_map, option_and_then}
 use Rattle.ppdb_values.specs.{declared.file.{DocumentValue.DocumentValue, MethodValue.MethodValue}, declared.import.{ImportValue.ImportValue, ImportScopeValue.ImportScopeValue}}
 use Rattle.ppdb_values.specs.{declared.custom.CustomValue.CustomValue, declared.annotation.Annotation.Annotation, Links.{Links, kickoff_of, move_next_of}}
 use Rattle.ppdb_values.specs.{Meaning.{PointMeaning, ScopeMeaning, SlotMeaning, Meaning, slot_at, without_parent}, Parts.{holds, slots_in}, Chains.chain_of}
 use Rattle.ppdb_merge_items.specs.declared.file.{AnnotatedScope.AnnotatedScope, AnnotatedFile.AnnotatedFile}
-
-abbrev pub last_of : {A : Type 0} → List A → Option A
-last_of [] = None
-last_of (x ∷ []) = Some x
-last_of (x ∷ y ∷ ys) = last_of (y ∷ ys)
 
 -- the last point that is not after the offset
 abbrev pub point_at : ℕ → List Point → Option Point

@@ -2,7 +2,8 @@
 use Rattle.ppdb_values.specs.Names.{repeat, kind_of, NeverEnds, parent_at}
 use Rattle.std.specs.Prelude.{◌≡◌, ◌≢◌, ℕ, ◌<◌, ◌≤◌, [], ◌∷◌}
 use Rattle.ppdb_values.specs.{declared.file.FileValue.FileValue, declared.annotation.Custom.Custom, Ranges.{ComesAfter, IsInOrAfter}, Rules.StandsOn}
-use Rattle.ppdb_values_sound_laws.specs.{Named.HasRowOrNone, Customs.{SoundCustom, IsBodyOfKind, coded_of}, Imports.SoundImportScope, Methods.SoundMethod, Scopes.SoundScope}
+use Rattle.ppdb_tables.specs.Parents.{coded_of}
+use Rattle.ppdb_values_sound_laws.specs.{Named.HasRowOrNone, Customs.{SoundCustom, IsBodyOfKind}, Imports.SoundImportScope, Methods.SoundMethod, Scopes.SoundScope}
 use Rattle.ppdb_values_sound_laws.specs.Sound.{SoundRows, SoundMachine}
 use Rattle.ppdb_merge_items.specs.{declared.file.{AnnotatedScope.AnnotatedScope, AnnotatedFile.AnnotatedFile}, Each.{Each, Pairs}, Annotated.scope_of, Unannotated.value_of_annotated}
 

@@ -104,9 +104,6 @@ module _ (documents : List DocumentValue) (shift : ℕ) (files : List AnnotatedF
       Pairs-weaker (λ a b. AreApart (machine_methods a) (machine_methods b)) _ both (renumbered_all documents shift files)
       (pairs_renumbered documents machine_methods (λ s f. refl) shift files (Pairs-weaker _ _ machines_apart files apart))
     where
-      pair_of : MachineRow → List ℕ
-      pair_of r = r.move_next ∷ r.kickoff ∷ []
-
       one : (r q : MachineRow) → Each (λ row. Each (λ other. row ≢ other) (q.move_next ∷ q.kickoff ∷ [])) (r.move_next ∷ r.kickoff ∷ [])
           → (r.move_next ≢ q.move_next) × (r.kickoff ≢ q.kickoff)
       one r q each = (each.0.0, each.1.0.1.0)

@@ -10,6 +10,7 @@ use Rattle.ppdb_values.specs.declared.import.ImportScopeValue.{ImportScopeValue}
 use Rattle.ppdb_values.specs.declared.file.DocumentValue.{DocumentValue}
 use Rattle.ppdb_values.specs.declared.annotation.Annotation.{Annotation}
 use Rattle.ppdb_values.specs.Chains.{NeverEnds, parent_at, ancestor_of}
+use Rattle.ppdb_values.proofs.Mapped.{get_map}
 use Rattle.ppdb_merge_items.specs.declared.file.AnnotatedFile.{AnnotatedFile}
 use Rattle.ppdb_merge_items.specs.Each.{Each}
 use Rattle.ppdb_merge_items.specs.Annotated.{with_item}
@@ -38,11 +39,6 @@ get_prefix : {A : Type 0} (xs ys : List A) (i : ℕ) → i < length xs → slice
 get_prefix [] ys i less = absurd (omega (arith, less))
 get_prefix (x ∷ xs) ys zero less = refl
 get_prefix (x ∷ xs) ys (suc i) less = get_prefix xs ys i (omega (arith, less))
-
-get_map : {A B : Type 0} (f : A → B) (xs : List A) (i : ℕ) → slice_get (map f xs) i ≡ option_map f (slice_get xs i)
-get_map f [] i = refl
-get_map f (x ∷ xs) zero = refl
-get_map f (x ∷ xs) (suc i) = get_map f xs i
 
 -- ---- one file among others
 

@@ -306,14 +306,6 @@ has_more (x ∷ xs) d name has = step (bytes_eq x.item.name name) has (has_more 
     step true has rest = refl
     step false has rest = rest has
 
-has_last : (xs : List (Annotation DocumentValue)) (d : Annotation DocumentValue) → is_named (items_of (xs ++ d ∷ [])) d.item.name ≡ true
-has_last [] d = rw (bytes_same d.item.name) refl
-has_last (x ∷ xs) d = step (bytes_eq x.item.name d.item.name) (has_last xs d)
-  where
-    step : (b : Bool) → is_named (items_of (xs ++ d ∷ [])) d.item.name ≡ true → (b || is_named (items_of (xs ++ d ∷ [])) d.item.name) ≡ true
-    step true rest = refl
-    step false rest = rest
-
 abbrev pub AllNamed : List (Annotation DocumentValue) → List (Annotation DocumentValue) → Type 0
 AllNamed xs these = Each (λ e. is_named (items_of xs) e.item.name ≡ true) these
 
@@ -322,11 +314,6 @@ all_named_more : (xs : List (Annotation DocumentValue)) (d : Annotation Document
 all_named_more xs d these each =
     Each-weaker (λ e. is_named (items_of xs) e.item.name ≡ true) (λ e. is_named (items_of (xs ++ d ∷ [])) e.item.name ≡ true)
     (λ e has. has_more xs d e.item.name has) these each
-
-pub named_push : (xs : List (Annotation DocumentValue)) (d : Annotation DocumentValue) (these : List (Annotation DocumentValue)) → AllNamed xs these
-    → AllNamed (xs ++ d ∷ []) (these ++ d ∷ [])
-named_push xs d [] each = (has_last xs d, tt)
-named_push xs d (e ∷ es) each = (has_more xs d e.item.name each.0, named_push xs d es each.1)
 
 rows_same : (xs : List (Annotation DocumentValue)) (d : Annotation DocumentValue) (these : List (Annotation DocumentValue)) → AllNamed xs these
     → map (λ (e : Annotation DocumentValue). row_after (xs ++ d ∷ []) e.item.name) these ≡ map (λ (e : Annotation DocumentValue). row_after xs e.item.name) these
@@ -398,10 +385,6 @@ annotated_written gs rs i g notes customs same within are =
     ap (λ n. set rs i (with_notes (get_or rs i g).item n)) are
     ∙ ap (λ l. set l i (with_notes (get_or l i g).item ((get_or l i g).notes ++ customs ∷ []))) same ∙ set_annotated gs i g customs within in
     ap (refill (length gs) gs) written ∙ refill_is gs (annotated_at gs i customs) (annotated_length gs i customs)
-
-pub unwrap_row : (b : Bool) (row : ℕ) (o : Option ℕ) → unwrap_or (cond b (Some row) o) 0 ≡ cond b row (unwrap_or o 0)
-unwrap_row true row o = refl
-unwrap_row false row o = refl
 
 module _ (before : List (Annotation DocumentValue)) (d : Annotation DocumentValue) (old : Documents) (name : Vec ℕ Global) (row : ℕ) (holds : Holds before old)
     (same : name.items ≡ d.item.name) where

@@ -19,9 +19,6 @@ use Rattle.ppdb_merge_joined.proofs.Keyed.{key_same, record_turned, plain_is, un
 
 -- ---- a set of keys
 
-pub none_seen : (seen : BTreeSet Key) → seen.keys ≡ [] → IsSeen [] seen
-none_seen seen empty key = rw empty refl
-
 pub seen_more : (earlier : List CustomValue) (old new : BTreeSet Key) (key : Key) (custom : Option CustomValue) → IsSeen earlier old
     → option_map record_of (Some key) ≡ custom → Updates (key_ord.ghosts).cmp old new key true
     → IsSeen (earlier ++ filter_map (λ (o : Option CustomValue). o) (custom ∷ [])) new
@@ -37,10 +34,6 @@ seen_more earlier old new key custom are is updates other =
     turn true false = refl
     turn false true = refl
     turn false false = refl
-
-pub found : (earlier : List CustomValue) (seen : BTreeSet Key) (key : Key) (custom : Option CustomValue) → IsSeen earlier seen
-    → option_map record_of (Some key) ≡ custom → contains (key_ord.ghosts).cmp seen key ≡ key_among earlier custom
-found earlier seen key custom are is = are key ∙ ap (key_among earlier) is
 
 -- ---- the keys and the marks of inputs
 

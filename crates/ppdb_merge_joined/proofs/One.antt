@@ -16,8 +16,10 @@ use Rattle.ppdb_values.specs.declared.custom.CustomBody.{CustomBody}
 use Rattle.ppdb_values.specs.declared.custom.CustomBody.TheVariants.{Async, Hoisted, TypeDocuments, Unread}
 use Rattle.ppdb_values.specs.declared.custom.CustomValue.{CustomValue}
 use Rattle.ppdb_values.specs.declared.annotation.Annotation.{Annotation}
+use Rattle.ppdb_values.proofs.Mapped.{row_map}
 use Rattle.ppdb_values_sound_laws.specs.Named.{HasRow}
-use Rattle.ppdb_values_sound_laws.specs.Customs.{IsBodyOfKind, SoundCustom, coded_of}
+use Rattle.ppdb_tables.specs.Parents.{coded_of}
+use Rattle.ppdb_values_sound_laws.specs.Customs.{IsBodyOfKind, SoundCustom}
 use Rattle.ppdb_values_sound_laws.specs.Methods.{SoundMethod, SoundPoint}
 use Rattle.ppdb_values_sound_laws.proofs.Listed.{row_of}
 use Rattle.ppdb_merge_items.specs.declared.file.AnnotatedScope.{AnnotatedScope}
@@ -28,7 +30,6 @@ use Rattle.ppdb_merge_items.specs.Sorted.{in_order}
 use Rattle.ppdb_merge_items.specs.SoundParts.{SoundParts}
 use Rattle.ppdb_merge_items.specs.Unannotated.{value_of_annotated}
 use Rattle.ppdb_merge_items.proofs.Lists.{Each-weaker, each_of, Pairs-map, Pairs-weaker}
-use Rattle.ppdb_merge_items.proofs.Mapped.{row_map}
 use Rattle.ppdb_merge_items.proofs.Orders.{in_order_is, rises_of}
 use Rattle.ppdb_merge_joined.specs.Joined.{firsts, joined_documents, row_named, joined_rows, row_in, shifted, with_documents, renumbered_method}
 use Rattle.ppdb_merge_joined.specs.Joined.{renumbered_scope, renumbered_import, renumbered_custom, renumbered, joined_document, joined_parts, joined}

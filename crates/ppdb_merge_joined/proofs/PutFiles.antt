@@ -171,8 +171,3 @@ module _ (files : List AnnotatedFile) (f : AnnotatedFile) (old new : Parts) (row
     customs = list_more (λ (file : AnnotatedFile). file.customs) files f old.customs new.customs (map (renumbered_custom (row_in rows)) f.customs) put.customs
         (ap (λ r. map (renumbered_custom (row_in r)) f.customs) own_rows) customs;
   }
-
-  pub imports_more : length new.imports ≡ length old.imports + length f.imports
-  imports_more =
-      ap length imports ∙ length-append old.imports (map (with_item (put_import (length old.imports))) f.imports)
-      ∙ ap (λ n. length old.imports + n) (length-map f.imports (with_item (put_import (length old.imports))))

@@ -13,9 +13,11 @@ use Rattle.ppdb_values.specs.declared.file.MethodValue.{MethodValue}
 use Rattle.ppdb_values.specs.declared.import.ImportScopeValue.{ImportScopeValue}
 use Rattle.ppdb_values.specs.declared.annotation.Annotation.{Annotation}
 use Rattle.ppdb_values.specs.Ranges.{ComesAfter, IsInOrAfter}
+use Rattle.ppdb_values.proofs.Mapped.{row_map}
 use Rattle.ppdb_tables.specs.declared.rows.MachineRow.{MachineRow}
+use Rattle.ppdb_tables.specs.Parents.{coded_of}
 use Rattle.ppdb_values_sound_laws.specs.Named.{HasRow, HasRowOrNone}
-use Rattle.ppdb_values_sound_laws.specs.Customs.{SoundCustom, coded_of}
+use Rattle.ppdb_values_sound_laws.specs.Customs.{SoundCustom}
 use Rattle.ppdb_values_sound_laws.specs.Imports.{SoundImportScope}
 use Rattle.ppdb_values_sound_laws.specs.Methods.{SoundMethod}
 use Rattle.ppdb_values_sound_laws.specs.Sound.{SoundMachine}
@@ -28,7 +30,6 @@ use Rattle.ppdb_merge_items.specs.Annotated.{items_of, with_item}
 use Rattle.ppdb_merge_items.specs.SoundParts.{SoundNote, SoundAnnotatedScope, SoundIn, SoundMoved, SoundParts}
 use Rattle.ppdb_merge_items.specs.Unannotated.{value_of_annotated}
 use Rattle.ppdb_merge_items.proofs.Lists.{Each-filter, Each-map, Each-unmap, Each-weaker, each_of, Pairs-map, Pairs-weaker}
-use Rattle.ppdb_merge_items.proofs.Mapped.{row_map}
 use Rattle.ppdb_merge_items.proofs.Orders.{in_order_each, in_order_rises, pairs_of}
 use Rattle.ppdb_merge_joined.specs.Joinable.{AreJoinable, CountsRows}
 use Rattle.ppdb_merge_joined.specs.Joined.{joined, joined_documents, joined_document, joined_rows, row_in, row_named, customs_named, shifted, renumbered}

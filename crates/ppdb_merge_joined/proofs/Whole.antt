@@ -19,7 +19,8 @@ use Rattle.ppdb_values.specs.declared.custom.CustomValue.{CustomValue}
 use Rattle.ppdb_values.specs.declared.annotation.Custom.{Custom}
 use Rattle.ppdb_values.specs.declared.annotation.Annotation.{Annotation}
 use Rattle.ppdb_values.specs.Rules.{StandsOn}
-use Rattle.ppdb_values_sound_laws.specs.Customs.{IsBodyOfKind, SoundCustom, coded_of}
+use Rattle.ppdb_tables.specs.Parents.{coded_of}
+use Rattle.ppdb_values_sound_laws.specs.Customs.{IsBodyOfKind, SoundCustom}
 use Rattle.ppdb_merge_items.specs.declared.file.AnnotatedScope.{AnnotatedScope}
 use Rattle.ppdb_merge_items.specs.declared.file.AnnotatedFile.{AnnotatedFile}
 use Rattle.ppdb_merge_items.specs.Each.{Each, Pairs}

@@ -4,7 +4,7 @@ use Rattle.ppdb_values.specs.Names.{list_any, repeat, Point, row_at}
 use Rattle.std.specs.Prelude.{ℕ, zero, suc, ◌+◌, cond, List, [], ◌∷◌, length, map, filter, flat_map, position, unwrap_or, bytes_eq, option_map}
 use Rattle.ppdb_values.specs.{declared.file.{DocumentValue.DocumentValue, MethodValue.MethodValue}, declared.import.ImportScopeValue.ImportScopeValue, declared.custom.CustomBody.CustomBody}
 use Rattle.ppdb_values.specs.{declared.custom.{CustomBody.TheVariants.TypeDocuments, CustomValue.CustomValue}, declared.annotation.{Custom.Custom, Annotation.Annotation}}
-use Rattle.ppdb_values_sound_laws.specs.Customs.{coded_of}
+use Rattle.ppdb_tables.specs.Parents.{coded_of}
 use Rattle.ppdb_merge_items.specs.{declared.file.{AnnotatedScope.AnnotatedScope, AnnotatedFile.AnnotatedFile}, Annotated.{items_of, with_item}, Sorted.in_order}
 use Rattle.ppdb_merge_joined.specs.Same.{same_custom, same_record, fresh}
 

@@ -1,14 +1,12 @@
 // Items set in order by a number of theirs; what is in order already is only looked at.
-ghost use Rattle.std.specs.Prelude.{◌≡◌, ◌<◌, ◌==◌, IfSome, OnOk, position};
-ghost use Rattle.row_layout.specs.Columns.{parent_tables};
+ghost use Rattle.std.specs.Prelude.{◌≡◌, OnOk};
 ghost use Rattle.ppdb_merge_items.specs.Sorted.{in_order};
-ghost use Rattle.ppdb_values_sound_laws.specs.Customs.{coded_of};
+ghost use Rattle.ppdb_tables.specs.Parents.{coded_of};
 
 use ppdb_base::Memory;
 use ppdb_merge_items::AnnotatedScope;
-use ppdb_tables::{MachineRow, Parent};
+use ppdb_tables::{MachineRow, coded};
 use ppdb_values::{CustomValue, MethodValue};
-use row_layout::PARENT_TABLES;
 
 /// What is set in order by a number.
 pub trait Keyed: Drop {
@@ -51,24 +49,6 @@ impl Keyed for CustomValue {
 
     fn order_key(&self) -> u64 {
         coded(self.parent)
-    }
-}
-
-/// The tag that picks a table.
-fn tag_of(table: u8) -> Option<usize>
-    ensures tag { result ≡ position (λ other. other == table) parent_tables }
-    ensures small { IfSome result (λ tag. tag < 32) }
-{
-    PARENT_TABLES.iter().position(|other| *other == table)
-}
-
-/// The coded index of a parent, and 0 where its table has no tag.
-fn coded(parent: Parent) -> u64
-    ensures { result ≡ coded_of parent }
-{
-    match tag_of(parent.table) {
-        Some(tag) => parent.row as u64 * 32 + tag as u64,
-        None => 0,
     }
 }
 

@@ -31,20 +31,19 @@ fn take_scopes(alloc: Global, scopes: List<AnnotatedScope>) -> Result<Scopes, Me
     ensures on_variables { IfOk result (λ parts. parts.on_variables ≡ placed 0x33 1 (flat_map (λ scope. customs_of scope.variables) scopes)) }
     ensures on_constants { IfOk result (λ parts. parts.on_constants ≡ placed 0x34 1 (flat_map (λ scope. customs_of scope.constants) scopes)) }
 {
-    let mut values = List::with_capacity(alloc, scopes.len())?;
-    let mut on_scopes = List::new(alloc);
-    let mut on_variables = List::new(alloc);
-    let mut on_constants = List::new(alloc);
+    let mut parts = Scopes {
+        scopes: List::with_capacity(alloc, scopes.len())?,
+        on_scopes: List::new(alloc),
+        on_variables: List::new(alloc),
+        on_constants: List::new(alloc),
+    };
     let (mut row, mut variable, mut constant) = (1, 1, 1);
     for scope in scopes.into_vec() {
-        place(
-            scope.customs,
-            Parent {
-                table: LOCAL_SCOPE,
-                row,
-            },
-            &mut on_scopes,
-        )?;
+        let parent = Parent {
+            table: LOCAL_SCOPE,
+            row,
+        };
+        place(scope.customs, parent, &mut parts.on_scopes)?;
         row += 1;
         let (many, more) = (scope.variables.len() as u32, scope.constants.len() as u32);
         let variables = take_apart(
@@ -52,7 +51,7 @@ fn take_scopes(alloc: Global, scopes: List<AnnotatedScope>) -> Result<Scopes, Me
             scope.variables,
             LOCAL_VARIABLE,
             variable,
-            &mut on_variables,
+            &mut parts.on_variables,
         )?;
         variable += many;
         let constants = take_apart(
@@ -60,10 +59,10 @@ fn take_scopes(alloc: Global, scopes: List<AnnotatedScope>) -> Result<Scopes, Me
             scope.constants,
             LOCAL_CONSTANT,
             constant,
-            &mut on_constants,
+            &mut parts.on_constants,
         )?;
         constant += more;
-        values.push(ScopeValue {
+        parts.scopes.push(ScopeValue {
             method: scope.method,
             import: scope.import,
             range: scope.range,
@@ -71,12 +70,7 @@ fn take_scopes(alloc: Global, scopes: List<AnnotatedScope>) -> Result<Scopes, Me
             constants,
         })?;
     }
-    Ok(Scopes {
-        scopes: values,
-        on_scopes,
-        on_variables,
-        on_constants,
-    })
+    Ok(parts)
 }
 
 /// The value of a file whose records stand at their items.

@@ -1,9 +1,9 @@
 -- A file that is moved alone is sound afterwards, where no image is above its count.
-use Rattle.std.proofs.Common.{◌≡◌, ℕ, zero, suc, ◌≤◌, Bool, true, false, cond, [], ◌∷◌, Option, Some, None, refl, sym, ◌∙◌, ap, subst, arith}
-use Rattle.std.specs.Prelude.{nat_eq, unwrap_or, slice_index, Contains}
+use Rattle.std.proofs.Common.{◌≡◌, ℕ, ◌≤◌, Bool, true, false, cond, [], ◌∷◌, Some, refl, sym, subst, arith}
+use Rattle.std.specs.Prelude.{nat_eq, slice_index, Contains}
 use Rattle.std.proofs.lemmas.Bool.{eqb-true}
 use Rattle.ppdb_maps.specs.declared.image.RowImage.TheVariants.{Row}
-use Rattle.ppdb_maps.specs.Map.{Map, row_image, row_line, signature_line, count_of, moved_row, is_dropped}
+use Rattle.ppdb_maps.specs.Map.{Map, row_image, signature_line, moved_row, is_dropped}
 use Rattle.ppdb_values.specs.declared.file.MethodValue.{MethodValue}
 use Rattle.ppdb_values_sound_laws.specs.Sound.{IsSound}
 use Rattle.ppdb_merge_items.specs.declared.file.AnnotatedFile.{AnnotatedFile}
@@ -25,19 +25,8 @@ use Rattle.ppdb_merge_meaning_laws.specs.Kept.{MovedBy, FitsAlone, joined_inputs
 use Rattle.ppdb_merge_meaning_laws.proofs.Counts.{moved_counts_sound}
 use Rattle.ppdb_merge_meaning_laws.proofs.Inputs.{can_be_joined, input_sound}
 use Rattle.ppdb_merge_moved.proofs.ImageRows.{moved_stays, assembly_stays}
+use Rattle.ppdb_merge_moved.proofs.Fitting.{moved_dropped}
 use Rattle.ppdb_merge_meaning_laws.proofs.MovedRows.{Moves, image_names, some_moves, all_move}
-
--- a dropped method moves to none
-none : (m : Map) (row : ℕ) → is_dropped m row ≡ true → moved_row m 0x06 row ≡ 0
-none m zero drop = refl
-none m (suc row) drop = ap (λ b. cond (nat_eq (suc row) 0) 0 (unwrap_or (cond b None (images_of (suc row))) 0)) drop ∙ same (nat_eq (suc row) 0)
-  where
-    images_of : ℕ → Option ℕ
-    images_of r = elim (count_of m 0x06) as (λ _. Option ℕ) [ None ↦ Some r | Some count ↦ row_line m 0x06 r ]
-
-    same : (b : Bool) → ◌≡◌ {A = ℕ} (cond b 0 0) 0
-    same true = refl
-    same false = refl
 
 module _ (annotated : SoundnessIsAnnotated) (law : JoinedIsSound) (input : MovedBy) (fits : FitsAlone (true, input)) (counted : ImagesAreCounted (true, input)) where
   abbrev m : Map
@@ -101,7 +90,7 @@ module _ (annotated : SoundnessIsAnnotated) (law : JoinedIsSound) (input : Moved
     where
       by_drop : (b : Bool) → is_dropped m file.entry ≡ b → Each In (names_some 0x06 (cond b 0 file.entry))
           → Each Within (names_some 0x06 (moved_row m 0x06 file.entry))
-      by_drop true drop each = subst (λ row. Each Within (names_some 0x06 row)) (sym (none m file.entry drop)) tt
+      by_drop true drop each = subst (λ row. Each Within (names_some 0x06 row)) (sym (moved_dropped m file.entry drop)) tt
       by_drop false drop each = some_moves m fits.ready In Within moves 0x06 file.entry refl each
 
   entry_there : moved.entry ≤ slice_index moved.rows 0x06

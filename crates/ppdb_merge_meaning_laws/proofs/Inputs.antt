@@ -25,7 +25,7 @@ use Rattle.ppdb_merge_meaning_laws.proofs.MoreRows.{sound_moved}
 
 -- ---- lists
 
-pairs_given : {A : Type 0} (P : A → Type 0) (R S : A → A → Type 0) → ((x y : A) → P x → P y → R x y → S x y) → (xs : List A) → Each P xs → Pairs R xs
+pub pairs_given : {A : Type 0} (P : A → Type 0) (R S : A → A → Type 0) → ((x y : A) → P x → P y → R x y → S x y) → (xs : List A) → Each P xs → Pairs R xs
     → Pairs S xs
 pairs_given P R S holds [] each pairs = tt
 pairs_given P R S holds (x ∷ xs) each pairs = (heads xs each.1 pairs.0, pairs_given P R S holds xs each.1 pairs.1)

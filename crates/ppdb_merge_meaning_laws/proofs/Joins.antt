@@ -12,6 +12,7 @@ use Rattle.custom_info.specs.declared.kinds.Kind.TheVariants as kinds
 use Rattle.sequence_points.specs.declared.point.Point.{Point}
 use Rattle.ppdb_tables.specs.declared.rows.MachineRow.{MachineRow}
 use Rattle.ppdb_tables.specs.RawTables.{row_at}
+use Rattle.ppdb_tables.specs.Parents.{coded_of}
 use Rattle.ppdb_values.specs.declared.custom.CustomBody.{CustomBody}
 use Rattle.ppdb_values.specs.declared.custom.CustomBody.TheVariants.{Async, Hoisted, TypeDocuments, Unread}
 use Rattle.ppdb_values.specs.declared.custom.CustomValue.{CustomValue}
@@ -20,7 +21,7 @@ use Rattle.ppdb_values.specs.declared.file.MethodValue.{MethodValue}
 use Rattle.ppdb_values.specs.declared.annotation.Annotation.{Annotation}
 use Rattle.ppdb_values.specs.Meaning.{PointMeaning, without_parent}
 use Rattle.ppdb_values.specs.Parts.{slots_in}
-use Rattle.ppdb_values_sound_laws.specs.Customs.{SoundCustom, IsBodyOfKind, coded_of}
+use Rattle.ppdb_values_sound_laws.specs.Customs.{SoundCustom, IsBodyOfKind}
 use Rattle.ppdb_merge_items.specs.declared.file.AnnotatedScope.{AnnotatedScope}
 use Rattle.ppdb_merge_items.specs.declared.file.AnnotatedFile.{AnnotatedFile}
 use Rattle.ppdb_merge_items.specs.Each.{Each, Pairs}
@@ -34,7 +35,6 @@ use Rattle.ppdb_merge_items.specs.AnnotatedMeaning.{annotated_meaning, scope_mea
 use Rattle.ppdb_merge_items.specs.SoundParts.{SoundMoved}
 use Rattle.ppdb_merge_items.specs.Sorted.{in_order}
 use Rattle.ppdb_merge_items.proofs.Lists.{Each-weaker, Each-map, Each-unmap, Each-append, Each-filter}
-use Rattle.ppdb_merge_items.proofs.Mapped.{filter_map_both, row_map}
 use Rattle.ppdb_merge_items.proofs.Orders.{in_order_keeps, in_order_filter}
 use Rattle.ppdb_merge_joined.specs.Joinable.{AreJoinable, AgreeOnDocuments}
 use Rattle.ppdb_merge_joined.specs.Joined.{joined, joined_documents, joined_rows, row_in, row_named, renumbered, renumbered_all, renumbered_method}
@@ -42,6 +42,7 @@ use Rattle.ppdb_merge_joined.specs.Joined.{renumbered_scope, renumbered_custom, 
 use Rattle.ppdb_merge_joined.specs.Same.{fresh, same_record}
 use Rattle.ppdb_merge_joined.proofs.One.{map_same}
 use Rattle.ppdb_values.specs.Rules.{StandsOn}
+use Rattle.ppdb_values.proofs.Mapped.{row_map, filter_map_both}
 use Rattle.ppdb_merge_items.specs.Unannotated.{value_of_annotated}
 use Rattle.ppdb_merge_joined.proofs.Each.{Each-split, Each-unflat}
 use Rattle.ppdb_merge_joined.proofs.Names.{same_bytes, bytes_same, position_cons, is_named, firsts_has, each_row_at}
@@ -136,9 +137,6 @@ each_mid P (b ∷ bs) after x each = each_mid P bs after x each.1
 -- ---- points
 
 module _ (documents : List DocumentValue) (method : ℕ) where
-  has : MethodValue → Bool
-  has e = nat_eq e.method method
-
   no_points : (file : AnnotatedFile) → NoPart method file → (shift : ℕ)
       → filter (λ (e : MethodValue). nat_eq e.method method) (renumbered documents shift file).methods ≡ []
   no_points file none shift = none_left (λ (e : MethodValue). nat_eq e.method method) (renumbered documents shift file).methods

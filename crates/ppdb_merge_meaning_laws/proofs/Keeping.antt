@@ -16,7 +16,7 @@ use Rattle.ppdb_values.specs.declared.file.FileValue.{FileValue}
 use Rattle.ppdb_values.specs.declared.file.DocumentValue.{DocumentValue}
 use Rattle.ppdb_values.specs.Links.{links, kickoff_of, move_next_of}
 use Rattle.ppdb_values.specs.Meaning.{Meaning, PointMeaning, meaning, point_meaning}
-use Rattle.ppdb_values_sound_laws.specs.Customs.{coded_of}
+use Rattle.ppdb_tables.specs.Parents.{coded_of}
 use Rattle.ppdb_merge_items.specs.declared.file.AnnotatedFile.{AnnotatedFile}
 use Rattle.ppdb_merge_items.specs.Each.{Each, Pairs}
 use Rattle.ppdb_merge_items.specs.Laws.{SoundnessIsAnnotated}
@@ -33,6 +33,7 @@ use Rattle.ppdb_merge_joined.specs.Joinable.{AreJoinable, AgreeOnDocuments, meth
 use Rattle.ppdb_merge_joined.specs.Joined.{joined, joined_documents, joined_rows, row_in, renumbered_all, renumbered_custom}
 use Rattle.ppdb_merge_joined.specs.Same.{fresh, same_record}
 use Rattle.ppdb_merge_joined.proofs.Kept.{fresh_each}
+use Rattle.ppdb_merge_joined.proofs.Each.{Each-with}
 use Rattle.ppdb_merge_moved.specs.Fits.{IsImaged}
 use Rattle.ppdb_merge_moved.specs.FitsMethod.{FitsFile}
 use Rattle.ppdb_merge_moved.specs.Images.{meaning_image, links_image, partner_image, point_image}
@@ -58,10 +59,6 @@ each_before P (b ∷ bs) after x each = (each.0, each_before P bs after x each.1
 each_after : {A : Type 0} (P : A → Type 0) (before after : List A) (x : A) → Each P (before ++ x ∷ after) → Each P after
 each_after P [] after x each = each.1
 each_after P (b ∷ bs) after x each = each_after P bs after x each.1
-
-each_two : {A : Type 0} (P Q R : A → Type 0) → ((x : A) → P x → Q x → R x) → (xs : List A) → Each P xs → Each Q xs → Each R xs
-each_two P Q R holds [] ps qs = tt
-each_two P Q R holds (x ∷ xs) ps qs = (holds x ps.0 qs.0, each_two P Q R holds xs ps.1 qs.1)
 
 -- ---- records stand on rows of the type system, in their order
 
@@ -153,10 +150,10 @@ module _ (annotated : SoundnessIsAnnotated) (before after : List Input) (i : Inp
   same = subst (λ fs. SaysTheSame (joined fs) (moved_input i) image_row) (sym (map_split moved_input before after i))
       (joined_means (map moved_input before) (map moved_input after) (moved_input i) image_row (subst AreJoinable (map_split moved_input before after i) able)
       (Each-map moved_input (SaysNothingOf image_row) before
-      (each_two FitsAlone (λ j. MethodsApart j i) (λ j. SaysNothingOf image_row (moved_input j)) silent_before before
+      (Each-with FitsAlone (λ j. MethodsApart j i) (λ j. SaysNothingOf image_row (moved_input j)) silent_before before
       (each_before FitsAlone before after i each) (pairs_before MethodsApart before after i apart)))
       (Each-map moved_input (SaysNothingOf image_row) after
-      (each_two FitsAlone (MethodsApart i) (λ j. SaysNothingOf image_row (moved_input j)) silent_after after (each_after FitsAlone before after i each)
+      (Each-with FitsAlone (MethodsApart i) (λ j. SaysNothingOf image_row (moved_input j)) silent_after after (each_after FitsAlone before after i each)
       (pairs_after MethodsApart before after i apart))))
 
   pub meaning_kept : (x y : ℕ) → Kept (offsets_in m method) x y → meaning value image_row y ≡ meaning_image m method (meaning i.1.value method x)

@@ -97,14 +97,6 @@ module _ {A : Type 0} (same : A → A → Bool) (p : A → Bool) (alike : (x e :
   Each-join [] ys a b = b
   Each-join (x ∷ xs) ys a b = (a.0, Each-join xs ys a.1 b)
 
-  none_fresh : (earlier : List A) (lists : List (List A)) → Each (λ l. Each (λ e. p e ≡ false) l) lists → Each (λ e. p e ≡ false) earlier
-      → filter p (fresh same earlier lists) ≡ []
-  none_fresh earlier [] fails also = refl
-  none_fresh earlier (items ∷ more) fails also =
-      filter-append p (filter (λ x. not (list_any (same x) earlier)) items) (fresh same (earlier ++ items) more)
-      ∙ ap (λ l. l ++ filter p (fresh same (earlier ++ items) more)) (left_of earlier items also ∙ none_left p items fails.0)
-      ∙ none_fresh (earlier ++ items) more fails.1 (Each-join earlier items also fails.0)
-
   -- after the list whose items pass, none passes
   rest_fresh : (earlier : List A) (lists : List (List A)) → Each (λ l. Each (λ e. p e ≡ false) l) lists → filter p (fresh same earlier lists) ≡ []
   rest_fresh earlier [] fails = refl

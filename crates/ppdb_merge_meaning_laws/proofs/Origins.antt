@@ -9,6 +9,7 @@ use Rattle.std.proofs.lemmas.List.{map-append}
 use Rattle.std.proofs.lemmas.List.Elements.{filter-append}
 use Rattle.ppdb_tables.specs.RawTables.{row_at}
 use Rattle.ppdb_tables.specs.declared.rows.MachineRow.{MachineRow}
+use Rattle.ppdb_tables.specs.Parents.{coded_of}
 use Rattle.ppdb_values.specs.declared.custom.CustomValue.{CustomValue}
 use Rattle.ppdb_values.specs.declared.file.DocumentValue.{DocumentValue}
 use Rattle.ppdb_values.specs.declared.file.FileValue.{FileValue}
@@ -16,7 +17,7 @@ use Rattle.ppdb_values.specs.declared.file.MethodValue.{MethodValue}
 use Rattle.ppdb_values.specs.declared.annotation.Custom.{Custom}
 use Rattle.ppdb_values.specs.declared.annotation.Annotation.{Annotation}
 use Rattle.ppdb_values.specs.Meaning.{annotated_on, without_parent}
-use Rattle.ppdb_values_sound_laws.specs.Customs.{coded_of}
+use Rattle.ppdb_values.proofs.Mapped.{row_map, filter_map_both}
 use Rattle.ppdb_merge_items.specs.declared.file.AnnotatedScope.{AnnotatedScope}
 use Rattle.ppdb_merge_items.specs.declared.file.AnnotatedFile.{AnnotatedFile}
 use Rattle.ppdb_merge_items.specs.Each.{Each, Pairs}
@@ -24,7 +25,7 @@ use Rattle.ppdb_merge_items.specs.Laws.{SoundnessIsAnnotated}
 use Rattle.ppdb_merge_items.specs.Annotated.{items_of, annotated_file, with_item}
 use Rattle.ppdb_merge_items.specs.Unannotated.{value_of_annotated}
 use Rattle.ppdb_merge_items.proofs.Lists.{Each-append, Each-map, Each-weaker, each_of}
-use Rattle.ppdb_merge_items.proofs.Mapped.{filter_map_both, map_map_both, row_map, row_numbered}
+use Rattle.ppdb_merge_items.proofs.Mapped.{map_map_both, row_numbered}
 use Rattle.ppdb_merge_items.proofs.Orders.{in_order_each, in_order_keeps}
 use Rattle.ppdb_merge_items.proofs.Rows.{at, one_parent}
 use Rattle.ppdb_merge_items.proofs.Spread.{filter_within}

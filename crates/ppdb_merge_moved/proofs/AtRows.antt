@@ -1,5 +1,5 @@
 -- Records at their rows, one more at a time.
-use Rattle.std.proofs.Common.{◌≡◌, ℕ, zero, suc, ◌+◌, ◌++◌, Bool, true, false, cond, List, [], ◌∷◌, length, get_or, map, refl, sym, ap, ◌∙◌, arith}
+use Rattle.std.proofs.Common.{◌≡◌, ℕ, ◌+◌, ◌++◌, Bool, true, false, cond, List, [], ◌∷◌, length, map, refl, sym, ap, ◌∙◌, arith}
 use Rattle.std.specs.Prelude.{nat_lt}
 use Rattle.std.specs.List.{filter, enumerate_from}
 use Rattle.std.proofs.lemmas.List.{map-append}
@@ -11,12 +11,6 @@ use Rattle.ppdb_values.specs.Parts.{is_at}
 use Rattle.ppdb_values.specs.Meaning.{without_parent}
 use Rattle.ppdb_merge_moved.specs.declared.annotating.OnRows.{OnRows}
 use Rattle.ppdb_merge_moved.specs.OnRows.{on_row, if_at, HasRows, IsPut, IsPlaced, HasAll, annotated_by}
-
-pub none_more : (xs : List (List Custom)) → ((k : ℕ) → get_or xs k [] ≡ []) → (k : ℕ) → get_or (xs ++ [] ∷ []) k [] ≡ []
-none_more [] none zero = refl
-none_more [] none (suc k) = refl
-none_more (x ∷ xs) none zero = none zero
-none_more (x ∷ xs) none (suc k) = none_more xs (λ j. none (suc j)) k
 
 filter-push : {A : Type 0} (p : A → Bool) (xs : List A) (x : A) → filter p (xs ++ x ∷ []) ≡ filter p xs ++ cond (p x) (x ∷ []) []
 filter-push p xs x = filter-append p xs (x ∷ []) ∙ ap (λ ys. filter p xs ++ ys) (by_test (p x))

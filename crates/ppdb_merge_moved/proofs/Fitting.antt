@@ -39,7 +39,7 @@ use Rattle.ppdb_merge_moved.proofs.Elements.{each_in, in_each}
 use Rattle.ppdb_merge_moved.proofs.NamedParts.{NamedParts, named_parts}
 use Rattle.ppdb_merge_moved.proofs.RisingPoints.{points_are_rising}
 use Rattle.ppdb_merge_moved.proofs.ImageRows.{lives_on_method, no_shared_method, moved_stays, within}
-use Rattle.ppdb_merge_moved.proofs.RowImages.{IsWithin, found_holds, moved_is_image, row_moved}
+use Rattle.ppdb_merge_moved.proofs.RowImages.{IsWithin, found_holds, row_moved}
 use Rattle.ppdb_merge_moved.proofs.Lists.{each_of_three}
 use Rattle.ppdb_merge_items.proofs.Parts.{in_entry}
 use Rattle.ppdb_maps.proofs.Parts.{line_offsets}
@@ -83,9 +83,6 @@ module _ (first : Bool) (m : Map) (w : AnnotatedFile) (method : ℕ) (above : 1 
 
   moves_to : IsWithin m 0x06 method
   moves_to = within m ready 0x06 method refl image
-
-  image_is : moved_row m 0x06 method ≡ moves_to.0
-  image_is = moved_is_image m 0x06 method moves_to.0 above moves_to.1
 
   image_there : 1 ≤ moved_row m 0x06 method
   image_there = (row_moved m ready 0x06 method above below moves_to).0

@@ -1,5 +1,5 @@
 -- A file moved by a map means at a kept offset's image the image of what the file meant.
-use Rattle.std.proofs.Common.{◌≡◌, ℕ, ◌≤◌, ◌≢◌, ◌&&◌, Bool, true, false, cond, List, [], ◌∷◌, refl, sym, ◌∙◌, ap, arith, subst, map, length, suc}
+use Rattle.std.proofs.Common.{◌≡◌, ℕ, ◌≤◌, ◌≢◌, ◌&&◌, Bool, true, false, cond, List, [], ◌∷◌, refl, sym, ◌∙◌, ap, subst, map}
 use Rattle.std.specs.Prelude.{nat_eq}
 use Rattle.ppdb_base.specs.Offsets.{gone, Rise, Kept, old_size}
 use Rattle.ppdb_maps.specs.Map.{Map, moved_row, offsets_in}
@@ -12,12 +12,10 @@ use Rattle.ppdb_merge_moved.specs.Moved.{moved_import, moved_import_scope, scope
 use Rattle.ppdb_merge_moved.specs.Images.{scope_image as scope_image_meaning}
 use Rattle.ppdb_merge_items.specs.AnnotatedMeaning.{chain, imported, scope_meaning, scopes_at, held as holds}
 use Rattle.ppdb_merge_moved.specs.FitsMethod.{FitsScope}
-use Rattle.ppdb_merge_items.specs.Sorted.{in_order}
 use Rattle.ppdb_merge_items.specs.Each.{Each}
 use Rattle.ppdb_values.specs.Chains.{chain_of}
 use Rattle.ppdb_merge_items.proofs.Mapped.{chain_of_map, map_map_both}
 use Rattle.ppdb_merge_moved.proofs.Scopes.{scopes_kept}
-use Rattle.ppdb_merge_items.proofs.Orders.{in_order_keeps}
 use Rattle.std.proofs.lemmas.Bool.{eqb-true, and_parts}
 use Rattle.ppdb_merge_items.proofs.Parts.{live_imports}
 
@@ -30,10 +28,6 @@ chain_moved m imports row =
     ∙ map_map_both (λ (link : ℕ × Annotation ImportScopeValue). link.1) (λ link. (link.0, with_item (moved_import_scope m) link.1))
     (chain_of (λ n. n.item.parent) imports row)
     ∙ sym (map_map_both (with_item (moved_import_scope m)) (λ (link : ℕ × Annotation ImportScopeValue). link.1) (chain_of (λ n. n.item.parent) imports row))
-
-length_map : {A B : Type 0} (f : A → B) (xs : List A) → length (map f xs) ≡ length xs
-length_map f [] = refl
-length_map f (x ∷ xs) = ap suc (length_map f xs)
 
 imported_moved : (m : Map) (links : List (Annotation ImportScopeValue))
     → map imported (map (with_item (moved_import_scope m)) links) ≡ map (with_item (λ imports. map (moved_import m) (live_imports m imports))) (map imported links)
@@ -74,8 +68,3 @@ pub scopes_mean : (m : Map) (w : AnnotatedFile) (method : ℕ) → Rise (offsets
     ≡ map (scope_image_meaning m method) (map (scope_meaning w) (scopes_at method x w.scopes))
 scopes_mean m w method rise live x y kept at fits =
     ap (map (scope_meaning (moved_file m w))) (scopes_kept m method rise live x y kept at w.scopes fits) ∙ scopes_moved m w method x w.scopes
-
--- sets of scopes in order by their methods hold the same ones at an offset
-pub scopes_ordered : (method x : ℕ) (ss : List AnnotatedScope) → scopes_at method x (in_order (λ (s : AnnotatedScope). s.method) ss) ≡ scopes_at method x ss
-scopes_ordered method x ss = in_order_keeps (λ (s : AnnotatedScope). s.method) _
-    (λ a b p q. omega (arith, eqb-true a.method method (and_parts _ _ p).0, eqb-true b.method method (and_parts _ _ q).0)) ss

@@ -12,13 +12,13 @@ use Rattle.ppdb_values.specs.declared.annotation.Annotation.{Annotation}
 use Rattle.ppdb_values.specs.declared.file.DocumentValue.{DocumentValue}
 use Rattle.ppdb_values.specs.declared.file.MethodValue.{MethodValue}
 use Rattle.ppdb_merge_items.specs.Annotated.{with_item}
-use Rattle.ppdb_merge_items.proofs.Mapped.{row_map}
 use Rattle.ppdb_merge_items.specs.declared.file.AnnotatedFile.{AnnotatedFile}
 use Rattle.sequence_points.specs.MovedPoints.{moved_points}
 use Rattle.ppdb_merge_moved.specs.Moved.{moved_document, moved_method, moved_file, with_points}
 use Rattle.ppdb_merge_moved.specs.FitsMethod.{PointsRise, FitsMethod}
 use Rattle.ppdb_merge_items.specs.AnnotatedMeaning.{document_at, point_at, point_meaning}
 use Rattle.ppdb_values.specs.Meaning.{PointMeaning}
+use Rattle.ppdb_values.proofs.Mapped.{row_map}
 use Rattle.ppdb_merge_moved.specs.Images.{point_image}
 use Rattle.ppdb_merge_items.specs.Each.{Each, Pairs}
 use Rattle.ppdb_merge_moved.proofs.Points.{points_kept, moved_point}

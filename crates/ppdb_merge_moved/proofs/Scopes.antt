@@ -1,10 +1,10 @@
 -- The scopes that hold a kept offset move to the scopes that hold its image, and no others do.
-use Rattle.std.proofs.Common.{◌≡◌, ℕ, ◌≤◌, ◌⊎◌, ◌≢◌, ◌&&◌, Bool, true, false, cond, List, Some, None, refl, sym, ◌∙◌, ap, arith, inl, inr, subst, map}
+use Rattle.std.proofs.Common.{◌≡◌, ℕ, ◌≤◌, ◌≢◌, ◌&&◌, Bool, true, false, cond, List, Some, None, refl, sym, ◌∙◌, ap, arith, inl, inr, subst, map}
 use Rattle.std.specs.Prelude.{nat_lt, nat_eq}
 use Rattle.std.specs.List.{filter_map}
 use Rattle.std.proofs.lemmas.Bool.{cases_lt, le-leb, lt-leb, lt-ltb, le-ltb, eq-eqb, ne_eqb, eqb-true, eqb-false, ltb-false, not-true, and_parts, both_ways}
 use Rattle.ppdb_base.specs.Offsets.{Offsets, gone, Rise, Kept, moved, old_size}
-use Rattle.ppdb_base.proofs.Moved.{moved_never_falls, moved_against}
+use Rattle.ppdb_base.proofs.Moved.{moved_against}
 use Rattle.ppdb_maps.specs.Map.{Map, moved_row, offsets_in}
 use Rattle.custom_info.specs.declared.slots.Range.{Range}
 use Rattle.ppdb_merge_items.specs.declared.file.AnnotatedScope.{AnnotatedScope}
@@ -98,30 +98,3 @@ scopes_kept m method rise live x y kept at ss fits =
     ∙ filter_map-map (moved_scope m) (scope_image m) (scopes_at method x ss)
     (Each-filter (FitsScope m method) (λ s. moved_scope m s ≡ Some (scope_image m s)) (λ s. nat_eq s.method method && holds x s.range)
     (λ s held f. scope_stays m method rise live x y kept at s held f) ss fits)
-
--- a later scope of the method begins not before the earlier one, and lies past it or within it
--- (Portable PDB v1.0, LocalScope: rows go by method, start and falling length; ranges nest or are disjoint)
-abbrev pub Follows : AnnotatedScope → AnnotatedScope → Type 0
-Follows a b = a.method ≡ b.method → (a.range.start ≤ b.range.start) × ((a.range.end ≤ b.range.start) ⊎ (b.range.end ≤ a.range.end))
-
--- scopes of one method that the map moves keep that order and stay nested or disjoint
-pub follows_kept : (m : Map) → ((n : ℕ) → Rise (offsets_in m n)) → (a b : AnnotatedScope) → (offsets_in m a.method ≢ gone)
-    → a.range.start ≤ a.range.end → a.range.end ≤ old_size (offsets_in m a.method) → b.range.start ≤ b.range.end
-    → b.range.end ≤ old_size (offsets_in m b.method)
-    → ((moved_row m 0x06 a.method ≡ moved_row m 0x06 b.method) → a.method ≡ b.method)
-    → Follows a b → Follows (scope_image m a) (scope_image m b)
-follows_kept m rises a b live a_order a_within b_order b_within own follows images =
-    let is : a.method ≡ b.method = own images in
-    let f = follows is in
-    let within : b.range.end ≤ old_size (offsets_in m a.method) = subst (λ n. b.range.end ≤ old_size (offsets_in m n)) (sym is) b_within in
-    let start : moved (offsets_in m a.method) a.range.start ≤ moved (offsets_in m a.method) b.range.start =
-    moved_never_falls (offsets_in m a.method) (rises a.method) live a.range.start b.range.start f.0 (omega arith) in
-    subst (λ n. (moved (offsets_in m a.method) a.range.start ≤ moved (offsets_in m n) b.range.start)
-    × ((moved (offsets_in m a.method) a.range.end ≤ moved (offsets_in m n) b.range.start) ⊎
-    (moved (offsets_in m n) b.range.end ≤ moved (offsets_in m a.method) a.range.end))) is (
-      start,
-      elim f.1 [
-        | inl past ↦ inl (moved_never_falls (offsets_in m a.method) (rises a.method) live a.range.end b.range.start past (omega arith))
-        | inr inside ↦ inr (moved_never_falls (offsets_in m a.method) (rises a.method) live b.range.end a.range.end inside a_within)
-      ],
-    )

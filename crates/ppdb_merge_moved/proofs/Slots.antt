@@ -3,6 +3,7 @@ use Rattle.std.proofs.Common.{◌≡◌, ℕ, ◌+◌, ◌≤◌, ◌≢◌, ◌
 use Rattle.std.specs.Prelude.{nat_eq}
 use Rattle.std.specs.List.{filter, filter_map, flat_map, enumerate_from, cons_option}
 use Rattle.std.proofs.lemmas.Bool.{eqb-true, and_parts, both_ways}
+use Rattle.std.proofs.lemmas.List.{map-append}
 use Rattle.ppdb_base.specs.Offsets.{gone, Rise, Kept, old_size}
 use Rattle.ppdb_maps.specs.Readable.{IsReadable}
 use Rattle.ppdb_maps.specs.Map.{Map, moved_row, offsets_in}
@@ -55,10 +56,6 @@ record_kept m method rise live x y kept at p k (s ∷ ss) fits =
     ap (λ l. cons_option (slot_at y p (k, moved_slot (offsets_in m method) s)) l) (record_kept m method rise live x y kept at p (k + 1) ss fits.1)
     ∙ slot_kept m method rise live x y kept at p k s fits.0 (filter_map (slot_at x p) (enumerate_from (k + 1) ss))
 
-map_append : {A B : Type 0} (f : A → B) (xs ys : List A) → map f (xs ++ ys) ≡ map f xs ++ map f ys
-map_append f [] ys = refl
-map_append f (x ∷ xs) ys = ap (λ l. f x ∷ l) (map_append f xs ys)
-
 records_kept : (m : Map) (method : ℕ) → Rise (offsets_in m method) → (offsets_in m method ≢ gone) → (x y : ℕ) → Kept (offsets_in m method) x y
     → x ≤ old_size (offsets_in m method)
     → (p : ℕ) (lists : List (List Slot)) → Each (Each (FitsSlot (offsets_in m method))) lists
@@ -72,7 +69,7 @@ records_kept m method rise live x y kept at p (l ∷ ls) fits =
     (record_kept m method rise live x y kept at p 0 l fits.0)
     ∙ ap (λ t. map (slot_meaning_image m method) (filter_map (slot_at x p) (enumerate_from 0 l)) ++ t)
     (records_kept m method rise live x y kept at (p + 1) ls fits.1)
-    ∙ sym (map_append (slot_meaning_image m method) (filter_map (slot_at x p) (enumerate_from 0 l))
+    ∙ sym (map-append (slot_meaning_image m method) (filter_map (slot_at x p) (enumerate_from 0 l))
     (flat_map (λ hoisted. filter_map (slot_at x hoisted.0) (enumerate_from 0 hoisted.1)) (enumerate_from (p + 1) ls)))
 
 -- ---- the records of a method

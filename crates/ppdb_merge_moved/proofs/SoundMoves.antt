@@ -38,6 +38,7 @@ use Rattle.ppdb_values.specs.declared.custom.CustomBody.{CustomBody}
 use Rattle.ppdb_values.specs.declared.custom.CustomBody.TheVariants.{Async, Hoisted, TypeDocuments, Unread}
 use Rattle.ppdb_values.specs.Rules.{StandsOn}
 use Rattle.ppdb_values.specs.Ranges.{ComesAfter, IsInOrAfter}
+use Rattle.ppdb_values.proofs.Mapped.{row_map}
 use Rattle.ppdb_values_sound_laws.specs.Customs.{SoundCustom, IsBodyOfKind}
 use Rattle.ppdb_values_sound_laws.specs.Methods.{SoundMethod, SoundPoint}
 use Rattle.ppdb_values_sound_laws.specs.Named.{count, HasRow}
@@ -52,7 +53,6 @@ use Rattle.ppdb_merge_items.specs.Unannotated.{value_of_annotated}
 use Rattle.ppdb_merge_items.specs.Annotated.{items_of, with_item}
 use Rattle.ppdb_values_sound_laws.specs.Scopes.{SoundVariable, SoundConstant}
 use Rattle.ppdb_values_sound_laws.specs.Imports.{SoundImport, SoundImportScope}
-use Rattle.ppdb_merge_items.proofs.Mapped.{row_map}
 use Rattle.ppdb_merge_items.proofs.Lists.{Each-filter, Each-map, Each-weaker, Pairs-map, Pairs-weaker, each_row, row_each, pairs_row, row_pairs}
 use Rattle.ppdb_merge_moved.specs.Fits.{Fits, IsImaged, HasSlot, KeepsAsync, AreWithin}
 use Rattle.ppdb_merge_moved.specs.Laws.{IsImageOfNamed, MovedNames}

@@ -6,7 +6,9 @@ ghost use Rattle.ppdb_merge_moved.specs.OnRows.{IsPlaced, HasAll, annotated_by, 
 
 use ppdb_base::{List, Memory};
 use ppdb_merge_items::{AnnotatedFile, AnnotatedScope};
-use ppdb_tables::{DOCUMENT, IMPORT_SCOPE, LOCAL_CONSTANT, LOCAL_SCOPE, LOCAL_VARIABLE};
+use ppdb_tables::{
+    DOCUMENT, IMPORT_SCOPE, LOCAL_CONSTANT, LOCAL_SCOPE, LOCAL_VARIABLE, TYPE_TABLES,
+};
 use ppdb_values::{Annotation, Custom, CustomValue, FileValue, ScopeValue};
 use std::alloc::Global;
 use std::mem;
@@ -82,7 +84,7 @@ impl OnRows {
                 parent.row,
                 Custom { kind, value },
             ),
-            table if table < 0x2d => self.others.push(CustomValue {
+            table if table < TYPE_TABLES => self.others.push(CustomValue {
                 parent,
                 kind,
                 value,

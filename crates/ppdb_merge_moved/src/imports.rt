@@ -1,10 +1,13 @@
 // Imports, moved in their places.
 ghost use Rattle.std.specs.Prelude.{◌≡◌};
 ghost use Rattle.ppdb_merge_moved.specs.Moved.{moved_import};
+ghost use Rattle.ppdb_values.specs.declared.import.ImportValue.TheVariants.{AssemblyNamespace, AssemblyNamespaceAlias};
 
 use crate::images::{is_gone, is_gone_row, is_in_table, moved_type, row_in};
 use crate::moves::{Lives, Moves, keep_live, move_all};
+use ppdb_base::Bytes;
 use ppdb_maps::MapText;
+use ppdb_tables::{ASSEMBLY, ASSEMBLY_REF};
 use ppdb_values::{ImportScopeValue, ImportValue};
 use std::mem;
 use type_blobs::TypeToken;
@@ -17,13 +20,17 @@ impl Lives<MapText> for ImportValue {
 
     fn lives_by(&self, map: &MapText) -> bool {
         match self {
-            ImportValue::AssemblyNamespace { assembly, .. } => !is_gone_row(map, 0x23, *assembly),
+            ImportValue::AssemblyNamespace { assembly, .. } => !is_gone_row(
+                map,
+                ASSEMBLY_REF,
+                *assembly,
+            ),
             ImportValue::AssemblyNamespaceAlias { assembly, .. } => {
-                !is_gone_row(map, 0x23, *assembly)
+                !is_gone_row(map, ASSEMBLY_REF, *assembly)
             }
             ImportValue::AssemblyAlias { assembly, .. } => {
-                let image = map.row_image(0x23, *assembly);
-                !(is_gone(image) || is_in_table(0x20, image))
+                let image = map.row_image(ASSEMBLY_REF, *assembly);
+                !(is_gone(image) || is_in_table(ASSEMBLY, image))
             }
             ImportValue::Target { target } => !is_gone_row(map, target.table, target.row),
             ImportValue::TargetAlias { target, .. } => !is_gone_row(map, target.table, target.row),
@@ -43,37 +50,16 @@ fn moved_import(map: &MapText, import: ImportValue) -> ImportValue
         ImportValue::AssemblyNamespace {
             assembly,
             namespace,
-        } => {
-            let image = map.row_image(0x23, assembly);
-            if is_in_table(0x20, image) {
-                ImportValue::Namespace { namespace }
-            } else {
-                ImportValue::AssemblyNamespace {
-                    assembly: row_in(image),
-                    namespace,
-                }
-            }
-        }
+        } => moved_namespace(map, assembly, namespace),
         ImportValue::AssemblyAlias { alias, assembly } => ImportValue::AssemblyAlias {
             alias,
-            assembly: row_in(map.row_image(0x23, assembly)),
+            assembly: row_in(map.row_image(ASSEMBLY_REF, assembly)),
         },
         ImportValue::AssemblyNamespaceAlias {
             alias,
             assembly,
             namespace,
-        } => {
-            let image = map.row_image(0x23, assembly);
-            if is_in_table(0x20, image) {
-                ImportValue::NamespaceAlias { alias, namespace }
-            } else {
-                ImportValue::AssemblyNamespaceAlias {
-                    alias,
-                    assembly: row_in(image),
-                    namespace,
-                }
-            }
-        }
+        } => moved_namespace_alias(map, alias, assembly, namespace),
         ImportValue::Target { target } => ImportValue::Target {
             target: moved_type(map, target),
         },
@@ -82,6 +68,42 @@ fn moved_import(map: &MapText, import: ImportValue) -> ImportValue
             target: moved_type(map, target),
         },
         import => import,
+    }
+}
+
+/// A namespace of an assembly, moved.
+fn moved_namespace(map: &MapText, assembly: u32, namespace: Bytes) -> ImportValue
+    ensures { result ≡ moved_import map.now (AssemblyNamespace assembly namespace) }
+{
+    let image = map.row_image(ASSEMBLY_REF, assembly);
+    if is_in_table(ASSEMBLY, image) {
+        ImportValue::Namespace { namespace }
+    } else {
+        ImportValue::AssemblyNamespace {
+            assembly: row_in(image),
+            namespace,
+        }
+    }
+}
+
+/// An alias of a namespace of an assembly, moved.
+fn moved_namespace_alias(
+    map: &MapText,
+    alias: Bytes,
+    assembly: u32,
+    namespace: Bytes,
+) -> ImportValue
+    ensures { result ≡ moved_import map.now (AssemblyNamespaceAlias alias assembly namespace) }
+{
+    let image = map.row_image(ASSEMBLY_REF, assembly);
+    if is_in_table(ASSEMBLY, image) {
+        ImportValue::NamespaceAlias { alias, namespace }
+    } else {
+        ImportValue::AssemblyNamespaceAlias {
+            alias,
+            assembly: row_in(image),
+            namespace,
+        }
     }
 }
 

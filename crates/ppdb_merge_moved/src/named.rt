@@ -8,6 +8,7 @@ use crate::moves::moved_all;
 use custom_info::SOURCE_LINK;
 use ppdb_base::{List, Memory};
 use ppdb_maps::MapText;
+use ppdb_tables::MODULE;
 use ppdb_values::{Annotation, CustomBody, CustomValue, DocumentValue};
 use std::alloc::Global;
 
@@ -43,7 +44,7 @@ pub(crate) fn name_documents(
 pub fn is_link(custom: &CustomValue) -> bool
     ensures { result ≡ is_link custom.now }
 {
-    custom.parent.table == 0x00 && custom.parent.row == 1 && custom.kind == SOURCE_LINK
+    custom.parent.table == MODULE && custom.parent.row == 1 && custom.kind == SOURCE_LINK
 }
 
 /// Gives a Source Link record on row 1 of Module a value.

@@ -17,7 +17,7 @@ use Rattle.ppdb_values.specs.Value.{owner_of}
 use Rattle.ppdb_values_reading.specs.declared.scopes.ListRange.{ListRange}
 use Rattle.ppdb_values_reading.specs.declared.scopes.Scope.{Scope}
 pub use Rattle.ppdb_values_reading.specs.Scopes.{scope_in}
-use Rattle.ppdb_values_reading.specs.Scopes.{scopes_in, list_range, IsWithin, next_of}
+use Rattle.ppdb_values_reading.specs.Scopes.{scopes_in, list_range, IsWithin}
 use Rattle.ppdb_values_reading.proofs.Shared.{list_within}
 use Rattle.ppdb_merge_names.specs.References.{Reference, types_of, is_dropped_constant, of_constant}
 use Rattle.ppdb_merge_names.specs.Lists.{of_list, of_scope_constants}
@@ -104,9 +104,6 @@ list_over m raw row end past = let e : end - 1 - (row - 1) ≡ 0 = omega (arith,
 -- ---- the constants of a scope
 
 module _ (m : Map) (raw : RawTables) (owned : ListsAreOwned) (keeps : KeepsLists (λ scope. scope.constants) raw.scopes (length raw.constants)) where
-  abbrev list : ScopeRow → ℕ
-  list scope = scope.constants
-
   abbrev range_of : ℕ → ScopeRow → ListRange
   range_of row scope = list_range (λ s. s.constants) raw.scopes (length raw.constants) (row, scope)
 
@@ -205,10 +202,6 @@ module _ (m : Map) (raw : RawTables) (owned : ListsAreOwned) (keeps : KeepsLists
       sym (flat_map-made (scope_in raw) (of_scope_constants m raw) (numbered raw.scopes)
       ∙ scopes_from 0 raw.scopes (λ i. let e : 0 + i ≡ i = omega arith in rw e refl)
       ∙ begins_first (row_at raw.scopes 1) refl)
-
-pub next_none : {X : Type 0} (xs : List X) → next_of xs ≡ None → xs ≡ []
-next_none [] e = refl
-next_none (x ∷ xs) e = absurd cc
 
 pub scope_dropped : (m : Map) (raw : RawTables) (scope : Scope) → is_dropped m scope.method ≡ true → of_scope_constants m raw scope ≡ []
 scope_dropped m raw scope d = ap (λ (b : Bool). cond b [] (of_list m raw scope.constants)) d

@@ -1,8 +1,7 @@
 -- What a row names, by what is read of it.
-use Rattle.std.proofs.Common.{◌≡◌, ℕ, true, false, ◌||◌, ◌&&◌, not, arith, List, [], ◌∷◌, Option, Some, refl, sym, ap, ◌∙◌, cond, Bool}
-use Rattle.std.specs.Prelude.{unwrap_or, is_some, nat_eq, ◌≢◌}
-use Rattle.std.proofs.lemmas.Bool.Decides.{nat_tests}
-use Rattle.ppdb_base.specs.Place.{at_byte, cell}
+use Rattle.std.proofs.Common.{◌≡◌, ℕ, true, false, ◌||◌, ◌&&◌, not, List, [], ◌∷◌, Option, Some, refl, sym, ap, ◌∙◌, cond, Bool}
+use Rattle.std.specs.Prelude.{unwrap_or, is_some, ◌≢◌}
+use Rattle.ppdb_base.specs.Place.{cell}
 use Rattle.custom_info.specs.Kinds.{kind_of}
 use Rattle.custom_info.specs.declared.kinds.Kind.{Kind}
 use Rattle.custom_info.specs.declared.kinds.Kind.TheVariants.{Async}
@@ -33,10 +32,6 @@ entry_later first m entry e = rw e refl
 
 pub entry_dropped : (first : Bool) (m : Map) (entry : ℕ) → first ≡ true → is_dropped m entry ≡ true → of_entry first m entry ≡ []
 entry_dropped first m entry e d = rw (e, d) refl
-
-pub entry_named : (first : Bool) (m : Map) (entry : ℕ) → first ≡ true → is_dropped m entry ≡ false
-    → names_some (at_byte 3 20) 0x06 entry ≡ of_entry first m entry
-entry_named first m entry e d = rw (e, d) refl
 
 -- a method by the value that it has
 pub method_is : (raw : RawFile) (row : ℕ) (cells : MethodDebugRow) (o : Option MethodValue) → ValuesAreRows → row_at raw.tables.methods row ≡ Some cells
@@ -69,18 +64,8 @@ signature_gone m row signature is = by (is_some (signature_line m row))
     by true = refl
     by false = rw is refl
 
-pub signature_names : (m : Map) (row signature : ℕ) → signature ≢ 0 → is_some (signature_line m row) ≡ false → is_gone_row m 0x11 signature ≡ false
-    → names (cell 0x31 row 1) 0x11 signature ∷ [] ≡ of_signature m row signature
-signature_names m row signature some unsigned still =
-    let there : nat_eq signature 0 ≡ false = grind (arith, nat_tests) in
-    rw (unsigned, still, there) refl
-
 pub scope_dropped : (m : Map) (row : ℕ) (cells : ScopeRow) → is_dropped m cells.method ≡ true → of_scope m (row, cells) ≡ []
 scope_dropped m row cells d = rw d refl
-
-pub scope_names : (m : Map) (row : ℕ) (cells : ScopeRow) → is_dropped m cells.method ≡ false
-    → names (cell 0x32 row 0) 0x06 cells.method ∷ [] ≡ of_scope m (row, cells)
-scope_names m row cells d = rw d refl
 
 pub machine_dropped : (m : Map) (row : ℕ) (cells : MachineRow) → (is_dropped m cells.move_next || is_dropped m cells.kickoff) ≡ true
     → of_machine m (row, cells) ≡ []

@@ -8,14 +8,14 @@ use Rattle.ppdb_maps.specs.declared.entries.GoneLine.{GoneLine}
 use Rattle.ppdb_maps.specs.declared.image.RowImage.{RowImage}
 use Rattle.ppdb_maps.specs.declared.image.RowImage.TheVariants.{Missing, Row}
 use Rattle.type_blobs_rows.specs.declared.row.PlacedRow.{PlacedRow}
-use Rattle.type_blobs_rows.specs.Walk.{first_of, rest_of}
+use Rattle.blob_grammar.specs.Reader.{tail}
 use Rattle.ppdb_merge_names.specs.References.{Reference, inside, is_enumeration, is_live, takes_constant, live_types}
 
-pub first_is : (rows : List PlacedRow) (row : PlacedRow) → first_of rows ≡ Some row → rows ≡ row ∷ rest_of rows
+pub first_is : (rows : List PlacedRow) (row : PlacedRow) → slice_get rows 0 ≡ Some row → rows ≡ row ∷ tail rows
 first_is [] row e = absurd cc
 first_is (x ∷ rows) row e = let same : x ≡ row = cc in ap (λ (y : PlacedRow). y ∷ rows) same
 
-pub none_is : (rows : List PlacedRow) → first_of rows ≡ None → rows ≡ []
+pub none_is : (rows : List PlacedRow) → slice_get rows 0 ≡ None → rows ≡ []
 none_is [] e = refl
 none_is (x ∷ rows) e = absurd cc
 

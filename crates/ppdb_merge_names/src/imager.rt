@@ -7,6 +7,7 @@ ghost use Rattle.ppdb_merge_names.specs.References.{is_live, names, names_some, 
 use crate::imaged::{Imaged, ReferenceError};
 use ppdb_base::{List, Place};
 use ppdb_maps::{MapText, RowImage};
+use ppdb_tables::ASSEMBLY;
 use std::alloc::Global;
 use std::marker::Model;
 use type_blobs_rows::{PlacedRow, Role};
@@ -130,7 +131,7 @@ impl<'m> Imager<'m> {
     {
         match self.image_of(named.table, named.row) {
             RowImage::Row { table, row: _ } => {
-                named.role != Role::AliasedAssembly || table != 0x20
+                named.role != Role::AliasedAssembly || table != ASSEMBLY
             }
             RowImage::Gone => false,
             RowImage::Missing => true,

@@ -16,7 +16,7 @@ use custom_info::Kind;
 use ppdb_base::{Place, Steps};
 use ppdb_tables::{
     CUSTOM, CustomRow, IMPORT_SCOPE, ImportRow, LOCAL_SCOPE, METHOD_DEBUG, METHOD_DEF, MachineRow,
-    MethodDebugRow, Parent, STATE_MACHINE, ScopeRow, parent_of,
+    MethodDebugRow, Parent, STAND_ALONE_SIG, STATE_MACHINE, ScopeRow, TYPE_TABLES, parent_of,
 };
 use ppdb_values::values_are_rows;
 use ppdb_verify::Verified;
@@ -158,10 +158,10 @@ fn add_signature(row: u32, signature: u32, imager: &mut Imager<'_>) -> Result<()
     if imager.signs(row) {
         return Ok(());
     }
-    if imager.is_gone(0x11, signature) {
+    if imager.is_gone(STAND_ALONE_SIG, signature) {
         return Ok(());
     }
-    imager.add(0x11, signature, cell(METHOD_DEBUG, row, 1))
+    imager.add(STAND_ALONE_SIG, signature, cell(METHOD_DEBUG, row, 1))
 }
 
 /// Adds a method that has points, and its local signature.
@@ -226,7 +226,7 @@ fn is_live_parent(imager: &mut Imager<'_>, parent: Parent) -> bool
     ensures live { result ≡ is_live_parent imager.old.map parent }
     ensures same { imager.new ≡ imager.old }
 {
-    if parent.table >= 0x2d || parent.table == 0x06 && imager.drops(parent.row) {
+    if parent.table >= TYPE_TABLES || parent.table == METHOD_DEF && imager.drops(parent.row) {
         return false;
     }
     !imager.is_gone(parent.table, parent.row)

@@ -3,6 +3,7 @@ use Rattle.std.proofs.Common.{◌≡◌, ℕ, ◌+◌, ◌++◌, List, [], ◌�
 use Rattle.std.specs.Prelude.{flat_map}
 use Rattle.std.specs.List.{filter_map, cons_option, enumerate_from}
 use Rattle.std.specs.Option.{option_map}
+use Rattle.std.proofs.lemmas.List.{map-append}
 
 -- what is made of numbered items without their numbers
 pub map_numbered : {A B C : Type 0} (f : ℕ × A → B) (g : B → C) (h : A → C) → ((n : ℕ) (x : A) → g (f (n, x)) ≡ h x) → (n : ℕ) (xs : List A)
@@ -39,13 +40,9 @@ pub filter_map_append : {A B : Type 0} (f : A → Option B) (xs ys : List A) →
 filter_map_append f [] ys = refl
 filter_map_append f (x ∷ xs) ys = ap (cons_option (f x)) (filter_map_append f xs ys) ∙ cons_append (f x) (filter_map f xs) (filter_map f ys)
 
-pub map_append : {A B : Type 0} (f : A → B) (xs ys : List A) → map f (xs ++ ys) ≡ map f xs ++ map f ys
-map_append f [] ys = refl
-map_append f (x ∷ xs) ys = ap (λ l. f x ∷ l) (map_append f xs ys)
-
 pub map_flat : {A B C : Type 0} (g : B → C) (f : A → List B) (xs : List A) → map g (flat_map f xs) ≡ flat_map (λ x. map g (f x)) xs
 map_flat g f [] = refl
-map_flat g f (x ∷ xs) = map_append g (f x) (flat_map f xs) ∙ ap (λ l. map g (f x) ++ l) (map_flat g f xs)
+map_flat g f (x ∷ xs) = map-append g (f x) (flat_map f xs) ∙ ap (λ l. map g (f x) ++ l) (map_flat g f xs)
 
 pub filter_map_flat : {A B C : Type 0} (g : B → Option C) (f : A → List B) (xs : List A)
     → filter_map g (flat_map f xs) ≡ flat_map (λ x. filter_map g (f x)) xs

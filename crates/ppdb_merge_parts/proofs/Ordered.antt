@@ -6,10 +6,6 @@ use Rattle.ppdb_merge_items.specs.Sorted.{in_order}
 use Rattle.ppdb_merge_items.proofs.Orders.{Rises, in_order_rises, of_key, key_kept, one_order}
 
 module _ {A B : Type 0} (f : A → Option B) (key : A → ℕ) (made : B → ℕ) (same : (x : A) (y : B) → f x ≡ Some y → made y ≡ key x) where
-  lower : (a b : ℕ) (xs : List A) → a ≤ b → Rises key b xs → Rises key a xs
-  lower a b [] le rise = tt
-  lower a b (x ∷ xs) le rise = (omega (arith, rise.0), rise.1)
-
   lower_made : (a b : ℕ) (ys : List B) → a ≤ b → Rises made b ys → Rises made a ys
   lower_made a b [] le rise = tt
   lower_made a b (y ∷ ys) le rise = (omega (arith, rise.0), rise.1)

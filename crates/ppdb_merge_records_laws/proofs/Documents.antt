@@ -7,19 +7,20 @@ use Rattle.std.proofs.lemmas.Bool.{cases_lt, eq-eqb, eqb-true, ne_eqb, and_parts
 use Rattle.std.proofs.lemmas.List.{map-append}
 use Rattle.std.proofs.lemmas.List.Elements.{filter-append}
 use Rattle.ppdb_maps.specs.Map.{Map}
-use Rattle.ppdb_tables.specs.Parents.{CodesAreParents}
+use Rattle.ppdb_maps.proofs.Named.{bytes_turned}
+use Rattle.ppdb_tables.specs.Parents.{CodesAreParents, coded_of}
 use Rattle.ppdb_tables.specs.RawTables.{row_at}
 use Rattle.ppdb_values.specs.declared.annotation.Annotation.{Annotation}
 use Rattle.ppdb_values.specs.declared.custom.CustomValue.{CustomValue}
 use Rattle.ppdb_values.specs.declared.file.DocumentValue.{DocumentValue}
 use Rattle.ppdb_values.specs.declared.file.FileValue.{FileValue}
 use Rattle.ppdb_values.specs.Meaning.{annotated_on, annotated_from, without_parent}
-use Rattle.ppdb_values_sound_laws.specs.Customs.{SoundCustom, SoundCustoms, coded_of}
+use Rattle.ppdb_values.proofs.Mapped.{row_map}
+use Rattle.ppdb_values_sound_laws.specs.Customs.{SoundCustom, SoundCustoms}
 use Rattle.ppdb_values_sound_laws.specs.Named.{HasRow}
 use Rattle.ppdb_merge_items.specs.Annotated.{with_item}
 use Rattle.ppdb_merge_items.specs.Each.{Each, Pairs}
 use Rattle.ppdb_merge_items.proofs.Lists.{Each-filter, Each-weaker, Pairs-weaker, each_of, each_row}
-use Rattle.ppdb_merge_items.proofs.Mapped.{row_map}
 use Rattle.ppdb_merge_items.proofs.Orders.{Rises, one_order, rises_filter, rises_of}
 use Rattle.ppdb_merge_items.proofs.Parents.{HasTag, codes_same}
 use Rattle.ppdb_merge_items.proofs.Rows.{at}
@@ -178,14 +179,6 @@ module _ (value : FileValue) (row_passes : ℕ → Bool) (p : DocumentValue → 
 
 -- ---- documents by the rows that they have in the joined file
 
-bytes_turn : (xs ys : List ℕ) → bytes_eq xs ys ≡ bytes_eq ys xs
-bytes_turn xs ys = step (bytes_eq xs ys) refl
-  where
-    step : (b : Bool) → bytes_eq xs ys ≡ b → b ≡ bytes_eq ys xs
-    step true is = let same : xs ≡ ys = same_bytes xs ys is in sym (rw same (bytes_same ys))
-    step false is =
-        sym (bytes_apart ys xs (λ e. let no : ◌≡◌ {A = Bool} true false = sym (bytes_same ys) ∙ ap (λ l. bytes_eq l ys) e ∙ is in absurd (cc)))
-
 -- an input's document has the name of a joined one
 abbrev pub named_as : Option DocumentValue → DocumentValue → Bool
 named_as None e = false
@@ -208,7 +201,7 @@ module _ (inputs : List MovedBy) where
   named_here : (name : List ℕ) (o : Option DocumentValue) (e : DocumentValue) → e.name ≡ name
       → passes (λ (d : DocumentValue). bytes_eq d.name name) o ≡ named_as o e
   named_here name None e is = refl
-  named_here name (Some d) e is = ap (bytes_eq d.name) (sym is) ∙ bytes_turn d.name e.name
+  named_here name (Some d) e is = ap (bytes_eq d.name) (sym is) ∙ bytes_turned d.name e.name
 
   document_at : (row : ℕ) (e : DocumentValue) → 1 ≤ row_named documents e.name
       → nat_eq (row_named documents e.name) row ≡ named_as (row_at documents row) e

@@ -5,14 +5,13 @@ use Rattle.std.specs.Prelude.{nat_eq, flat_map, position, sum_by}
 use Rattle.std.specs.List.{enumerate_from}
 use Rattle.std.specs.Option.{option_map}
 use Rattle.std.proofs.lemmas.Bool.{eq-eqb, ne_eqb}
-use Rattle.std.proofs.lemmas.List.{length-map}
+use Rattle.std.proofs.lemmas.List.{length-map, map-append}
 use Rattle.std.proofs.lemmas.List.FromFn.{length-enumerate_from}
 use Rattle.std.proofs.lemmas.List.Sums.{sum_by-cons}
 use Rattle.ppdb_values.specs.declared.import.ImportScopeValue.{ImportScopeValue}
 use Rattle.ppdb_merge_items.specs.Each.{Each}
 use Rattle.ppdb_merge_joined.proofs.Names.{position_cons}
 use Rattle.ppdb_merge_parts.specs.Flat.{MovedBy}
-use Rattle.ppdb_merge_parts.proofs.Lists.{map_append}
 use Rattle.ppdb_merge_records_laws.specs.Records.{ImportScopesFollow, Numbered, Origin, origin_of}
 
 -- after items of which none passes
@@ -65,7 +64,7 @@ module _ (number row : ℕ) where
       → position is_it (map origin_of (flat_map of_input (enumerate_from first (before ++ input ∷ after)))) ≡ Some (sum_by count before + k)
   follows first [] after input k same is less =
       let e : k ≡ sum_by count [] + k = omega arith in
-      ap (position is_it) (map_append origin_of (of_input (first, input)) (flat_map of_input (enumerate_from (first + 1) after)))
+      ap (position is_it) (map-append origin_of (of_input (first, input)) (flat_map of_input (enumerate_from (first + 1) after)))
       ∙ at_it (first, input) 1 k input.value.imports (map origin_of (flat_map of_input (enumerate_from (first + 1) after))) (omega (arith, same))
       (omega (arith, is)) less
       ∙ ap (λ n. Some n) e
@@ -74,7 +73,7 @@ module _ (number row : ℕ) where
       let sums = sum_by-cons count b bs in
       let all = many (first, b) 1 b.value.imports in
       let e : length (origins (first, b) 1 b.value.imports) + (sum_by count bs + k) ≡ sum_by count (b ∷ bs) + k = omega (arith, sums, all) in
-      ap (position is_it) (map_append origin_of (of_input (first, b)) (flat_map of_input (enumerate_from (first + 1) (bs ++ input ∷ after))))
+      ap (position is_it) (map-append origin_of (of_input (first, b)) (flat_map of_input (enumerate_from (first + 1) (bs ++ input ∷ after))))
       ∙ position_after is_it (origins (first, b) 1 b.value.imports) rest (sum_by count bs + k) (not_it (first, b) 1 b.value.imports (omega (arith, same)))
       (follows (first + 1) bs after input k (omega (arith, same)) is less)
       ∙ ap (λ n. Some n) e

@@ -7,7 +7,7 @@ use Rattle.std.specs.Option.{option_map}
 use Rattle.std.proofs.lemmas.Bool.{eq-eqb, eqb-true, ne_eqb}
 use Rattle.ppdb_tables.specs.RawTables.{row_at}
 use Rattle.ppdb_merge_items.specs.Each.{Each, Pairs}
-use Rattle.ppdb_merge_items.proofs.Lists.{Each-weaker, Each-filter, each_of}
+use Rattle.ppdb_merge_items.proofs.Lists.{Each-weaker, each_of}
 use Rattle.ppdb_merge_joined.proofs.Each.{Pairs-flat}
 use Rattle.ppdb_merge_joined.proofs.Names.{position_cons}
 use Rattle.ppdb_merge_records_laws.specs.Records.{rows_left}
@@ -70,14 +70,6 @@ module _ {A : Type 0} (p : A → Bool) where
   found_at xs once (suc i) = found xs once i
 
 -- ---- rows that differ
-
-pub Pairs-filter : {A : Type 0} (R : A → A → Type 0) (p : A → Bool) (xs : List A) → Pairs R xs → Pairs R (filter p xs)
-Pairs-filter R p [] pairs = tt
-Pairs-filter R p (x ∷ xs) pairs = step (p x) (Pairs-filter R p xs pairs.1)
-  where
-    step : (b : Bool) → Pairs R (filter p xs) → Pairs R (cond b (x ∷ filter p xs) (filter p xs))
-    step true rest = (Each-filter (R x) (R x) p (λ y is holds. holds) xs pairs.0, rest)
-    step false rest = rest
 
 -- the rows of a table of numbered inputs
 abbrev pub rows_in : {X A : Type 0} → (X → List A) → List (ℕ × X) → List ((ℕ × X) × ℕ × A)

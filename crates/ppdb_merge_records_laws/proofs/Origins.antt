@@ -16,10 +16,11 @@ use Rattle.ppdb_merge_items.proofs.Lists.{Each-weaker, each_of, Pairs-map, Pairs
 use Rattle.ppdb_merge_joined.proofs.Each.{Pairs-flat}
 use Rattle.ppdb_merge_joined.proofs.Kept.{in_order_pairs}
 use Rattle.ppdb_merge_moved.specs.Moved.{moved_range, is_empty}
+use Rattle.ppdb_merge_moved.proofs.Lists.{Pairs-filter}
 use Rattle.ppdb_merge_parts.specs.Flat.{MovedBy}
 use Rattle.ppdb_merge_records_laws.specs.Records.{Numbered, Origin, numbered_rows, origin_of, scopes_left, scope_origins, rows_left, owned_origins, import_origins}
 use Rattle.ppdb_merge_records_laws.specs.Records.{origins_in}
-use Rattle.ppdb_merge_records_laws.proofs.Numbers.{Differ, differ_turns, Pairs-filter, rows_apart, rows_differ, owned_within, owned_differ}
+use Rattle.ppdb_merge_records_laws.proofs.Numbers.{Differ, differ_turns, rows_apart, rows_differ, owned_within, owned_differ}
 
 abbrev Row : Type 0
 Row = Numbered × ℕ × ScopeValue

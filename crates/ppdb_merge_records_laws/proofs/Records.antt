@@ -6,14 +6,15 @@ use Rattle.std.specs.List.{filter_map, enumerate_from}
 use Rattle.std.specs.Option.{option_map}
 use Rattle.std.proofs.lemmas.Bool.{cases_lt, eq-eqb, eqb-true, ne_eqb, and_parts, lt-ltb, ltb-true}
 use Rattle.ppdb_maps.specs.Readable.{IsReadable}
-use Rattle.ppdb_tables.specs.Parents.{CodesAreParents, coded_in}
+use Rattle.ppdb_tables.specs.Parents.{CodesAreParents, coded_in, coded_of}
 use Rattle.ppdb_tables.specs.RawTables.{row_at}
 use Rattle.ppdb_values.specs.declared.annotation.Annotation.{Annotation}
 use Rattle.ppdb_values.specs.declared.annotation.Custom.{Custom}
 use Rattle.ppdb_values.specs.declared.custom.CustomValue.{CustomValue}
 use Rattle.ppdb_values.specs.declared.file.DocumentValue.{DocumentValue}
 use Rattle.ppdb_values.specs.Meaning.{annotated_on, without_parent}
-use Rattle.ppdb_values_sound_laws.specs.Customs.{SoundCustom, SoundCustoms, coded_of}
+use Rattle.ppdb_values.proofs.Mapped.{row_map}
+use Rattle.ppdb_values_sound_laws.specs.Customs.{SoundCustom, SoundCustoms}
 use Rattle.ppdb_merge_items.specs.declared.file.AnnotatedFile.{AnnotatedFile}
 use Rattle.ppdb_merge_items.specs.Annotated.{all_customs, annotated_file, on_row, placed}
 use Rattle.ppdb_merge_items.specs.Each.{Each, Pairs}
@@ -21,7 +22,7 @@ use Rattle.ppdb_merge_items.specs.Sorted.{in_order}
 use Rattle.ppdb_merge_items.specs.Unannotated.{value_of_annotated}
 use Rattle.ppdb_merge_items.proofs.Files.{parts_filter, only_first, only_second, only_third, only_fourth, only_fifth, only_sixth}
 use Rattle.ppdb_merge_items.proofs.Lists.{Each-append, Each-enumerate, Each-filter, Each-map, Each-weaker, Pairs-weaker, each_of, each_row}
-use Rattle.ppdb_merge_items.proofs.Mapped.{map_map_both, row_map}
+use Rattle.ppdb_merge_items.proofs.Mapped.{map_map_both}
 use Rattle.ppdb_merge_items.proofs.Orders.{in_order_each, in_order_keeps, in_order_rises, key_kept, one_order}
 use Rattle.ppdb_merge_items.proofs.Parents.{HasTag, codes_same}
 use Rattle.ppdb_merge_items.proofs.Rows.{at, none_placed, one_parent}

@@ -5,7 +5,8 @@ use Rattle.std.specs.Prelude.{◌≡◌, ℕ, suc, ◌+◌, ◌≤◌, ◌++◌,
 use Rattle.std.specs.Prelude.{option_map}
 use Rattle.ppdb_maps.specs.{Map.{Map, moved_row, offsets_in}, Readable.IsReadable}
 use Rattle.ppdb_values.specs.{declared.custom.CustomValue.CustomValue, declared.file.FileValue.FileValue, declared.scope.ScopeValue.ScopeValue, Parts.first_item}
-use Rattle.ppdb_values_sound_laws.specs.Customs.{SoundCustoms, coded_of}
+use Rattle.ppdb_tables.specs.Parents.{coded_of}
+use Rattle.ppdb_values_sound_laws.specs.Customs.{SoundCustoms}
 use Rattle.ppdb_merge_items.specs.{Each.Each, NamedRows.{goes_constant, live_custom}, Sorted.in_order}
 use Rattle.ppdb_merge_joined.specs.{Joined.{row_in, with_documents}, Same.{fresh, same_record}}
 use Rattle.ppdb_merge_moved.specs.Moved.{moved_range, is_empty, linked, moved_body, moved_parent}

@@ -122,9 +122,6 @@ blob_some signature ps =
 abbrev after_step : Map → List ℕ → MethodValue → Option MethodValue
 after_step m documents method = option_map (renumbered_method (row_in documents)) (moved_method m method)
 
-pub after_none : (raw : RawFile) (m : Map) (documents : List ℕ) (row : ℕ) → method_at (value_of raw) row ≡ None → method_after raw m documents row ≡ None
-after_none raw m documents row is = ap (option_and_then (after_step m documents)) is
-
 pub after_some : (raw : RawFile) (m : Map) (documents : List ℕ) (row : ℕ) (method : MethodValue) → method_at (value_of raw) row ≡ Some method
     → All HasDocument method.points
     → method_after raw m documents row ≡ with_moved m method (moved_in (offsets_in m method.method) documents method.points)

@@ -3,4 +3,4 @@ mod Read
 mod After
 mod Asked
 mod Rows
-mod RowImages
+pub mod RowImages

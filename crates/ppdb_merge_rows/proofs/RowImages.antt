@@ -94,7 +94,7 @@ rows_are_images = record {
 
 -- ---- methods
 
-found_is : (row : ℕ) (methods : List MethodValue) (method : MethodValue) → find (λ (e : MethodValue). e.method == row) methods ≡ Some method
+pub found_is : (row : ℕ) (methods : List MethodValue) (method : MethodValue) → find (λ (e : MethodValue). e.method == row) methods ≡ Some method
     → method.method ≡ row
 found_is row [] method found = absurd cc
 found_is row (e ∷ es) method found = step (e.method == row) refl found (found_is row es method)

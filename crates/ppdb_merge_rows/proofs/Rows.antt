@@ -1,9 +1,7 @@
 -- Rows that were read.
 use Rattle.std.proofs.Common.{◌≡◌, ℕ, zero, suc, ◌≤◌, refl, List, [], ◌∷◌, Option, Some, None, length, sym, ap, subst, ◌∙◌, arith, slice_get}
-use Rattle.std.specs.Prelude.{All, take, drop, ◌++◌}
-use Rattle.std.specs.List.{refill}
+use Rattle.std.specs.Prelude.{All}
 use Rattle.std.specs.Option.{option_map}
-use Rattle.std.proofs.Math.Seq.{take-append_seam}
 use Rattle.std.proofs.lemmas.List.Elements.{All-head, All-tail}
 use Rattle.ppdb_tables.specs.declared.rows.ImportRow.{ImportRow}
 use Rattle.ppdb_tables.specs.declared.rows.ScopeRow.{ScopeRow}
@@ -72,8 +70,3 @@ module _ (raw : RawFile) (own : OwnTheirLists raw) (row : ℕ) (scope : Scope) (
 
   pub scope_listed : HasLists raw.tables scope
   scope_listed = all_row (HasLists raw.tables) (scopes_in raw.tables) row scope own.within there
-
--- ---- lists that are written in place
-
-pub refilled : {A : Type 0} (old new : List A) → length new ≡ length old → refill (length old) old new ≡ new
-refilled old new same = ap (λ (n : ℕ). take n (new ++ drop (length new) old)) (sym same) ∙ take-append_seam new (drop (length new) old)

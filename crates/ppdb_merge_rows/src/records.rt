@@ -17,7 +17,7 @@ use custom_info::SOURCE_LINK;
 use ppdb_base::{List, Memory, Steps};
 use ppdb_maps::MapText;
 use ppdb_merge_moved::{InMethod, Moves};
-use ppdb_tables::Parent;
+use ppdb_tables::{MODULE, Parent};
 use ppdb_values::CustomBody;
 use ppdb_values_reading::{LentBody, read_custom};
 use ppdb_verify::Verified;
@@ -86,7 +86,7 @@ fn body_of<'a>(alloc: Global, body: LentBody<'a>) -> Result<MovedBody<'a>, Memor
 fn link_of(map: &MapText, parent: Parent, kind: [u8; 16]) -> Option<&[u8]>
     ensures { option_copied result ≡ cond (is_at 0x00 1 parent && bytes_eq kind source_link) map.now.link None }
 {
-    if parent.table == 0x00 && parent.row == 1 && kind == SOURCE_LINK {
+    if parent.table == MODULE && parent.row == 1 && kind == SOURCE_LINK {
         map.link()
     } else {
         None

@@ -1,7 +1,6 @@
 // What becomes of local scopes, and of the variables that they own.
-ghost use Rattle.std.specs.Prelude.{◌≡◌, ◌+◌, ◌≤◌, ◌<◌, ◌^◌, length, Some};
+ghost use Rattle.std.specs.Prelude.{◌≡◌, ◌+◌, ◌≤◌, ◌<◌, ◌^◌, Some};
 ghost use Rattle.ppdb_tables.specs.RawTables.{row_at};
-ghost use Rattle.ppdb_values.specs.Owners.{list_end};
 ghost use Rattle.ppdb_values.specs.Rules.{HasRow};
 ghost use Rattle.ppdb_values.specs.Value.{value_of};
 ghost use Rattle.ppdb_verify.specs.Views.{raw_file};
@@ -14,10 +13,10 @@ use custom_info::Range;
 use ppdb_base::Steps;
 use ppdb_maps::MapText;
 use ppdb_merge_moved::Moves;
-use ppdb_tables::{LOCAL_CONSTANT, LOCAL_SCOPE, LOCAL_VARIABLE, METHOD_DEF};
+use ppdb_tables::METHOD_DEF;
 use ppdb_values_reading::{LentVariable, ListRange, Scope, read_variable, scopes_own_their_lists};
 use ppdb_verify::Verified;
-use ppdb_verify_rows::{count, scope};
+use ppdb_verify_rows::{list_ends, scope};
 use std::sync::ledger::Ledger;
 
 /// The cells of a scope that is kept. What it owns are the rows of its lists in its own file.
@@ -29,25 +28,6 @@ pub struct MovedScope {
     pub import: u32,
     /// The IL offsets at which the scope holds.
     pub range: Range,
-}
-
-/// Where the lists of the scope of a row end, of variables and of constants: where those of the next scope begin.
-fn ends_of<L: Ledger>(file: &Verified<'_>, row: u32, steps: &mut Steps<L>) -> (u32, u32)
-    requires there { HasRow (raw_file file.now).tables 0x32 row }
-    ensures variables { result.0 ≡ list_end (λ scope. scope.variables) (raw_file file.now).tables.scopes row (length (raw_file file.now).tables.variables) }
-    ensures constants { result.1 ≡ list_end (λ scope. scope.constants) (raw_file file.now).tables.scopes row (length (raw_file file.now).tables.constants) }
-    ensures cost { steps.new ≤ steps.old + 1 }
-{
-    file.keeps();
-    if row < count(file, LOCAL_SCOPE) {
-        let next = scope(file, row + 1, steps);
-        (next.variables, next.constants)
-    } else {
-        (
-            count(file, LOCAL_VARIABLE) + 1,
-            count(file, LOCAL_CONSTANT) + 1,
-        )
-    }
 }
 
 /// Reads a row of LocalScope, and the next, at which its lists end.
@@ -62,7 +42,7 @@ pub fn read_scope<L: Ledger>(file: &Verified<'_>, row: u32, steps: &mut Steps<L>
     file.keeps();
     scopes_own_their_lists();
     let cells = scope(file, row, steps);
-    let (variables_end, constants_end) = ends_of(file, row, steps);
+    let (variables_end, constants_end) = list_ends(file, row, steps);
     Scope {
         method: cells.method,
         import: cells.import,

@@ -1,6 +1,6 @@
 -- What is made of the rows of a table, and the rows themselves.
-use Rattle.std.proofs.Common.{◌≡◌, ℕ, zero, suc, ◌+◌, List, [], ◌∷◌, ◌++◌, map, refl, sym, ap, ◌∙◌, Bool, true, false, cond}
-use Rattle.std.specs.Prelude.{Option, Some, None, slice_get, is_some, unwrap_or, ◌==◌, ◌&&◌}
+use Rattle.std.proofs.Common.{◌≡◌, ℕ, ◌+◌, List, [], ◌∷◌, ◌++◌, map, refl, sym, ap, ◌∙◌, Bool, true, false, cond}
+use Rattle.std.specs.Prelude.{Option, Some, None, is_some, unwrap_or, ◌==◌, ◌&&◌}
 use Rattle.std.specs.List.{filter, filter_map, flat_map, enumerate_from, cons_option}
 use Rattle.std.specs.Option.{option_map}
 use Rattle.custom_info.specs.declared.slots.Slot.{Slot}
@@ -15,7 +15,7 @@ use Rattle.ppdb_values.specs.Meaning.{SlotMeaning, slot_at, slots_at}
 use Rattle.ppdb_values.specs.Parts.{customs_on, import_chain, is_at, holds, scopes_at as scopes_of_value, slots_in}
 use Rattle.ppdb_values.specs.RawFile.{RawFile}
 use Rattle.ppdb_values.specs.Value.{value_of, scope_of, range_of}
-use Rattle.ppdb_values.proofs.Mapped.{scopes_are_rows, chain_is_rows}
+use Rattle.ppdb_values.proofs.Mapped.{scopes_are_rows, chain_is_rows, row_map}
 use Rattle.ppdb_queries.specs.Chains.{link_of, links_from}
 use Rattle.ppdb_queries.specs.Hoisted.{hoisted_at, hoisted_at_slot, hoisted_in, slots_from, slots_of}
 use Rattle.ppdb_queries.specs.Laws.{hoisted_records, at_position, of_scope, of_view, of_import, of_link}
@@ -25,15 +25,6 @@ use Rattle.ppdb_queries.specs.Scopes.{scope_view, scopes_at}
 map_map : {X Y Z : Type 0} (f : X → Y) (g : Y → Z) (xs : List X) → map g (map f xs) ≡ map (λ x. g (f x)) xs
 map_map f g [] = refl
 map_map f g (x ∷ xs) = ap (λ rest. g (f x) ∷ rest) (map_map f g xs)
-
-get_map : {X Y : Type 0} (f : X → Y) (xs : List X) (i : ℕ) → slice_get (map f xs) i ≡ option_map f (slice_get xs i)
-get_map f [] i = refl
-get_map f (x ∷ xs) zero = refl
-get_map f (x ∷ xs) (suc i) = get_map f xs i
-
-row_map : {X Y : Type 0} (f : X → Y) (xs : List X) (row : ℕ) → row_at (map f xs) row ≡ option_map f (row_at xs row)
-row_map f xs zero = refl
-row_map f xs (suc i) = get_map f xs i
 
 pub document_is : (raw : RawFile) (n : ℕ) → row_at (value_of raw).documents n ≡ option_map (document_of raw.tables) (row_at raw.tables.documents n)
 document_is raw n = row_map (document_of raw.tables) raw.tables.documents n

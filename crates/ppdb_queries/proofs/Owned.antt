@@ -16,8 +16,7 @@ use Rattle.ppdb_values.specs.Parts.{first_item}
 use Rattle.ppdb_values.specs.RawFile.{RawFile}
 use Rattle.ppdb_values.specs.Rules.{KeepsLists, KeepsRules}
 use Rattle.ppdb_values.specs.Value.{value_of, scope_of, variable_of, owned_by}
-use Rattle.ppdb_values.proofs.Lists.{owned_is_list}
-use Rattle.ppdb_queries.proofs.Keys.{key_at}
+use Rattle.ppdb_values.proofs.Lists.{owned_is_list, rises}
 use Rattle.ppdb_queries.specs.Laws.{ListsAreValues, ViewIsThere}
 use Rattle.ppdb_queries.specs.Scopes.{scope_view, scopes_at}
 use Rattle.std.proofs.lemmas.List.Elements.{All-nil, All-cons, All-map, All-filter}
@@ -25,18 +24,6 @@ use Rattle.ppdb_values.specs.Parts.{holds}
 use Rattle.ppdb_values.specs.Value.{range_of}
 
 -- ---- lists in order
-
--- a later row has no lower list
-rises : (list : ScopeRow → ℕ) (scopes : List ScopeRow) (items a b : ℕ) (x y : ScopeRow) → KeepsLists list scopes items → row_at scopes a ≡ Some x
-    → row_at scopes b ≡ Some y → a ≤ b → list x ≤ list y
-rises list scopes items a b x y keeps hx hy le =
-    let kx = key_at list scopes a x hx in
-    let ky = key_at list scopes b y hy in
-    let wx = row_within scopes a x hx in
-    let wy = row_within scopes b y hy in
-    let len = length-map scopes list in
-    let h = keeps.sorted (a - 1) (b - 1) (omega arith) (omega (arith, wy, len)) in
-    omega (arith, kx, ky, h)
 
 -- a list begins at an item, or right after the last
 begins : (list : ScopeRow → ℕ) (scopes : List ScopeRow) (items n : ℕ) (scope : ScopeRow) → KeepsLists list scopes items → row_at scopes n ≡ Some scope

@@ -1,24 +1,15 @@
 -- A walk over the records of a method, one after the other.
-use Rattle.std.proofs.Common.{◌≡◌, ℕ, zero, suc, ◌+◌, ◌<◌, ◌≤◌, List, [], ◌∷◌, length, refl, ap, arith}
-use Rattle.std.specs.Prelude.{Option, Some, slice_get}
+use Rattle.std.proofs.Common.{◌≡◌, ℕ, ◌+◌, ◌<◌, ◌≤◌, List, [], ◌∷◌, length, refl, ap, arith}
+use Rattle.std.specs.Prelude.{Option, Some}
 use Rattle.ppdb_tables.specs.declared.rows.CustomRow.{CustomRow}
 use Rattle.ppdb_tables.specs.RawTables.{RawTables, row_at}
+use Rattle.ppdb_tables.proofs.NumberedRows.{row_there}
 use Rattle.ppdb_queries.specs.Cursors.{next_of}
 use Rattle.ppdb_queries.specs.Hoisted.{slots_from, slots_of, hoisted_in, hoisted_left, hoisted_at}
 use Rattle.ppdb_queries.specs.declared.run.Run.{Run}
 use Rattle.ppdb_queries.specs.Runs.{rows_in, customs_at}
 use Rattle.ppdb_queries.specs.declared.hoisted.Hoisted.{Hoisted}
 use Rattle.ppdb_queries.proofs.Views.{run_step}
-
-get_found : {X : Type 0} (xs : List X) (i : ℕ) → i < length xs → (x : X) × (slice_get xs i ≡ Some x)
-get_found [] i h = absurd (omega arith)
-get_found (x ∷ xs) zero h = (x, refl)
-get_found (x ∷ xs) (suc i) h = get_found xs i (omega arith)
-
--- a row of the table is there
-row_found : {X : Type 0} (rows : List X) (row : ℕ) → 1 ≤ row → row ≤ length rows → (x : X) × (row_at rows row ≡ Some x)
-row_found rows zero from to = absurd (omega arith)
-row_found rows (suc i) from to = get_found rows i (omega arith)
 
 -- where there is no next item, nothing is left
 pub none_left : {X : Type 0} (xs : List X) (next : Option X) → next ≡ next_of xs → ((x : X) → next ≡ Some x → ⊥) → xs ≡ []
@@ -30,7 +21,7 @@ pub record_next : (raw : RawTables) (x first end : ℕ) (current new : List Hois
     → ((row : CustomRow) → row_at raw.customs first ≡ Some row → new ≡ slots_from x first 0 (slots_of raw row))
     → (hoisted_left raw x new (first + 1) end).items ≡ (hoisted_left raw x current first end).items
 record_next raw x first end current new from forward last none is =
-    let row = row_found raw.customs first from (omega arith) in
+    let row = row_there raw.customs first from (omega arith) in
     let step = run_step raw.customs first end row.0 row.1 forward in
     rw (none, is row.0 row.1, step) refl
 

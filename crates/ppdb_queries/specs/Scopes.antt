@@ -40,7 +40,3 @@ NextScope raw x first end (Some found) = (views_between raw x first end ≡ foun
 abbrev pub rows_passed : ℕ → ℕ → Option (ScopeView × ℕ) → ℕ
 rows_passed first end None = end - first
 rows_passed first end (Some found) = found.1 - first
-
--- where the lists of a scope end
-abbrev pub ends_after : RawTables → ℕ → ℕ × ℕ
-ends_after raw row = (list_end (λ s. s.variables) raw.scopes row (length raw.variables), list_end (λ s. s.constants) raw.scopes row (length raw.constants))

@@ -11,7 +11,6 @@ ghost use Rattle.ppdb_queries.specs.Digits.{digits};
 ghost use Rattle.ppdb_queries.specs.Hoisted.{hoisted_at as hoisted_of, range_at as range_of, slots_from, slots_of};
 ghost use Rattle.ppdb_queries.specs.Runs.{IsNoMethod, customs_at};
 
-use crate::copied::copy_of;
 use crate::method::{NoMethod, judge_method};
 use crate::run::{Run, customs_of};
 use crate::scopes::holds;
@@ -19,7 +18,7 @@ use custom_info::{HOISTED_SCOPES, Range, Slot, SlotCursor};
 use ppdb_base::Steps;
 use ppdb_tables::{CustomRow, METHOD_DEF, Parent};
 use ppdb_verify::Verified;
-use ppdb_verify_rows::{custom, guid_of_kind};
+use ppdb_verify_rows::{copy_of, custom, guid_of_kind};
 use std::marker::Model;
 use std::sync::ledger::Ledger;
 

@@ -7,10 +7,9 @@ ghost use Rattle.ppdb_verify.specs.Views.{tables_of};
 ghost use Rattle.ppdb_queries.specs.Chains.{links_from};
 ghost use Rattle.ppdb_queries.specs.Cursors.{next_of};
 
-use crate::copied::copy_of;
 use ppdb_base::Steps;
 use ppdb_verify::Verified;
-use ppdb_verify_rows::import;
+use ppdb_verify_rows::{copy_of, import};
 use std::marker::Model;
 use std::sync::ledger::Ledger;
 use type_blobs::ImportCursor;

@@ -3,7 +3,6 @@
 //! table is sorted. No call takes memory; each counts the rows that it reads.
 #![tactic(auto)]
 
-mod copied;
 mod hoisted;
 mod imports;
 mod laws;

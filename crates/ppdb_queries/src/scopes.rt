@@ -9,16 +9,15 @@ ghost use Rattle.ppdb_verify.specs.Views.{tables_of};
 ghost use Rattle.ppdb_queries.specs.Cursors.{next_of};
 ghost use Rattle.ppdb_queries.specs.Digits.{digits};
 ghost use Rattle.ppdb_queries.specs.Runs.{IsNoMethod};
-ghost use Rattle.ppdb_queries.specs.Scopes.{scope_view, scopes_at as scopes_in, scope_count, NextScope, rows_passed, ends_after};
+ghost use Rattle.ppdb_queries.specs.Scopes.{scope_view, scopes_at as scopes_in, scope_count, NextScope, rows_passed};
 
-use crate::copied::copy_of;
 use crate::method::NoMethod;
 use crate::run::{Run, scope_run};
 use custom_info::Range;
 use ppdb_base::Steps;
-use ppdb_tables::{LOCAL_CONSTANT, LOCAL_SCOPE, LOCAL_VARIABLE, ScopeRow};
+use ppdb_tables::ScopeRow;
 use ppdb_verify::Verified;
-use ppdb_verify_rows::{count, scope};
+use ppdb_verify_rows::{copy_of, list_ends, scope};
 use std::marker::Model;
 use std::sync::ledger::Ledger;
 
@@ -52,25 +51,6 @@ fn range_of(scope: &ScopeRow) -> Range
     Range {
         start: scope.start,
         end: scope.start + scope.length,
-    }
-}
-
-/// The numbers after the last variable and the last constant of a scope: the next row's lists begin there.
-fn list_ends<L: Ledger>(file: &Verified<'_>, row: u32, steps: &mut Steps<L>) -> (u32, u32)
-    requires there { HasRow (raw_of (tables_of file.now)) 0x32 row }
-    ensures ends { result ≡ ends_after (raw_of (tables_of file.now)) row }
-    ensures later { steps.old ≤ steps.new }
-    ensures cost { steps.new ≤ steps.old + 1 }
-{
-    file.keeps();
-    if row < count(file, LOCAL_SCOPE) {
-        let next = scope(file, row + 1, steps);
-        (next.variables, next.constants)
-    } else {
-        (
-            count(file, LOCAL_VARIABLE) + 1,
-            count(file, LOCAL_CONSTANT) + 1,
-        )
     }
 }
 

@@ -1,13 +1,10 @@
 -- What digits write, and that words which write numbers are texts.
-use Rattle.std.proofs.Common.{ℕ, ◌≡◌, ◌≢◌, ◌+◌, ◌*◌, ◌<◌, ◌≤◌, ◌^◌, List, [], ◌∷◌, length, get_or, sym, ap, ◌∙◌, subst, arith, Result, Ok, Err, IfSome}
-use Rattle.std.proofs.Common.{IfNone}
+use Rattle.std.proofs.Common.{ℕ, ◌≡◌, ◌+◌, ◌*◌, ◌<◌, ◌≤◌, ◌^◌, List, [], ◌∷◌, length, sym, subst, arith}
 use Rattle.std.specs.Char.{digit_value}
 use Rattle.std.specs.Fmt.{decimal}
 use Rattle.std.specs.Str.{IsAscii}
-use Rattle.std.specs.Str.Parse.{AllDigits, IsNumeral, ParsesUnsigned, digits_value}
-use Rattle.std.specs.Result.{result_ok}
+use Rattle.std.specs.Str.Parse.{AllDigits, digits_value}
 use Rattle.std.proofs.lemmas.Fmt.{IsAscii-decimal}
-use Rattle.std.proofs.lemmas.Str.Parse.{without_leading_plus_none}
 use Rattle.std.proofs.lemmas.Bool.Decides.{nat_tests}
 use Rattle.std.proofs.lemmas.Str.Ascii.{IsAscii-nil, IsAscii-cons}
 
@@ -43,23 +40,3 @@ six_digits (a ∷ b ∷ c ∷ d ∷ k ∷ f ∷ []) h e =
         → (((((0 * 16 + a) * 16 + b) * 16 + c) * 16 + d) * 16 + k) * 16 + f ≤ 16777215
     of a b c d k f h0 h1 h2 h3 h4 h5 = omega (arith, h0, h1, h2, h3, h4, h5)
 six_digits (a ∷ b ∷ c ∷ d ∷ k ∷ f ∷ g ∷ ds) h e = absurd (omega (arith, e))
-
--- what is read of a word that does not begin with a plus
-pub hex_parsed : {E : Type 0} (r : Result ℕ E) (word : List ℕ) → ParsesUnsigned 32 16 word r → get_or word 0 0 ≢ 43
-    → IfSome (result_ok r) (λ n. IsNumeral 16 word × (n ≡ digits_value 16 word))
-hex_parsed (Ok n) word h plain =
-    let same = without_leading_plus_none word plain in
-    (subst (IsNumeral 16) same h.0.0, h.1 ∙ ap (digits_value 16) same)
-hex_parsed (Err e) word h plain = tt
-
-pub hex_not_parsed : {E : Type 0} (r : Result ℕ E) (word : List ℕ) → ParsesUnsigned 32 16 word r → get_or word 0 0 ≢ 43
-    → IfNone (result_ok r) (IsNumeral 16 word → digits_value 16 word < 2 ^ 32 → ⊥)
-hex_not_parsed (Ok n) word h plain = tt
-hex_not_parsed (Err e) word h plain = λ numeral below.
-    let same = without_leading_plus_none word plain in
-    h (subst (IsNumeral 16) (sym same) numeral, subst (λ w. digits_value 16 w < 2 ^ 32) (sym same) below)
-
--- a plus is no digit
-pub plus_is_none : (word : List ℕ) → get_or word 0 0 ≡ 43 → IsNumeral 16 word → ⊥
-plus_is_none [] is numeral = omega (arith, is)
-plus_is_none (c ∷ cs) is numeral = let d : digit_value c < 16 = numeral.1.0 in grind (arith, nat_tests, d, is)

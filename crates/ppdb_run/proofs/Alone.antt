@@ -27,9 +27,7 @@ use Rattle.ppdb_merge_items.specs.Each.{Each}
 use Rattle.ppdb_merge_items.specs.NamedRows.{Named, named_rows}
 use Rattle.ppdb_merge_items.specs.Annotated.{annotated_file}
 use Rattle.ppdb_merge_items.specs.Sorted.{in_order}
-use Rattle.ppdb_merge_items.specs.Unannotated.{value_of_annotated}
 use Rattle.ppdb_merge_items.proofs.Lists.{Each-weaker, Each-unmap, each_of}
-use Rattle.ppdb_merge_joined.specs.Joined.{joined}
 use Rattle.ppdb_merge_moved.specs.Fits.{Fits}
 use Rattle.ppdb_merge_moved.specs.Moved.{is_link, moved_file}
 use Rattle.ppdb_merge_moved.proofs.Lists.{Each-filter_map}
@@ -38,16 +36,15 @@ use Rattle.ppdb_merge_fits.specs.Laws.{NoClash}
 use Rattle.ppdb_merge_fits.specs.Rows.{imaged, imaged_rows}
 use Rattle.ppdb_merge_fits.specs.Signatures.{given_signature, given_signatures, with_given, all_images}
 use Rattle.ppdb_merge.specs.declared.trace.Trace.{Trace}
-use Rattle.ppdb_merge.specs.Merged.{Merged, trace_of, moved_files, unless}
+use Rattle.ppdb_merge.specs.Merged.{Merged, trace_of, unless}
 use Rattle.ppdb_merge.specs.Refusals.{added, refusal_of, taken, moved_conflict, clashes_before, claims, methods_in, documents_differ}
 use Rattle.ppdb_merge.specs.Refusals.{link_differs, links_differ}
-use Rattle.ppdb_merge.specs.Together.{above, count_in, differs, images_above, joined_of, misfit_of, rows_differ}
+use Rattle.ppdb_merge.specs.Together.{above, count_in, differs, images_above, misfit_of, rows_differ}
 use Rattle.ppdb_merge_meaning_laws.specs.Kept.{moved_input}
 use Rattle.ppdb_build_sample.specs.Laws.{SampleFits, sample_input}
 use Rattle.ppdb_build_sample.specs.Sample.{sample}
 use Rattle.ppdb_run.specs.Holding.{HoldsSample}
 use Rattle.ppdb_run.specs.SampleLaws.{FittingMapsDoNotClash}
-use Rattle.ppdb_run.specs.Sampled.{remapped_sample}
 use Rattle.ppdb_run.proofs.Silent.{flat_nil}
 use Rattle.ppdb_run.proofs.SilentRows.{made, each_once_each}
 
@@ -184,19 +181,3 @@ module _ (n : ℕ) (raw : RawFile) (fits : SampleFits n) (says : value_of raw �
         let here : refusal_of marks [] m raw ≡ Some e =
         subst (λ (b : Merged). refusal_of b.marks b.traces m raw ≡ Some e) none (subst (λ k. refusal_of before.marks before.traces k raw ≡ Some e) is told) in
         absurd (none-some e (sym (sample_not_refused marks silent readable) ∙ here))
-
--- what is reported is not reported of the sample
-pub finishes : (n : ℕ) (traces : List Trace) (e : MergeError) → HoldsSample n traces → (e ≡ Memory) ⊎ (misfit_of traces ≡ Some e) → e ≡ Memory
-finishes n traces e holds (inl memory) = memory
-finishes n traces e holds (inr told) = absurd (none-some e (sym holds.fits ∙ told))
-
-pub is_remapped : (n : ℕ) (traces : List Trace) (value : FileValue) → HoldsSample n traces → joined_of traces ≡ Ok value → value ≡ remapped_sample n
-is_remapped n traces value holds is =
-    let e : joined_of traces ≡ Ok (value_of_annotated (joined (moved_files traces))) =
-    ap (λ (o : Option MergeError). unless o (Ok (value_of_annotated (joined (moved_files traces))))) holds.fits in
-    let same : value ≡ value_of_annotated (joined (moved_files traces)) = cc in
-    same ∙ ap (λ files. value_of_annotated (joined files)) holds.moved
-
-pub some_input : (n : ℕ) (traces : List Trace) → HoldsSample n traces → traces ≢ []
-some_input n traces holds none =
-    let e : ◌≡◌ {A = List _} [] (moved_input (true, sample_input n) ∷ []) = ap moved_files (sym none) ∙ holds.moved in absurd cc

@@ -133,12 +133,6 @@ pub is_input : (words : List (List ℕ)) (input output : List ℕ) (options : Op
 is_input words input output options files before after name asked e same =
     (Rebuild input output options, asked, first_unread (Rebuild input output options) input files before after name refl (λ all. refl) e same)
 
--- of two maps the first is read first, and the second where the first is a map
-pub is_first_map : (first second output : List ℕ) (files : Option Files) (before after : ℕ) (name : List ℕ) → name ≡ first → after ≡ before
-    → IsUnreadOf (Compose first second output) files before after name
-is_first_map first second output files before after name e same =
-    first_unread (Compose first second output) first files before after name refl (λ all. inl refl) e same
-
 pub one_more : (before after : ℕ) → after ≡ counted before → after < 18446744073709551615 → after ≡ before + 1
 one_more before after is below = of (before == 18446744073709551615) refl
   where

@@ -11,7 +11,7 @@ use Rattle.ppdb_values.specs.declared.annotation.Custom.{Custom}
 use Rattle.ppdb_values.specs.declared.annotation.Annotation.{Annotation}
 use Rattle.ppdb_values.specs.declared.scope.ConstantValue.{ConstantValue}
 use Rattle.ppdb_values.specs.declared.scope.VariableValue.{VariableValue}
-use Rattle.ppdb_values_sound_laws.specs.Customs.{coded_of}
+use Rattle.ppdb_tables.specs.Parents.{coded_of}
 use Rattle.ppdb_merge_items.specs.declared.file.AnnotatedFile.{AnnotatedFile}
 use Rattle.ppdb_merge_items.specs.declared.file.AnnotatedScope.{AnnotatedScope}
 use Rattle.ppdb_merge_items.specs.Each.{Each}
@@ -34,9 +34,6 @@ module _ (marks : List (List ℕ)) where
 
   abbrev pub Records : List CustomValue → Type 0
   Records customs = Each (λ (c : CustomValue). Known c.kind) customs
-
-  abbrev pub On : {A : Type 0} → Annotation A → Type 0
-  On n = Notes n.customs
 
   pub record KnownScope (s : AnnotatedScope) : Type 0 where
     pub customs : Notes s.customs

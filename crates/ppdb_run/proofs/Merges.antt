@@ -211,11 +211,6 @@ module _ (files : Option Files) (marks : List (List ℕ)) (traces more : List Tr
   abbrev behind_file : Files → List ℕ → Step (List Trace)
   behind_file all bytes = file_at all input.map_file >>= with_texts marks traces input bytes
 
-  -- its file is not read
-  pub file_told : (stop : Stop) → IfSome files (λ all. Gives (λ (b : List ℕ). b) (Err stop) (file_at all input.file))
-      → IfSome files (λ all. Gives (λ (_ : Unit {0}). more) (Err stop) (with_input all marks traces input))
-  file_told stop h = stop_over {U = Unit {0}} (λ (b : List ℕ). b) (λ _. more) stop files (λ all. file_at all input.file) behind_file h
-
   module _ (bytes : List ℕ) (read : IfSome files (λ all. file_at all input.file (Ok bytes))) where
     -- its map is not read
     pub map_told : (stop : Stop) → IfSome files (λ all. Gives (λ (b : List ℕ). b) (Err stop) (file_at all input.map_file))

@@ -39,15 +39,12 @@ use Rattle.ppdb_merge_fits.specs.Offsets.{points_beyond, scope_beyond, slot_beyo
 use Rattle.ppdb_merge_fits.proofs.Apart.{each_both}
 use Rattle.ppdb_merge_fits.proofs.First.{flat_append, flat_nested}
 use Rattle.ppdb_merge_fits.proofs.Parts.{custom_beyond, custom_lost}
+use Rattle.ppdb_merge.proofs.Apart.{Each-unnumbered}
 
 -- nothing of a list of items of which nothing is reported
 pub flat_nil : {A B : Type 0} (f : A → List B) (xs : List A) → Each (λ x. f x ≡ []) xs → flat_map f xs ≡ []
 flat_nil f [] each = refl
 flat_nil f (x ∷ xs) each = ap (λ l. l ++ flat_map f xs) each.0 ∙ flat_nil f xs each.1
-
-pub unnumbered : {A : Type 0} (P : A → Type 0) (n : ℕ) (xs : List A) → Each (λ (item : ℕ × A). P item.1) (enumerate_from n xs) → Each P xs
-unnumbered P n [] each = tt
-unnumbered P n (x ∷ xs) each = (each.0, unnumbered P (n + 1) xs each.1)
 
 -- what is reported where a test holds, and where it fails
 pub if_fails : {B : Type 0} (told : List B) (b : Bool) → b ≡ false → cond b told [] ≡ []
@@ -106,7 +103,7 @@ ranges_silent m value each =
     flat_nil (scope_beyond m) value.scopes
     (Each-weaker (λ (s : ScopeValue). s.range.end ≤ old_size (offsets_in m s.method)) (λ s. scope_beyond m s ≡ [])
     (λ s le. within (offsets_in m s.method) s.method s.range.end le) value.scopes
-    (unnumbered (λ (s : ScopeValue). s.range.end ≤ old_size (offsets_in m s.method)) 1 value.scopes
+    (Each-unnumbered (λ (s : ScopeValue). s.range.end ≤ old_size (offsets_in m s.method)) 1 value.scopes
     (Each-unmap (annotated_scope value) (λ (s : AnnotatedScope). s.range.end ≤ old_size (offsets_in m s.method)) (enumerate_from 1 value.scopes) each)))
 
 -- ---- custom records

@@ -33,8 +33,9 @@ use Rattle.ppdb_merge_fits.specs.Slots.{scope_slots, variable_slots, if_slot_unm
 use Rattle.ppdb_merge_fits.specs.Twice.{beside, beside_from, each_once, is_same, if_one_image, twice}
 use Rattle.ppdb_merge_fits.proofs.Apart.{OneNumber}
 use Rattle.ppdb_run.proofs.Images.{same_image}
-use Rattle.ppdb_run.proofs.Silent.{flat_nil, unnumbered, if_holds}
+use Rattle.ppdb_run.proofs.Silent.{flat_nil, if_holds}
 use Rattle.ppdb_merge_fits.proofs.Parts.{if_unmapped}
+use Rattle.ppdb_merge.proofs.Apart.{Each-unnumbered}
 
 -- ---- lists in order, each item once
 
@@ -205,7 +206,7 @@ module _ (m : Map) (value : FileValue) where
       → Each P (variable_slots value)
   by_scope P each =
       Each-flat scope_slots P value.scopes
-      (unnumbered (λ (s : ScopeValue). Each P (scope_slots s)) 1 value.scopes
+      (Each-unnumbered (λ (s : ScopeValue). Each P (scope_slots s)) 1 value.scopes
       (Each-weaker (λ (s : ℕ × ScopeValue). Each (λ v. P (slot_of s.1.method v)) (annotated_scope value s).variables) (λ s. Each P (scope_slots s.1)) in_scope
       (enumerate_from 1 value.scopes)
       (Each-unmap (annotated_scope value) (λ (s : AnnotatedScope). Each (λ v. P (slot_of s.method v)) s.variables) (enumerate_from 1 value.scopes) each)))
@@ -213,7 +214,7 @@ module _ (m : Map) (value : FileValue) where
       in_scope : (s : ℕ × ScopeValue) → Each (λ v. P (slot_of s.1.method v)) (annotated_scope value s).variables → Each P (scope_slots s.1)
       in_scope s each =
           Each-map (λ (v : VariableValue). record { method = s.1.method; slot = v.slot }) P s.1.variables
-          (unnumbered (λ (v : VariableValue). P (record { method = s.1.method; slot = v.slot })) _ s.1.variables
+          (Each-unnumbered (λ (v : VariableValue). P (record { method = s.1.method; slot = v.slot })) _ s.1.variables
           (Each-unmap _ (λ (v : Annotation VariableValue). P (slot_of s.1.method v)) _ each))
 
   abbrev Has : MethodSlot → Type 0

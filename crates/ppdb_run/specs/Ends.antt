@@ -1,5 +1,5 @@
 -- How a run ends: what its status, its text and the files afterwards have to do with the outcome of its words.
-use Rattle.ppdb_values.specs.Names.{counted, MAX_FILE_BYTES, Files, Contents, reading, IsAccepted, AppendsPrefix, lines, count}
+use Rattle.ppdb_values.specs.{Names.{counted, MAX_FILE_BYTES, Files, Contents, reading, IsAccepted, AppendsPrefix, lines, count}, RawFile.RawFile, Value.value_of}
 use Rattle.std.specs.Prelude.{ℕ, ◌≡◌, ◌<◌, ◌≤◌, ◌+◌, ◌-◌, ◌*◌, ◌⊎◌, List, [], ◌∷◌, length, Option, Some, None, Ok, IfSome, option_and_then, slice_get}
 use Rattle.ppdb_run_stops.specs.{declared.status.Status.{Status, TheVariants.{Done, WriteFault, Memory}}, Lines.{read_fault_line, write_fault_line}, Refusals.Outcome, Status.UnlessFault}
 use Rattle.ppdb_merge.specs.declared.trace.Trace.{Trace}
@@ -8,7 +8,6 @@ use Rattle.ppdb_maps.specs.{Map.Map, Text.IsMapOf}
 use Rattle.ppdb_queries_list.specs.{Lists.Lists, declared.line.MethodOffset.MethodOffset}
 use Rattle.ppdb_show.specs.{Bound.query_rows, Lookup.lookup_rows}
 use Rattle.ppdb_queries.specs.{Digits.digits, Runs.customs_at}
-use Rattle.ppdb_values.specs.{RawFile.RawFile, Value.value_of}
 use Rattle.ppdb_verify.specs.Files.{FileFaults, IsRawOf}
 use Rattle.ppdb_run.specs.{Outcome.{IsOutcome, file_at, map_at, unknown_kind, verified, with_input, written}, Writes.{WritesAll, WritesPrefix}}
 

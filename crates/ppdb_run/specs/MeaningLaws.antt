@@ -1,8 +1,7 @@
 -- What a file that is written says, by what its inputs said.
-use Rattle.ppdb_values.specs.Names.{kind_of, Unknown, IsAccepted, MAX_FILE_BYTES}
+use Rattle.ppdb_values.specs.{Names.{kind_of, Unknown, IsAccepted, MAX_FILE_BYTES}, declared.file.FileValue.FileValue, RawFile.RawFile, Rules.KeepsRules, Types.HasTypes, Value.value_of}
 use Rattle.std.specs.Prelude.{◌≡◌, ◌≢◌, ◌≤◌, ℕ, List, [], ◌∷◌, None, Ok, length, map}
 use Rattle.ppdb_maps.specs.Text.{IsMapOf}
-use Rattle.ppdb_values.specs.{declared.file.FileValue.FileValue, RawFile.RawFile, Rules.KeepsRules, Types.HasTypes, Value.value_of}
 use Rattle.ppdb_build_canon.specs.{declared.choice.IdChoice.IdChoice, Canon.{canon, with_id}, Limits.first_limit}
 use Rattle.ppdb_verify.specs.Files.{FileFaults, IsRawOf}
 use Rattle.ppdb_build_written_laws.specs.Written.{IsSameAgain, IsValidFile}

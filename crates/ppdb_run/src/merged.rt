@@ -15,13 +15,10 @@ use ppdb_base::{Bytes, Folder, List, MAX_FILE_BYTES, Memory, Steps};
 use ppdb_build::RowInput;
 use ppdb_merge::RowMerger;
 use ppdb_run_stops::Stop;
-use ppdb_run_words::{Inputs, Pair};
+use ppdb_run_words::{Inputs, MAX_INPUTS, Pair};
 use ppdb_verify::{VerifyError, verify};
 use std::alloc::Global;
 use std::sync::ledger::Ledger;
-
-/// How many inputs are joined at most.
-const MAX_INPUTS: usize = 256;
 
 /// An empty cell for each input that there may be. The bytes of its file are kept there until the joined file is written.
 pub fn free_cells(alloc: Global) -> Result<List<Bytes>, Memory>

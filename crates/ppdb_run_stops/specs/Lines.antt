@@ -2,11 +2,11 @@
 use Prim.Native.String.{String}
 use Rattle.ppdb_values.specs.Names.{Limit, LinkError, MergeError, TableRows, ListPastEnd, PointOffset, LineStep, FileSize, SpanTotal, Unmapped, ImageTwice, MethodTaken, OffsetBeyond, AsyncLost}
 use Rattle.ppdb_values.specs.Names.{KindUnknown, DocumentConflict, RowsDiffer, ImageRange, SlotUnmapped, SlotTwice, DocumentTwice, LinkDiffers}
-use Rattle.std.specs.Prelude.{ℕ, List, [], ◌∷◌, ◌++◌, Some, codes}
+use Rattle.std.specs.Prelude.{ℕ, Bool, true, false, List, [], ◌∷◌, ◌++◌, Some, codes}
 use Rattle.ppdb_base.specs.declared.merge_error.MergeError.TheVariants.{Memory}
+use Rattle.ppdb_base.specs.declared.link_error.LinkError.TheVariants as links
 use Rattle.ppdb_show_lines.specs.{Lines.{Field, Line, mark, number, table, guid, text_of, name as named_bytes}, Pieces.{line, numbered, signed, tabled}}
 use Rattle.ppdb_run_stops.specs.Faults.{said, place_fields}
-use Rattle.ppdb_base.specs.declared.link_error.LinkError.TheVariants as links
 
 -- words, a name and more about it
 abbrev pub about : String → List ℕ → List Field → Line
@@ -42,6 +42,14 @@ merge_fields (SlotTwice method first second image) = said " M11 method " (number
 merge_fields (DocumentTwice first second) = said " M12 documents " (number first) ∷ said " " (number second) ∷ []
 merge_fields (LinkDiffers row) = said " M13 row " (number row) ∷ []
 merge_fields Memory = []
+
+-- an image is refused: it is taken, or above the number of rows
+abbrev pub refuses_image : MergeError → Bool
+refuses_image (ImageTwice t first second image) = true
+refuses_image (MethodTaken input first second image) = true
+refuses_image (ImageRange input t row image rows) = true
+refuses_image (SlotTwice method first second image) = true
+refuses_image error = false
 
 -- a limit of the format, L1 to L6
 abbrev pub limit_text : Limit → List ℕ

@@ -1,9 +1,9 @@
 // What ends a run before its answer, and the line that says so.
-ghost use Rattle.std.specs.Prelude.{◌≡◌, []};
-ghost use Rattle.ppdb_show_lines.specs.Lines.{text_of};
+ghost use Rattle.std.specs.Prelude.{◌≡◌, [], ◌∷◌};
+ghost use Rattle.ppdb_show_lines.specs.Lines.{text_of, name as named_bytes};
 ghost use Rattle.ppdb_show.specs.Lookup.{no_method_line};
 ghost use Rattle.ppdb_run_stops.specs.declared.stop.Stop.TheVariants as stops;
-ghost use Rattle.ppdb_run_stops.specs.Lines.{about};
+ghost use Rattle.ppdb_run_stops.specs.Faults.{said};
 ghost use Rattle.ppdb_run_stops.specs.Refusals.{no_map, sizes_differ, unlinked, unlisted};
 ghost use Rattle.ppdb_run_stops.specs.Causes.{cause_of, line_of, status_of, stop_of};
 ghost use Rattle.ppdb_base.specs.Written.{PutsInto};
@@ -137,7 +137,7 @@ impl Stop<'_> {
 
 /// Puts a line of words and a name.
 fn put_name<O: Sink>(out: &mut O, words: &str, name: &str) -> Result<(), WriteError>
-    ensures { PutsInto O.written O.faults result out.old out.new (text_of (about words.now name.now [])) }
+    ensures { PutsInto O.written O.faults result out.old out.new (text_of (record { word = words.now; fields = said " " (named_bytes name.now) ∷ [] })) }
 {
     put_text_line(out, words, &[Field(" ", Key::None, Name(name.as_bytes()))])
 }

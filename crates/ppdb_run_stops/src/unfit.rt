@@ -1,5 +1,7 @@
 // The lines of inputs that are not joined.
+ghost use Rattle.std.specs.Prelude.{IsTrue};
 ghost use Rattle.ppdb_base.specs.declared.merge_error.MergeError.TheVariants as merge_errors;
+ghost use Rattle.ppdb_run_stops.specs.Lines.{refuses_image};
 ghost use Rattle.ppdb_run_stops.specs.Refusals.{unfit};
 ghost use Rattle.ppdb_base.specs.Written.{PutsInto};
 
@@ -17,18 +19,6 @@ pub fn put_unfit<O: Sink>(out: &mut O, file: &str, error: MergeError) -> Result<
 
     match error {
         E::Unmapped { table, row, place } => put_unmapped(out, file, table, row, place),
-        E::ImageTwice {
-            table,
-            first,
-            second,
-            image,
-        } => put_image_twice(out, file, table, first, second, image),
-        E::MethodTaken {
-            input,
-            first,
-            second,
-            image,
-        } => put_method_taken(out, file, input, first, second, image),
         E::OffsetBeyond {
             method,
             offset,
@@ -43,20 +33,7 @@ pub fn put_unfit<O: Sink>(out: &mut O, file: &str, error: MergeError) -> Result<
             first,
             second,
         } => put_rows_differ(out, file, input, table, first, second),
-        E::ImageRange {
-            input,
-            table,
-            row,
-            image,
-            rows,
-        } => put_image_range(out, file, input, table, row, image, rows),
         E::SlotUnmapped { row, slot } => put_slot_unmapped(out, file, row, slot),
-        E::SlotTwice {
-            method,
-            first,
-            second,
-            image,
-        } => put_slot_twice(out, file, method, first, second, image),
         E::DocumentTwice { first, second } => put_document_twice(out, file, first, second),
         E::LinkDiffers { row } => put_link_differs(out, file, row),
         E::Memory => put_text_line(
@@ -64,6 +41,44 @@ pub fn put_unfit<O: Sink>(out: &mut O, file: &str, error: MergeError) -> Result<
             "unfit",
             &[Field(" ", Key::None, Name(file.as_bytes()))],
         ),
+        _ => put_image_refused(out, file, error),
+    }
+}
+
+/// Puts the line of an input of which an image is refused: it is taken, or above the number of rows.
+fn put_image_refused<O: Sink>(out: &mut O, file: &str, error: MergeError) -> Result<(), WriteError>
+    requires { IsTrue (refuses_image error) }
+    ensures { PutsInto O.written O.faults result out.old out.new (unfit file.now error).text }
+{
+    use MergeError as E;
+
+    match error {
+        E::ImageTwice {
+            table,
+            first,
+            second,
+            image,
+        } => put_image_twice(out, file, table, first, second, image),
+        E::MethodTaken {
+            input,
+            first,
+            second,
+            image,
+        } => put_method_taken(out, file, input, first, second, image),
+        E::ImageRange {
+            input,
+            table,
+            row,
+            image,
+            rows,
+        } => put_image_range(out, file, input, table, row, image, rows),
+        E::SlotTwice {
+            method,
+            first,
+            second,
+            image,
+        } => put_slot_twice(out, file, method, first, second, image),
+        _ => unreachable!(),
     }
 }
 

@@ -1,9 +1,7 @@
 -- The options of words, read from the left.
 use Rattle.std.proofs.Common.{ℕ, ◌≡◌, ◌⊎◌, inl, inr, List, [], ◌∷◌, ◌++◌, Bool, true, false, Option, Some, None, refl, sym, ◌∙◌, ap, subst}
 use Rattle.std.specs.Prelude.{codes, ◌||◌, map, option_to_list}
-use Rattle.std.specs.Str.{bytes_eq}
 use Rattle.uuid.specs.Parts.{swap_fields}
-use Rattle.uuid.specs.Text.{parsed}
 use Rattle.ppdb_run_words.specs.Task.{IsBehindGuid, marks_in}
 use Rattle.ppdb_run_words.specs.Words.{Options, AreOptions, no_option, keep_id, free}
 
@@ -85,19 +83,6 @@ append_nothing (mark ∷ marks) = ap (λ rest. mark ∷ rest) (append_nothing ma
 pub no_mark : (guid : Option (List ℕ)) → ((bytes : List ℕ) → guid ≡ Some bytes → ⊥) → (marks : List (List ℕ)) → marks ≡ marks ++ map swap_fields (option_to_list guid)
 no_mark None none marks = sym (append_nothing marks)
 no_mark (Some bytes) none marks = absurd (none bytes refl)
-
--- a word and what it is followed by
-pub marks_free : (words : List (List ℕ)) (next : List ℕ) (others : List (List ℕ)) → words ≡ codes "--free" ∷ next ∷ others
-    → marks_in words ≡ map swap_fields (option_to_list (parsed next)) ++ marks_in others
-marks_free words next others e = ap marks_in e
-
-pub marks_other : (words : List (List ℕ)) (word : List ℕ) (others : List (List ℕ)) → bytes_eq word (codes "--free") ≡ false → words ≡ word ∷ others
-    → marks_in words ≡ marks_in others
-marks_other words word [] is e = ap marks_in e
-marks_other words word (next ∷ others) is e = ap marks_in e ∙ (rw is refl)
-
-pub marks_last : (words : List (List ℕ)) (word : List ℕ) → words ≡ word ∷ [] → marks_in words ≡ []
-marks_last words word e = ap marks_in e
 
 -- where nothing is left, what was read are the options
 pub ends : (keep : Bool) (rest words : List (List ℕ)) → rest ≡ [] → Reads keep rest words → AreOptions words (record { keep_id = keep; marks = marks_in words })

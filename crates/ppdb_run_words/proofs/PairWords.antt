@@ -4,11 +4,11 @@ use Rattle.std.proofs.Common.{inr, Bool, true, false, cond, refl, sym, ◌∙◌
 use Rattle.std.specs.Prelude.{◌&&◌, ◌==◌, IsTrue, OnErr, Result, Ok, Err, codes, take_while}
 use Rattle.std.specs.declared.alloc.Global.{Global}
 use Rattle.std.proofs.lemmas.Bool.{eqb-true}
-use Rattle.std.proofs.lemmas.List.{drop-map, drop-drop, length-drop, take_all}
+use Rattle.std.proofs.lemmas.List.{take_all}
 use Rattle.std.specs.List.{list_all, prefix_len}
 use Rattle.ppdb_run_words.specs.Task.{NoPair, pairs_of}
 use Rattle.ppdb_run_words.specs.Task.{file_of}
-use Rattle.ppdb_run_words.specs.Words.{Options, AreOptions, no_option, keep_id, free, Input, input_words, is_file_word, texts, NoTask, Words, IsMerge}
+use Rattle.ppdb_run_words.specs.Words.{Options, AreOptions, no_option, keep_id, free, Input, input_words, is_file_word, texts, NoTask, Words}
 use Rattle.ppdb_run_words.specs.Words.{Id, Verify, Show, Query, Links, Breaks, Ask, Lookup, Rebuild, Compose, Merge, Sample}
 
 -- what holds of two
@@ -64,9 +64,6 @@ pub record Prefix (words rest : List (List ℕ)) : Type 0 where
   pub inputs : List Input
   pub whole : words ≡ input_words inputs ++ rest
   pub files : IsTrue (list_all is_file_word (input_words inputs))
-
-pub prefix_all : (words : List (List ℕ)) → Prefix words words
-prefix_all words = record { inputs = []; whole = refl; files = refl }
 
 words_on : (inputs : List Input) (input : Input) (rest : List (List ℕ))
     → input_words inputs ++ input.file ∷ input.map_file ∷ rest ≡ input_words (inputs ++ input ∷ []) ++ rest
@@ -270,6 +267,38 @@ remap_words file map_file output args rest options is f m o options_are = record
   options_are = options_are;
 }
 
+-- too few words
+pub no_remap_few : (args : List (List ℕ)) → length args < 3 → NoTask (codes "remap" ∷ args)
+no_remap_few args few = only_remap args (λ inputs output options h. let same = ap length h.is in absurd (omega (arith, same, few)))
+
+module _ (args : List (List ℕ)) (file map_file output : List ℕ) (back : List (List ℕ)) (is : args ≡ file ∷ map_file ∷ output ∷ back) where
+  -- not all of the first three name files
+  pub no_remap_names : (list_all is_file_word (file ∷ map_file ∷ output ∷ []) ≡ false) → NoTask (codes "remap" ∷ args)
+  no_remap_names not = only_remap args (λ inputs named options h.
+      let given = h.is in
+      let same : file ∷ map_file ∷ output ∷ [] ≡ h.input.file ∷ h.input.map_file ∷ named ∷ [] = cc in
+      let either : false ≡ true = sym not ∙ (ap (λ (w : List (List ℕ)). list_all is_file_word w) same ∙ h.files) in
+      absurd cc)
+
+  -- what is after them are no options
+  pub no_remap_options : ((options : Options) → AreOptions back options → ⊥) → NoTask (codes "remap" ∷ args)
+  no_remap_options refused = only_remap args (λ inputs named options h.
+      let given = h.is in
+      let rest : h.rest ≡ back = cc in
+      refused options (subst (λ w. AreOptions w options) rest h.options_are))
+
+pub first_not : (a b c : Bool) → a ≡ false → (a && (b && (c && true))) ≡ false
+first_not a b c e = rw e refl
+
+pub second_not : (a b c : Bool) → b ≡ false → (a && (b && (c && true))) ≡ false
+second_not true b c e = rw e refl
+second_not false b c e = refl
+
+pub third_not : (a b c : Bool) → c ≡ false → (a && (b && (c && true))) ≡ false
+third_not true true c e = rw e refl
+third_not true false c e = refl
+third_not false b c e = refl
+
 -- ---- the file of the input of a number
 
 pub file_here : (words after : List (List ℕ)) (file map_file : List ℕ) (n : ℕ) → words ≡ file ∷ map_file ∷ after → n ≡ 1 → file ≡ file_of (pairs_of words) n
@@ -305,6 +334,15 @@ pub one_of : (words : List (String Global)) (a : String Global) → 1 ≤ length
 one_of [] a l e = absurd (omega arith)
 one_of (x ∷ words) a l e = λ i. string_bytes (sym e i) ∷ texts (sym (take_all (length (x ∷ words) - 1) words (omega arith)) i)
 
+pub three_of : (words : List (String Global)) (a b c : String Global) → 3 ≤ length words → a ≡ get_or words 0 a → b ≡ get_or words 1 b → c ≡ get_or words 2 c
+    → texts words ≡ string_bytes a ∷ string_bytes b ∷ string_bytes c ∷ texts (take (length words - 3) (drop 3 words))
+three_of [] a b c l e f g = absurd (omega arith)
+three_of (x ∷ []) a b c l e f g = absurd (omega arith)
+three_of (x ∷ y ∷ []) a b c l e f g = absurd (omega arith)
+three_of (x ∷ y ∷ z ∷ words) a b c l e f g = λ i.
+    string_bytes (sym e i) ∷ string_bytes (sym f i) ∷ string_bytes (sym g i)
+    ∷ texts (sym (take_all (length (x ∷ y ∷ z ∷ words) - 3) words (omega arith)) i)
+
 -- its first word, and one more
 pub first_two : (rest : List (String Global)) (a : String Global) → 2 ≤ length rest → a ≡ get_or rest 0 a
     → texts rest ≡ string_bytes a ∷ string_bytes (get_or rest 1 a) ∷ texts (drop 2 rest)
@@ -318,15 +356,6 @@ is_empty words e = eqb-true (length words) 0 e
 pub not_empty : (words : List (String Global)) → (length words == 0) ≡ false → 1 ≤ length words
 not_empty [] e = absurd (let same : true ≡ false = e in cc)
 not_empty (x ∷ words) e = omega arith
-
-pub rest_texts : (words rest : List (String Global)) (i : ℕ) → rest ≡ drop i words → drop i (texts words) ≡ texts rest
-rest_texts words rest i e = drop-map string_bytes i words ∙ ap texts (sym e)
-
-pub place_next : (words rest : List (String Global)) → length rest ≤ length words → 2 ≤ length rest → rest ≡ drop (length words - length rest) words
-    → drop 2 rest ≡ drop (length words - length (drop 2 rest)) words
-place_next words rest fits two e =
-    let n : length words - length (drop 2 rest) ≡ (length words - length rest) + 2 = omega (arith, length-drop 2 rest) in
-    rw n (ap (λ (r : List (String Global)). drop 2 r) e ∙ drop-drop 2 (length words - length rest) words)
 
 -- ---- where the options begin
 

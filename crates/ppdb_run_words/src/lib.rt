@@ -13,4 +13,4 @@ pub use command::{Asked, Command};
 pub use inputs::{Inputs, Pair};
 pub use options::Options;
 pub use question::Question;
-pub use words::{Usage, read_words};
+pub use words::{MAX_INPUTS, Usage, read_words};

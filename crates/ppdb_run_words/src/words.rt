@@ -13,7 +13,7 @@ use ppdb_queries_list::number;
 pub(crate) const MAX_LINE: u32 = 0x1fff_ffff;
 
 /// How many inputs are joined at most.
-const MAX_INPUTS: usize = 256;
+pub const MAX_INPUTS: usize = 256;
 
 /// How many methods a sample has at most.
 const MAX_METHODS: u32 = 100_000;

@@ -5,6 +5,7 @@ use Rattle.std.specs.List.{flat_map, sum_by}
 use Rattle.std.specs.Option.{option_map_or}
 use Rattle.ppdb_tables.specs.declared.rows.ImportRow.{ImportRow}
 use Rattle.ppdb_tables.specs.RawTables.{RawTables, count, row_at}
+use Rattle.ppdb_tables.proofs.NumberedRows.{row_within}
 use Rattle.ppdb_values.specs.Chains.{chain_for}
 use Rattle.ppdb_values.specs.Rules.{HasRow}
 use Rattle.ppdb_queries.specs.declared.imports.ImportLink.{ImportLink}
@@ -14,7 +15,6 @@ use Rattle.ppdb_show.specs.Query.{import_answer}
 use Rattle.ppdb_show.specs.QueryWalk.{lines_of_link, customs_reads, item_reads, items_reads}
 use Rattle.ppdb_show.proofs.Added.{sum_first}
 use Rattle.ppdb_show.proofs.Given.{Each}
-use Rattle.ppdb_show.proofs.Runs.{row_within}
 
 -- the import scope is there, and its imports are whole
 abbrev pub IsLink : RawTables → ImportLink → Type 0

@@ -24,10 +24,6 @@ next_first {X} (y ∷ ys) rest x e t = let same : y ≡ x = cc in ap (λ (z : X)
 pub given_next : {X : Type 0} (items rest : List X) (x : X) (next : Option X) → next ≡ next_of items → next ≡ Some x → rest ≡ tail items → items ≡ x ∷ rest
 given_next items rest x next e is t = next_first items rest x (sym e ∙ is) t
 
-pub given_none : {X : Type 0} (items : List X) (next : Option X) → next ≡ next_of items → ((x : X) → next ≡ Some x → ⊥) → items ≡ []
-given_none [] next e never = refl
-given_none (x ∷ xs) next e never = absurd (never x e)
-
 answer_first : {X : Type 0} (items rest : List X) (fault : Option BlobFault) (x : X) → answer_from items fault ≡ Ok (Some x) → rest ≡ tail items
     → items ≡ x ∷ rest
 answer_first [] rest None x e t = cc

@@ -1,6 +1,6 @@
 -- What was put of the answers to a list, and what is left.
 use Rattle.std.proofs.Common.{ℕ, ◌≡◌, ◌+◌, ◌≤◌, ◌&&◌, Bool, true, false, List, [], ◌∷◌, ◌++◌, refl, sym, ap, ◌∙◌, subst, arith, inl, inr}
-use Rattle.std.specs.Prelude.{Option, Result, Ok, Err, IsErrAnd, IsErrOf, nat_le}
+use Rattle.std.specs.Prelude.{Option, Result, Ok, Err, IsErrAnd, IsErrOf, if◌then◌else◌, nat_le}
 use Rattle.std.specs.List.{flat_map}
 use Rattle.std.proofs.lemmas.Bool.{cases_lt, le-leb, lt-leb}
 use Rattle.ppdb_base.specs.Written.{Puts}
@@ -17,6 +17,7 @@ use Rattle.ppdb_queries_list.specs.declared.line.Said.TheVariants as answers
 use Rattle.ppdb_queries_list.proofs.Lists.{one_asked}
 use Rattle.ppdb_show_lines.specs.declared.form.Form.{Form}
 use Rattle.ppdb_show_lines.specs.Forms.{lines_as}
+use Rattle.ppdb_show_lines.specs.Lines.{Line}
 use Rattle.ppdb_show_lines.proofs.Putting.{Putting, put_none, put_piece, put_prefix, put_whole}
 use Rattle.ppdb_show_lines.proofs.Texts.{more_lines, no_lines}
 use Rattle.ppdb_tables.specs.RawTables.{RawTables, count}

@@ -9,7 +9,7 @@ use Rattle.ppdb_queries.specs.declared.points.PointAt.{PointAt}
 use Rattle.ppdb_queries.specs.Points.{PointIs}
 use Rattle.ppdb_show.specs.Query.{document_name, line_of_point, point_found}
 use Rattle.ppdb_show.specs.QueryWalk.{HasDocument, found_line}
-use Rattle.ppdb_show.proofs.Runs.{row_within}
+use Rattle.ppdb_tables.proofs.NumberedRows.{row_within}
 
 -- the line of the point that was found is that of the method's last point
 pub found_is : (raw : RawFile) (m x : ℕ) (found : Option PointAt) → PointIs raw m x found

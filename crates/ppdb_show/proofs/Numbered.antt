@@ -88,13 +88,6 @@ between_split lines a b c h k =
 
 -- ---- rows that are there, and rows that are not
 
-pub row_there : {X : Type 0} (rows : List X) (row : ℕ) → 1 ≤ row → row ≤ length rows → (x : X) × (row_at rows row ≡ Some x)
-row_there rows zero low high = absurd (omega (arith, low))
-row_there rows (suc i) low high = elim (slice_get_cases rows i).1 [
-  | inl x ↦ (x.0, x.2)
-  | inr past ↦ let out = past.0 in absurd (omega (arith, high, out))
-]
-
 pub row_past : {X : Type 0} (rows : List X) (row : ℕ) → length rows < row → row_at rows row ≡ None
 row_past rows zero h = absurd (omega (arith, h))
 row_past rows (suc i) h = elim (slice_get_cases rows i).1 [

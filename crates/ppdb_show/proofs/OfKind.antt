@@ -1,8 +1,7 @@
 -- The kind of a custom record, and the lines of a record of a kind.
-use Rattle.std.proofs.Common.{◌≡◌, ℕ, ◌∷◌, List, [], sym, ap, subst, ◌∙◌}
-use Rattle.std.specs.Prelude.{Result, OnOk}
+use Rattle.std.proofs.Common.{◌≡◌, ℕ, List, [], sym, ap, subst, ◌∙◌}
 use Rattle.custom_info.specs.declared.kinds.Kind.{Kind}
-use Rattle.custom_info.specs.declared.kinds.Kind.TheVariants.{Hoisted as HoistedKind, TypeDocuments as DocumentsKind, Free, Unknown}
+use Rattle.custom_info.specs.declared.kinds.Kind.TheVariants.{Hoisted as HoistedKind}
 use Rattle.custom_info.specs.Kinds.{kind_of}
 use Rattle.ppdb_tables.specs.declared.rows.CustomRow.{CustomRow}
 use Rattle.ppdb_tables.specs.RawTables.{RawTables}
@@ -24,20 +23,3 @@ pub hoisted_put : (form : Form) (raw : RawTables) (n : ℕ) (row : CustomRow) (k
     → Adds form old old (lines_of_record raw (n, row))
 hoisted_put form raw n row kind old is hoisted =
     subst (λ (lines : List Line). Adds form old old lines) (sym (kind_lines raw n row HoistedKind (sym is ∙ hoisted))) (adds_none form old)
-
-pub documents_put : {T E : Type 0} (form : Form) (r : Result T E) (raw : RawTables) (n : ℕ) (row : CustomRow) (kind : Kind) (old new : List ℕ)
-    → kind ≡ kind_of [] (kind_in raw row) → kind ≡ DocumentsKind
-    → OnOk r (Adds form old new (custom_found raw row ∷ [])) → OnOk r (Adds form old new (lines_of_record raw (n, row)))
-documents_put form r raw n row kind old new is documents put =
-    subst (λ (lines : List Line). OnOk r (Adds form old new lines)) (sym (kind_lines raw n row DocumentsKind (sym is ∙ documents))) put
-
-pub free_put : {T E : Type 0} (form : Form) (r : Result T E) (raw : RawTables) (n : ℕ) (row : CustomRow) (kind : Kind) (old new : List ℕ)
-    → kind ≡ kind_of [] (kind_in raw row) → kind ≡ Free
-    → OnOk r (Adds form old new (custom_found raw row ∷ [])) → OnOk r (Adds form old new (lines_of_record raw (n, row)))
-free_put form r raw n row kind old new is free put = subst (λ (lines : List Line). OnOk r (Adds form old new lines)) (sym (kind_lines raw n row Free (sym is ∙ free))) put
-
-pub unknown_put : {T E : Type 0} (form : Form) (r : Result T E) (raw : RawTables) (n : ℕ) (row : CustomRow) (kind : Kind) (old new : List ℕ)
-    → kind ≡ kind_of [] (kind_in raw row) → kind ≡ Unknown
-    → OnOk r (Adds form old new (custom_found raw row ∷ [])) → OnOk r (Adds form old new (lines_of_record raw (n, row)))
-unknown_put form r raw n row kind old new is unknown put =
-    subst (λ (lines : List Line). OnOk r (Adds form old new lines)) (sym (kind_lines raw n row Unknown (sym is ∙ unknown))) put

@@ -1,21 +1,17 @@
 -- Runs of rows, and where they stand.
-use Rattle.std.proofs.Common.{◌≡◌, ℕ, zero, suc, ◌+◌, ◌-◌, ◌≤◌, List, [], ◌∷◌, length, map, refl, arith, slice_range}
+use Rattle.std.proofs.Common.{◌≡◌, ℕ, suc, ◌+◌, ◌-◌, ◌≤◌, List, [], ◌∷◌, length, map, refl, arith, slice_range}
 use Rattle.std.specs.Prelude.{Option, Some, None, IsSome, IfSome, unwrap_or}
 use Rattle.std.specs.Option.{option_map}
 use Rattle.std.proofs.lemmas.List.{length-map}
-use Rattle.std.proofs.lemmas.Option.{slice_get_within}
 use Rattle.ppdb_tables.specs.declared.rows.ScopeRow.{ScopeRow}
 use Rattle.ppdb_tables.specs.RawTables.{row_at}
+use Rattle.ppdb_tables.proofs.NumberedRows.{row_within}
 use Rattle.ppdb_values.specs.Owners.{list_end}
 use Rattle.ppdb_values.specs.Rules.{KeepsLists}
+use Rattle.ppdb_values.proofs.Lists.{rises}
 use Rattle.ppdb_queries.specs.declared.run.Run.{Run}
 use Rattle.ppdb_queries.specs.Runs.{IsRunOf}
 use Rattle.ppdb_queries.proofs.Filters.{forward}
-use Rattle.ppdb_queries.proofs.Keys.{key_at}
-
-pub row_within : {X : Type 0} (rows : List X) (row : ℕ) (x : X) → row_at rows row ≡ Some x → (1 ≤ row) × (row ≤ length rows)
-row_within rows zero x e = cc
-row_within rows (suc i) x e = let h = slice_get_within rows i x e in (omega arith, omega (arith, h))
 
 -- a run of rows with a key
 pub bounds : {X : Type 0} (wanted : Option ℕ) (key : X → ℕ) (rows : List X) (run : Run) → IsSome wanted → IfSome wanted (λ w. IsRunOf key w rows run)
@@ -31,17 +27,6 @@ pub run_done : {Y : Type 0} (ys : List Y) (row end : ℕ) → end ≤ row → sl
 run_done ys row end h = let e : (end - 1) - (row - 1) ≡ 0 = omega arith in rw e refl
 
 -- ---- lists in order
-
-rises : (list : ScopeRow → ℕ) (scopes : List ScopeRow) (items a b : ℕ) (x y : ScopeRow) → KeepsLists list scopes items → row_at scopes a ≡ Some x
-    → row_at scopes b ≡ Some y → a ≤ b → list x ≤ list y
-rises list scopes items a b x y keeps hx hy le =
-    let kx = key_at list scopes a x hx in
-    let ky = key_at list scopes b y hy in
-    let wx = row_within scopes a x hx in
-    let wy = row_within scopes b y hy in
-    let len = length-map scopes list in
-    let h = keeps.sorted (a - 1) (b - 1) (omega arith) (omega (arith, wy, len)) in
-    omega (arith, kx, ky, h)
 
 first_of : (rows : List ScopeRow) → 1 ≤ length rows → (x : ScopeRow) × (row_at rows 1 ≡ Some x)
 first_of [] h = absurd (omega arith)

@@ -1,20 +1,21 @@
 -- The items of the scopes, one list after the other.
-use Rattle.std.proofs.Common.{◌≡◌, ℕ, zero, suc, ◌+◌, ◌≤◌, ◌<◌, List, [], ◌∷◌, length, map, refl, ap, arith, slice_get, slice_index}
+use Rattle.std.proofs.Common.{◌≡◌, ℕ, zero, suc, ◌+◌, ◌≤◌, ◌<◌, List, [], ◌∷◌, length, refl, arith}
 use Rattle.std.specs.Prelude.{Option, Some, None, unwrap_or}
 use Rattle.std.specs.Option.{option_map}
 use Rattle.std.proofs.lemmas.List.{length-map}
 use Rattle.std.proofs.lemmas.Option.{slice_get_within}
 use Rattle.ppdb_tables.specs.declared.rows.ScopeRow.{ScopeRow}
 use Rattle.ppdb_tables.specs.RawTables.{row_at}
+use Rattle.ppdb_tables.proofs.NumberedRows.{row_there}
 use Rattle.ppdb_values.specs.Value.{owner_of}
 use Rattle.ppdb_values.specs.Rules.{KeepsLists, KeepsRules}
 use Rattle.ppdb_values.specs.Owners.{list_end}
 use Rattle.ppdb_values.specs.RawFile.{RawFile}
-use Rattle.ppdb_values.proofs.Lists.{owner_in_list}
+use Rattle.ppdb_values.proofs.Lists.{owner_in_list, index_map}
 use Rattle.ppdb_show.specs.declared.show.owned.Owned.{Owned}
 use Rattle.ppdb_show.specs.declared.show.owned.Owned.TheVariants.{Variables, Constants}
 use Rattle.ppdb_show.specs.ShowWalk.{list_by, items_of}
-use Rattle.ppdb_show.proofs.Numbered.{row_there, row_past}
+use Rattle.ppdb_show.proofs.Numbered.{row_past}
 
 -- where the list of a row begins, right after the last item where there is no such row
 abbrev pub begin_of : (ScopeRow → ℕ) → List ScopeRow → ℕ → ℕ → ℕ
@@ -30,11 +31,6 @@ begins_first list (x ∷ xs) items keeps = keeps.first x refl
 
 pub begins_last : (list : ScopeRow → ℕ) (scopes : List ScopeRow) (items row : ℕ) → length scopes < row → begin_of list scopes row items ≡ items + 1
 begins_last list scopes items row h = rw (row_past scopes row h) refl
-
-index_map : {X : Type 0} (f : X → ℕ) (xs : List X) (i : ℕ) (x : X) → slice_get xs i ≡ Some x → slice_index (map f xs) i ≡ f x
-index_map f [] i x e = cc
-index_map f (y ∷ ys) zero x e = ap f (cc)
-index_map f (y ∷ ys) (suc i) x e = index_map f ys i x e
 
 rises : (list : ScopeRow → ℕ) (scopes : List ScopeRow) (items row : ℕ) (x y : ScopeRow) → KeepsLists list scopes items → row_at scopes row ≡ Some x
     → row_at scopes (suc row) ≡ Some y → list x ≤ list y

@@ -1,6 +1,6 @@
 -- The blobs of a valid file are whole, and so are what is read of them.
 use Rattle.std.proofs.Common.{ℕ, ◌≡◌, ◌≢◌, List, [], ◌∷◌, refl, sym, ◌∙◌, ap, inl, inr, arith}
-use Rattle.std.specs.Prelude.{Option, Some, None, Result, Ok, Err}
+use Rattle.std.specs.Prelude.{Option, Some, None, Result, Ok}
 use Rattle.ppdb_base.specs.declared.BlobFault.{BlobFault}
 use Rattle.blob_grammar.specs.Grammar.{Grammar}
 use Rattle.blob_grammar.specs.Reading.{Reading}
@@ -58,11 +58,6 @@ pub answers_none : {X : Type 0} (items : List X) (fault : Option BlobFault) → 
 answers_none [] None e = refl
 answers_none [] (Some fault) e = refl
 answers_none (y ∷ ys) fault e = absurd (grind (arith, e))
-
-pub answers_err : {X : Type 0} (items : List X) (fault : Option BlobFault) (f : BlobFault) → fault ≡ None → answer_from items fault ≡ Err f → ⊥
-answers_err [] None f n e = grind (arith, e)
-answers_err [] (Some fault) f n e = none_some fault n
-answers_err (y ∷ ys) fault f n e = grind (arith, e)
 
 -- an answer that gives an item gives the first that is left
 pub answered : {X : Type 0} (items : List X) (fault : Option BlobFault) (x : X) (r : Result (Option X) BlobFault) (o : Option X)

@@ -1,6 +1,5 @@
 -- The lines of documents, row by row, and with links in another order.
 use Rattle.std.proofs.Common.{◌≡◌, ℕ, zero, suc, ◌+◌, ◌-◌, ◌≤◌, ◌∙◌, List, [], ◌∷◌, ◌++◌, length, drop, map, refl, sym, ap, arith, Option, Some}
-use Rattle.std.specs.Prelude.{slice_get}
 use Rattle.std.specs.List.{enumerate_from}
 use Rattle.std.proofs.lemmas.List.{drop_all}
 use Rattle.std.proofs.lemmas.List.FromFn.{length-enumerate_from}
@@ -18,6 +17,7 @@ use Rattle.ppdb_values.specs.Value.{value_of}
 use Rattle.source_link.specs.declared.pair.Pair.{Pair}
 use Rattle.source_link.specs.Address.{address_of}
 use Rattle.ppdb_show_sources.specs.Links.{link_line, link_of, link_lines, link_text}
+use Rattle.break_lines.proofs.Methods.{from_row}
 
 -- ---- links that stand in another order
 
@@ -48,13 +48,6 @@ of_rows raw pairs n (row ∷ rows) = ap (λ (l : List Line). link_of pairs (n, d
 pub all_lines : (form : Form) (raw : RawFile) (pairs : List Pair) → link_text form (value_of raw) pairs ≡ lines_after form raw.tables pairs 0
 unfolding lines_after
 all_lines form raw pairs = ap (lines_as form) (of_rows raw.tables pairs 1 raw.tables.documents)
-
-from_row : {X : Type 0} (n : ℕ) (rows : List X) (i : ℕ) (x : X) → slice_get rows i ≡ Some x
-    → drop i (enumerate_from n rows) ≡ (n + i, x) ∷ drop (suc i) (enumerate_from n rows)
-from_row n [] i x e = cc
-from_row n (y ∷ ys) zero x e = let k : n ≡ n + 0 = omega arith in let same : y ≡ x = cc in rw same (ap (λ m. (m, x) ∷ enumerate_from (n + 1) ys) k)
-from_row n (y ∷ ys) (suc i) x e = let k : n + 1 + i ≡ n + suc i = omega arith in
-    from_row (n + 1) ys i x e ∙ ap (λ m. (m, x) ∷ drop (suc i) (enumerate_from (n + 1) ys)) k
 
 -- the line of a row comes before those of the rows after it
 pub next_line : (form : Form) (raw : RawTables) (pairs : List Pair) (i : ℕ) (cells : DocumentRow) → row_at raw.documents (suc i) ≡ Some cells

@@ -1,5 +1,5 @@
 -- The tables that stand in the stream, from where they were placed.
-use Rattle.std.proofs.Common.{◌≡◌, ℕ, ◌+◌, ◌*◌, ◌<◌, ◌≤◌, inl, inr, List, [], ◌∷◌, length, map, sum, Some, refl, sym, ap, ◌∙◌, arith, lit≤}
+use Rattle.std.proofs.Common.{◌≡◌, ℕ, ◌+◌, ◌*◌, ◌<◌, ◌≤◌, inl, inr, List, length, map, sum, Some, refl, sym, ap, ◌∙◌, arith, lit≤}
 use Rattle.std.specs.Prelude.{slice_get, slice_index}
 use Rattle.std.specs.List.{range_with_len}
 use Rattle.std.proofs.lemmas.Bool.{cases_lt, lt-ltb, le-ltb}
@@ -10,23 +10,15 @@ use Rattle.ppdb_base.specs.First.{IsAccepted}
 use Rattle.row_layout.specs.declared.column.Sizes.{Sizes}
 use Rattle.row_layout.specs.declared.column.Column.{Column}
 use Rattle.ppdb_tables.specs.declared.head.PdbHead.{PdbHead}
-use Rattle.ppdb_tables.specs.declared.layouts.Layouts.{Layouts}
 use Rattle.ppdb_tables.specs.declared.table.Table as declared
 use Rattle.ppdb_tables.specs.Head.{PdbFaults, IsHeadOf}
 use Rattle.ppdb_tables.specs.Layouts.{debug_tables, widths_of, row_len}
-use Rattle.ppdb_tables.specs.LayoutsOf.{AreLayouts}
 use Rattle.ppdb_tables.specs.Tables.{count_in, sizes_in, table_rows, table_place, rows_at}
 use Rattle.ppdb_tables.specs.TableOf.{IsTableAt, rows_of}
 use Rattle.ppdb_tables.specs.RawTables.{RawTables}
 use Rattle.ppdb_tables.specs.Bounds.{StandsAt}
 use Rattle.ppdb_tables.proofs.FirstOfRows.{table, no_table, number_is, next_table}
 use Rattle.ppdb_tables.proofs.FirstOfHead.{few_rows}
-
--- the lengths of the rows are those of the columns
-pub lens_are : (sizes : Sizes) (l : Layouts) → AreLayouts sizes l
-    → sum l.documents ∷ sum l.methods ∷ sum l.scopes ∷ sum l.variables ∷ sum l.constants ∷ sum l.imports ∷ sum l.machines ∷ sum l.customs ∷ []
-    ≡ map (row_len sizes) debug_tables
-lens_are sizes l a = rw (a.documents, a.methods, a.scopes, a.variables, a.constants, a.imports, a.machines, a.customs) refl
 
 -- a table that was placed ends in the stream
 pub table_fits : (sizes : Sizes) (stream : List ℕ) (index number : ℕ) (columns : List Column) (widths : List ℕ) (place : ℕ)

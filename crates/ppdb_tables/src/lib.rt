@@ -16,10 +16,11 @@ mod tables;
 
 pub use head::{PdbHead, read_head};
 pub use numbers::{
-    ASSEMBLY_REF, CUSTOM, DOCUMENT, IMPORT_SCOPE, LOCAL_CONSTANT, LOCAL_SCOPE, LOCAL_VARIABLE,
-    METHOD_DEBUG, METHOD_DEF, STAND_ALONE_SIG, STATE_MACHINE, TYPE_DEF, TYPE_REF, TYPE_SPEC,
+    ASSEMBLY, ASSEMBLY_REF, CUSTOM, DOCUMENT, IMPORT_SCOPE, LOCAL_CONSTANT, LOCAL_SCOPE,
+    LOCAL_VARIABLE, METHOD_DEBUG, METHOD_DEF, MODULE, STAND_ALONE_SIG, STATE_MACHINE, TYPE_DEF,
+    TYPE_REF, TYPE_SPEC, TYPE_TABLES,
 };
-pub use parent::{Parent, coded_parent, codes_are_parents, parent_of};
+pub use parent::{Parent, coded, coded_parent, codes_are_parents, parent_of, tag_of};
 pub use reading::read_tables;
 pub use rows::{
     ConstantRow, CustomRow, DocumentRow, ImportRow, MachineRow, MethodDebugRow, ScopeRow,

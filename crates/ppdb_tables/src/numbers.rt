@@ -1,5 +1,8 @@
 //! The tables by their names in the standards (ECMA-335 II.22; Portable PDB v1.0, "Metadata Tables").
 
+/// Module.
+pub const MODULE: u8 = 0x00;
+
 /// TypeRef.
 pub const TYPE_REF: u8 = 0x01;
 
@@ -15,8 +18,14 @@ pub const STAND_ALONE_SIG: u8 = 0x11;
 /// TypeSpec.
 pub const TYPE_SPEC: u8 = 0x1b;
 
+/// Assembly.
+pub const ASSEMBLY: u8 = 0x20;
+
 /// AssemblyRef.
 pub const ASSEMBLY_REF: u8 = 0x23;
+
+/// How many numbers the tables of the type system have: 00 to 2c.
+pub const TYPE_TABLES: u8 = 0x2d;
 
 /// Document.
 pub const DOCUMENT: u8 = 0x30;

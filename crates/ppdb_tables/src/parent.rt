@@ -1,6 +1,6 @@
 ghost use Rattle.std.specs.Prelude.{◌≡◌, ◌≤◌, ◌<◌, ◌==◌, IfSome, slice_get, position};
 ghost use Rattle.row_layout.specs.Columns.{parent_tables};
-ghost use Rattle.ppdb_tables.specs.Parents.{parent_in, coded_in, CodesAreParents};
+ghost use Rattle.ppdb_tables.specs.Parents.{parent_in, coded_in, coded_of, CodesAreParents};
 
 use row_layout::PARENT_TABLES;
 
@@ -21,7 +21,7 @@ fn table_of(tables: &[u8], tag: u32) -> Option<u8>
 }
 
 /// The tag that picks a table.
-fn tag_of(table: u8) -> Option<usize>
+pub fn tag_of(table: u8) -> Option<usize>
     ensures tag { result ≡ position (λ other. other == table) parent_tables }
     ensures small { IfSome result (λ tag. tag < 32) }
 {
@@ -49,6 +49,16 @@ pub fn coded_parent(parent: Parent) -> Option<u32>
     match tag_of(parent.table) {
         Some(tag) => Some(parent.row * 32 + tag as u32),
         None => None,
+    }
+}
+
+/// The coded index of a parent, and 0 if its table has no tag.
+pub fn coded(parent: Parent) -> u64
+    ensures { result ≡ coded_of parent }
+{
+    match tag_of(parent.table) {
+        Some(tag) => u64::from(parent.row) * 32 + tag as u64,
+        None => 0,
     }
 }
 

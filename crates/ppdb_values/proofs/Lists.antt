@@ -18,13 +18,13 @@ use Rattle.ppdb_values.proofs.Owners.{owner_is_last, owner_is_found}
 
 -- ---- keys of rows
 
-index_map : {X : Type 0} (f : X → ℕ) (xs : List X) (i : ℕ) (x : X) → slice_get xs i ≡ Some x → slice_index (map f xs) i ≡ f x
+pub index_map : {X : Type 0} (f : X → ℕ) (xs : List X) (i : ℕ) (x : X) → slice_get xs i ≡ Some x → slice_index (map f xs) i ≡ f x
 index_map f [] i x e = cc
 index_map f (y ∷ ys) zero x e = ap f (cc)
 index_map f (y ∷ ys) (suc i) x e = index_map f ys i x e
 
 -- a later row has no lower list
-rises : (list : ScopeRow → ℕ) (scopes : List ScopeRow) (items a b : ℕ) (x y : ScopeRow) → KeepsLists list scopes items → row_at scopes a ≡ Some x
+pub rises : (list : ScopeRow → ℕ) (scopes : List ScopeRow) (items a b : ℕ) (x y : ScopeRow) → KeepsLists list scopes items → row_at scopes a ≡ Some x
     → row_at scopes b ≡ Some y → a ≤ b → list x ≤ list y
 rises list scopes items zero b x y keeps hx hy le = cc
 rises list scopes items (suc i) zero x y keeps hx hy le = absurd (omega arith)

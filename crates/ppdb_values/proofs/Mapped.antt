@@ -17,7 +17,7 @@ numbered_map : {X Y : Type 0} (f : ℕ × X → Y) (n : ℕ) (rows : List X) →
 numbered_map f n [] = refl
 numbered_map f n (x ∷ xs) = ap (λ rest. (n, f (n, x)) ∷ rest) (numbered_map f (n + 1) xs)
 
-filter_map_both : {X Y : Type 0} (f : X → Y) (p : Y → Bool) (xs : List X) → filter p (map f xs) ≡ map f (filter (λ x. p (f x)) xs)
+pub filter_map_both : {X Y : Type 0} (f : X → Y) (p : Y → Bool) (xs : List X) → filter p (map f xs) ≡ map f (filter (λ x. p (f x)) xs)
 filter_map_both f p [] = refl
 filter_map_both f p (x ∷ xs) = elim (p (f x)) as (λ b. cond b (f x ∷ filter p (map f xs)) (filter p (map f xs)) ≡ map f (cond b (x ∷ filter (λ x. p (f x)) xs)
     (filter (λ x. p (f x)) xs))) [
@@ -31,7 +31,7 @@ scopes_are_rows raw m x =
     ap (λ rows. filter (λ scope. (scope.1.method == m) && holds scope.1.range x) rows) (numbered_map (scope_of raw.tables) 1 raw.tables.scopes)
     ∙ filter_map_both (λ row. (row.0, scope_of raw.tables row)) (λ scope. (scope.1.method == m) && holds scope.1.range x) (numbered raw.tables.scopes)
 
-get_map : {X Y : Type 0} (f : X → Y) (xs : List X) (i : ℕ) → slice_get (map f xs) i ≡ option_map f (slice_get xs i)
+pub get_map : {X Y : Type 0} (f : X → Y) (xs : List X) (i : ℕ) → slice_get (map f xs) i ≡ option_map f (slice_get xs i)
 get_map f [] i = refl
 get_map f (x ∷ xs) zero = refl
 get_map f (x ∷ xs) (suc i) = get_map f xs i

@@ -3,6 +3,7 @@ ghost use Rattle.std.specs.Prelude.{◌≡◌};
 ghost use Rattle.ppdb_values.specs.WrittenImports.{assembly_row, import_numbers as numbers_of, kind_of_import, target_type};
 
 use crate::import::ImportValue;
+use ppdb_tables::TYPE_DEF;
 use type_blobs::{ImportNumbers, TypeToken};
 
 /// The kind, from 1 to 9.
@@ -41,7 +42,7 @@ fn target_of(import: &ImportValue) -> TypeToken
     match import {
         ImportValue::Target { target } | ImportValue::TargetAlias { target, .. } => *target,
         _ => TypeToken {
-            table: 0x02,
+            table: TYPE_DEF,
             row: 0,
         },
     }

@@ -3,6 +3,7 @@ use Rattle.std.proofs.Common.{◌≡◌, ◌≢◌, ◌<◌, ◌≤◌, ℕ, Boo
 use Rattle.std.specs.Prelude.{All, AllPairs, IfOk, Result}
 use Rattle.ppdb_base.specs.declared.list.Memory.{Memory}
 use Rattle.ppdb_tables.specs.declared.rows.MachineRow.{MachineRow}
+use Rattle.ppdb_tables.specs.Parents.{coded_of}
 use Rattle.ppdb_values.specs.declared.file.FileValue.{FileValue}
 use Rattle.ppdb_values.specs.declared.file.DocumentValue.{DocumentValue}
 use Rattle.ppdb_values.specs.declared.file.MethodValue.{MethodValue}
@@ -13,7 +14,7 @@ use Rattle.ppdb_values.specs.declared.scope.ScopeValue.{ScopeValue}
 use Rattle.ppdb_values.specs.declared.scope.VariableValue.{VariableValue}
 use Rattle.ppdb_values.specs.Chains.{NeverEnds}
 use Rattle.ppdb_values.specs.Ordered.{EachPair, EachRow}
-use Rattle.ppdb_values_sound_laws.specs.Customs.{SoundCustom, SoundCustoms, coded_of}
+use Rattle.ppdb_values_sound_laws.specs.Customs.{SoundCustom, SoundCustoms}
 use Rattle.ppdb_values_sound_laws.specs.Imports.{SoundImportScope, SoundImports}
 use Rattle.ppdb_values_sound_laws.specs.Methods.{SoundMethod, SoundMethods}
 use Rattle.ppdb_values.specs.Ranges.{ComesAfter}

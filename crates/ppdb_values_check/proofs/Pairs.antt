@@ -6,22 +6,11 @@ use Rattle.std.proofs.lemmas.List.{get_or_read}
 use Rattle.ppdb_values_check.specs.Pairs.{PairsBelow, PrefixStands}
 
 module _ {X : Type 0} (R : X → X → Type 0) (xs : List X) where
-  -- one item has no pair
-  pub no_pairs : (count : ℕ) → count ≤ 1 → PairsBelow R xs count
-  no_pairs count few i j d lt below = absurd (omega arith)
-
   -- one item more, to which each one before it stands so
   pub pairs_more : (i : ℕ) → PairsBelow R xs i → PrefixStands R xs i i → PairsBelow R xs (i + 1)
   pairs_more i pairs prefix a b d lt below = elim (cases_lt b i) [
     | inl early ↦ pairs a b d lt early
     | inr last ↦ let e : b ≡ i = omega arith in rw e (prefix a d (omega arith))
-  ]
-
-  -- one item more before
-  pub prefix_more : (place count : ℕ) → PrefixStands R xs place count → ((d : X) → R (get_or xs count d) (get_or xs place d)) → PrefixStands R xs place (count + 1)
-  prefix_more place count prefix here k d below = elim (cases_lt k count) [
-    | inl early ↦ prefix k d early
-    | inr last ↦ let e : k ≡ count = omega arith in rw e (here d)
   ]
 
   -- one item more, to which the one before it stands so, where the order goes on from item to item

@@ -1,6 +1,6 @@
 // Local variables and constants.
 ghost use Rattle.std.specs.Prelude.{◌≡◌, ◌↔◌, IsTrue, length, true};
-ghost use Rattle.type_blobs.specs.Constants.{is_text, size_of, is_enumerable, is_string};
+ghost use Rattle.type_blobs.specs.Constants.{size_of, is_enumerable, is_string};
 ghost use Rattle.type_blobs.specs.Spelling.{IsBody, IsBodyThere, IsPrimitive};
 ghost use Rattle.ppdb_values_sound_laws.specs.Named.{HasType, type_limits};
 ghost use Rattle.ppdb_values_sound_laws.specs.Scopes.{HoldsNoZero, SoundConstant, SoundVariable, stored_body};
@@ -9,7 +9,7 @@ use crate::counts::Counted;
 use crate::differ::{Named, Numbered};
 use crate::part::{Part, all_sound};
 use ppdb_values::{ConstantBody, ConstantValue, VariableValue};
-use type_blobs::Modifier;
+use type_blobs::{Modifier, is_text, size_of};
 
 /// Whether a name holds no zero.
 fn holds_no_zero(name: &[u8]) -> bool
@@ -39,29 +39,6 @@ impl Part for VariableValue {
 
     fn is_sound(&self, _: &Counted<'_>) -> bool {
         holds_no_zero(self.name.as_slice())
-    }
-}
-
-/// How many bytes a value of a primitive type has.
-fn size_of(code: u8) -> usize
-    ensures { result ≡ size_of code }
-{
-    match code {
-        0x02 | 0x04 | 0x05 => 1,
-        0x03 | 0x06 | 0x07 => 2,
-        0x08 | 0x09 | 0x0c => 4,
-        _ => 8,
-    }
-}
-
-/// Whether the bytes are a text in UTF-16, or the byte that stands for none.
-fn is_text(value: &[u8]) -> bool
-    ensures { result ≡ is_text value.now }
-{
-    if value.len() == 1 {
-        value[0] == 0xff
-    } else {
-        value.len() % 2 == 0
     }
 }
 

@@ -1,12 +1,11 @@
 // Custom debug information.
 ghost use Rattle.std.proofs.Common.{rules};
-ghost use Rattle.std.specs.Prelude.{◌≡◌, ◌↔◌, ◌≤◌, ◌<◌, ◌==◌, All, IsTrue, IsSome, IfSome, position};
+ghost use Rattle.std.specs.Prelude.{◌↔◌, ◌≤◌, All, IsTrue, IsSome};
 ghost use Rattle.custom_info.specs.AsyncStepping.{IsHandler, IsStep};
 ghost use Rattle.custom_info.specs.HoistedScopes.{IsSlot};
-ghost use Rattle.ppdb_tables.specs.Parents.{coded_in};
+ghost use Rattle.ppdb_tables.specs.Parents.{coded_in, coded_of};
 ghost use Rattle.ppdb_values.specs.Rules.{StandsOn};
-ghost use Rattle.row_layout.specs.Columns.{parent_tables};
-ghost use Rattle.ppdb_values_sound_laws.specs.Customs.{IsBodyOfKind, SoundCustom, SoundCustoms, coded_of};
+ghost use Rattle.ppdb_values_sound_laws.specs.Customs.{IsBodyOfKind, SoundCustom, SoundCustoms};
 ghost use Rattle.ppdb_values_sound_laws.specs.Named.{HasRow, count};
 
 use crate::counts::Counted;
@@ -15,9 +14,8 @@ use crate::part::{Part, all_sound};
 use crate::ranges::is_range;
 use custom_info::{AsyncStep, Kind, Slot};
 use ppdb_base::MAX_OFFSET;
-use ppdb_tables::{DOCUMENT, METHOD_DEF, Parent, TYPE_DEF};
+use ppdb_tables::{DOCUMENT, METHOD_DEF, Parent, TYPE_DEF, coded, tag_of};
 use ppdb_values::{CustomBody, CustomValue};
-use row_layout::PARENT_TABLES;
 
 /// The first number without a spelling.
 const SPELLING_LIMIT: u32 = 0x2000_0000;
@@ -91,24 +89,6 @@ fn stands_on(kind: Kind, table: u8) -> bool
         Kind::Async | Kind::Hoisted => table == METHOD_DEF,
         Kind::TypeDocuments => table == TYPE_DEF,
         Kind::Free | Kind::Unknown => true,
-    }
-}
-
-/// The tag that picks a table.
-fn tag_of(table: u8) -> Option<usize>
-    ensures tag { result ≡ position (λ other. other == table) parent_tables }
-    ensures small { IfSome result (λ tag. tag < 32) }
-{
-    PARENT_TABLES.iter().position(|other| *other == table)
-}
-
-/// The coded index of a parent; 0 where its table has no tag.
-fn coded(parent: Parent) -> u64
-    ensures { result ≡ coded_of parent }
-{
-    match tag_of(parent.table) {
-        Some(tag) => u64::from(parent.row) * 32 + tag as u64,
-        None => 0,
     }
 }
 

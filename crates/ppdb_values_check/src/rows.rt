@@ -3,16 +3,14 @@ ghost use Rattle.std.specs.Prelude.{◌↔◌, IsTrue};
 ghost use Rattle.ppdb_values_sound_laws.specs.Sound.{SoundRows};
 
 use ppdb_base::MAX_ROWS;
-
-/// The first table that is none of the type system.
-const FIRST_OTHER: usize = 0x2d;
+use ppdb_tables::TYPE_TABLES;
 
 /// Whether the row counts fit three bytes, and only the tables 00 to 2c have any.
 pub(crate) fn sound_rows(rows: &[u32]) -> bool
     ensures { IsTrue result ↔ SoundRows rows.now }
 {
     for i in 0..rows.len() {
-        if MAX_ROWS < rows[i] || (FIRST_OTHER <= i && rows[i] != 0) {
+        if MAX_ROWS < rows[i] || (TYPE_TABLES as usize <= i && rows[i] != 0) {
             return false;
         }
     }

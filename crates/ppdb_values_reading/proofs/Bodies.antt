@@ -4,17 +4,16 @@ use Rattle.std.specs.Prelude.{None}
 use Rattle.blob_grammar.specs.Reader.{Left}
 use Rattle.blob_grammar.specs.Reading.{Reading}
 use Rattle.custom_info.specs.declared.kinds.Kind.{Kind}
-use Rattle.custom_info.specs.declared.kinds.Kind.TheVariants.{TypeDocuments as DocumentsKind, Hoisted as HoistedKind}
-use Rattle.custom_info.specs.declared.slots.Slot.{Slot}
+use Rattle.custom_info.specs.declared.kinds.Kind.TheVariants.{TypeDocuments as DocumentsKind}
 use Rattle.custom_info.specs.TypeDocuments.{type_documents}
 use Rattle.ppdb_tables.specs.declared.rows.CustomRow.{CustomRow}
 use Rattle.ppdb_tables.specs.RawTables.{RawTables, count}
-use Rattle.ppdb_values.specs.declared.custom.CustomBody.TheVariants.{Hoisted, TypeDocuments}
+use Rattle.ppdb_values.specs.declared.custom.CustomBody.TheVariants.{TypeDocuments}
 use Rattle.ppdb_values.specs.Customs.{custom_body, custom_of}
 use Rattle.ppdb_values.specs.RawFile.{blob}
 use Rattle.ppdb_values.specs.Readings.{ValuesAreRead}
 use Rattle.ppdb_values.specs.Rules.{IsCustom}
-use Rattle.ppdb_verify_rows.specs.Customs.{IsOfKind, slots_in}
+use Rattle.ppdb_verify_rows.specs.Customs.{IsOfKind}
 use Rattle.ppdb_verify_rows.proofs.Records.{whole_of_kind}
 use Rattle.ppdb_verify_rows.proofs.Whole.{whole_left}
 
@@ -34,8 +33,3 @@ pub documents_whole : (raw : RawTables) (row : CustomRow) (left : Left ℕ) → 
     → Reading (type_documents (count raw 0x30)) (blob raw row.value) left.items left.fault → left.fault ≡ None
 documents_whole raw row left keeps is reading =
     (whole_left (type_documents (count raw 0x30)) (blob raw row.value) left.items left.fault reading (whole_of_kind raw row DocumentsKind keeps is)).1
-
--- slots that were read
-pub slots_read : (raw : RawTables) (row : CustomRow) (left : Left Slot) → IsOfKind raw row HoistedKind → left ≡ slots_in raw row
-    → Hoisted left.items ≡ (custom_of raw row).value
-slots_read raw row left is same = ap (λ (l : Left Slot). Hoisted l.items) same ∙ sym (body_of_kind raw row HoistedKind is)

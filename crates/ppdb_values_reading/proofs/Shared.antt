@@ -1,6 +1,6 @@
 -- The lists of the scopes share out the items of a table.
 use Rattle.std.proofs.Common.{◌≡◌, ℕ, zero, suc, ◌+◌, ◌-◌, ◌≤◌, ◌<◌, List, [], ◌∷◌, length, map, refl, sym, ap, ◌∙◌, arith, inl, inr, slice_get}
-use Rattle.std.proofs.Common.{slice_index, All}
+use Rattle.std.proofs.Common.{All}
 use Rattle.std.specs.Prelude.{Option, Some, None, unwrap_or}
 use Rattle.std.specs.List.{enumerate_from, sum_by}
 use Rattle.std.specs.Option.{option_map}
@@ -17,16 +17,13 @@ use Rattle.ppdb_values.specs.Owners.{list_end, ListsAreOwned}
 use Rattle.ppdb_values.specs.RawFile.{RawFile}
 use Rattle.ppdb_values.specs.Rules.{KeepsLists, KeepsRules}
 use Rattle.ppdb_values.specs.Value.{owned_by, range_of, scope_of, variable_of}
+use Rattle.ppdb_values.proofs.Lists.{index_map}
 use Rattle.ppdb_values_reading.specs.Lent.{variables_of, constants_of}
 use Rattle.ppdb_values_reading.specs.Scopes.{list_range, scope_in, items_in, scope_with, IsWithin, HasLists, rows_of, OwnTheirLists}
 use Rattle.ppdb_values_reading.proofs.Lists.{slice_made}
+use Rattle.ppdb_values_sound_laws.proofs.Listed.{sum_of_map}
 
 -- ---- lists in order
-
-index_map : {X : Type 0} (f : X → ℕ) (xs : List X) (i : ℕ) (x : X) → slice_get xs i ≡ Some x → slice_index (map f xs) i ≡ f x
-index_map f [] i x e = cc
-index_map f (y ∷ ys) zero x e = ap f (cc)
-index_map f (y ∷ ys) (suc i) x e = index_map f ys i x e
 
 module _ (list : ScopeRow → ℕ) (scopes : List ScopeRow) (items : ℕ) (keeps : KeepsLists list scopes items) where
   -- a later row has no lower list
@@ -77,10 +74,6 @@ all_from P f n [] h k d lt = absurd (omega (arith, lt))
 all_from P f n (x ∷ xs) h zero d lt = let here : n + 0 ≡ n = omega arith in rw here at (h 0 x refl)
 all_from P f n (x ∷ xs) h (suc k) d lt =
     all_from P f (n + 1) xs (λ i y e. let s : n + 1 + i ≡ n + suc i = omega arith in rw s (h (suc i) y e)) k d (omega (arith, lt))
-
-sum_map : {X Y : Type 0} (f : X → Y) (p : Y → ℕ) (xs : List X) → sum_by p (map f xs) ≡ sum_by (λ x. p (f x)) xs
-sum_map f p [] = refl
-sum_map f p (x ∷ xs) = sum_by-cons p (f x) (map f xs) ∙ ap (λ (n : ℕ). p (f x) + n) (sum_map f p xs) ∙ sym (sum_by-cons (λ y. p (f y)) x xs)
 
 first_row : {X : Type 0} (xs : List X) (i : ℕ) (x : X) → slice_get xs i ≡ Some x → row_at xs (1 + i) ≡ Some x
 first_row xs i x e = let s : 1 + i ≡ suc i = omega arith in rw s e
@@ -175,5 +168,5 @@ own_their_lists raw owned keeps = record {
       let v = begins_first (λ s. s.variables) raw.tables.scopes (length raw.tables.variables) keeps.variables.lists in
       let c = begins_first (λ s. s.constants) raw.tables.scopes (length raw.tables.constants) keeps.constants.lists in
       let one : suc 0 ≡ 1 = omega arith in
-      sum_map (scope_in raw.tables) rows_of (numbered raw.tables.scopes) ∙ omega (arith, all, v, c);
+      sum_of_map (scope_in raw.tables) rows_of (numbered raw.tables.scopes) ∙ omega (arith, all, v, c);
 }

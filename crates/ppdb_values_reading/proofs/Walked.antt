@@ -1,12 +1,12 @@
 -- What a cursor over the scopes has left, row after row.
-use Rattle.std.proofs.Common.{◌≡◌, ℕ, ◌+◌, ◌-◌, ◌≤◌, List, [], ◌∷◌, length, drop, map, refl, sym, ap, ◌∙◌, arith}
-use Rattle.std.specs.Prelude.{Option, Some, None}
+use Rattle.std.proofs.Common.{◌≡◌, ℕ, ◌+◌, ◌-◌, ◌≤◌, List, [], ◌∷◌, length, drop, map, sym, ap, ◌∙◌, arith}
+use Rattle.std.specs.Prelude.{slice_get, Some, None}
 use Rattle.std.proofs.lemmas.List.{length-map}
 use Rattle.blob_grammar.specs.Reader.{tail}
 use Rattle.ppdb_tables.specs.declared.rows.ScopeRow.{ScopeRow}
 use Rattle.ppdb_tables.specs.RawTables.{RawTables, numbered, row_at}
 use Rattle.ppdb_values_reading.specs.declared.scopes.Scope.{Scope}
-use Rattle.ppdb_values_reading.specs.Scopes.{scope_in, scopes_from, next_of}
+use Rattle.ppdb_values_reading.specs.Scopes.{scope_in, scopes_from}
 use Rattle.ppdb_values_reading.proofs.Rows.{from_row, from_past, length-from, length-numbered}
 
 module _ (raw : RawTables) (row : ℕ) where
@@ -23,22 +23,18 @@ module _ (raw : RawTables) (row : ℕ) where
       ∙ ap (λ (n : ℕ). n - (row - 1)) (length-numbered 1 raw.scopes)
 
 -- no scope is left
-pub none_answer : (left : List Scope) → left ≡ [] → None ≡ next_of left
-none_answer left e = ap (λ (xs : List Scope). next_of xs) (sym e)
+pub none_answer : (left : List Scope) → left ≡ [] → None ≡ slice_get left 0
+none_answer left e = ap (λ (xs : List Scope). slice_get xs 0) (sym e)
 
 pub none_left : (left : List Scope) → left ≡ [] → left ≡ tail left
 none_left left e = e ∙ ap (λ (xs : List Scope). tail xs) (sym e)
 
 -- a scope and the others are left
-pub some_answer : (left others : List Scope) (scope : Scope) → left ≡ scope ∷ others → Some scope ≡ next_of left
-some_answer left others scope e = ap (λ (xs : List Scope). next_of xs) (sym e)
+pub some_answer : (left others : List Scope) (scope : Scope) → left ≡ scope ∷ others → Some scope ≡ slice_get left 0
+some_answer left others scope e = ap (λ (xs : List Scope). slice_get xs 0) (sym e)
 
 pub some_left : (left others : List Scope) (scope : Scope) → left ≡ scope ∷ others → others ≡ tail left
 some_left left others scope e = ap (λ (xs : List Scope). tail xs) (sym e)
-
-pub not_some : {X : Type 0} (o : Option X) → ((x : X) → o ≡ Some x → ⊥) → o ≡ None
-not_some None never = refl
-not_some (Some x) never = absurd (never x refl)
 
 -- the rows that are read, of a new cursor and after an answer
 pub new_cost : (raw : RawTables) (after before : ℕ) → after + (length raw.scopes - 1) ≡ before + (length raw.scopes + 1 - 1)

@@ -1,5 +1,5 @@
 -- The scopes of a file, each with the rows of what it owns (Portable PDB v1.0, "LocalScope Table": VariableList, ConstantList).
-use Rattle.std.specs.Prelude.{◌≡◌, map, ℕ, ◌+◌, ◌-◌, ◌≤◌, List, [], ◌∷◌, length, drop, slice_range, Option, Some, None, All, sum_by}
+use Rattle.std.specs.Prelude.{◌≡◌, map, ℕ, ◌+◌, ◌-◌, ◌≤◌, List, length, drop, slice_range, All, sum_by}
 use Rattle.ppdb_tables.specs.{declared.rows.ScopeRow.ScopeRow, RawTables.{RawTables, numbered}}
 use Rattle.ppdb_values.specs.{declared.scope.ScopeValue.ScopeValue, Owners.list_end, RawFile.RawFile, Rules.KeepsRules, Value.{range_of, value_of}}
 use Rattle.ppdb_values_reading.specs.{declared.scopes.{ListRange.ListRange, Scope.Scope}, Lent.{variables_of, constants_of}}
@@ -65,11 +65,6 @@ abbrev pub ScopesOwnTheirLists : Type 0
 ScopesOwnTheirLists = (raw : RawFile) → KeepsRules raw → OwnTheirLists raw
 
 -- ---- a walk over the scopes
-
--- the next item, None at the end
-abbrev pub next_of : {X : Type 0} → List X → Option X
-next_of [] = None
-next_of (x ∷ xs) = Some x
 
 -- the scopes from a row on
 abbrev pub scopes_from : RawTables → ℕ → List Scope

@@ -3,7 +3,6 @@
 #![tactic(auto)]
 
 mod constants;
-mod copied;
 mod customs;
 mod documents;
 mod filling;
@@ -24,5 +23,5 @@ pub use laws::scopes_own_their_lists;
 pub use methods::{method_value, read_method};
 pub use scopes::{ListRange, Scope, ScopeCursor, scope_value};
 pub use scratch::Scratch;
-pub use value::value_of;
+pub use value::{type_rows, value_of};
 pub use variables::{LentVariable, read_variable, variable_value};

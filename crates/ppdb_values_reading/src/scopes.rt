@@ -1,13 +1,12 @@
 // Local scopes, and the rows of what they own.
-ghost use Rattle.std.specs.Prelude.{◌≡◌, ◌+◌, ◌-◌, ◌≤◌, ◌<◌, length, Some, IfOk, OnOk};
+ghost use Rattle.std.specs.Prelude.{◌≡◌, ◌+◌, ◌-◌, ◌≤◌, ◌<◌, length, slice_get, Some, IfOk, OnOk};
 ghost use Rattle.blob_grammar.specs.Reader.{tail};
 ghost use Rattle.ppdb_tables.specs.RawTables.{row_at};
 ghost use Rattle.ppdb_verify.specs.Views.{raw_file};
 ghost use Rattle.ppdb_values_reading.specs.Lent.{variables_of, constants_of};
-ghost use Rattle.ppdb_values_reading.specs.Scopes.{scope_in, scopes_in, items_in, rows_in, rows_of, scope_with, next_of, IsWithin, HasLists};
+ghost use Rattle.ppdb_values_reading.specs.Scopes.{scope_in, scopes_in, items_in, rows_in, rows_of, scope_with, IsWithin, HasLists};
 
 use crate::constants::constant_value;
-use crate::copied::copy_of;
 use crate::scratch::Scratch;
 use crate::variables::variable_value;
 use custom_info::Range;
@@ -15,7 +14,7 @@ use ppdb_base::{List, Memory, Steps};
 use ppdb_tables::{LOCAL_CONSTANT, LOCAL_SCOPE, LOCAL_VARIABLE, ScopeRow};
 use ppdb_values::{ConstantValue, ScopeValue, VariableValue};
 use ppdb_verify::Verified;
-use ppdb_verify_rows::{count, scope};
+use ppdb_verify_rows::{copy_of, count, scope};
 use std::alloc::Global;
 use std::marker::Model;
 use std::sync::ledger::Ledger;
@@ -128,7 +127,7 @@ impl<'a> ScopeCursor<'a> {
 
     /// The next scope; None exactly at the end.
     pub fn next<L: Ledger>(&mut self, steps: &mut Steps<L>) -> Option<Scope>
-        ensures answer { result ≡ next_of self.old }
+        ensures answer { result ≡ slice_get self.old 0 }
         ensures left { self.new ≡ tail self.old }
         ensures cost { steps.new + (length self.new - 1) ≡ steps.old + (length self.old - 1) }
     {

@@ -16,6 +16,7 @@ use crate::scratch::Scratch;
 use ppdb_base::{List, Memory, Steps};
 use ppdb_tables::{
     CUSTOM, DOCUMENT, IMPORT_SCOPE, LOCAL_SCOPE, METHOD_DEBUG, MachineRow, STATE_MACHINE,
+    TYPE_TABLES,
 };
 use ppdb_values::{
     CustomValue, DocumentValue, FileValue, ImportScopeValue, MethodValue, ScopeValue,
@@ -52,12 +53,12 @@ pub fn value_of<L: Ledger>(
 }
 
 /// The row counts of the type system, and 0 for all other tables.
-fn type_rows(file: &Verified<'_>) -> [u32; 64]
+pub fn type_rows(file: &Verified<'_>) -> [u32; 64]
     ensures { result ≡ type_system_rows (raw_file file.now).tables.counts }
 {
     file.keeps();
     let mut rows = [0; 64];
-    'tables: for table in 0..0x2d {
+    'tables: for table in 0..TYPE_TABLES {
         rows[table as usize] = count(file, table);
     }
     rows

@@ -21,7 +21,7 @@ use Rattle.custom_info.proofs.StepsLeft.{no_handler, a_handler}
 use Rattle.row_layout.specs.Columns.{parent_tables}
 use Rattle.ppdb_tables.specs.declared.parent.Parent.{Parent}
 use Rattle.ppdb_tables.specs.declared.rows.CustomRow.{CustomRow}
-use Rattle.ppdb_tables.specs.Parents.{parent_in, coded_in, CodesAreParents}
+use Rattle.ppdb_tables.specs.Parents.{parent_in, coded_in, CodesAreParents, coded_of}
 use Rattle.ppdb_tables.specs.RawTables.{count, row_at}
 use Rattle.ppdb_values.specs.Customs.{custom_body, custom_of, kind_in, parent_of}
 use Rattle.ppdb_values.specs.Ordered.{IsSorted}
@@ -30,7 +30,7 @@ use Rattle.ppdb_values.specs.Rules.{KeepsRules, IsCustom, IsWholeOfKind}
 use Rattle.ppdb_values.specs.Value.{value_of}
 use Rattle.ppdb_values.proofs.Readings.{stepping_is}
 use Rattle.ppdb_values_sound_laws.specs.Named.{HasRow}
-use Rattle.ppdb_values_sound_laws.specs.Customs.{IsBodyOfKind, coded_of, SoundCustom, SoundCustoms}
+use Rattle.ppdb_values_sound_laws.specs.Customs.{IsBodyOfKind, SoundCustom, SoundCustoms}
 use Rattle.ppdb_values_sound_laws.proofs.Counts.{documents_counted, parents_counted, type_system_counted}
 use Rattle.ppdb_values_sound_laws.proofs.Listed.{row_of_map}
 

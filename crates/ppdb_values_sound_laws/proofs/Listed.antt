@@ -19,9 +19,6 @@ row_of rows i inside = elim (slice_get_cases rows i).1 [
   | inr past ↦ let out = past.0 in absurd (omega (arith, inside, out))
 ]
 
-pub same_row : {X : Type 0} (rows : List X) (row : ℕ) (x y : X) → row_at rows row ≡ Some x → row_at rows row ≡ Some y → x ≡ y
-same_row rows row x y a b = cc
-
 -- what holds of each item holds of a row
 pub all_at : {X : Type 0} (P : X → Type 0) (rows : List X) (row : ℕ) (x : X) → All P rows → row_at rows row ≡ Some x → P x
 all_at P rows zero x all here = cc

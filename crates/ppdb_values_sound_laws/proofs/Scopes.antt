@@ -35,7 +35,7 @@ differ f key list scopes owner items apart y z both same =
     (ap key both.first.makes ∙ same ∙ sym (ap key both.second.makes))
 
 -- the body of a signature, as a value has it, is the body of the signature
-stored_again : (body : StoredBody) → stored_body (body_value body) ≡ body
+pub stored_again : (body : StoredBody) → stored_body (body_value body) ≡ body
 stored_again (primitive code value) = refl
 stored_again (enumerated code value target) = refl
 stored_again (general code target rest) = refl

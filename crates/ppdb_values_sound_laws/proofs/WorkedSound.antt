@@ -11,7 +11,7 @@ use Rattle.sequence_points.specs.declared.point.Point.{Point}
 use Rattle.sequence_points.specs.declared.point.Span.{Span}
 use Rattle.sequence_points.specs.declared.point.Span.TheVariants.{Hidden, Lines}
 use Rattle.sequence_points.specs.Written.{IsSpan}
-use Rattle.ppdb_tables.specs.Parents.{CodesAreParents}
+use Rattle.ppdb_tables.specs.Parents.{CodesAreParents, coded_of}
 use Rattle.ppdb_values.specs.declared.file.FileValue.{FileValue}
 use Rattle.ppdb_values.specs.declared.import.ImportScopeValue.{ImportScopeValue}
 use Rattle.ppdb_values.specs.declared.file.MethodValue.{MethodValue}
@@ -23,7 +23,7 @@ use Rattle.ppdb_values.specs.WorkedSmall.{empty_value, small_value, outer_scope,
 use Rattle.ppdb_values.specs.WorkedProgram.{program_file}
 use Rattle.ppdb_values.proofs.Kept.{program_kept}
 use Rattle.ppdb_values.proofs.Worked.{program_is}
-use Rattle.ppdb_values_sound_laws.specs.Customs.{coded_of, SoundCustoms}
+use Rattle.ppdb_values_sound_laws.specs.Customs.{SoundCustoms}
 use Rattle.ppdb_values_sound_laws.specs.Imports.{SoundImports}
 use Rattle.ppdb_values_sound_laws.specs.Named.{count}
 use Rattle.ppdb_values_sound_laws.specs.Methods.{SoundPoint, SoundMethod, SoundMethods}

@@ -1,7 +1,7 @@
 -- Custom debug information (Portable PDB v1.0, "CustomDebugInformation Table", and its kinds "Async Method Stepping Information",
 -- "State Machine Hoisted Local Scopes" and "Type Definition Documents").
-use Rattle.ppdb_values.specs.Names.{Kind, Async as AsyncKind, Hoisted as HoistedKind, TypeDocuments as DocumentsKind, Free, Unknown, kind_of, IsHandler, IsStep, IsSlot, Parent, coded_in}
-use Rattle.std.specs.Prelude.{ℕ, ◌≤◌, map, [], IsSome, All, unwrap_or}
+use Rattle.ppdb_values.specs.Names.{Kind, Async as AsyncKind, Hoisted as HoistedKind, TypeDocuments as DocumentsKind, Free, Unknown, kind_of, IsHandler, IsStep, IsSlot, coded_in, coded_of}
+use Rattle.std.specs.Prelude.{◌≤◌, map, [], IsSome, All}
 use Rattle.ppdb_values.specs.{declared.file.FileValue.FileValue, declared.custom.{CustomBody.{CustomBody, TheVariants.{Async, Hoisted, TypeDocuments, Unread}}, CustomValue.CustomValue}}
 use Rattle.ppdb_values.specs.{Ordered.{EachRow, IsSorted}, Rules.StandsOn}
 use Rattle.ppdb_values_sound_laws.specs.Named.{HasRow, count}
@@ -15,10 +15,6 @@ IsBodyOfKind value DocumentsKind (TypeDocuments documents) = All (HasRow value 0
 IsBodyOfKind value Free (Unread content) = Unit {0}
 IsBodyOfKind value Unknown (Unread content) = Unit {0}
 IsBodyOfKind value _ _ = ⊥
-
--- the coded index of a parent
-abbrev pub coded_of : Parent → ℕ
-coded_of parent = unwrap_or (coded_in parent) 0
 
 -- A custom record: the table of its parent has a tag, and the row is there.
 pub record SoundCustom (value : FileValue) (custom : CustomValue) : Type 0 where

@@ -1,14 +1,14 @@
 -- There is debug information for each method or for none.
-use Rattle.std.proofs.Common.{◌≡◌, ◌≢◌, ℕ, zero, suc, ◌+◌, ◌*◌, ◌≤◌, List, [], ◌∷◌, length, sum, replicate, inl, inr, refl, sym, ◌∙◌, false, arith}
+use Rattle.std.proofs.Common.{◌≡◌, ◌≢◌, ℕ, ◌≤◌, List, [], ◌∷◌, length, inl, inr, refl, sym, ◌∙◌, false, arith}
 use Rattle.std.specs.Prelude.{◌==◌, slice_index}
-use Rattle.std.proofs.lemmas.Bool.{cases_eq, cases_lt}
+use Rattle.std.proofs.lemmas.Bool.{cases_eq}
 use Rattle.std.proofs.lemmas.Bool.Decides.{nat_tests}
 use Rattle.std.specs.Int.{bit_at}
 use Rattle.std.proofs.lemmas.List.FromFn.{get_or-map-range_with_len}
 use Rattle.ppdb_base.specs.declared.code.Code.TheVariants.{TablesShort, MethodRows}
 use Rattle.ppdb_base.specs.First.{IsAccepted}
 use Rattle.ppdb_base.specs.Place.{at_byte}
-use Rattle.ppdb_base.proofs.Fields.{sum_append, sum_cons}
+use Rattle.ppdb_base.proofs.Fields.{sum_append}
 use Rattle.metadata_root.specs.declared.kind.StreamKind.TheVariants.{Tables}
 use Rattle.metadata_root.specs.Streams.{Streams, bytes_of}
 use Rattle.ppdb_tables.specs.Counts.{count_fields, counts_below, count_place}
@@ -16,22 +16,8 @@ use Rattle.ppdb_tables.specs.declared.head.PdbHead.{PdbHead}
 use Rattle.ppdb_tables.specs.RawTables.{count}
 use Rattle.ppdb_tables.specs.Tables.{TableFieldFaults, TablesFaults, count_in, table_fields, table_rows, tables_in, valid}
 use Rattle.ppdb_tables.specs.Tables.TableFieldFaults.{short, method_rows}
+use Rattle.ppdb_tables.proofs.RowCounts.{counts_mono, sum-replicate}
 use Rattle.ppdb_verify.proofs.Fitting.{fields_fit}
-
-sum_replicate : (n x : ℕ) → sum (replicate n x) ≡ x * n
-sum_replicate zero x = omega arith
-sum_replicate (suc n) x = sum_cons x (replicate n x) ∙ omega (arith, sum_replicate n x)
-
-counts_step : (bits t : ℕ) → counts_below bits (suc t) ≡ counts_below bits t + bit_at bits t
-unfolding counts_below
-counts_step bits t = refl
-
-counts_up : (bits t u : ℕ) → t ≤ u → counts_below bits t ≤ counts_below bits u
-counts_up bits t zero le = let e : t ≡ 0 = omega arith in rw e (omega arith)
-counts_up bits t (suc u) le = elim (cases_lt u t) [
-  | inl past ↦ let e : t ≡ suc u = omega arith in rw e (omega arith)
-  | inr before ↦ omega (arith, counts_up bits t u before, counts_step bits u)
-]
 
 not_set : (bits table : ℕ) → bit_at bits table ≢ 1 → (bit_at bits table == 1) ≡ false
 not_set bits table apart = grind (arith, nat_tests, apart)
@@ -41,8 +27,8 @@ module _ (methods : ℕ) (stream : List ℕ) (accepted : IsAccepted (TableFieldF
   place_within table le =
       let fit = fields_fit (table_fields stream) (length stream) (λ at len is from past. accepted TablesShort (at_byte 4 at) (short at len is from past)) in
       let parts = sum_append (4 ∷ 1 ∷ 1 ∷ 1 ∷ 1 ∷ 8 ∷ 8 ∷ []) (count_fields (valid stream)) in
-      let counted = sum_replicate (counts_below (valid stream) 64) 4 in
-      let up = counts_up (valid stream) table 64 le in
+      let counted = sum-replicate (counts_below (valid stream) 64) 4 in
+      let up = counts_mono (valid stream) table 64 le in
       omega (arith, fit, parts, counted, up)
 
   method_rows_fit : table_rows stream 0x31 ≢ 0 → table_rows stream 0x31 ≡ methods

@@ -1,7 +1,6 @@
 -- A cursor over a whole blob answers no fault.
-use Rattle.std.proofs.Common.{ap, ◌∙◌, ◌≡◌, ℕ, zero, suc, List, [], ◌∷◌, refl, subst}
-use Rattle.std.specs.Prelude.{Option, Some, None, Result, Ok, Err, IsOk, IsOkAnd, is_ok}
-use Rattle.std.proofs.lemmas.Bool.{false≢true}
+use Rattle.std.proofs.Common.{◌≡◌, ℕ, zero, suc, List, [], ◌∷◌, refl, subst}
+use Rattle.std.specs.Prelude.{Option, Some, None, Result, Ok, Err, IsOk, IsOkAnd}
 use Rattle.ppdb_base.specs.declared.fault.BlobFault.{BlobFault}
 use Rattle.blob_grammar.specs.Grammar.{Grammar}
 use Rattle.blob_grammar.specs.Reader.{Left, answer_from, rest_of}
@@ -43,14 +42,6 @@ ok_from [] (Some fault) none = cc
 pub never : {X : Type 0} (left : Left X) → left.fault ≡ None → NeverFaults left
 never left none zero = ok_from left.items left.fault none
 never left none (suc answers) = never (rest_of left) none answers
-
--- such an answer is no fault
-pub not_fault : {T : Type 0} (answered : Result T BlobFault) (fault : BlobFault) → IsOk answered → Err fault ≡ answered → ⊥
-not_fault answered fault ok is = false≢true (ap is_ok is ∙ ok)
-
--- after an answer the cursor is as before
-pub goes_on : {X : Type 0} (left : Left X) → NeverFaults left → NeverFaults (rest_of left)
-goes_on left never answers = never (suc answers)
 
 constant_ok : (left : ConstantLeft) (end : ConstantEnd) → left.end ≡ end → fault_of end ≡ None → IsOk (modifier_answer left) × IsOk (body_answer left.end)
 constant_ok left (body b) is none = rw is (ok_from left.modifiers None refl, refl)

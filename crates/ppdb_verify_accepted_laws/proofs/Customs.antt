@@ -1,5 +1,5 @@
 -- The custom records keep their rules.
-use Rattle.std.proofs.Common.{◌≡◌, ℕ, ◌/◌, ◌%◌, ◌<◌, ◌≤◌, List, [], refl, sym, ◌∙◌, subst, inl, inr, arith, slice_get}
+use Rattle.std.proofs.Common.{◌≡◌, ℕ, ◌/◌, ◌%◌, ◌<◌, ◌≤◌, [], refl, sym, ◌∙◌, subst, inl, inr, arith, slice_get}
 use Rattle.std.specs.Prelude.{Option, Some, None, unwrap_or}
 use Rattle.std.specs.Option.{option_map}
 use Rattle.std.proofs.lemmas.Bool.{cases_eq, cases_lt}
@@ -18,11 +18,11 @@ use Rattle.ppdb_tables.specs.declared.parent.Parent.{Parent}
 use Rattle.ppdb_tables.specs.declared.rows.CustomRow.{CustomRow}
 use Rattle.ppdb_tables.specs.RawTables.{RawTables, count, row_at}
 use Rattle.row_layout.specs.Columns.{parent_tables}
-use Rattle.ppdb_verify_rules.specs.Blobs.{NamesNoGuid}
 use Rattle.ppdb_verify_rules.specs.Customs.{IsOfKind, ReadsValue, parent_table}
 use Rattle.ppdb_verify_rules.specs.Rows.{RowFaults, CustomFault}
 use Rattle.ppdb_verify_rules.specs.Rows.RowFaults.{in_custom}
 use Rattle.ppdb_verify_rules.specs.Rows.CustomFault.{no_parent, no_tag, out_of_order, no_kind, other_parent, no_value, invalid_value}
+use Rattle.ppdb_verify_rules.proofs.BlobFaults.{no_guid}
 use Rattle.ppdb_values.specs.Customs.{kind_in, parent_of}
 use Rattle.ppdb_values.specs.RawFile.{blob}
 use Rattle.ppdb_values.specs.Rules.{HasBlob, HasRow, IsCustom, IsWholeOfKind, KeepsCustoms, StandsOn}
@@ -52,12 +52,6 @@ tag_there tag low none = elim (slice_get_cases parent_tables tag).1 [
 
 one_table : (a b : ℕ) → Some a ≡ Some b → a ≡ b
 one_table a b same = cc
-
-no_guid : (guids : List ℕ) (number : ℕ) → guid_at guids number ≡ None → NamesNoGuid 1 guids number
-no_guid guids number none = elim (cases_eq number 0) [
-  | inl zero ↦ inl (omega (arith, zero))
-  | inr apart ↦ inr (apart, none)
-]
 
 module _ (raw : RawTables) (accepted : IsAccepted (RowFaults raw)) where
   module _ (row : ℕ) (x : CustomRow) (here : row_at raw.customs row ≡ Some x) where

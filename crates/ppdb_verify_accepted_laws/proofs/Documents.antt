@@ -29,11 +29,11 @@ module _ (raw : RawTables) (accepted : IsAccepted (RowFaults raw)) where
 
     spelled : SpellsName raw.blobs x.name (document_of raw x).name
     unfolding records_of name_of
-    spelled = record {
-      content = blob raw x.name;
-      there = name_there;
-      is_name = record { parts = records_of (names raw.blobs) (blob raw x.name); whole = name_whole; text = refl };
-    }
+    spelled = (
+      blob raw x.name,
+      name_there,
+      record { parts = records_of (names raw.blobs) (blob raw x.name); whole = name_whole; text = refl },
+    )
 
     kept : IsDocument raw x
     kept = record {
@@ -51,11 +51,7 @@ module _ (raw : RawTables) (accepted : IsAccepted (RowFaults raw)) where
     earlier = x;
     there = hx;
     sooner = less;
-    forbidden = record {
-      name = (document_of raw y).name;
-      first = subst (λ (name : List ℕ). SpellsName raw.blobs x.name name) same (spelled a x hx);
-      second = spelled b y hy;
-    };
+    forbidden = ((document_of raw y).name, subst (λ (name : List ℕ). SpellsName raw.blobs x.name name) same (spelled a x hx), spelled b y hy);
   }))
 
   pub documents_kept : KeepsDocuments raw

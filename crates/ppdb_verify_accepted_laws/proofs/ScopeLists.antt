@@ -66,11 +66,7 @@ begun_owner list (scope ∷ scopes) items item keeps from to none =
 shared : (list : ScopeRow → ℕ) (scopes : List ScopeRow) (a b : ℕ) (o : Option ℕ) → owner_of list scopes a ≡ o → owner_of list scopes b ≡ o → (o ≡ None → ⊥)
     → ShareOwner list scopes a b
 shared list scopes a b None ha hb some = absurd (some refl)
-shared list scopes a b (Some owner) ha hb some = record {
-  owner = owner;
-  first = owner_is_last list scopes owner a ha;
-  second = owner_is_last list scopes owner b hb;
-}
+shared list scopes a b (Some owner) ha hb some = (owner, owner_is_last list scopes owner a ha, owner_is_last list scopes owner b hb)
 
 pub differ : {X K : Type 0} (key : X → K) (list : ScopeRow → ℕ) (scopes : List ScopeRow) (items : List X) → KeepsLists list scopes (length items)
     → ((a b : ℕ) (x y : X) → row_at items a ≡ Some x → row_at items b ≡ Some y → a < b → ShareOwner list scopes a b → key x ≢ key y)

@@ -19,7 +19,7 @@ use Rattle.ppdb_verify_accepted_laws.proofs.Scopes.{no_fault as no_scope_fault}
 
 -- two indexes of one text
 pub are_same_text : (raw : RawTables) (a b : ℕ) → HasText raw a → HasText raw b → text raw a ≡ text raw b → AreSameText raw.texts a b
-are_same_text raw a b first second same = record { text = text raw b; first = first ∙ ap (λ t. Some t) same; second = second }
+are_same_text raw a b first second same = (text raw b, first ∙ ap (λ t. Some t) same, second)
 
 module _ (raw : RawTables) (accepted : IsAccepted (RowFaults raw)) (shape : HasShape raw) where
   no_fault : (row : ℕ) (x : VariableRow) → row_at raw.variables row ≡ Some x → {column byte : ℕ} {code : Code}

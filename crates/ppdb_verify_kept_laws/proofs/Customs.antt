@@ -30,7 +30,8 @@ use Rattle.ppdb_verify_kept_laws.proofs.Whole.{no_fault}
 abbrev with_row : ℕ → Option ℕ → Option Parent
 with_row row o = option_map (λ (table : ℕ). record { table = table; row = row }) o
 
-table_named : (o : Option ℕ) (row : ℕ) → with_row row o ≡ Some (unwrap_or (with_row row o) (record { table = 0; row = 0 })) → o ≡ Some (unwrap_or (with_row row o) (record { table = 0; row = 0 })).table
+table_named : (o : Option ℕ) (row : ℕ) → with_row row o ≡ Some (unwrap_or (with_row row o) (record { table = 0; row = 0 }))
+    → o ≡ Some (unwrap_or (with_row row o) (record { table = 0; row = 0 })).table
 table_named None row is = cc
 table_named (Some table) row is = refl
 

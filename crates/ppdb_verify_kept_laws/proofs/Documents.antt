@@ -36,9 +36,9 @@ not_nil raw index there whole nil =
 -- the name that a blob spells is that of the document
 name_there : (raw : RawTables) (index : ℕ) (name : List ℕ) → HasBlob raw index → SpellsName raw.blobs index name → name_of raw.blobs (blob raw index) ≡ name
 name_there raw index name there spells =
-    let named = spells.there in
-    let same : spells.content ≡ blob raw index = cc in
-    subst (λ (content : List ℕ). name_of raw.blobs content ≡ name) same (name_is raw spells.content name spells.is_name)
+    let named = spells.1 in
+    let same : spells.0 ≡ blob raw index = cc in
+    subst (λ (content : List ℕ). name_of raw.blobs content ≡ name) same (name_is raw spells.0 name spells.2)
 
 module _ (raw : RawTables) (keeps : KeepsDocuments raw) (row : ℕ) (x : DocumentRow) (here : row_at raw.documents row ≡ Some x) where
   is : IsDocument raw x
@@ -49,8 +49,8 @@ module _ (raw : RawTables) (keeps : KeepsDocuments raw) (row : ℕ) (x : Documen
       let e = earlier.earlier in
       let same = earlier.forbidden in
       keeps.names_differ earlier.before row e x earlier.there here earlier.sooner
-      (name_there raw e.name same.name (keeps.each earlier.before e earlier.there).name same.first
-      ∙ sym (name_there raw x.name same.name is.name same.second))
+      (name_there raw e.name same.0 (keeps.each earlier.before e earlier.there).name same.1
+      ∙ sym (name_there raw x.name same.0 is.name same.2))
 
   pub no_document_fault : (column byte : ℕ) (code : Code) → DocumentFault raw row x column byte code → ⊥
   no_document_fault _ _ _ (no_name none) = let some = is.name in cc

@@ -47,8 +47,8 @@ no_item_alone list (scope ∷ scopes) items row x keeps here none = cc
 pub no_repeat : {X K : Type 0} (key : X → K) (list : ScopeRow → ℕ) (scopes : List ScopeRow) (items : List X) → DifferInScope key list scopes items
     → (a b : ℕ) (x y : X) → row_at items a ≡ Some x → row_at items b ≡ Some y → a < b → ShareOwner list scopes a b → key x ≡ key y → ⊥
 no_repeat key list scopes items differ a b x y hx hy less share same =
-    differ a b x y hx hy less (owner_is_found list scopes share.owner a share.first ∙ sym (owner_is_found list scopes share.owner b share.second)) same
+    differ a b x y hx hy less (owner_is_found list scopes share.0 a share.1 ∙ sym (owner_is_found list scopes share.0 b share.2)) same
 
 -- two cells that name one text
 pub same_text : (raw : RawTables) (a b : ℕ) → HasText raw a → HasText raw b → AreSameText raw.texts a b → text raw a ≡ text raw b
-same_text raw a b first second are = let one = are.first in let other = are.second in cc
+same_text raw a b first second are = let one = are.1 in let other = are.2 in cc

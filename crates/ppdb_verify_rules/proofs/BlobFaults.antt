@@ -84,7 +84,7 @@ value_not_there h none = let there = h.there in cc
 
 -- and for names: a whole name has no fault
 pub name_whole : {blobs : List ℕ} {index : ℕ} {name : List ℕ} {fault : BlobFault} → SpellsName blobs index name → HasFault (names blobs) blobs index fault → ⊥
-name_whole {blobs} s h = not_whole {g = names blobs} s.content s.there (s.is_name.parts, s.is_name.whole) h
+name_whole {blobs} s h = not_whole {g = names blobs} s.0 s.1 (s.2.parts, s.2.whole) h
 
 -- a blob that is there
 pub value_there : (blobs content : List ℕ) (index : ℕ) → blob_at blobs index ≡ Some content → blob_at blobs index ≡ None → ⊥

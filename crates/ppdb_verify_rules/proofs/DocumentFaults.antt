@@ -91,7 +91,7 @@ module _ (raw : RawTables) (row : ℕ) (document : DocumentRow) (there : row_at 
       none _ _ (no_name w) lower = no0 w
       none _ _ (nil_name w) lower = no1 w
       none _ _ (repeated _) lower = omega (arith, lower)
-      none _ _ (invalid_name g w) lower = name_whole wrong.forbidden.second w
+      none _ _ (invalid_name g w) lower = name_whole wrong.forbidden.2 w
 
   pub invalid_name_first : (fault : Fault) (inner : BlobFault) → ToCell raw 0x30 row 0 → (IsNil raw.blobs document.name → ⊥)
       → HasFault (names raw.blobs) raw.blobs document.name inner
@@ -102,7 +102,7 @@ module _ (raw : RawTables) (row : ℕ) (document : DocumentRow) (there : row_at 
           → (b < inner.byte) ⊎ ((b ≡ inner.byte) × (number_of other < number_of inner.code)) → ⊥
       none _ _ (no_name w) lower = not_there wrong w
       none _ _ (nil_name w) lower = some w
-      none _ _ (repeated w) lower = name_whole w.forbidden.second wrong
+      none _ _ (repeated w) lower = name_whole w.forbidden.2 wrong
       none _ _ (invalid_name {fault = other} g w) lower = one_fault wrong w lower
 
   pub next_0 : ToCell raw 0x30 row 0 → (blob_at raw.blobs document.name ≡ None → ⊥) → (IsNil raw.blobs document.name → ⊥)

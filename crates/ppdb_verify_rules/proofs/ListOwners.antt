@@ -131,7 +131,7 @@ module _ {X : Type 0} (list : ScopeRow → ℕ) (scopes : List ScopeRow) (rows :
         there = h.there;
         sooner = h.sooner;
         forbidden = (
-          subst (λ (o : ℕ). Owns list scopes o h.before) (one_owner list scopes shared.owner owner row shared.second owns) shared.first,
+          subst (λ (o : ℕ). Owns list scopes o h.before) (one_owner list scopes shared.0 owner row shared.2 owns) shared.1,
           h.forbidden.1,
         );
       }
@@ -143,20 +143,8 @@ module _ {X : Type 0} (list : ScopeRow → ℕ) (scopes : List ScopeRow) (rows :
     earlier = h.earlier;
     there = h.there;
     sooner = h.sooner;
-    forbidden = (record { owner = owner; first = h.forbidden.0; second = owns }, h.forbidden.1);
+    forbidden = ((owner, h.forbidden.0, owns), h.forbidden.1);
   }
-
--- the marks before an owner are none of a later one
-pub slots_on : (scopes : List ScopeRow) (variables : List VariableRow) (row before owner : ℕ) (marks : List ℕ)
-    → OwnsBefore (λ s. s.variables) scopes before row → before ≤ owner → AreSlots scopes variables row before marks → AreSlots scopes variables row owner marks
-slots_on scopes variables row before owner marks owns on seen = elim (cases_lt before owner) [
-  | inl past ↦ record {
-    reached = λ n. let old = seen.reached n in omega (arith, old, on);
-    sound = λ n some marked. absurd (let old = seen.reached n in omega (arith, old, marked, past));
-    complete = λ n h. absurd (new_owner (λ s. s.variables) scopes variables row before owner (λ (e : VariableRow). e.slot ≡ n) owns past h);
-  }
-  | inr ge ↦ subst (λ (o : ℕ). AreSlots scopes variables row o marks) (let e : before ≡ owner = omega (arith, on, ge) in e) seen
-]
 
 pub slots_at_first : (scopes : List ScopeRow) (variables : List VariableRow) (owner : ℕ) (marks : List ℕ) → marks ≡ [] → AreSlots scopes variables 1 owner marks
 slots_at_first scopes variables owner marks empty = record {
@@ -188,7 +176,7 @@ module _ {X : Type 0} (list : ScopeRow → ℕ) (scopes : List ScopeRow) (texts 
     earlier = h.earlier;
     there = h.there;
     sooner = h.sooner;
-    forbidden = (record { owner = owner; first = h.forbidden.0; second = owns }, record { text = text; first = h.forbidden.1; second = there });
+    forbidden = ((owner, h.forbidden.0, owns), (text, h.forbidden.1, there));
   }
 
   pub annotated_text : (row owner index : ℕ) (text : List ℕ) → text_at texts index ≡ Some text → Owns list scopes owner row
@@ -197,15 +185,15 @@ module _ {X : Type 0} (list : ScopeRow → ℕ) (scopes : List ScopeRow) (texts 
   annotated_text row owner index text there owns h =
       let shared : ShareOwner list scopes h.before row = h.forbidden.0 in
       let same : AreSameText texts (name_of h.earlier) index = h.forbidden.1 in
-      let equal : same.text ≡ text = cc (same.second, there) in
+      let equal : same.0 ≡ text = cc (same.2, there) in
       record {
         before = h.before;
         earlier = h.earlier;
         there = h.there;
         sooner = h.sooner;
         forbidden = (
-          subst (λ (o : ℕ). Owns list scopes o h.before) (one_owner list scopes shared.owner owner row shared.second owns) shared.first,
-          same.first ∙ ap Some equal,
+          subst (λ (o : ℕ). Owns list scopes o h.before) (one_owner list scopes shared.0 owner row shared.2 owns) shared.1,
+          same.1 ∙ ap Some equal,
         );
       }
 

@@ -37,12 +37,12 @@ module _ (s n : BTreeSet (Vec ℕ Global)) (name v : Vec ℕ Global)
 -- a blob spells one name
 pub one_name : (blobs : List ℕ) (index : ℕ) (a b : List ℕ) → SpellsName blobs index a → SpellsName blobs index b → a ≡ b
 one_name blobs index a b x y =
-    let same : y.content ≡ x.content = cc (x.there, y.there) in
-    let whole : Reading (names blobs) x.content y.is_name.parts None =
-    subst (λ (c : List ℕ). Reading (names blobs) c y.is_name.parts None) same y.is_name.whole in
-    let parts : x.is_name.parts ≡ y.is_name.parts =
-    (reading-unique (names blobs) x.content x.is_name.parts y.is_name.parts None None x.is_name.whole whole).0 in
-    x.is_name.text ∙ (ap joined parts ∙ sym y.is_name.text)
+    let same : y.0 ≡ x.0 = cc (x.1, y.1) in
+    let whole : Reading (names blobs) x.0 y.2.parts None =
+    subst (λ (c : List ℕ). Reading (names blobs) c y.2.parts None) same y.2.whole in
+    let parts : x.2.parts ≡ y.2.parts =
+    (reading-unique (names blobs) x.0 x.2.parts y.2.parts None None x.2.whole whole).0 in
+    x.2.text ∙ (ap joined parts ∙ sym y.2.text)
 
 module _ (blobs : List ℕ) (documents : List DocumentRow) where
   pub names_at_first : (seen : BTreeSet (Vec ℕ Global)) (longest : ℕ) → seen.keys ≡ [] → AreNames blobs documents 1 seen longest
@@ -85,7 +85,7 @@ module _ (blobs : List ℕ) (documents : List DocumentRow) where
       earlier = h.earlier;
       there = h.there;
       sooner = h.sooner;
-      forbidden = record { name = name; first = h.forbidden; second = spelled };
+      forbidden = (name, h.forbidden, spelled);
     }
 
     pub repeated : (name : List ℕ) → SpellsName blobs document.name name
@@ -97,7 +97,7 @@ module _ (blobs : List ℕ) (documents : List DocumentRow) where
           earlier = h.earlier;
           there = h.there;
           sooner = h.sooner;
-          forbidden = subst (λ (n : List ℕ). SpellsName blobs h.earlier.name n) (one_name blobs document.name same.name name same.second spelled) same.first;
+          forbidden = subst (λ (n : List ℕ). SpellsName blobs h.earlier.name n) (one_name blobs document.name same.0 name same.2 spelled) same.1;
         }
 
 -- a whole name that is longer than those before passes the cell
@@ -105,6 +105,6 @@ pub longer_next : (raw : RawTables) (row : ℕ) (document : DocumentRow) (seen :
     → ToCell raw 0x30 row 0 → AreNames raw.blobs raw.documents row seen longest → (IsNil raw.blobs document.name → ⊥)
     → (name : List ℕ) → SpellsName raw.blobs document.name name → longest < length name → ToCell raw 0x30 row 1
 longer_next raw row document seen longest there judged names some name spelled longer =
-    next_0 raw row document there judged (value_there raw.blobs spelled.content document.name spelled.there) some
+    next_0 raw row document there judged (value_there raw.blobs spelled.0 document.name spelled.1) some
     (λ h. let s : length name ≤ longest = names.short name (repeated raw.blobs raw.documents row document there name spelled h) in omega (arith, s, longer))
     (λ fault some2 invalid. name_whole spelled invalid)

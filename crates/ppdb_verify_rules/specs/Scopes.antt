@@ -37,13 +37,9 @@ IsListOut list rows scopes row scope =
     ⊎ ((before : ScopeRow) × (row_at scopes (row - 1) ≡ Some before) × (list scope < list before)))
 
 -- two items are in the list of one scope
-pub record ShareOwner (list : ScopeRow → ℕ) (scopes : List ScopeRow) (a b : ℕ) : Type 0 where
-  pub owner : ℕ
-  pub first : Owns list scopes owner a
-  pub second : Owns list scopes owner b
+abbrev pub ShareOwner : (ScopeRow → ℕ) → List ScopeRow → ℕ → ℕ → Type 0
+ShareOwner list scopes a b = (owner : ℕ) × Owns list scopes owner a × Owns list scopes owner b
 
 -- two texts are there, and are equal byte for byte
-pub record AreSameText (texts : List ℕ) (a b : ℕ) : Type 0 where
-  pub text : List ℕ
-  pub first : text_at texts a ≡ Some text
-  pub second : text_at texts b ≡ Some text
+abbrev pub AreSameText : List ℕ → ℕ → ℕ → Type 0
+AreSameText texts a b = (text : List ℕ) × (text_at texts a ≡ Some text) × (text_at texts b ≡ Some text)

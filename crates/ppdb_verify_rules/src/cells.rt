@@ -1,7 +1,7 @@
 // Faults at cells, and the items that cells name.
 ghost use Rattle.std.specs.Prelude.{◌≡◌, ◌<◌, ◌^◌, ◌↔◌, None, IsTrue};
 ghost use Rattle.ppdb_base.specs.Place.{cell};
-ghost use Rattle.ppdb_heaps.specs.Heaps.{text_at, blob_at};
+ghost use Rattle.ppdb_heaps.specs.Heaps.{blob_at};
 ghost use Rattle.ppdb_tables.specs.RawTables.{count, HasShape};
 ghost use Rattle.ppdb_tables.specs.RawOf.{raw_of};
 ghost use Rattle.ppdb_verify_rules.specs.Blobs.{NamesNoGuid, in_blob};
@@ -58,13 +58,6 @@ pub(crate) fn names_no_row(tables: &Tables<'_>, table: u8, least: u32, number: u
     ensures { IsTrue result ↔ NamesNoRow least (count (raw_of tables.now) table) number }
 {
     number < least || tables.rows(table) < number
-}
-
-/// Whether a text is not there.
-pub(crate) fn names_no_text(tables: &Tables<'_>, index: u32) -> bool
-    ensures { IsTrue result ↔ (text_at (raw_of tables.now).texts index ≡ None) }
-{
-    tables.strings().get(index).is_none()
 }
 
 /// Whether a blob is not there.

@@ -23,9 +23,6 @@ no_first (x ∷ xs) e = absurd cc
 
 -- ---- offsets that rise
 
-abbrev IsAbove : Point → Point → Type 0
-IsAbove p q = p.offset < q.offset
-
 pub pairs-head : (p : Point) (ps : List Point) → AllPairs (λ p q. p.offset < q.offset) (p ∷ ps) → All (λ q. p.offset < q.offset) ps
 pairs-head p ps h = λ k d less. h 0 (suc k) d (omega arith) (omega arith)
 

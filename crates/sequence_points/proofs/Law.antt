@@ -16,7 +16,7 @@ use Rattle.sequence_points.specs.Records.{point_form, point_allows, point_of_fie
 use Rattle.sequence_points.specs.Ranges.{is_line, is_column}
 use Rattle.sequence_points.specs.Points.{document_after, points_after}
 use Rattle.sequence_points.specs.Places.{start_after}
-use Rattle.sequence_points.specs.Written.{IsSpan, last_of, last_start, points_bytes, last_offset, columns_bytes, start_bytes, span_bytes}
+use Rattle.sequence_points.specs.Written.{IsSpan, last_of, last_start, points_bytes, columns_bytes, start_bytes, span_bytes}
 use Rattle.sequence_points.specs.Written.{bytes_after, if_large, large_step}
 use Rattle.sequence_points.specs.Ranges.{IsLine}
 use Rattle.sequence_points.specs.Following.{IsStart, IsBehind, MayFollow, EachMayFollow}
@@ -24,7 +24,7 @@ use Rattle.sequence_points.proofs.Sums.{IsStarted, form_is, allows_is, record_is
 use Rattle.sequence_points.proofs.Offsets.{second_is, not_hidden, lt-true}
 use Rattle.std.proofs.lemmas.List.Elements.{All-head, All-tail}
 use Rattle.sequence_points.proofs.Before.{last_of-push, last_start-push}
-use Rattle.sequence_points.proofs.Stands.{Stands, line_of, column_of, stands_document, stands_hidden, stands_visible}
+use Rattle.sequence_points.proofs.Stands.{Stands, last_offset, line_of, column_of, stands_document, stands_hidden, stands_visible}
 use Rattle.sequence_points.proofs.Spelled.{Spelled, unsigned_spells, spelled_signed}
 use Rattle.sequence_points.proofs.Makes.{Makes, nothing_made, field_more, field_last}
 

@@ -76,10 +76,6 @@ gone_none : (ps : List Point) → moved_points gone ps ≡ []
 gone_none [] = refl
 gone_none (p ∷ ps) = goes (is_kept_between gone p.offset (first_offset (old_size gone) ps)) (no_kept p.offset (first_offset (old_size gone) ps)) (gone_none ps)
   where
-    and-false : (b : Bool) → cond b false false ≡ false
-    and-false true = refl
-    and-false false = refl
-
     no_kept : (from to : ℕ) → is_kept_between gone from to ≡ false
     no_kept from to = grind arith
 

@@ -12,7 +12,7 @@ use Rattle.ppdb_base.specs.declared.Code.{Code}
 use Rattle.ppdb_base.specs.declared.BlobFault.{BlobFault}
 use Rattle.cli_ints.specs.declared.IntFault.{IntFault}
 use Rattle.blob_grammar.specs.Grammar.{Value, number, integer, octets, unsigned, signed}
-use Rattle.blob_grammar.specs.Reader.{push, placed, field_at, as_number, is_empty}
+use Rattle.blob_grammar.specs.Reader.{push, placed, field_at, as_value, is_empty}
 use Rattle.blob_grammar.proofs.Steps.{left-none, left-end, not_empty}
 use Rattle.blob_grammar.proofs.Placed.{unsigned_there, unsigned_not_there}
 use Rattle.blob_grammar.specs.Allowed.{is_row, is_number}
@@ -117,7 +117,7 @@ columns_none limits blob place first lines at fault e =
     at-none limits blob place first (number lines ∷ []) at (columns_form (number lines)) n.code refl n.none ∙ ap (λ f. no_points (Some f)) (sym n.fault_is)
 
 -- what an unsigned number is
-unsigned_value : (r : Result (ℕ × ℕ) IntFault) (v : Value) (len : ℕ) → as_number r ≡ Ok (v, len) → (n : ℕ) × (v ≡ number n)
+unsigned_value : (r : Result (ℕ × ℕ) IntFault) (v : Value) (len : ℕ) → as_value number r ≡ Ok (v, len) → (n : ℕ) × (v ≡ number n)
 unsigned_value (Ok x) v len e = let p : (number x.0, x.1) ≡ (v, len) = cc in (x.0, sym (ap (λ (q : Value × ℕ). q.0) p))
 unsigned_value (Err c) v len e = absurd cc
 

@@ -1,5 +1,5 @@
 -- The points that a blob is read as can be written.
-use Rattle.std.proofs.Common.{◌≡◌, ℕ, zero, suc, ◌+◌, ◌<◌, ◌≤◌, Bool, true, false, List, [], ◌∷◌, ◌++◌, Option, Some, None, pos, ◌+ℤ◌}
+use Rattle.std.proofs.Common.{◌≡◌, ℕ, zero, suc, ◌+◌, ◌<◌, ◌≤◌, Bool, true, false, List, [], ◌∷◌, Option, Some, None, pos, ◌+ℤ◌}
 use Rattle.std.proofs.Common.{refl, sym, ap, subst, ◌∙◌, arith}
 use Rattle.std.specs.Prelude.{All, nat_le, ◌<ℤ◌, if◌then◌else◌}
 use Rattle.std.proofs.lemmas.Int.{ints}
@@ -66,15 +66,6 @@ unsigned_read form bytes v after e s = let same : form ≡ unsigned = cc in by_v
 
 row_read : (limits : PointLimits) (row : ℕ) → is_number (is_row limits.documents) (number row) ≡ true → IsThere limits row
 row_read limits row h = let p = and_parts (nat_le 1 row) (nat_le row limits.documents) h in (leb-true 1 row p.0, leb-true row limits.documents p.1)
-
--- records were read, and one more
-after_push : (limits : PointLimits) (es : List Entry) (e : Entry) → Well limits (es ++ e ∷ []) → WellOrNone limits (es ++ e ∷ [])
-after_push limits [] e w = w
-after_push limits (x ∷ es) e w = w
-
-begun_none : (limits : PointLimits) (column : ℕ) (es : List Entry) → Begun limits column es []
-begun_none limits column [] = tt
-begun_none limits column (e ∷ es) = tt
 
 abbrev Allowed : ℕ → PointLimits → List Entry → List Value → List ℕ → Value → List ℕ → Type 0
 Allowed column limits whole begun bytes value after =

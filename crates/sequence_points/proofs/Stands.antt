@@ -5,8 +5,12 @@ use Rattle.sequence_points.specs.declared.point.Point.{Point}
 use Rattle.sequence_points.specs.declared.place.Start.{Start}
 use Rattle.sequence_points.specs.Records.{Entry, header, hidden, visible, in_document, Sums, sums}
 use Rattle.sequence_points.specs.Points.{document_after}
-use Rattle.sequence_points.specs.Written.{last_offset}
+use Rattle.std.specs.Option.{option_map_or}
 use Rattle.sequence_points.proofs.Sums.{IsStarted, sums-push, document-push, started-push}
+
+-- the offset of the last point
+abbrev pub last_offset : Option Point → ℕ
+last_offset last = option_map_or (λ q. q.offset) last 0
 
 abbrev pub line_of : Option Start → ℕ
 line_of None = 0

@@ -1,13 +1,13 @@
 -- What is left after some records depends on their sums alone.
-use Rattle.std.proofs.Common.{◌≡◌, ℕ, Bool, List, [], ◌∷◌, ◌++◌, ℤ, refl, sym, ap, ◌∙◌}
-use Rattle.std.specs.List.{flat_map, fold}
+use Rattle.std.proofs.Common.{◌≡◌, ℕ, Bool, List, [], ◌∷◌, ◌++◌, ℤ, Option, Some, None, refl, sym, ap, ◌∙◌}
+use Rattle.std.specs.{Prelude.unwrap_or, List.{flat_map, fold, last_or}}
 use Rattle.std.proofs.lemmas.Grind.{flat_map-append}
 use Rattle.blob_grammar.specs.Grammar.{Value}
 use Rattle.blob_grammar.proofs.Steps.{Alike}
 use Rattle.sequence_points.specs.declared.point.PointLimits.{PointLimits}
 use Rattle.sequence_points.specs.Records.{Entry, Sums, with_entry, sums}
 use Rattle.sequence_points.specs.Records.{point_form, point_allows, point_of_fields, form, allows, record_of, may_stop, sequence_points}
-use Rattle.sequence_points.specs.Points.{named_document, last_row, document_after}
+use Rattle.sequence_points.specs.Points.{named_document, document_after}
 
 -- records were read
 abbrev pub IsStarted : List Entry → Type 0
@@ -35,13 +35,18 @@ sums_from s (x ∷ es) e = sums_from (with_entry s x) es e
 pub sums-push : (es : List Entry) (e : Entry) → sums (es ++ e ∷ []) ≡ with_entry (sums es) e
 sums-push es e = sums_from _ es e
 
-pub last_row-append : (other : ℕ) (xs ys : List ℕ) → last_row other (xs ++ ys) ≡ last_row (last_row other xs) ys
-last_row-append other [] ys = refl
-last_row-append other (x ∷ xs) ys = last_row-append x xs ys
+-- the last of some rows, or else another one
+abbrev last_row : Option ℕ → List ℕ → ℕ
+last_row other rows = unwrap_or (last_or other rows) 0
 
-pub document-push : (es : List Entry) (e : Entry) → document_after (es ++ e ∷ []) ≡ last_row (document_after es) (named_document e ++ [])
+last_row-append : (other : Option ℕ) (xs ys : List ℕ) → last_row other (xs ++ ys) ≡ last_row (Some (last_row other xs)) ys
+last_row-append other [] [] = refl
+last_row-append other [] (y ∷ ys) = refl
+last_row-append other (x ∷ xs) ys = last_row-append (Some x) xs ys
+
+pub document-push : (es : List Entry) (e : Entry) → document_after (es ++ e ∷ []) ≡ last_row (Some (document_after es)) (named_document e ++ [])
 document-push es e =
-    ap (last_row 0) (flat_map-append named_document es (e ∷ [])) ∙ last_row-append 0 (flat_map named_document es) (flat_map named_document (e ∷ []))
+    ap (last_row None) (flat_map-append named_document es (e ∷ [])) ∙ last_row-append None (flat_map named_document es) (flat_map named_document (e ∷ []))
 
 pub started-push : (es : List Entry) (e : Entry) → IsStarted (es ++ e ∷ [])
 started-push [] e = tt
@@ -52,7 +57,7 @@ same-push a b e s = record {
   started = started-push a e;
   starts = started-push b e;
   sums_are = sums-push a e ∙ ap (λ x. with_entry x e) s.sums_are ∙ sym (sums-push b e);
-  document_is = document-push a e ∙ ap (λ n. last_row n (named_document e ++ [])) s.document_is ∙ sym (document-push b e);
+  document_is = document-push a e ∙ ap (λ n. last_row (Some n) (named_document e ++ [])) s.document_is ∙ sym (document-push b e);
 }
 
 pub form_is : (a : List Entry) (vs : List Value) → IsStarted a → form a vs ≡ point_form (sums a) vs

@@ -1,5 +1,6 @@
 -- The points that the records of a sequence points blob make (Portable PDB v1.0, "Sequence Points Blob").
-use Rattle.std.specs.{Prelude.{◌≡◌, ℕ, ◌+◌, List, [], ◌∷◌, ◌++◌, Option, Some, None, pos, ◌+ℤ◌, unsigned_abs, All, ◌≢◌, ◌⊎◌, ◌==◌, if◌then◌else◌, option_to_list, flat_map}, List.list_all}
+use Rattle.std.specs.Prelude.{◌≡◌, ℕ, ◌+◌, List, [], ◌∷◌, ◌++◌, Option, Some, None, pos, ◌+ℤ◌, unsigned_abs, All, ◌≢◌, ◌⊎◌, ◌==◌, if◌then◌else◌, flat_map}
+use Rattle.std.specs.{Prelude.{option_to_list, unwrap_or}, List.{last_or, list_all}}
 use Rattle.ppdb_base.specs.declared.fault.BlobFault.{BlobFault}
 use Rattle.blob_grammar.specs.Reading.{Reading}
 use Rattle.sequence_points.specs.declared.point.{PointLimits.PointLimits, Point.Point, Span.TheVariants.{Hidden, Lines}}
@@ -11,14 +12,9 @@ named_document (header signature row) = row ∷ []
 named_document (in_document row) = row ∷ []
 named_document _ = []
 
--- the last of some rows, another where there are none
-abbrev pub last_row : ℕ → List ℕ → ℕ
-last_row other [] = other
-last_row other (n ∷ ns) = last_row n ns
-
--- the last row that was named
+-- the last row that was named, 0 where there is none
 abbrev pub document_after : List Entry → ℕ
-document_after entries = last_row 0 (flat_map named_document entries)
+document_after entries = unwrap_or (last_or None (flat_map named_document entries)) 0
 
 -- The point that a record makes, by the sums and the document of the records before it. Each number is the sum of those stored.
 abbrev pub point_by : Sums → ℕ → Entry → Option Point

@@ -1,7 +1,7 @@
 -- The one canonical blob of some points (Portable PDB v1.0, "Sequence Points Blob"): each number has its shortest form
 -- (ECMA-335 II.23.2), and a document record stands exactly before each point whose document is not that of the point before.
 use Rattle.std.specs.Prelude.{◌≡◌, ◌≢◌, ℕ, ◌+◌, ◌-◌, ◌<◌, ◌^◌, ◌⊎◌, zero, List, [], ◌∷◌, ◌++◌, length, Option, Some, None, ◌==◌, if◌then◌else◌, All, AllPairs, ℤ, pos, ◌-ℤ◌, filter_map}
-use Rattle.std.specs.Prelude.{option_map, option_to_list}
+use Rattle.std.specs.{Prelude.{option_map, option_to_list}, Option.option_map_or}
 use Rattle.cli_ints.specs.Shortest.{short_unsigned, short_signed, fits_half}
 use Rattle.sequence_points.specs.{declared.point.{Point.Point, Span.{Span, TheVariants.{Hidden, Lines}}}, declared.place.Start.Start, declared.step.LineStep.LineStep}
 use Rattle.sequence_points.specs.{declared.writer.PointError.{PointError, TheVariants.{Step, Memory}}, Ranges.{IsOffset, IsDocument, IsLine, IsColumn}, Points.common_document}
@@ -46,10 +46,6 @@ start_of_span (Lines start_line start_column end_line end_column) = Some (record
 abbrev pub last_start : List Point → Option Start
 last_start before = last_of (filter_map (λ p. start_of_span p.span) before)
 
-abbrev pub last_offset : Option Point → ℕ
-last_offset None = 0
-last_offset (Some last) = last.offset
-
 -- ---- the bytes of a point after the last point, and after the start of the last point that is not hidden
 
 -- a document record: 0 and the row
@@ -73,7 +69,7 @@ span_bytes start (Lines start_line start_column end_line end_column) =
     short_unsigned (end_line - start_line) ++ columns_bytes (end_line - start_line) start_column end_column ++ start_bytes start start_line start_column
 
 abbrev pub bytes_after : Option Point → Option Start → Point → List ℕ
-bytes_after last start p = document_bytes last p.document ++ short_unsigned (p.offset - last_offset last) ++ span_bytes start p.span
+bytes_after last start p = document_bytes last p.document ++ short_unsigned (p.offset - option_map_or (λ q. q.offset) last 0) ++ span_bytes start p.span
 
 -- ---- the blob
 

@@ -10,9 +10,8 @@ ghost use Rattle.sequence_points.specs.Places.{entries_of, Shown, points_left};
 use crate::header::place_after_header;
 use crate::place::Place;
 use crate::point::{Point, PointLimits};
-use crate::ranges::out_of_range;
 use crate::records::{offset_after_documents, point_after_offset};
-use blob_grammar::{BlobCursor, fault_after, unsigned_field};
+use blob_grammar::{BlobCursor, fault_after, out_of_range, unsigned_field};
 use ppdb_base::BlobFault;
 use std::marker::Model;
 

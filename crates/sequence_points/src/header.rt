@@ -5,8 +5,7 @@ ghost use Rattle.sequence_points.specs.Places.{HeaderIs};
 
 use crate::place::Place;
 use crate::point::PointLimits;
-use crate::ranges::{is_row, out_of_range};
-use blob_grammar::unsigned_field;
+use blob_grammar::{is_row, out_of_range, unsigned_field};
 use ppdb_base::BlobFault;
 
 /// The place after the header: reads InitialDocument, where the Document column is 0.
@@ -28,7 +27,7 @@ pub(crate) fn place_after_header(
         });
     }
     let (row, len) = unsigned_field(blob, at)?;
-    if !is_row(row, limits.documents) {
+    if !is_row(limits.documents, row) {
         return Err(out_of_range(at));
     }
     Ok(Place {

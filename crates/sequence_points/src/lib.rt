@@ -22,4 +22,4 @@ pub use moved::points_move_in_order;
 pub use place::Start;
 pub use point::{Point, PointLimits, Span, single_document};
 pub use step::{large_step, start_after};
-pub use writer::{PointError, point_into, points_into, unsigned_into};
+pub use writer::{PointError, point_into, points_into};

@@ -1,11 +1,8 @@
 //! The ranges of lines, columns and rows.
 
-ghost use Rattle.std.specs.Prelude.{◌≡◌, ◌<◌, ◌^◌, ◌≤ℤ◌, neg_ℤ, pos, ◌+ℤ◌};
-ghost use Rattle.blob_grammar.specs.Allowed.{is_row as row_fits};
+ghost use Rattle.std.specs.Prelude.{◌≡◌, ◌≤ℤ◌, neg_ℤ, pos, ◌+ℤ◌};
 ghost use Rattle.sequence_points.specs.Ranges.{is_line as line_fits, is_column as column_fits};
 ghost use Rattle.sequence_points.specs.Places.{RangeIs, PassesAs};
-
-use ppdb_base::{BlobFault, Code};
 
 pub(crate) fn stepped(base: u32, step: i64) -> i64
     requires low { neg_ℤ (pos 4294967296) ≤ℤ step }
@@ -39,16 +36,6 @@ pub(crate) fn column_range(base: u32, step: i64, more: i64) -> Option<(u32, u32)
     Some((first, last))
 }
 
-pub(crate) fn out_of_range(at: usize) -> BlobFault
-    requires { at < 2 ^ 32 }
-    ensures { result ≡ record { code = Code.ValueRange; byte = at } }
-{
-    BlobFault {
-        code: Code::ValueRange,
-        byte: at as u32,
-    }
-}
-
 /// The line, where it lies in its range.
 pub(crate) fn as_line(line: i64) -> Option<u32>
     ensures { PassesAs line_fits line result }
@@ -69,11 +56,4 @@ pub(crate) fn as_column(column: i64) -> Option<u32>
     } else {
         None
     }
-}
-
-/// Whether a table of so many rows has the row.
-pub(crate) fn is_row(row: u32, rows: u32) -> bool
-    ensures { result ≡ row_fits rows row }
-{
-    1 <= row && row <= rows
 }

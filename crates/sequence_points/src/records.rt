@@ -9,8 +9,8 @@ ghost use Rattle.sequence_points.specs.Places.{int_placed, entries_of, points_at
 
 use crate::place::{Place, Start};
 use crate::point::{Point, PointLimits, Span};
-use crate::ranges::{column_range, is_row, line_range, out_of_range};
-use blob_grammar::{signed_field, unsigned_field};
+use crate::ranges::{column_range, line_range};
+use blob_grammar::{is_row, out_of_range, signed_field, unsigned_field};
 use ppdb_base::BlobFault;
 
 /// A number at a place, signed or not. Callers match on the answer where `?` would do: that would copy it once
@@ -154,7 +154,7 @@ pub(crate) fn document_at(
     ensures { DocumentIs limits blob.now place at result }
 {
     let (row, len) = unsigned_field(blob, at)?;
-    if !is_row(row, limits.documents) {
+    if !is_row(limits.documents, row) {
         return Err(out_of_range(at));
     }
     Ok(Place {

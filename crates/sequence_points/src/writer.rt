@@ -1,7 +1,6 @@
 //! Writes points.
 
 ghost use Rattle.std.specs.Prelude.{◌≡◌, ◌+◌, ◌-◌, ◌<◌, ◌≤◌, ◌++◌, ◌-ℤ◌, pos, [], length, All, OnOk, OnErr, IfErr, IfSome, None};
-ghost use Rattle.cli_ints.specs.Shortest.{short_unsigned};
 ghost use Rattle.sequence_points.specs.Written.{IsSpan, CanBeWritten, document_bytes, columns_bytes, start_bytes, span_bytes};
 ghost use Rattle.sequence_points.specs.Written.{bytes_after, header_bytes, points_blob, if_large, large_step, large_steps, IsRefused};
 ghost use Rattle.ppdb_base.specs.Written.{BeginsWith};
@@ -12,7 +11,7 @@ use crate::place::Start;
 use crate::point::{Point, Span, single_document};
 use crate::room::Room;
 use crate::step::{LineStep, first_large_step, start_after};
-use cli_ints::spell_unsigned;
+use blob_grammar::number_into;
 use ppdb_base::{Bytes, Memory};
 
 /// Why points were not written.
@@ -23,15 +22,6 @@ pub enum PointError {
     Step { index: u32, step: i64 },
     /// There was no memory left.
     Memory,
-}
-
-/// Appends a number in its shortest form.
-pub fn unsigned_into(number: u32, into: &mut Bytes) -> Result<(), Memory>
-    requires { number < 536870912 }
-    ensures ok { OnOk result (into.new ≡ into.old ++ short_unsigned number) }
-    ensures err { OnErr result (into.new ≡ into.old) }
-{
-    into.append(spell_unsigned(number).as_slice())
 }
 
 /// Puts a document record, where the document is not that of the last point.
@@ -142,9 +132,9 @@ fn header_into(signature: u32, points: &[Point], into: &mut Bytes) -> Result<(),
     ensures ok { OnOk result (into.new ≡ into.old ++ header_bytes signature points.now) }
     ensures err { OnErr result (BeginsWith into.old into.new) }
 {
-    unsigned_into(signature, into)?;
+    number_into(signature, into)?;
     match points.first() {
-        Some(first) if single_document(points) == 0 => unsigned_into(first.document, into),
+        Some(first) if single_document(points) == 0 => number_into(first.document, into),
         _ => Ok(()),
     }
 }

@@ -1,13 +1,11 @@
 -- The header and the points make the blob.
-use Rattle.std.proofs.Common.{◌≡◌, ◌≢◌, ℕ, zero, suc, Bool, true, false, List, [], ◌∷◌, ◌++◌, length, take, refl, sym, ap, subst, ◌∙◌, append_assoc}
+use Rattle.std.proofs.Common.{◌≡◌, ◌≢◌, ℕ, zero, suc, Bool, true, false, List, [], ◌∷◌, ◌++◌, refl, sym, ap, subst, ◌∙◌, append_assoc}
 use Rattle.std.proofs.Common.{append-nil, Some}
 use Rattle.std.specs.Prelude.{cond}
-use Rattle.std.proofs.lemmas.List.{take_at}
 use Rattle.cli_ints.specs.Shortest.{short_unsigned}
 use Rattle.sequence_points.specs.declared.point.Point.{Point}
 use Rattle.sequence_points.specs.Points.{common_document}
 use Rattle.sequence_points.specs.Written.{initial_document, header_bytes, points_bytes}
-use Rattle.ppdb_base.specs.Written.{BeginsWith}
 use Rattle.sequence_points_moved.specs.Writing.{IsWalked, IsBlobIn, header_in}
 use Rattle.sequence_points_moved.proofs.Documents.{common_first}
 
@@ -41,7 +39,3 @@ blob_is in_one signature all first ps old header into row cut begun walked sever
       is ∙ column_is in_one first ps walked.2 none,
       walked.1,
     )
-
--- what is cut back is what it began with
-pub cut_back : (old new : List ℕ) (len : ℕ) → len ≡ length old → BeginsWith old new → take len new ≡ old
-cut_back old new len is begins = ap (take len) begins.1 ∙ take_at old begins.0 len (sym is)

@@ -44,10 +44,6 @@ rise_map documents (p ∷ ps) h =
 new_document : (documents : List ℕ) (row : ℕ) → All IsDocument documents → 1 ≤ row → row ≤ length documents → IsDocument (get_or documents (row - 1) 0)
 new_document documents row rows first there = All-get_or IsDocument documents (row - 1) 0 (omega arith) rows
 
--- both at once of each
-both : (P Q : Point → Type 0) (ps : List Point) → All P ps → All Q ps → All (λ p. P p × Q p) ps
-both P Q ps h k = λ i d less. (h i d less, k i d less)
-
 pub writable : (o : Offsets) → Rise o → (documents : List ℕ) → All IsDocument documents → (points : List Point)
     → AreInRange points → All (λ p. p.offset < old_size o) points
     → All (CanMove o documents) points → IsWritable (moved_in o documents points)

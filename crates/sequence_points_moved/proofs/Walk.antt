@@ -1,10 +1,10 @@
 -- A walk over points that are written one after another.
-use Rattle.std.proofs.Common.{◌≡◌, ℕ, ◌+◌, ◌<◌, Bool, true, false, List, [], ◌∷◌, ◌++◌, length, refl, sym, ap, subst, ◌∙◌, append_assoc, append-nil, arith}
+use Rattle.std.proofs.Common.{◌≡◌, ℕ, ◌+◌, ◌<◌, Bool, true, false, List, [], ◌∷◌, ◌++◌, length, sym, ap, subst, ◌∙◌, append_assoc, append-nil, arith}
 use Rattle.std.proofs.Common.{Option, Some, None}
 use Rattle.std.specs.Prelude.{All, AllPairs}
 use Rattle.std.specs.Option.{option_map, option_to_list}
 use Rattle.std.proofs.lemmas.List.{length-append}
-use Rattle.std.proofs.lemmas.List.Elements.{All-nil, All-head, All-tail, All-push}
+use Rattle.std.proofs.lemmas.List.Elements.{All-head, All-tail, All-push}
 use Rattle.sequence_points.specs.declared.point.Point.{Point}
 use Rattle.sequence_points.specs.declared.point.Span.{Span}
 use Rattle.sequence_points.specs.declared.point.Span.TheVariants.{Hidden, Lines}
@@ -16,7 +16,6 @@ use Rattle.sequence_points.specs.Points.{common_document}
 use Rattle.sequence_points.specs.Ranges.{IsOffset, IsDocument}
 use Rattle.sequence_points.specs.Following.{IsStart, IsBehind}
 use Rattle.sequence_points.specs.Written.{CanBeWritten, IsSpan, last_of, last_start, large_step, large_steps, numbered, first_of, bytes_after, points_bytes}
-use Rattle.ppdb_base.specs.Written.{BeginsWith}
 use Rattle.sequence_points.proofs.Before.{last_of-push, last_start-push}
 use Rattle.sequence_points.proofs.Follows.{pairs-head, pairs-tail, few_points}
 use Rattle.sequence_points_moved.specs.declared.writer.Written.{Written}
@@ -39,26 +38,6 @@ pub record Progress (in_one : Bool) (first : Point) (all left : List Point) (w :
   pub spans : All (λ p. IsSpan p.span) left
   pub behind : All (IsBehind w.last) left
   pub start : IsStart w.start
-
-nothing_before : (points : List Point) → All (IsBehind None) points
-nothing_before points = λ k d h. tt
-
-pub begin : (in_one : Bool) (first : Point) (all : List Point) (w : Written) (old : List ℕ) → CanBeWritten 0 all → HasWritten [] w
-    → Progress in_one first all all w old old
-begin in_one first all w old can has = record {
-  before = [];
-  cut = refl;
-  written = has;
-  bytes = sym (append-nil old);
-  steps = refl;
-  one = λ e. All-nil (λ (p : Point). p.document ≡ first.document);
-  rise = can.rise;
-  offsets = can.offsets;
-  documents = can.documents;
-  spans = can.spans;
-  behind = subst (λ (o : Option Point). All (IsBehind o) all) (sym has.last) (nothing_before all);
-  start = subst IsStart (sym has.start) tt;
-}
 
 start_kept : (start : Option Start) (span : Span) → IsStart start → IsSpan span → IsStart (start_after start span)
 start_kept start Hidden h s = h
@@ -114,10 +93,6 @@ onward in_one first all p ps w next old into more now one bytes small count last
       behind = subst (λ (o : Option Point). All (IsBehind o) ps) (sym last) (pairs-head p ps now.rise);
       start = subst IsStart (sym start) (start_kept w.start p.span now.start (All-head (λ (q : Point). IsSpan q.span) p ps now.spans));
     }
-
-pub begins : (in_one : Bool) (first : Point) (all left : List Point) (w : Written) (old into : List ℕ) → Progress in_one first all left w old into
-    → BeginsWith old into
-begins in_one first all left w old into now = (points_bytes [] now.before, now.bytes)
 
 -- a step that no number says
 pub refused : (in_one : Bool) (first : Point) (all : List Point) (p : Point) (ps : List Point) (w : Written) (old into : List ℕ) (e : PointError)

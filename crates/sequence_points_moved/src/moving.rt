@@ -14,8 +14,9 @@ ghost use Rattle.sequence_points_moved.specs.Writing.{CanAllMove, image_until, I
 
 use crate::ahead::Ahead;
 use crate::writer::Written;
+use blob_grammar::number_into;
 use ppdb_base::{Bytes, Memory, OffsetImage};
-use sequence_points::{Point, PointCursor, PointError, PointLimits, unsigned_into};
+use sequence_points::{Point, PointCursor, PointError, PointLimits};
 
 /// The new offset of a point before the points that are left, or None if it is removed. Most are at kept offsets: one search finds these.
 fn image_before<G: OffsetImage>(offset: u32, points: &mut Ahead<'_>, image: &G) -> Option<u32>
@@ -97,11 +98,11 @@ fn header_into(signature: u32, first: Point, in_one: bool, into: &mut Bytes) -> 
     ensures ok { OnOk result (into.new ≡ into.old ++ header_in in_one signature first) }
     ensures prefix { BeginsWith into.old into.new }
 {
-    unsigned_into(signature, into)?;
+    number_into(signature, into)?;
     if in_one {
         Ok(())
     } else {
-        unsigned_into(first.document, into)
+        number_into(first.document, into)
     }
 }
 

@@ -29,9 +29,6 @@ documents_said value members found is there =
     ap (λ o. option_and_then (λ members. documents_in (get_member (codes "documents") members)) o) (sym is)
     ∙ ap documents_in (sym (view-lookup (codes "documents") members.entries)) ∙ ap (λ o. documents_in (option_map view o)) (sym there)
 
-pub no_object : (value : Value) → None ≡ as_object (view value) → pairs_of (view value) ≡ None
-no_object value is = ap (λ o. option_and_then (λ members. documents_in (get_member (codes "documents") members)) o) (sym is)
-
 pub documents_object : (value : Value) (members : BTreeMap (String Global) Value) → Some (members_view members.entries) ≡ as_object (view value)
     → documents_in (Some (view value)) ≡ pairs_in (members_view members.entries)
 documents_object value members is = ap (option_and_then pairs_in) (sym is)

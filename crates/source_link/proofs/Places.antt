@@ -112,9 +112,6 @@ pub read_at : (xs : List Pair) (i : ℕ) (r : Option (Bor Pair)) (x : Bor Pair) 
 read_at xs i None x h e = absurd (cc)
 read_at xs i (Some y) x h e = let same : y ≡ x = cc in subst (λ (z : Bor Pair). (i < length xs) × (z.now ≡ get_or xs i z.now)) same (h.3.0, h.1)
 
-there : (xs : List Pair) (i : ℕ) (x : Pair) → i < length xs → x ≡ get_or xs i x → Contains xs x
-there xs i x less is = (i, less, sym is)
-
 -- no pair before the place has the rank
 from_place : (part : List Pair) (at i least : ℕ) (pair : Pair) (j : ℕ) → AllWithin (λ p. rank_at at p < least) part 0 i → get_or part j pair ≡ pair
     → least ≤ rank_at at pair → i ≤ j

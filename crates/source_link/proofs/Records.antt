@@ -80,9 +80,6 @@ link_found raw row end cells there before is =
     rw (run_step raw.customs row end cells there before, is)
     (ap Some (body_kept raw (kind_in raw cells) (blob raw cells.value) ((bytes_eq-Decides (kind_in raw cells) source_link).0 is)))
 
-pub link_none : (raw : RawTables) (end : ℕ) → link_between raw end end ≡ None
-link_none raw end = let none : (end - 1) - (end - 1) ≡ 0 = omega arith in rw none refl
-
 -- ---- without a module
 
 mapped_there : {A B : Type 0} (f : A → B) (xs : List A) (y : B) → Contains (map f xs) y → (i : ℕ) × (x : A) × (slice_get xs i ≡ Some x) × (f x ≡ y)

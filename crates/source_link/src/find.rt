@@ -11,7 +11,7 @@ ghost use Rattle.source_link.specs.RecordRows.{link_between as first_link};
 use custom_info::SOURCE_LINK;
 use ppdb_base::Steps;
 use ppdb_queries::{Run, customs_of};
-use ppdb_tables::Parent;
+use ppdb_tables::{MODULE, Parent};
 use ppdb_verify::Verified;
 use ppdb_verify_rows::{blob, count, custom, guid_of_kind};
 use std::sync::ledger::Ledger;
@@ -48,11 +48,11 @@ pub fn find_link<'a, L: Ledger>(file: &Verified<'a>, steps: &mut Steps<L>) -> Op
         (customs_at (raw_file file.now).tables 0x00 1) }
 {
     file.keeps();
-    if count(file, 0x00) == 0 {
+    if count(file, MODULE) == 0 {
         return None;
     }
     let module = Parent {
-        table: 0x00,
+        table: MODULE,
         row: 1,
     };
     let run = customs_of(file, module, steps);

@@ -4,8 +4,8 @@ ghost use Rattle.type_blobs.specs.Constants.{is_modifier, is_enumerable, is_gene
 ghost use Rattle.type_blobs.specs.ConstantReading.{ConstantLeft, ConstantReading, constant_left, modifier_answer, body_answer, rest_of};
 ghost use Rattle.type_blobs.specs.ConstantReading.{shown_body, NextModifierIs, BodyIs};
 
-use crate::types::{Modifier, TypeLimits, TypeToken, out_of_range, type_at};
-use blob_grammar::{byte_field, fixed_field};
+use crate::types::{Modifier, TypeLimits, TypeToken, type_at};
+use blob_grammar::{byte_field, fixed_field, out_of_range};
 use ppdb_base::BlobFault;
 use std::marker::Model;
 
@@ -34,7 +34,7 @@ pub enum Constant<'a> {
 }
 
 /// Whether a modifier begins with the code: CMOD_REQD or CMOD_OPT.
-fn is_modifier(code: u8) -> bool
+pub fn is_modifier(code: u8) -> bool
     ensures { result ≡ is_modifier code }
 {
     code == 0x1f || code == 0x20
@@ -48,7 +48,7 @@ fn is_enumerable(code: u8) -> bool
 }
 
 /// The bytes of a value of a primitive type.
-fn size_of(code: u8) -> usize
+pub fn size_of(code: u8) -> usize
     ensures value { result ≡ size_of code }
     ensures positive { 1 ≤ result }
 {
@@ -61,7 +61,7 @@ fn size_of(code: u8) -> usize
 }
 
 /// Whether the bytes are a text: the byte ff for null, or an even number of bytes.
-fn is_text(bytes: &[u8]) -> bool
+pub fn is_text(bytes: &[u8]) -> bool
     ensures { result ≡ is_text bytes.now }
 {
     match bytes {

@@ -5,8 +5,9 @@ ghost use Rattle.type_blobs.specs.Spelling.{IsBody, modifier_spelling, body_spel
 ghost use Rattle.ppdb_base.specs.Written.{BeginsWith};
 
 use crate::constant::Constant;
-use crate::numbers::{number_into, number_of};
+use crate::numbers::number_of;
 use crate::types::Modifier;
+use blob_grammar::number_into;
 use ppdb_base::{Bytes, Memory};
 
 /// Appends a modifier. After a refusal the bytes begin with what they were.

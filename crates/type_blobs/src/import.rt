@@ -6,8 +6,8 @@ ghost use Rattle.type_blobs.specs.Numbers.{number_at, shown_at};
 ghost use Rattle.type_blobs.specs.ImportReading.{heap_of, shown_answer, imports_left, fields_left, text_at, assembly_at, target_at, FieldsAre, NextImportIs};
 
 use crate::import_part::ImportPart;
-use crate::types::{TypeLimits, TypeToken, is_row, is_type, out_of_range, type_at};
-use blob_grammar::unsigned_field;
+use crate::types::{TypeLimits, TypeToken, is_type, type_at};
+use blob_grammar::{is_row, out_of_range, unsigned_field};
 use ppdb_base::{BlobFault, Code};
 use ppdb_heaps::Blobs;
 use std::marker::Model;

@@ -5,8 +5,9 @@ ghost use Rattle.type_blobs.specs.Spelling.{IsImport, part_number, import_spelli
 ghost use Rattle.ppdb_base.specs.Written.{BeginsWith};
 
 use crate::import_part::{ImportPart, parts_of};
-use crate::numbers::{number_into, number_of};
+use crate::numbers::number_of;
 use crate::types::TypeToken;
+use blob_grammar::number_into;
 use ppdb_base::{Bytes, Memory};
 
 /// An import by the numbers of its fields. Fields that the kind has not are not written.

@@ -13,7 +13,7 @@ mod laws;
 mod numbers;
 mod types;
 
-pub use constant::{Constant, ConstantCursor};
+pub use constant::{Constant, ConstantCursor, is_modifier, is_text, size_of};
 pub use constant_writer::constant_into;
 pub use import::{Import, ImportCursor};
 pub use import_fields::ImportFields;
@@ -23,4 +23,5 @@ pub use laws::{
     constants_are_read_once, import_fields_are, imports_are_read_once, written_constant_is_read,
     written_imports_are_read,
 };
-pub use types::{Modifier, TypeLimits, TypeToken};
+pub use numbers::number_of;
+pub use types::{Modifier, TypeLimits, TypeToken, is_type, token_of};

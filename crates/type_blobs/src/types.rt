@@ -1,10 +1,9 @@
 ghost use Rattle.std.specs.Prelude.{◌≡◌, ◌≤◌, ◌<◌, ◌^◌, ◌+◌, length, IfOk};
-ghost use Rattle.blob_grammar.specs.Allowed.{is_row};
 ghost use Rattle.type_blobs.specs.Types.{is_type, token_of};
 ghost use Rattle.type_blobs.specs.Numbers.{number_at};
 
-use blob_grammar::unsigned_field;
-use ppdb_base::{BlobFault, Code};
+use blob_grammar::{is_row, out_of_range, unsigned_field};
+use ppdb_base::BlobFault;
 
 /// A row of TypeDef (02), TypeRef (01) or TypeSpec (1b).
 #[derive(Clone, Copy, Debug, PartialEq, Eq)]
@@ -33,15 +32,8 @@ pub struct Modifier {
     pub target: TypeToken,
 }
 
-/// Whether a table of so many rows has the row.
-pub(crate) fn is_row(rows: u32, row: u32) -> bool
-    ensures { result ≡ is_row rows row }
-{
-    1 <= row && row <= rows
-}
-
 /// Whether the number names a type that is there.
-pub(crate) fn is_type(limits: TypeLimits, number: u32) -> bool
+pub fn is_type(limits: TypeLimits, number: u32) -> bool
     ensures { result ≡ is_type limits number }
 {
     let row = number / 4;
@@ -54,7 +46,7 @@ pub(crate) fn is_type(limits: TypeLimits, number: u32) -> bool
 }
 
 /// The type that a number names.
-fn token_of(number: u32) -> TypeToken
+pub fn token_of(number: u32) -> TypeToken
     ensures { result ≡ token_of number }
 {
     let table = match number % 4 {
@@ -65,17 +57,6 @@ fn token_of(number: u32) -> TypeToken
     TypeToken {
         table,
         row: number / 4,
-    }
-}
-
-/// A field that is out of range.
-pub(crate) fn out_of_range(at: usize) -> BlobFault
-    requires { at < 2 ^ 32 }
-    ensures { result ≡ record { code = Code.ValueRange; byte = at } }
-{
-    BlobFault {
-        code: Code::ValueRange,
-        byte: at as u32,
     }
 }
 

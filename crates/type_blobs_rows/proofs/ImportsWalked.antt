@@ -1,40 +1,17 @@
 -- The rows in imports, a field at a time.
-use Rattle.std.proofs.Common.{◌≡◌, ℕ, zero, suc, ◌+◌, List, [], ◌∷◌, ◌++◌, length, slice_get, Option, Some, None, Result, Ok, refl, sym, ap, ◌∙◌}
-use Rattle.std.specs.Prelude.{option_to_list}
+use Rattle.std.proofs.Common.{◌≡◌, ℕ, zero, suc, ◌+◌, List, [], ◌∷◌, ◌++◌, length, slice_get, Option, Some, None, refl, ap, ◌∙◌}
 use Rattle.std.specs.List.{flat_map}
-use Rattle.ppdb_base.specs.declared.BlobFault.{BlobFault}
 use Rattle.blob_grammar.specs.Grammar.{Value, number, integer, octets, Field, Cut, closed, with_value}
 use Rattle.blob_grammar.specs.Places.{PlacedField, placed_from}
-use Rattle.blob_grammar.specs.Reader.{answer_from, tail, prefix_of}
+use Rattle.blob_grammar.specs.Reader.{prefix_of}
 use Rattle.type_blobs.specs.declared.import_part.ImportField.{ImportField}
 use Rattle.type_blobs.specs.declared.import_part.ImportPart.{ImportPart}
 use Rattle.type_blobs.specs.declared.import_part.ImportPart.TheVariants.{Kind}
 use Rattle.type_blobs.specs.declared.types.TypeLimits.{TypeLimits}
 use Rattle.type_blobs.specs.Imports.{ImportItem, imports, import_of, parts_of, field_of, import_field, import_fields}
 use Rattle.type_blobs_rows.specs.declared.row.PlacedRow.{PlacedRow}
-use Rattle.type_blobs_rows.specs.Left.{kind_after, kind_by, imported_left}
+use Rattle.type_blobs_rows.specs.Left.{kind_by, imported_left}
 use Rattle.type_blobs_rows.specs.Rows.{row_of, row_behind, import_row, import_rows}
-
--- the answer is a field: it is the first
-pub first_is : (items : List ImportField) (fault : Option BlobFault) (field : ImportField) → Ok (Some field) ≡ answer_from items fault
-    → items ≡ field ∷ tail items
-first_is [] None field e = absurd cc
-first_is [] (Some fault) field e = absurd cc
-first_is (x ∷ items) fault field e = let same : x ≡ field = cc in ap (λ (y : ImportField). y ∷ items) same
-
--- the rows from a field on
-pub rows_after : (kind : ℕ) (items : List ImportField) (fault : Option BlobFault) (field : ImportField) (o : Option PlacedRow)
-    → Ok (Some field) ≡ answer_from items fault → option_to_list o ≡ row_of (kind_after kind field) field.part field.byte field.number
-    → imported_left kind items ≡ option_to_list o ++ imported_left (kind_after kind field) (tail items)
-rows_after kind items fault field o e is =
-    ap (imported_left kind) (first_is items fault field e)
-    ∙ ap (λ (rows : List PlacedRow). rows ++ imported_left (kind_after kind field) (tail items)) (sym is)
-
--- no field is the answer: none is left
-pub none_left : (items : List ImportField) (fault : Option BlobFault) (r : Result (Option ImportField) BlobFault) → r ≡ answer_from items fault
-    → ((field : ImportField) → r ≡ Ok (Some field) → ⊥) → items ≡ []
-none_left [] fault r e none = refl
-none_left (x ∷ items) fault r e none = absurd (none x e)
 
 -- ---- the kind of the import that has begun
 

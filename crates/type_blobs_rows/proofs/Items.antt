@@ -5,7 +5,7 @@ use Rattle.ppdb_base.specs.declared.Code.{Code}
 use Rattle.ppdb_base.specs.declared.Code.TheVariants.{BlobEnd}
 use Rattle.blob_grammar.specs.Grammar.{Value, number, Form, Grammar, Cut, with_value}
 use Rattle.blob_grammar.specs.Places.{PlacedField}
-use Rattle.blob_grammar.specs.Reader.{Left, field_at, as_number, code_of, is_empty, Step, stop_or, step_at, step_in, fields_left}
+use Rattle.blob_grammar.specs.Reader.{Left, field_at, as_value, code_of, is_empty, Step, stop_or, step_at, step_in, fields_left}
 use Rattle.blob_grammar.proofs.Walks.{told, after_step, fields_left-step, walk-field, walk-out}
 use Rattle.cli_ints.specs.declared.IntFault.{IntFault}
 use Rattle.type_blobs_rows.specs.Found.{Has}
@@ -59,15 +59,15 @@ module _ {R X : Type 0} (g : Grammar R) (tell : PlacedField → List X) (blob : 
 
   -- A number of which one is allowed where it passes a test, read as the form is.
   pub items-no_number : (place : Cut R) (at : ℕ) (form : Form) (read : Result (ℕ × ℕ) IntFault) (test : ℕ → Bool) → g.form place.whole place.begun ≡ Some form
-      → field_at form (drop at blob) ≡ as_number read → ((n : ℕ) → g.allows place.whole place.begun (number n) ≡ test n)
+      → field_at form (drop at blob) ≡ as_value number read → ((n : ℕ) → g.allows place.whole place.begun (number n) ≡ test n)
       → ((n len : ℕ) → read ≡ Ok (n, len) → test n ≡ false) → items_at place at ≡ []
   items-no_number place at form (Ok x) test e reads same none = items-out place at form (number x.0) x.1 e reads (same x.0 ∙ none x.0 x.1 refl)
   items-no_number place at form (Err fault) test e reads same none = items-none place at form (code_of fault) e reads
 
   pub items-number : {Y : Type 0} (place : Cut R) (at : ℕ) (form : Form) (read : Result (ℕ × ℕ) IntFault) (test : ℕ → Bool) (means : ℕ → Y) (found : Y × ℕ)
       → (h : Has read test means at found) → g.form place.whole place.begun ≡ Some form
-      → field_at form (drop at blob) ≡ as_number read → ((n : ℕ) → g.allows place.whole place.begun (number n) ≡ test n)
+      → field_at form (drop at blob) ≡ as_value number read → ((n : ℕ) → g.allows place.whole place.begun (number n) ≡ test n)
       → items_at place at ≡ told g tell place at (number h.n) ++ items_at (with_value g place (number h.n)) found.1
   items-number place at form read test means found h e reads same =
-      items-field place at form (number h.n) h.len e (reads ∙ ap as_number h.there) (same h.n ∙ h.allowed)
+      items-field place at form (number h.n) h.len e (reads ∙ ap (as_value number) h.there) (same h.n ∙ h.allowed)
       ∙ ap (λ (next : ℕ). told g tell place at (number h.n) ++ items_at (with_value g place (number h.n)) next) (sym h.next)

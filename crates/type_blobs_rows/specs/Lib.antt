@@ -1,5 +1,4 @@
 pub mod Rows
-pub mod Walk
 pub mod Found
 pub mod Left
 pub mod Skips

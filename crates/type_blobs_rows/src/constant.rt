@@ -13,14 +13,7 @@ use crate::types::type_field;
 use crate::walk::RowWalk;
 use blob_grammar::byte_field;
 use std::marker::Model;
-use type_blobs::TypeLimits;
-
-/// Whether a modifier begins with the code: CMOD_REQD or CMOD_OPT.
-fn is_modifier(code: u8) -> bool
-    ensures { result ≡ is_modifier code }
-{
-    code == 0x1f || code == 0x20
-}
+use type_blobs::{TypeLimits, is_modifier};
 
 /// How many bytes stand between the code of a body and its type; None where a body of the code has no type.
 fn skip_of(code: u8) -> Option<usize>

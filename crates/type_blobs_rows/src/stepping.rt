@@ -7,11 +7,9 @@ ghost use Rattle.type_blobs_rows.specs.Handlers.{HandlerIs};
 
 use crate::row::{PlacedRow, Role};
 use crate::walk::RowWalk;
-use blob_grammar::{unsigned_field, word_field};
+use blob_grammar::{is_row, unsigned_field, word_field};
+use custom_info::OFFSET_LIMIT;
 use std::marker::Model;
-
-/// The first offset that no method has.
-const OFFSET_LIMIT: u32 = 0x8000_0000;
 
 /// The place after the stored handler at the start of a blob; None where none is there.
 fn handler_end(blob: &[u8]) -> Option<usize>
@@ -54,7 +52,7 @@ fn method_field(blob: &[u8], methods: u32, at: usize) -> Option<(PlacedRow, usiz
     let Ok((row, len)) = unsigned_field(blob, at) else {
         return None;
     };
-    if row < 1 || row > methods {
+    if !is_row(methods, row) {
         return None;
     }
     let method = PlacedRow {

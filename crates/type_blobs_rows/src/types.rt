@@ -1,47 +1,21 @@
 // The fields that name a type.
 ghost use Rattle.std.specs.Prelude.{◌≡◌, ◌≤◌, ◌<◌, ◌^◌, length, IfSome};
-ghost use Rattle.blob_grammar.specs.Allowed.{is_row};
-ghost use Rattle.type_blobs.specs.Types.{is_type};
 ghost use Rattle.type_blobs_rows.specs.Rows.{type_at};
 ghost use Rattle.type_blobs_rows.specs.Found.{TypeIs};
 
 use crate::row::{PlacedRow, Role};
 use blob_grammar::unsigned_field;
-use type_blobs::TypeLimits;
-
-/// Whether a table of so many rows has the row.
-fn is_row(rows: u32, row: u32) -> bool
-    ensures { result ≡ is_row rows row }
-{
-    1 <= row && row <= rows
-}
-
-/// Whether the number names a type that is there.
-fn is_type(limits: TypeLimits, number: u32) -> bool
-    ensures { result ≡ is_type limits number }
-{
-    let row = number / 4;
-    match number % 4 {
-        0 => is_row(limits.type_defs, row),
-        1 => is_row(limits.type_refs, row),
-        2 => is_row(limits.type_specs, row),
-        _ => false,
-    }
-}
+use type_blobs::{TypeLimits, is_type, token_of};
 
 /// The type that a number names at a byte.
 pub(crate) fn placed_type(role: Role, byte: u32, number: u32) -> PlacedRow
     ensures { result ≡ type_at role byte number }
 {
-    let table = match number % 4 {
-        0 => 0x02,
-        1 => 0x01,
-        _ => 0x1b,
-    };
+    let target = token_of(number);
     PlacedRow {
         byte,
-        table,
-        row: number / 4,
+        table: target.table,
+        row: target.row,
         role,
     }
 }

@@ -1,7 +1,7 @@
 // What the walks over the rows in a blob have in common.
-ghost use Rattle.std.specs.Prelude.{◌≡◌, List};
+ghost use Rattle.std.specs.Prelude.{◌≡◌, List, slice_get};
+ghost use Rattle.blob_grammar.specs.Reader.{tail};
 ghost use Rattle.type_blobs_rows.specs.declared.row.PlacedRow.{PlacedRow};
-ghost use Rattle.type_blobs_rows.specs.Walk.{first_of, rest_of};
 
 use crate::row::PlacedRow;
 
@@ -12,6 +12,6 @@ pub trait RowWalk {
 
     /// The next row; None where no more come, and from there on.
     fn next_row(&mut self) -> Option<PlacedRow>
-        ensures answer { result ≡ first_of (left self.old) }
-        ensures left { left self.new ≡ rest_of (left self.old) };
+        ensures answer { result ≡ slice_get (left self.old) 0 }
+        ensures left { left self.new ≡ tail (left self.old) };
 }

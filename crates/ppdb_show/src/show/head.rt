@@ -10,11 +10,8 @@ use ppdb_base::{Sink, WriteError};
 use ppdb_show_lines::Item::{Number, Table};
 use ppdb_show_lines::Part::Field;
 use ppdb_show_lines::{Key, Printer, put_entry_line, put_id_line};
-use ppdb_tables::Tables;
+use ppdb_tables::{TYPE_TABLES, Tables};
 use ppdb_verify::Verified;
-
-/// How many tables the type system has.
-const TYPE_SYSTEM: u8 = 0x2d;
 
 /// Puts the lines of the identity, of the entry point, and of the tables of the type system that have rows.
 pub(crate) fn put_head<O: Sink>(
@@ -40,7 +37,7 @@ fn put_counts<O: Sink>(
     ensures { PutsInto O.written O.faults result out.old out.new (lines_as printer.entry.form (count_lines (raw_of tables.now))) }
 {
     let mut table = 0;
-    'counts: while table < TYPE_SYSTEM {
+    'counts: while table < TYPE_TABLES {
         put_count(printer, tables, table, out)?;
         table += 1;
     }

@@ -3,8 +3,9 @@ use Rattle.type_blobs.specs.Spelling.{IsBody}
 use Rattle.type_blobs.specs.ConstantReading.{shown}
 use Rattle.ppdb_verify.specs.Views.{raw_file}
 use Rattle.ppdb_values_reading.specs.Lent.{constant_value_shown}
-use Rattle.ppdb_build_from_rows.proofs.Taken.{stored_again, constant_taken}
+use Rattle.ppdb_build_from_rows.proofs.Taken.{constant_taken}
 use Rattle.ppdb_build_from_rows.proofs.constants.add_constant.Goals as goal
+use Rattle.ppdb_values_sound_laws.proofs.Scopes.{stored_again}
 
 pub constant-requires-clause-modifiers : goal.constant-requires-clause-modifiers
 constant-requires-clause-modifiers g c =

@@ -10,8 +10,8 @@ use Rattle.ppdb_build_draft.specs.Draft.{with_constant, with_signature}
 use Rattle.ppdb_merge_items.specs.Each.{Each}
 use Rattle.ppdb_build_merged.specs.Writable.{IsTaken}
 use Rattle.ppdb_build_merged.proofs.Staying.{it_goes, it_stays}
-use Rattle.ppdb_build_merged.proofs.Taken.{stored_again}
 use Rattle.ppdb_build_merged.proofs.constants.add_constant.Goals as goal
+use Rattle.ppdb_values_sound_laws.proofs.Scopes.{stored_again}
 
 pub constant-requires-clause-modifiers : goal.constant-requires-clause-modifiers
 constant-requires-clause-modifiers g c =

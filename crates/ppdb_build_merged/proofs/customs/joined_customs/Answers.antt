@@ -1,6 +1,6 @@
 use Rattle.std.proofs.Common.{List, [], arith, ap, ◌∙◌, sym}
 use Rattle.ppdb_values.specs.declared.custom.CustomValue.{CustomValue}
-use Rattle.ppdb_values_sound_laws.specs.Customs.{coded_of}
+use Rattle.ppdb_tables.specs.Parents.{coded_of}
 use Rattle.ppdb_merge_items.specs.Sorted.{in_order}
 use Rattle.ppdb_merge_joined.specs.Same.{fresh, same_record}
 use Rattle.ppdb_merge_parts.specs.Flat.{MovedBy}

@@ -1,7 +1,7 @@
 use Rattle.std.proofs.Common.{rules, of_calls}
 use Rattle.std.proofs.lemmas.Fn.{always_returns_same}
 use Rattle.ppdb_values.specs.declared.custom.CustomValue.{CustomValue}
-use Rattle.ppdb_values_sound_laws.specs.Customs.{coded_of}
+use Rattle.ppdb_tables.specs.Parents.{coded_of}
 use Rattle.ppdb_merge_items.proofs.StableSort.{sorted_is_in_order}
 use Rattle.ppdb_merge_joined.proofs.Adjacent.{in_order_already}
 use Rattle.ppdb_build_merged.proofs.customs_order.set_in_order.Goals as goal

@@ -3,9 +3,9 @@ use Rattle.std.specs.Option.{option_to_list, option_map}
 use Rattle.ppdb_maps.specs.Map.{moved_name}
 use Rattle.ppdb_values.specs.Value.{value_of}
 use Rattle.ppdb_verify.specs.Views.{raw_file}
-use Rattle.ppdb_merge_items.proofs.Mapped.{row_map}
 use Rattle.ppdb_merge_moved.specs.Moved.{moved_document}
 use Rattle.ppdb_values.specs.declared.file.DocumentValue.{DocumentValue}
+use Rattle.ppdb_values.proofs.Mapped.{row_map}
 use Rattle.ppdb_values_reading.specs.Lent.{document_shown}
 use Rattle.ppdb_build_merged.specs.Names.{AreNamed}
 use Rattle.ppdb_build_merged.proofs.Named.{row_among, named_old, row_old, named_new, row_next}

@@ -5,6 +5,7 @@ use Rattle.ppdb_values.specs.declared.file.DocumentValue.{DocumentValue}
 use Rattle.ppdb_merge_items.specs.Each.{Each}
 use Rattle.ppdb_merge_items.proofs.Lists.{Each-append}
 use Rattle.ppdb_merge_joined.specs.Joined.{firsts}
+use Rattle.ppdb_merge_joined.proofs.Placed.{flat_append}
 use Rattle.ppdb_verify.specs.Views.{raw_file}
 use Rattle.ppdb_build_draft.specs.Draft.{with_document}
 use Rattle.ppdb_merge_rows.specs.declared.inputs.RowInput.{RowInput}
@@ -12,7 +13,7 @@ use Rattle.ppdb_build_merged.specs.declared.inputs.Placed.{Placed}
 use Rattle.ppdb_merge_rows.specs.Inputs.{moved_by}
 use Rattle.ppdb_build_merged.specs.Inputs.{HasRoom, documents_in}
 use Rattle.ppdb_build_merged.specs.Names.{AreNamed}
-use Rattle.ppdb_build_merged.proofs.Named.{all_documents, all_placed, documents_are, flat_more, none_placed, placed_next, ArePlacedSoFar}
+use Rattle.ppdb_build_merged.proofs.Named.{all_documents, all_placed, documents_are, none_placed, placed_next, ArePlacedSoFar}
 use Rattle.ppdb_build_merged.proofs.documents.add_documents.Goals as goal
 
 pub loop-input-init : goal.loop-input-init
@@ -38,7 +39,7 @@ loop-input-preserved g c =
     record {
       named =
           subst (λ (l : List DocumentValue). AreNamed c.args.draft.now l c.add_input.new.names c.add_input.new.draft)
-          (sym (flat_more documents_in so_far input) ∙ ap all_documents (sym next))
+          (sym (flat_append documents_in so_far input) ∙ ap all_documents (sym next))
           (c.in_ok-documents.ensures.named c.args.draft.now (all_documents so_far) c.loop-input.invariant.named);
       placed =
           subst (λ (l : List RowInput). ArePlacedSoFar l c.push.new.self (c.loop-input.before + c.count-before.result)) (sym next)

@@ -15,4 +15,4 @@ returns-then-new_size-most c =
     let h : get_or text 6 0 ≡ 32 = grind (arith, common_steps) in
     method_there text (after 7 text) c.in_ok-method.values.now c.in_ok-old_size.values.now c.in_ok-new_size.rest.now _ _ _
     (method_word text c.in-109.len_at_least a b d e f g h) c.in_ok-method.ensures c.in_ok-old_size.ensures c.in_ok-new_size.ensures
-    c.if-method-ge1.true c.if-method-le16777215.true c.if-old_size-most.true c.if-new_size-most.true
+    c.if-method-ge1.true c.if-method-le-MAX_ROWS.true c.if-old_size-most.true c.if-new_size-most.true

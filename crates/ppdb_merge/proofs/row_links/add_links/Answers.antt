@@ -7,8 +7,9 @@ use Rattle.ppdb_values.specs.Value.{value_of}
 use Rattle.ppdb_values.specs.declared.custom.CustomValue.{CustomValue}
 use Rattle.ppdb_verify.specs.Views.{raw_file}
 use Rattle.ppdb_merge.specs.Rows.{link_after}
-use Rattle.ppdb_merge.proofs.RowWalks.{given_row, said, there}
+use Rattle.ppdb_merge.proofs.RowWalks.{given_row, said}
 use Rattle.ppdb_merge.proofs.row_links.add_links.Goals as goal
+use Rattle.ppdb_tables.proofs.NumberedRows.{row_there}
 
 pub rows-init : goal.rows-init
 rows-init g c = record {
@@ -24,7 +25,7 @@ rows-preserved g c =
     let many = length-map raw.tables.customs (custom_of raw.tables) in
     let low : 1 ≤ c.rows.row = c.rows.invariant.from in
     let high : c.rows.row ≤ length (value_of raw).customs = omega (arith, many, c.keeps.ensures.rules.shape.customs) in
-    let at = there (value_of raw).customs c.rows.row low high in
+    let at = row_there (value_of raw).customs c.rows.row low high in
     record {
       from = omega arith;
       to = omega arith;

@@ -6,8 +6,9 @@ use Rattle.ppdb_values.specs.declared.custom.CustomValue.{CustomValue}
 use Rattle.ppdb_verify.specs.Views.{raw_file}
 use Rattle.ppdb_merge_moved.specs.Moved.{is_link}
 use Rattle.ppdb_merge.specs.Indexes.{link_row}
-use Rattle.ppdb_merge.proofs.RowWalks.{all_silent, row_silent, row_told, said, there}
+use Rattle.ppdb_merge.proofs.RowWalks.{all_silent, row_silent, row_told, said}
 use Rattle.ppdb_merge.proofs.row_links.first_link_in.Goals as goal
+use Rattle.ppdb_tables.proofs.NumberedRows.{row_there}
 
 pub returns-then-is_link_in : goal.returns-then-is_link_in
 returns-then-is_link_in g c =
@@ -15,7 +16,7 @@ returns-then-is_link_in g c =
     let many = length-map raw.tables.customs (custom_of raw.tables) in
     let low : 1 ≤ c.rows.row = c.rows.invariant.from in
     let high : c.rows.row ≤ length (value_of raw).customs = omega (arith, many, c.keeps.ensures.rules.shape.customs) in
-    let at = there (value_of raw).customs c.rows.row low high in
+    let at = row_there (value_of raw).customs c.rows.row low high in
     let is = said (λ (custom : CustomValue). c.is_link_in.result ≡ is_link custom) (value_of raw).customs c.rows.row at.0 c.is_link_in.ensures at.1 in
     row_told link_row (value_of raw).customs c.rows.row at.0 (Some c.rows.row) at.1 c.rows.invariant.none
     (ap (λ b. cond b (Some c.rows.row) None) (sym is ∙ c.if-is_link_in.true)) refl
@@ -26,7 +27,7 @@ rows-preserved g c =
     let many = length-map raw.tables.customs (custom_of raw.tables) in
     let low : 1 ≤ c.rows.row = c.rows.invariant.from in
     let high : c.rows.row ≤ length (value_of raw).customs = omega (arith, many, c.keeps.ensures.rules.shape.customs) in
-    let at = there (value_of raw).customs c.rows.row low high in
+    let at = row_there (value_of raw).customs c.rows.row low high in
     let is = said (λ (custom : CustomValue). c.is_link_in.result ≡ is_link custom) (value_of raw).customs c.rows.row at.0 c.is_link_in.ensures at.1 in
     record {
       from = omega arith;

@@ -2,7 +2,7 @@ use Rattle.std.proofs.Common.{◌≡◌, ◌∙◌, sym, ap, [], ◌∷◌, List
 use Rattle.std.proofs.lemmas.Result.{err_from_is_err_and}
 use Rattle.ppdb_maps.specs.Map.{Map}
 use Rattle.type_blobs_rows.specs.declared.row.PlacedRow.{PlacedRow}
-use Rattle.type_blobs_rows.specs.Walk.{rest_of}
+use Rattle.blob_grammar.specs.Reader.{tail}
 use Rattle.ppdb_merge_names.specs.Imaging.{imaged_on}
 use Rattle.ppdb_merge_names.proofs.Going.{leads-few, leads-end, goes-stop, goes-as, map-stays}
 use Rattle.ppdb_merge_names.proofs.Walked.{first_is, none_is, live_inside, live_first}
@@ -12,7 +12,7 @@ pub rows-preserved : goal.rows-preserved
 rows-preserved g c =
     let left = g.W.RowWalk.left c.rows.walk in
     let found = c.in-Some.found in
-    let first : left ≡ found ∷ rest_of left = first_is left found (sym c.in-Some.ensures.answer) in
+    let first : left ≡ found ∷ tail left = first_is left found (sym c.in-Some.ensures.answer) in
     let start = c.args.imager.now in
     let now = c.rows.imager in
     let m = start.map in
@@ -21,9 +21,9 @@ rows-preserved g c =
     rw c.next_row.ensures.left
     record {
       same_map = map-stays now c.add_live_row.new.imager (named now.map (found ∷ [])) step ∙ c.rows.invariant.same_map;
-      leads = leads-few start now c.add_live_row.new.imager (named m (g.W.RowWalk.left c.args.walk.now)) (named m (found ∷ [])) (named m (rest_of left))
+      leads = leads-few start now c.add_live_row.new.imager (named m (g.W.RowWalk.left c.args.walk.now)) (named m (found ∷ [])) (named m (tail left))
           (c.rows.invariant.leads ∙ ap (imaged_on now)
-          (ap (named m) first ∙ live_first m c.args.table c.args.row c.args.column found (rest_of left)))
+          (ap (named m) first ∙ live_first m c.args.table c.args.row c.args.column found (tail left)))
           (ap (λ (n : Map). imaged_on now (named n (found ∷ []))) (sym c.rows.invariant.same_map) ∙ step);
     }
 
@@ -32,16 +32,16 @@ returns-in_err-add_live_row g c =
     let p = err_from_is_err_and c.from_residual.result c.from_residual.ensures.1 in
     let left = g.W.RowWalk.left c.rows.walk in
     let found = c.in-Some.found in
-    let first : left ≡ found ∷ rest_of left = first_is left found (sym c.in-Some.ensures.answer) in
+    let first : left ≡ found ∷ tail left = first_is left found (sym c.in-Some.ensures.answer) in
     let start = c.args.imager.now in
     let now = c.rows.imager in
     let m = start.map in
     let named = (λ (n : Map) (rows : List PlacedRow). live_inside n c.args.table c.args.row c.args.column rows) in
     rw (p.1, p.2)
     (goes-stop start now c.add_live_row.new.imager c.add_live_row.new.imager (named m (g.W.RowWalk.left c.args.walk.now)) (named m (found ∷ []))
-    (named m (rest_of left)) c.in_err-add_live_row.field-0.0
+    (named m (tail left)) c.in_err-add_live_row.field-0.0
     (c.rows.invariant.leads ∙ ap (imaged_on now)
-    (ap (named m) first ∙ live_first m c.args.table c.args.row c.args.column found (rest_of left)))
+    (ap (named m) first ∙ live_first m c.args.table c.args.row c.args.column found (tail left)))
     (goes-as now c.add_live_row.new.imager (named now.map (found ∷ [])) (named m (found ∷ [])) (Err c.in_err-add_live_row.field-0.0)
     (ap (λ (n : Map). named n (found ∷ [])) c.rows.invariant.same_map) c.in_err-add_live_row.ensures))
 

@@ -11,8 +11,8 @@ use Rattle.ppdb_values_reading.specs.Lent.{constant_value_shown, constants_of}
 use Rattle.ppdb_values_reading.proofs.Rows.{row_made}
 use Rattle.ppdb_merge_items.specs.NamedRows.{goes_constant, is_gone_type, live_body, names_gone_class, with_live_body}
 use Rattle.ppdb_merge_moved.specs.Moved.{moved_constant, moved_constant_body, moved_modifier}
+use Rattle.ppdb_merge_moved.proofs.Lists.{refill_all}
 use Rattle.ppdb_merge_parts.specs.Flat.{constant_image}
-use Rattle.ppdb_merge_rows.proofs.Rows.{refilled}
 use Rattle.ppdb_merge_rows.proofs.constants.moved_constant.Goals as goal
 
 pub returns-then-goes-clause-constant : goal.returns-then-goes-clause-constant
@@ -49,4 +49,4 @@ returns-clause-constant g c =
     (sym c.moved_body.ensures)
     ∙ ap (λ (ms : List Modifier).
     let v : ConstantValue = record { name = lent.name.now; modifiers = ms; body = body_value (shown c.moved_body.result) } in Some (Some v))
-    (sym (refilled c.read_constant.new.modifiers c.move_all.new.items (ap length modifiers ∙ length-map c.read_constant.new.modifiers (moved_modifier m))))
+    (sym (refill_all c.read_constant.new.modifiers c.move_all.new.items (ap length modifiers ∙ length-map c.read_constant.new.modifiers (moved_modifier m))))

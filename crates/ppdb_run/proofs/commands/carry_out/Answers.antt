@@ -113,7 +113,7 @@ pub returns-in-Lookup-clause-causes : goal.returns-in-Lookup-clause-causes
 returns-in-Lookup-clause-causes g c =
     let words = subst (λ task. Words task (texts c.args.words.now)) (sym c.in-Lookup.ensures) c.in-Ok.ensures.command in
     widened_stop c.lookup.result (λ m. absurd m)
-    (λ name r. record { task = Lookup c.in-Lookup.file.now c.in-Lookup.list.now c.in-Lookup.json; asked = words; unread = r }) (λ name w. absurd w) (λ e. e)
+    (λ name r. (Lookup c.in-Lookup.file.now c.in-Lookup.list.now c.in-Lookup.json, words, r)) (λ name w. absurd w) (λ e. e)
     (λ a. a) (λ b. b) (λ p. p) c.lookup.ensures.causes
 
 pub returns-in-Lookup-clause-accepted : goal.returns-in-Lookup-clause-accepted
@@ -244,7 +244,7 @@ pub returns-in-Compose-clause-causes : goal.returns-in-Compose-clause-causes
 returns-in-Compose-clause-causes g c =
     let words = subst (λ task. Words task (texts c.args.words.now)) (sym c.in-Compose.ensures) c.in-Ok.ensures.command in
     widened_stop c.compose.result (λ m. absurd m)
-    (λ name r. record { task = (Compose c.in-Compose.first.now c.in-Compose.second.now c.in-Compose.output.now); asked = words; unread = r })
+    (λ name r. (Compose c.in-Compose.first.now c.in-Compose.second.now c.in-Compose.output.now, words, r))
     (λ name w. is_output (texts c.args.words.now) (Compose c.in-Compose.first.now c.in-Compose.second.now c.in-Compose.output.now) c.in-Compose.output.now
     name refl words w)
     (λ e. e) (λ a. a) (λ b. b) (λ p. absurd p) c.compose.ensures.causes
@@ -304,7 +304,7 @@ pub returns-in-Merge-clause-causes : goal.returns-in-Merge-clause-causes
 returns-in-Merge-clause-causes g c =
     let words = subst (λ task. Words task (texts c.args.words.now)) (sym c.in-Merge.ensures) c.in-Ok.ensures.command in
     widened_stop c.merge.result (λ m. absurd m)
-    (λ name r. record { task = (Merge (inputs_of c.in-Merge.inputs) c.in-Merge.output.now (options_of c.in-Merge.options)); asked = words; unread = r })
+    (λ name r. (Merge (inputs_of c.in-Merge.inputs) c.in-Merge.output.now (options_of c.in-Merge.options), words, r))
     (λ name w. is_output (texts c.args.words.now) (Merge (inputs_of c.in-Merge.inputs) c.in-Merge.output.now (options_of c.in-Merge.options))
     c.in-Merge.output.now name refl words w)
     (λ e. e) (λ a. a) (λ b. b) (λ p. absurd p) c.merge.ensures.causes

@@ -13,11 +13,7 @@ returns-in-Ok c = λ longer.
       not_nil (raw_of c.args.tables.now).blobs c.in-Some.content.now c.args.document.now.name there c.if-content-eq0.false,
       (
         found.0,
-        record {
-          content = c.in-Some.content.now;
-          there = there;
-          is_name = subst (λ (b : List ℕ). IsName b c.in-Some.content.now found.0) c.blobs-2.ensures found.1;
-        },
+        (c.in-Some.content.now, there, subst (λ (b : List ℕ). IsName b c.in-Some.content.now found.0) c.blobs-2.ensures found.1),
         found.2.0 longer,
       ),
     )

@@ -9,7 +9,7 @@ pub returns-then-not-is_new-clause-err : goal.returns-then-not-is_new-clause-err
 returns-then-not-is_new-clause-err c =
     let spelled = c.in_ok-name.ensures.name in
     repeated_first (raw_of c.args.tables.now) c.args.row c.args.document.now c.requires.there c.fault.result c.requires.judged
-    (value_there (raw_of c.args.tables.now).blobs spelled.content c.args.document.now.name spelled.there) c.in_ok-name.ensures.some
+    (value_there (raw_of c.args.tables.now).blobs spelled.0 c.args.document.now.name spelled.1) c.in_ok-name.ensures.some
     (repeats (raw_of c.args.tables.now).blobs (raw_of c.args.tables.now).documents c.args.row c.args.document.now c.requires.there c.in_ok-name.name.items
     spelled
     (c.requires.seen.sound c.in_ok-name.name (rw c.if-not-is_new.true at c.in_ok-is_new.ensures.old))) c.fault.ensures
@@ -19,7 +19,7 @@ returns-clause-ok c =
     let spelled = c.in_ok-name.ensures.name in
     let lacks : HasBytes c.args.seen.now c.in_ok-name.name → ⊥ = rw c.if-not-is_new.false at c.in_ok-is_new.ensures.new in
     next_0 (raw_of c.args.tables.now) c.args.row c.args.document.now c.requires.there c.requires.judged
-    (value_there (raw_of c.args.tables.now).blobs spelled.content c.args.document.now.name spelled.there) c.in_ok-name.ensures.some
+    (value_there (raw_of c.args.tables.now).blobs spelled.0 c.args.document.now.name spelled.1) c.in_ok-name.ensures.some
     (λ h. lacks (c.requires.seen.complete c.in_ok-name.name (repeated (raw_of c.args.tables.now).blobs (raw_of c.args.tables.now).documents c.args.row
     c.args.document.now c.requires.there c.in_ok-name.name.items spelled h)))
     (λ fault some2 invalid. name_whole spelled invalid)

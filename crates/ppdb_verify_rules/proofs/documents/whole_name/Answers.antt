@@ -34,8 +34,8 @@ returns-in-Ok-clause-some c =
     not_nil (raw_of c.args.tables.now).blobs c.in-Some.content.now c.args.document.now.name there c.if-content-eq0.false
 
 pub returns-in-Ok-clause-name : goal.returns-in-Ok-clause-name
-returns-in-Ok-clause-name c = record {
-  content = c.in-Some.content.now;
-  there = sym (rw c.blobs.ensures at c.in-Some.ensures.blob);
-  is_name = subst (λ (b : List ℕ). IsName b c.in-Some.content.now c.in-Ok.name.items) c.blobs-2.ensures c.in-Ok.ensures.ok;
-}
+returns-in-Ok-clause-name c = (
+  c.in-Some.content.now,
+  sym (rw c.blobs.ensures at c.in-Some.ensures.blob),
+  subst (λ (b : List ℕ). IsName b c.in-Some.content.now c.in-Ok.name.items) c.blobs-2.ensures c.in-Ok.ensures.ok,
+)

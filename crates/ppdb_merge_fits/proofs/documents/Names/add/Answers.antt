@@ -3,8 +3,8 @@ use Rattle.std.specs.Prelude.{bytes_eq}
 use Rattle.std.specs.BTreeMap.{is_at}
 use Rattle.std.specs.Map.{lookup}
 use Rattle.ppdb_merge_fits.specs.Names.{row_of}
-use Rattle.ppdb_merge_fits.proofs.ByName.{Name, names, found_after}
 use Rattle.ppdb_merge_fits.proofs.documents.Names.add.Goals as goal
+use Rattle.ppdb_maps.proofs.Named.{Name, names, found_after}
 
 pub returns : goal.returns
 returns c = λ other.

@@ -2,9 +2,10 @@ use Rattle.std.proofs.Common.{arith}
 use Rattle.ppdb_tables.specs.RawOf.{raw_of}
 use Rattle.ppdb_verify.specs.Views.{tables_of}
 use Rattle.ppdb_queries.specs.Hoisted.{hoisted_at}
+use Rattle.ppdb_queries.proofs.Slots.{none_left}
 use Rattle.ppdb_show.specs.Query.{hoisted_line}
 use Rattle.ppdb_show.proofs.Added.{walk_none, walk_next, walk_done, walk_cost, adds_same, lines_each, none_each}
-use Rattle.ppdb_show.proofs.Given.{given_next, given_none}
+use Rattle.ppdb_show.proofs.Given.{given_next}
 use Rattle.ppdb_show.proofs.query.hoisted.put_hoisted.Goals as goal
 
 pub locals-init : goal.locals-init
@@ -24,7 +25,7 @@ locals-preserved g c =
 pub returns-clause-ok : goal.returns-clause-ok
 returns-clause-ok g c =
     adds_same c.args.printer.form _ _ _ _ (lines_each hoisted_line (hoisted_at (raw_of (tables_of c.args.file.now)) c.args.method c.args.offset))
-    (walk_done _ _ _ _ _ _ _ _ c.locals.invariant.walk (given_none c.locals.locals.items c.next.result c.next.ensures.answer c.in_default-next.not-Some))
+    (walk_done _ _ _ _ _ _ _ _ c.locals.invariant.walk (none_left c.locals.locals.items c.next.result c.next.ensures.answer c.in_default-next.not-Some))
 
 pub returns-clause-cost : goal.returns-clause-cost
 returns-clause-cost g c =

@@ -4,8 +4,9 @@ use Rattle.ppdb_values.specs.Chains.{chain_of}
 use Rattle.ppdb_verify.specs.Views.{tables_of}
 use Rattle.ppdb_show.proofs.Added.{walk_none, walk_next, walk_cut, walk_done, walk_cost, adds_same}
 use Rattle.ppdb_show.proofs.Chains.{IsLink, links_there, lines_of_links, reads_of_links}
-use Rattle.ppdb_show.proofs.Given.{each_first, each_rest, given_next, given_none}
+use Rattle.ppdb_show.proofs.Given.{each_first, each_rest, given_next}
 use Rattle.ppdb_show.proofs.query.imports.put_imports.Goals as goal
+use Rattle.ppdb_queries.proofs.Slots.{none_left}
 
 pub chain-init : goal.chain-init
 chain-init g c =
@@ -47,12 +48,12 @@ pub returns-clause-ok : goal.returns-clause-ok
 returns-clause-ok g c =
     let raw = raw_of (tables_of c.args.file.now) in
     adds_same c.args.printer.form _ _ _ _ (lines_of_links raw (chain_of (λ scope. scope.parent) raw.imports c.args.import))
-    (walk_done _ _ _ _ _ _ _ _ c.chain.invariant.walk (given_none c.chain.chain c.next.result c.next.ensures.answer c.in_default.not-Some))
+    (walk_done _ _ _ _ _ _ _ _ c.chain.invariant.walk (none_left c.chain.chain c.next.result c.next.ensures.answer c.in_default.not-Some))
 
 pub returns-clause-cost : goal.returns-clause-cost
 returns-clause-cost g c =
     let raw = raw_of (tables_of c.args.file.now) in
-    let none = ap length (given_none c.chain.chain c.next.result c.next.ensures.answer c.in_default.not-Some) in
+    let none = ap length (none_left c.chain.chain c.next.result c.next.ensures.answer c.in_default.not-Some) in
     let reads = reads_of_links raw (chain_of (λ scope. scope.parent) raw.imports c.args.import) in
     let h = walk_cost _ _ _ _ _ _ _ _ c.chain.invariant.walk in
     omega (arith, none, reads, h)

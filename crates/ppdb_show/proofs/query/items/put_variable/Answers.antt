@@ -1,8 +1,8 @@
 use Rattle.std.proofs.Common.{arith}
 use Rattle.ppdb_tables.specs.RawOf.{raw_of}
+use Rattle.ppdb_tables.proofs.NumberedRows.{row_within}
 use Rattle.ppdb_verify.specs.Views.{tables_of}
 use Rattle.ppdb_show.proofs.Added.{then_ok}
-use Rattle.ppdb_show.proofs.Runs.{row_within}
 use Rattle.ppdb_show.proofs.query.items.put_variable.Goals as goal
 
 pub put_customs-requires-clause-there : goal.put_customs-requires-clause-there

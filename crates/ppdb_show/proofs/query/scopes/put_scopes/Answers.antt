@@ -3,9 +3,10 @@ use Rattle.ppdb_tables.specs.RawOf.{raw_of}
 use Rattle.ppdb_verify.specs.Views.{tables_of}
 use Rattle.ppdb_show.specs.QueryWalk.{IsViewOf}
 use Rattle.ppdb_show.proofs.Added.{walk_none, walk_next, walk_cut, walk_done, walk_cost}
-use Rattle.ppdb_show.proofs.Given.{each_first, each_rest, given_next, given_none}
+use Rattle.ppdb_show.proofs.Given.{each_first, each_rest, given_next}
 use Rattle.ppdb_show.proofs.Views.{views_there}
 use Rattle.ppdb_show.proofs.query.scopes.put_scopes.Goals as goal
+use Rattle.ppdb_queries.proofs.Slots.{none_left}
 
 pub scopes-init : goal.scopes-init
 scopes-init g c =
@@ -48,7 +49,7 @@ returns-in_err-put_scope-clause-cost g c =
 
 pub returns-clause-ok : goal.returns-clause-ok
 returns-clause-ok g c =
-    walk_done _ _ _ _ _ _ _ _ c.scopes.invariant.walk (given_none c.scopes.scopes.items c.next.result c.next.ensures.answer c.in_default-next.not-Some)
+    walk_done _ _ _ _ _ _ _ _ c.scopes.invariant.walk (none_left c.scopes.scopes.items c.next.result c.next.ensures.answer c.in_default-next.not-Some)
 
 pub returns-clause-cost : goal.returns-clause-cost
 returns-clause-cost g c =

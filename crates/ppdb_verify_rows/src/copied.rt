@@ -2,7 +2,7 @@
 ghost use Rattle.std.specs.Prelude.{◌≡◌};
 
 /// A copy of what a reference points to.
-pub(crate) fn copy_of<T: Copy>(value: &T) -> T
+pub fn copy_of<T: Copy>(value: &T) -> T
     ensures { result ≡ value.now }
 {
     *value
