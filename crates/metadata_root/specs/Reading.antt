@@ -19,7 +19,7 @@ listed l Blobs = l.blobs
 pub record IsGoodName (name : List ℕ) : Type 0 where
   pub good : IsInvalidName name → ⊥
 
--- the fault of the name at a place: it passes the end, or is refused
+-- the fault of the name at a place: it passes the end, or breaks a rule of its own
 abbrev pub IsNameFault : List ℕ → ℕ → Fault → Type 0
 IsNameFault file at fault =
     ((fault ≡ record { code = RootTruncated; place = at_byte 1 at }) × (length file < at + name_len file at))

@@ -33,6 +33,6 @@ Answers is (Err Memory) into = Unit {0}
 abbrev pub with_file : Option Files → List ℕ → List ℕ → Option Files
 with_file files name bytes = option_map (λ all. insert all name bytes) files
 
--- a write that failed left the files as they were, or with a prefix of the bytes as this one
+-- a write of a file that failed left all files as they were, or this file with a prefix of the bytes and the others as they were
 abbrev pub LeavesPrefix : Option Files → Option Files → List ℕ → List ℕ → Type 0
 LeavesPrefix old new name bytes = (new ≡ old) ⊎ ((prefix rest : List ℕ) × (bytes ≡ prefix ++ rest) × (new ≡ with_file old name prefix))

@@ -4,7 +4,7 @@ use Rattle.std.specs.Prelude.{ℕ, ◌+◌, ◌-◌, List, [], ◌∷◌, ◌++�
 use Rattle.ppdb_values.specs.{declared.file.{FileValue.FileValue, DocumentValue.DocumentValue, MethodValue.MethodValue}, declared.scope.{ScopeValue.ScopeValue, VariableValue.VariableValue}}
 use Rattle.ppdb_values.specs.{declared.scope.ConstantValue.ConstantValue, declared.import.ImportScopeValue.ImportScopeValue, declared.custom.CustomValue.CustomValue, Parts.{method_at, first_item}}
 use Rattle.ppdb_values.specs.RawFile.{RawFile}
-use Rattle.ppdb_tables.specs.Parents.{coded_of}
+use Rattle.ppdb_values.specs.Names.{coded_of}
 use Rattle.ppdb_build_heaps.specs.{Items.{index_of, as_text, as_blob}, Uses.{Piece, plain, blob_bytes}}
 use Rattle.ppdb_build_layout.specs.Bytes.{padded}
 use Rattle.ppdb_build_canon.specs.Uses.{texts, guids, blobs, name_pieces, method_blob, constant_blob, import_blob, custom_blob, variables_of, constants_of}

@@ -1,10 +1,9 @@
 -- A file that is drafted part by part: the items that its heaps have so far, and its rows, whose cells hold the places that the
 -- items got when they were noted (Portable PDB v1.0, "Metadata Tables").
-use Rattle.ppdb_values.specs.Names.{constant_spelling, Range, common_document, MachineRow, MethodDebugRow, told}
+use Rattle.ppdb_values.specs.Names.{constant_spelling, Range, common_document, MachineRow, MethodDebugRow, told, coded_of}
 use Rattle.std.specs.Prelude.{ℕ, ◌+◌, ◌-◌, List, [], ◌∷◌, ◌++◌, length, fold, replicate, Some}
 use Rattle.ppdb_values.specs.{declared.file.{DocumentValue.DocumentValue, MethodValue.MethodValue}, declared.scope.{ScopeValue.ScopeValue, VariableValue.VariableValue, ConstantValue.ConstantValue}}
 use Rattle.ppdb_values.specs.{declared.import.ImportScopeValue.ImportScopeValue, declared.custom.CustomValue.CustomValue}
-use Rattle.ppdb_tables.specs.Parents.{coded_of}
 use Rattle.ppdb_values_sound_laws.specs.Scopes.{stored_body}
 use Rattle.ppdb_build_heaps.specs.Uses.{plain}
 use Rattle.ppdb_build_layout.specs.declared.rows.Rows.{Rows}

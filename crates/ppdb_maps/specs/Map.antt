@@ -174,8 +174,8 @@ moved_row said table old = cond (nat_eq old 0) 0 (unwrap_or (row_within said tab
 abbrev pub moved_signature : Map → ℕ → ℕ → ℕ
 moved_signature said method stored = unwrap_or (signature_line said method) (moved_row said 0x11 stored)
 
--- what the map says of a method's offsets: none is kept where it is dropped; else the runs and the sizes of its line, and each where it has
--- no line
+-- what the map says of a method's offsets: none is kept if the method is dropped; each is kept if it has no line; else the runs and the
+-- sizes of its line say it
 abbrev pub offsets_in : Map → ℕ → Offsets
 offsets_in said method =
     cond (is_dropped said method) gone (option_map_or (λ line. lined line.runs line.old_size line.new_size) (method_line said method) every)

@@ -1,7 +1,7 @@
 -- What is promised of files whose records stand at their items.
 use Rattle.std.specs.{Prelude.{◌≡◌, ℕ, ◌≤◌, ◌<◌, Bool, true, List, filter, IsSortedByKey}, List.Sorted.IsStableByKey, Ordering.nat_cmp}
 use Rattle.ppdb_values.specs.{declared.file.FileValue.FileValue, Meaning.meaning, Links.links}
-use Rattle.ppdb_tables.specs.Parents.{coded_of}
+use Rattle.ppdb_values.specs.Names.{coded_of}
 use Rattle.ppdb_values_sound_laws.specs.Sound.{IsSound}
 use Rattle.ppdb_merge_items.specs.{declared.file.AnnotatedFile.AnnotatedFile, Each.{Each, Pairs}, Annotated.annotated_file, Sorted.in_order, Unannotated.value_of_annotated}
 use Rattle.ppdb_merge_items.specs.{AnnotatedMeaning.{annotated_meaning, annotated_links}, SoundParts.SoundParts}

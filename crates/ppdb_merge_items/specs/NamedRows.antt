@@ -104,9 +104,9 @@ abbrev pub live_constants : Map → List (Annotation ConstantValue) → List (An
 live_constants m constants = map (with_item (with_live_body m)) (filter (λ n. not (goes_constant m n.item)) constants)
 
 -- The file without what is removed. At a dropped method these are removed: points, scopes with what they own, state machines, custom records,
--- and the entry point. Elsewhere a constant that `goes_constant` is removed with the records on it, and `live_import` and `live_custom` say
--- which imports and records are kept; an import scope is kept without imports, and a constant of an enumeration that is gone has its underlying type. No
--- stored local signature is left where the method has a `signature` line or the row of the signature is gone.
+-- and the entry point. Elsewhere a constant of which `goes_constant` holds is removed with the records on it, and `live_import` and
+-- `live_custom` say which imports and records are kept; an import scope is kept without imports, and a constant of an enumeration that is
+-- gone has its underlying type. No stored local signature is left where the method has a `signature` line or the row of the signature is gone.
 abbrev pub live_file : Map → AnnotatedFile → AnnotatedFile
 live_file m file = record file {
   entry = cond (is_dropped m file.entry) 0 file.entry;

@@ -1,8 +1,7 @@
 -- When what a file says is sound, where its records stand at their items (Portable PDB v1.0, "Metadata Tables"; ECMA-335 II.22).
-use Rattle.ppdb_values.specs.Names.{repeat, kind_of, NeverEnds, parent_at}
+use Rattle.ppdb_values.specs.Names.{repeat, kind_of, NeverEnds, parent_at, coded_of}
 use Rattle.std.specs.Prelude.{◌≡◌, ◌≢◌, ℕ, ◌<◌, ◌≤◌, [], ◌∷◌}
 use Rattle.ppdb_values.specs.{declared.file.FileValue.FileValue, declared.annotation.Custom.Custom, Ranges.{ComesAfter, IsInOrAfter}, Rules.StandsOn}
-use Rattle.ppdb_tables.specs.Parents.{coded_of}
 use Rattle.ppdb_values_sound_laws.specs.{Named.HasRowOrNone, Customs.{SoundCustom, IsBodyOfKind}, Imports.SoundImportScope, Methods.SoundMethod, Scopes.SoundScope}
 use Rattle.ppdb_values_sound_laws.specs.Sound.{SoundRows, SoundMachine}
 use Rattle.ppdb_merge_items.specs.{declared.file.{AnnotatedScope.AnnotatedScope, AnnotatedFile.AnnotatedFile}, Each.{Each, Pairs}, Annotated.scope_of, Unannotated.value_of_annotated}

@@ -1,7 +1,7 @@
 -- The value of a file whose records stand at their items (Portable PDB v1.0, "CustomDebugInformation Table": in order of Parent).
 use Rattle.std.specs.Prelude.{map}
 use Rattle.ppdb_values.specs.declared.file.FileValue.{FileValue}
-use Rattle.ppdb_tables.specs.Parents.{coded_of}
+use Rattle.ppdb_values.specs.Names.{coded_of}
 use Rattle.ppdb_merge_items.specs.{declared.file.AnnotatedFile.AnnotatedFile, Annotated.{items_of, scope_of, all_customs}, Sorted.in_order}
 
 abbrev pub value_of_annotated : AnnotatedFile → FileValue

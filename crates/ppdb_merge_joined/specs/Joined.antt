@@ -1,10 +1,9 @@
 -- Files joined into one, each with its records at their items (Portable PDB v1.0, "Document Table", "ImportScope Table",
 -- "CustomDebugInformation Table").
-use Rattle.ppdb_values.specs.Names.{list_any, repeat, Point, row_at}
+use Rattle.ppdb_values.specs.Names.{list_any, repeat, Point, row_at, coded_of}
 use Rattle.std.specs.Prelude.{ℕ, zero, suc, ◌+◌, cond, List, [], ◌∷◌, length, map, filter, flat_map, position, unwrap_or, bytes_eq, option_map}
 use Rattle.ppdb_values.specs.{declared.file.{DocumentValue.DocumentValue, MethodValue.MethodValue}, declared.import.ImportScopeValue.ImportScopeValue, declared.custom.CustomBody.CustomBody}
 use Rattle.ppdb_values.specs.{declared.custom.{CustomBody.TheVariants.TypeDocuments, CustomValue.CustomValue}, declared.annotation.{Custom.Custom, Annotation.Annotation}}
-use Rattle.ppdb_tables.specs.Parents.{coded_of}
 use Rattle.ppdb_merge_items.specs.{declared.file.{AnnotatedScope.AnnotatedScope, AnnotatedFile.AnnotatedFile}, Annotated.{items_of, with_item}, Sorted.in_order}
 use Rattle.ppdb_merge_joined.specs.Same.{same_custom, same_record, fresh}
 

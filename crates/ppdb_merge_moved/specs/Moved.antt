@@ -150,7 +150,7 @@ moved_custom m c = moved_record m (linked m c)
 
 -- ---- the file
 
--- the row counts of the output, from a table on: that of its `rows` line, else that of the input
+-- the row counts of the output, from a table on: for each table that of its `rows` line, else that of the input
 abbrev pub moved_counts : Map → ℕ → List ℕ → List ℕ
 moved_counts m table [] = []
 moved_counts m table (n ∷ ns) = unwrap_or (count_of m table) n ∷ moved_counts m (table + 1) ns

@@ -1,11 +1,10 @@
 -- The custom records of the file that inputs are joined into, as what becomes of the records of the inputs (Portable PDB v1.0,
 -- "CustomDebugInformation Table": in order of Parent; docs/FORMAT.md, "Joining").
-use Rattle.ppdb_values.specs.Names.{enumerate_from, numbered, row_at, Parent}
+use Rattle.ppdb_values.specs.Names.{enumerate_from, numbered, row_at, Parent, coded_of}
 use Rattle.std.specs.Prelude.{◌≡◌, ℕ, suc, ◌+◌, ◌≤◌, ◌++◌, ◌&&◌, not, nat_eq, nat_lt, Bool, true, cond, List, [], ◌∷◌, Option, Some, None, length, map, flat_map, position, sum_by, filter, filter_map}
 use Rattle.std.specs.Prelude.{option_map}
 use Rattle.ppdb_maps.specs.{Map.{Map, moved_row, offsets_in}, Readable.IsReadable}
 use Rattle.ppdb_values.specs.{declared.custom.CustomValue.CustomValue, declared.file.FileValue.FileValue, declared.scope.ScopeValue.ScopeValue, Parts.first_item}
-use Rattle.ppdb_tables.specs.Parents.{coded_of}
 use Rattle.ppdb_values_sound_laws.specs.Customs.{SoundCustoms}
 use Rattle.ppdb_merge_items.specs.{Each.Each, NamedRows.{goes_constant, live_custom}, Sorted.in_order}
 use Rattle.ppdb_merge_joined.specs.{Joined.{row_in, with_documents}, Same.{fresh, same_record}}

@@ -43,7 +43,7 @@ merge_fields (DocumentTwice first second) = said " M12 documents " (number first
 merge_fields (LinkDiffers row) = said " M13 row " (number row) ∷ []
 merge_fields Memory = []
 
--- an image is refused: it is taken, or above the number of rows
+-- the errors whose lines are put apart: an image is refused, since it is taken or above the number of rows
 abbrev pub refuses_image : MergeError → Bool
 refuses_image (ImageTwice t first second image) = true
 refuses_image (MethodTaken input first second image) = true

@@ -36,7 +36,7 @@ NamesMethod methods token = (row : ℕ) × (1 ≤ row) × (row ≤ methods) × (
 pub data EntryFaults (stream : List ℕ) : Code → Place → Type 0 where
   entry : entry_in stream ≢ 0 → (NamesMethod (pdb_rows stream 6) (entry_in stream) → ⊥) → EntryFaults stream EntryPoint (at_byte 3 20)
 
--- the rules of the stream: the entry point is judged where no field is bad
+-- the rules of the stream: the entry point is judged where no field is at fault
 abbrev pub PdbFaults : List ℕ → Code → Place → Type 0
 PdbFaults stream = Then (PdbFieldFaults stream) (EntryFaults stream)
 

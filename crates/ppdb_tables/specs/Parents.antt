@@ -12,7 +12,7 @@ parent_in coded = option_map (λ table. record { table = table; row = coded / 32
 abbrev pub coded_in : Parent → Option ℕ
 coded_in parent = option_map (λ tag. parent.row * 32 + tag) (position (λ table. table == parent.table) parent_tables)
 
--- that index, and 0 if the parent has none
+-- the coded index of a parent, and 0 if its table has no tag
 abbrev pub coded_of : Parent → ℕ
 coded_of parent = unwrap_or (coded_in parent) 0
 

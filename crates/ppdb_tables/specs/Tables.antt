@@ -57,7 +57,7 @@ count_in head stream table =
 abbrev pub sizes_in : PdbHead → List ℕ → Sizes
 sizes_in head stream = record { heap = heap_sizes stream; rows = map (count_in head stream) (range_with_len 0 64) }
 
--- the rules of the stream: the rows are judged where no field is bad
+-- the rules of the stream: the rows are judged where no field is at fault
 abbrev pub TablesFaults : PdbHead → List ℕ → Code → Place → Type 0
 TablesFaults head stream = Then (TableFieldFaults (slice_index head.rows 6) stream) (BoundFaults (sizes_in head stream) stream)
 

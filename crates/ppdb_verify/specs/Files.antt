@@ -10,7 +10,7 @@ use Rattle.ppdb_values.specs.RawFile.{RawFile, raw_in}
 abbrev pub RowsFaults : RawTables → Code → Place → Type 0
 RowsFaults raw code at = RowFaults raw code at ⊎ SpanFaults raw code at
 
--- the rules of #Pdb, of #~ and of the rows, each judged only where nothing of the parts before is bad
+-- the rules of #Pdb, of #~ and of the rows, each judged only where nothing of the parts before is at fault
 abbrev pub ContentFaults : Streams → Code → Place → Type 0
 ContentFaults streams =
     Then (PdbFaults (bytes_of streams Pdb)) (Then (TablesFaults (head_in (bytes_of streams Pdb)) (bytes_of streams Tables)) (RowsFaults (raw_in streams).tables))

@@ -1,10 +1,10 @@
-// What follows where nothing of the rows is bad.
+// What follows where the rows break no rule.
 ghost use Rattle.ppdb_values.specs.RawFile.{RawFile};
 ghost use Rattle.ppdb_values.specs.Rules.{KeepsRules};
 ghost use Rattle.ppdb_verify_accepted_laws.specs.Accepted.{AcceptedFilesKeepRules};
 ghost use Rattle.ppdb_verify_accepted_laws.specs.Cursors.{CursorsNeverFault};
 
-/// A file in whose rows nothing is bad keeps the rules of its format.
+/// A file whose rows break no rule keeps the rules of its format, as facts.
 pub fn accepted_files_keep_rules()
     ensures { AcceptedFilesKeepRules }
 {}

@@ -1,4 +1,4 @@
--- A file that keeps the rules has nothing bad in its rows (Portable PDB v1.0, "Metadata Tables"; ECMA-335 II.22).
+-- A file that keeps the rules has no row that breaks a rule (Portable PDB v1.0, "Metadata Tables"; ECMA-335 II.22).
 use Rattle.ppdb_base.specs.First.{IsAccepted}
 use Rattle.ppdb_verify_rules.specs.Rows.{RowFaults}
 use Rattle.ppdb_values.specs.{RawFile.RawFile, Rules.KeepsRules}

@@ -1,4 +1,4 @@
-//! A file that keeps the rules of its format has nothing bad in its rows: the list of facts leaves none of the list of faults.
+//! A file that keeps the rules of its format has no row that breaks one: the list of facts leaves none of the list of faults.
 #![tactic(auto)]
 
 mod laws;

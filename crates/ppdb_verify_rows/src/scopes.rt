@@ -10,7 +10,8 @@ use ppdb_tables::{LOCAL_CONSTANT, LOCAL_SCOPE, LOCAL_VARIABLE};
 use ppdb_verify::Verified;
 use std::sync::ledger::Ledger;
 
-/// Where the lists of the scope of a row end, of variables and of constants: where those of the next scope begin.
+/// Where the lists of the scope of a row end, of variables and of constants: where those of the next scope begin, or right after the
+/// last item.
 pub fn list_ends<L: Ledger>(file: &Verified<'_>, row: u32, steps: &mut Steps<L>) -> (u32, u32)
     requires there { HasRow (raw_file file.now).tables 0x32 row }
     ensures variables { result.0 ≡ list_end (λ scope. scope.variables) (raw_file file.now).tables.scopes row (length (raw_file file.now).tables.variables) }

@@ -106,7 +106,7 @@ pub data CustomFault (raw : RawTables) (row : ℕ) (custom : CustomRow) : ℕ �
   no_value : blob_at raw.blobs custom.value ≡ None → CustomFault raw row custom 2 0 BlobIndex
   invalid_value : {fault : BlobFault} → HasInvalidValue raw custom fault → CustomFault raw row custom 2 fault.byte fault.code
 
--- a row is bad where it has a fault of its table
+-- a row is at fault where it has a fault of its table
 pub data RowFaults (raw : RawTables) : Code → Place → Type 0 where
   in_document : {row column byte : ℕ} {code : Code} {x : DocumentRow} → row_at raw.documents row ≡ Some x → DocumentFault raw row x column byte code
       → RowFaults raw code (in_blob 0x30 row column byte)

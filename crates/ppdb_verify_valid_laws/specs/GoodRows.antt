@@ -3,6 +3,6 @@ use Rattle.std.specs.Prelude.{◌↔◌}
 use Rattle.ppdb_verify_accepted_laws.specs.Accepted.{HasGoodRows}
 use Rattle.ppdb_values.specs.{RawFile.RawFile, Rules.KeepsRules}
 
--- Nothing is bad in the rows exactly where the rules are kept.
+-- No row breaks a rule exactly where the rules are kept.
 abbrev pub GoodRowsAreKeptRules : Type 0
 GoodRowsAreKeptRules = (raw : RawFile) → HasGoodRows raw ↔ KeepsRules raw

@@ -5,7 +5,7 @@ ghost use Rattle.ppdb_verify_valid_laws.specs.Valid.{ValidFilesAreSound};
 use ppdb_values::values_have_types;
 use ppdb_values_sound_laws::values_are_sound;
 
-/// In the rows of a file nothing is bad exactly where the file keeps the rules of its format.
+/// No row of a file breaks a rule exactly where the file keeps the rules of its format, as facts.
 pub fn good_rows_are_kept_rules()
     ensures { GoodRowsAreKeptRules }
 {}

@@ -47,7 +47,7 @@ fn is_enumerable(code: u8) -> bool
     0x02 <= code && code <= 0x0b
 }
 
-/// The bytes of a value of a primitive type.
+/// How many bytes a value of a primitive type has; 8 for a code of no such type.
 pub fn size_of(code: u8) -> usize
     ensures value { result ≡ size_of code }
     ensures positive { 1 ≤ result }
