@@ -85,7 +85,7 @@ impl<'a> Model for BreakCursor<'a> {
 }
 
 impl<'a> BreakCursor<'a> {
-    /// The next break; None exactly at the end. Each row that it passes is read once.
+    /// The next break; None exactly at the end. It reads as many rows as it passes.
     pub fn next<L: Ledger>(&mut self, steps: &mut Steps<L>) -> Option<Break>
         ensures answer { result ≡ next_of self.old.items }
         ensures left { self.new.items ≡ tail self.old.items }
@@ -107,7 +107,8 @@ impl<'a> BreakCursor<'a> {
     }
 }
 
-/// The breaks of a line of a document, by method and IL offset. A walk to the end reads each row of MethodDebugInformation once.
+/// The breaks of a line of a document, by method and IL offset. A walk to the end reads in all at most as many rows as
+/// MethodDebugInformation has.
 ///
 /// # Errors
 ///

@@ -42,7 +42,8 @@ pub fn has_name(name: NameCursor<'_>, text: &[u8]) -> bool
     rest.is_empty()
 }
 
-/// The row of the document with a name; None where no document has it. Each row up to there is read once.
+/// The row of the document with a name; None where no document has it. In all at most as many rows are read as
+/// Document has.
 pub fn document_named<L: Ledger>(
     file: &Verified<'_>,
     name: &[u8],

@@ -20,6 +20,7 @@ sizes_then None second = second
 sizes_then (Some first) None = Some first
 sizes_then (Some first) (Some second) = Some (first.0, second.1)
 
+-- the map c says of a module what the map s says of what the map f makes of it (docs/FORMAT.md, "Two maps made into one")
 pub record IsComposition (f s c : Map) : Type 0 where
   -- the rows of a table are those that the second map says, else those of the first
   pub counts : (table : ℕ) → count_of c table ≡ option_or (count_of s table) (count_of f table)

@@ -1,4 +1,4 @@
--- What runs of two rewritings, and runs that go on, come to.
+-- What runs keep when one rewriting follows another, and when runs that continue each other are joined.
 use Rattle.std.specs.Prelude.{◌≡◌, ℕ, false, List, [], ◌∷◌}
 use Rattle.ppdb_base.specs.{declared.offsets.Run.Run, Offsets.{Moves, RiseFrom, Rise, lined}}
 use Rattle.map_compose.specs.Runs.{met, goes_on, longest}

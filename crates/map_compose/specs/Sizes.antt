@@ -24,6 +24,7 @@ pub record FirstDiffering (f s : Map) : Type 0 where
   pub second : ℕ
   pub is : IsFirstDiffering f s method first second
 
+-- no method that is there after both maps, and has a line in both, has another size after the first than before the second
 abbrev pub SizesAgree : Map → Map → Type 0
 SizesAgree f s = (method first second : ℕ) → SizesDiffer f s method first second → ⊥
 

@@ -32,7 +32,7 @@ BreaksNameRule name listing code =
     ⊎ (((code ≡ StreamUnknown) × IsGoodName name × ((kind : StreamKind) → name ≢ name_of kind))
     ⊎ ((code ≡ StreamRepeated) × IsGoodName name × ((kind : StreamKind) × (name ≡ name_of kind) × IsSome (listed listing kind))))
 
--- a header that starts at a place has a field there that passes the end
+-- `cut` is the first byte of a field of the header that starts at `at`, and this field passes the end of the file
 abbrev pub CutsHeader : List ℕ → ℕ → ℕ → Type 0
 CutsHeader file at cut =
     ((cut ≡ at) × (length file < at + 4))

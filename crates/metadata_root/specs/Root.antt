@@ -20,11 +20,13 @@ prefix_fields file = 4 ∷ 2 ∷ 2 ∷ 4 ∷ 4 ∷ version_len file ∷ 2 ∷ 2 
 abbrev pub stream_count : List ℕ → ℕ
 stream_count file = number_at file (18 + version_len file) 2
 
--- the name at a place: the bytes before the first zero, or the first 33 where none of them is zero (II.24.2.2, Name)
+-- the name at a place: the bytes before the first zero, or the first 33 where none of them is zero, or all that are left, where the file ends
+-- before (ECMA-335 II.24.2.2, Name)
 unfoldable pub name_at : List ℕ → ℕ → List ℕ
 name_at file at = before_first (λ b. b == 0) (take 33 (drop at file))
 
--- how many bytes the name takes: itself and its zero, padded to a multiple of 4 (II.24.2.2, Name); 33 where none of the first 33 is zero
+-- how many bytes the name takes: itself and its zero, padded to a multiple of 4 (ECMA-335 II.24.2.2, Name); 33 where none of the first 33 is
+-- zero; a name that the file's end cuts off takes more bytes than are left
 abbrev pub name_len : List ℕ → ℕ → ℕ
 name_len file at =
     if nat_lt (length (name_at file at)) 33 then (length (name_at file at) + 4) / 4 * 4 else 33

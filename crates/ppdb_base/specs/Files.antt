@@ -33,6 +33,6 @@ Answers is (Err Memory) into = Unit {0}
 abbrev pub with_file : Option Files → List ℕ → List ℕ → Option Files
 with_file files name bytes = option_map (λ all. insert all name bytes) files
 
--- a write of a file that failed left all files as they were, or this file with a prefix of the bytes and the others as they were
+-- a write of a file that failed left all files as they were, or made the file of the name hold a prefix of the bytes, and left the others
 abbrev pub LeavesPrefix : Option Files → Option Files → List ℕ → List ℕ → Type 0
 LeavesPrefix old new name bytes = (new ≡ old) ⊎ ((prefix rest : List ℕ) × (bytes ≡ prefix ++ rest) × (new ≡ with_file old name prefix))

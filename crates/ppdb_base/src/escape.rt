@@ -7,7 +7,7 @@ ghost use Rattle.hex.specs.Hex.{encode_lower};
 
 use crate::sink::{Sink, WriteError};
 
-/// Puts bytes as text: printable ASCII but the backslash as it is, any other byte as `\x` and two digits,
+/// Puts bytes as text: printable ASCII but for the space and the backslash as it is, any other byte as `\x` and two digits,
 /// and no bytes as `\-`.
 pub fn put_escaped<O: Sink>(out: &mut O, bytes: &[u8]) -> Result<(), WriteError>
     ensures { PutsInto O.written O.faults result out.old out.new (escaped bytes.now) }
@@ -49,7 +49,7 @@ fn put_code<O: Sink>(out: &mut O, byte: u8) -> Result<(), WriteError>
     out.put(&hex_digits(byte))
 }
 
-/// Whether a byte stands for itself: printable ASCII but the backslash.
+/// Whether a byte stands for itself: printable ASCII but for the space and the backslash.
 pub fn stands_for_itself(byte: u8) -> bool
     ensures { result ≡ is_plain byte }
 {

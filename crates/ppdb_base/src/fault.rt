@@ -3,7 +3,7 @@ use crate::code::Code;
 /// Where a fault stands in a file: a part of it, and there a cell of a table or a byte.
 #[derive(Clone, Copy, Debug, PartialEq, Eq)]
 pub struct Place {
-    /// 1 the metadata root, 2 its streams, 3 the stream `#Pdb`, 4 the head of the stream `#~`, 5 the rows of its tables.
+    /// 1 the metadata root; 2 its streams; 3 the stream `#Pdb`; 4 the stream `#~`: its fields, and where its rows end; 5 the rows of its tables.
     pub part: u8,
     /// The table's number, as 0x32 for LocalScope; 0 in the parts 1 to 4.
     pub table: u8,

@@ -96,8 +96,8 @@ fn joined_bytes(
     }
 }
 
-/// The one file that says what inputs are joined into, each moved by its map, with the identity that is chosen. As many rows are read as the
-/// inputs have, and no value of them is made. None where rows alone do not tell whether the file passes a limit.
+/// The one file that says what inputs are joined into, each moved by its map, with the identity that is chosen. Rows are read in
+/// place, some of LocalScope several times, and no value of them is made. None where rows alone do not tell whether the file passes a limit.
 ///
 /// # Errors
 ///

@@ -10,15 +10,16 @@ use Rattle.ppdb_build_canon.specs.{Uses.{blobs, blob_uses, text_uses}, Canonical
 abbrev pub above : ℕ → (ℕ → Limit) → ℕ → Option Limit
 above most limit number = if nat_lt most number then Some (limit (told number)) else None
 
--- L1: the first table with too many rows
+-- L1 of this table, if it has too many rows
 abbrev pub too_many_rows : FileValue → ℕ → Option Limit
 too_many_rows value table = above 16777215 (TableRows table) (slice_index (counts value) table)
 
--- L2: the table has as many rows as a short index can name, and the last scope owns none of them
+-- the last scope is there and owns none of these items
 abbrev pub owns_none : (ScopeValue → ℕ) → Option ScopeValue → Bool
 owns_none items (Some scope) = items scope == 0
 owns_none items None = false
 
+-- L2: the table has as many rows as a short index can name, and the last scope owns none of them
 abbrev pub list_past_end : FileValue → ℕ → (ScopeValue → ℕ) → Option Limit
 list_past_end value table items = if (sum_by items value.scopes == 65535) && owns_none items (last_of value.scopes) then Some (ListPastEnd table 65535) else None
 

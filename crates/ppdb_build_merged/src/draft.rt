@@ -145,8 +145,8 @@ fn add_parts<L: Ledger>(
 }
 
 /// The draft of inputs that are moved by their maps and joined, made from their rows: a part at a time, and never a value of a file. The store
-/// keeps its items. None where the joined file passes a limit that is met on the way: a table has more rows than three bytes can name, an
-/// offset is too large, or a step from line to line has no form.
+/// keeps its items. None where a table has more rows than three bytes can name, a method's new size is 0x20000000 or more, or a step from line
+/// to line has no form: the value is needed to say which limit is met, if any.
 pub fn draft_of_inputs<'a, L: Ledger>(
     alloc: Global,
     store: &'a ItemStore,

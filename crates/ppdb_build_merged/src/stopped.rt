@@ -9,8 +9,8 @@ use ppdb_base::Memory;
 pub(crate) enum Stopped {
     /// There was no memory left.
     Memory,
-    /// The joined file passes a limit: a table has more rows than three bytes can name, an offset is too large, or a step from line to
-    /// line has no form.
+    /// A table has more rows than three bytes can name, a method's new size is 0x20000000 or more, or a step from line to line has no
+    /// form: the value is needed to say which limit is met, if any.
     Limit,
 }
 

@@ -89,7 +89,8 @@ Crosses line =
 abbrev pub AreBytes : List ℕ → Type 0
 AreBytes bytes = AllByRecursion (λ b. b < 256) bytes
 
--- the one spelling of bytes: printable ASCII but the backslash stands for itself, any other byte is `\x` and two digits, and no bytes are `\-`
+-- the one spelling of bytes: printable ASCII but for the space and the backslash stands for itself, any other byte is `\x` and two digits, and
+-- no bytes are `\-`
 pub record IsEscaped (word bytes : List ℕ) : Type 0 where
   pub spelled : word ≡ escaped bytes
   pub within : AreBytes bytes

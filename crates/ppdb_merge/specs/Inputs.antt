@@ -1,4 +1,4 @@
--- Inputs that were read, and added one after the other under the same marks.
+-- Inputs that were read, and added one after the other under the same marks (docs/FORMAT.md, "Joining").
 use Rattle.std.specs.Prelude.{◌≡◌, ℕ, Bool, List, [], ◌∷◌, Ok, map}
 use Rattle.ppdb_maps.specs.{Map.Map, Readable.IsReadable}
 use Rattle.ppdb_values.specs.{RawFile.RawFile, Rules.KeepsRules, Value.value_of}

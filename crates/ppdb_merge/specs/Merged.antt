@@ -1,4 +1,4 @@
--- What is kept of the inputs of a merge.
+-- What is kept of the inputs of a merge (docs/FORMAT.md, "Joining").
 use Rattle.std.specs.Prelude.{ℕ, Bool, nat_eq, List, length, map, Option, Some, None, Result, Err}
 use Rattle.ppdb_maps.specs.Map.{Map}
 use Rattle.ppdb_merge_items.specs.{declared.file.AnnotatedFile.AnnotatedFile, Annotated.annotated_file}

@@ -65,11 +65,12 @@ is_other_link row value c = is_at 0x00 row c.parent && (bytes_eq c.kind source_l
 abbrev pub has_other_link : List Trace → ℕ → List ℕ → Bool
 has_other_link traces row value = list_any (λ (file : AnnotatedFile). list_any (is_other_link row value) file.customs) (moved_files traces)
 
--- row 1 of Module is not gone, and there is such a record on its image
+-- row 1 of Module is not gone, and an earlier input has a Source Link record with another value than this on its image
 abbrev pub says_other_before : List Trace → Map → List ℕ → Bool
 says_other_before traces m value = not (is_gone_row m 0x00 1) && has_other_link traces (moved_row m 0x00 1) value
 
--- a Source Link record on row 1 of Module that differs
+-- M13 of a record: it is a Source Link record on row 1 of Module, and an earlier input has another value than the `link` line on the image of
+-- that row
 abbrev pub link_differs : List Trace → Map → List ℕ → ℕ × CustomValue → Option MergeError
 link_differs traces m value c = cond (is_link c.1 && says_other_before traces m value) (Some (LinkDiffers c.0)) None
 

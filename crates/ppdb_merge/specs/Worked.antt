@@ -30,7 +30,7 @@ first_input = record {
   rows = method 2 5 ∷ method 3 4 ∷ [];
 }
 
--- a further input that says so
+-- what a further input says: these documents and custom records
 abbrev pub saying : List DocumentValue → List CustomValue → FileValue
 saying documents customs = record empty_value { documents = documents; customs = customs }
 
@@ -81,7 +81,8 @@ abbrev pub without_module : Map → Map
 without_module m = record m { counts = record { table = 0x00; rows = 1 } ∷ []; gone = record { table = 0x00; old = 1 } ∷ [] }
 
 pub record WorkedMerges : Type 0 where
-  -- method 1 of the second has the image of method 3 of the first; so has document 2 a name, which is reported after it
+  -- method 1 of the second has the image of method 3 of the first; and its document 2 has the name of document 2 of the first and another hash,
+  -- which is reported after it
   pub taken : clashes_before (first_input ∷ []) no_lines (method 1 4 ∷ []) other_documents ≡ MethodTaken 1 3 1 4 ∷ DocumentConflict 2 2 ∷ []
   -- the least image is reported first
   pub least : clashes_before (first_input ∷ []) no_lines (method 1 5 ∷ method 2 4 ∷ []) empty_value ≡ MethodTaken 1 3 2 4 ∷ MethodTaken 1 2 1 5 ∷ []

@@ -7,7 +7,7 @@ use Rattle.ppdb_merge_names.specs.declared.imaged.Imaged.{Imaged}
 use Rattle.ppdb_merge_items.specs.Sorted.{in_order}
 use Rattle.ppdb_merge_fits.specs.Rows.{image_key, imaged_rows}
 
--- a local signature that the output has: the image of the stored one, which is 0 where there is none (ECMA-335 II.22.36)
+-- the NEW of a `signature` line, as the image of the stored local signature, 0 for none; nothing where NEW is 0 (ECMA-335 II.22.36)
 abbrev pub given : ℕ → ℕ → Option Imaged
 given stored new = cond (nat_eq new 0) None (Some (record { table = 0x11; row = stored; to = 0x11; image = new }))
 

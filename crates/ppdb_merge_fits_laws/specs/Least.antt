@@ -40,7 +40,7 @@ LeastRowsAreTold = (first : Bool) (m : Map) (raw : RawFile)
     → TellsLeast (λ (i : Imaged). i.table) (λ i. i.row) image_key image_twice (unshared m (filter_map (imaged m) (references first m raw)))
     (rows_twice m (imaged_rows first m raw))
 
--- what a function may make
+-- what a function may make: `used m` a UsedSlot, a slot of a method with its image
 abbrev pub Made : {X Y : Type 0} → (X → Option Y) → Type 0
 Made {X} {Y} make = Y
 

@@ -1,4 +1,4 @@
--- A file whose records stand at their items is the noted form of its value.
+-- A file whose records are at their items is the form of its value with the records at their items (`annotated_file`).
 use Rattle.std.proofs.Common.{◌≡◌, ℕ, suc, ◌+◌, ◌-◌, ◌<◌, ◌≤◌, ◌++◌, Bool, false, List, [], ◌∷◌, refl, sym, ◌∙◌, ap, arith, map, length, take, append-nil}
 use Rattle.std.proofs.Common.{append_assoc}
 use Rattle.std.specs.Prelude.{nat_lt, filter, sum_by}

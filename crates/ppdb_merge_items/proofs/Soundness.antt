@@ -1,4 +1,4 @@
--- A value is sound where the parts of its noted form are, and the other way round.
+-- A value is sound if and only if the parts of the form with its records at their items (`annotated_file`) are.
 use Rattle.std.proofs.Common.{◌≡◌, ◌≢◌, ℕ, zero, suc, ◌+◌, ◌<◌, ◌≤◌, true, List, [], ◌∷◌, length, map, refl, sym, ◌∙◌, ap, subst, arith, get_or, inl, inr}
 use Rattle.std.specs.Prelude.{nat_eq, nat_lt, filter, Option, Some, None, IsSome, unwrap_or}
 use Rattle.std.specs.Option.{option_map}

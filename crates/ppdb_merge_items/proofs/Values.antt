@@ -1,4 +1,4 @@
--- A sound value is the value of its noted form.
+-- A sound value is the value of the form with its records at their items (`annotated_file`).
 use Rattle.std.proofs.Common.{◌≡◌, ◌≢◌, ℕ, suc, ◌+◌, ◌-◌, ◌≤◌, ◌++◌, Bool, true, List, [], ◌∷◌, length, map, take, refl, sym, ◌∙◌, ap, subst, arith}
 use Rattle.std.proofs.Common.{append_assoc}
 use Rattle.std.specs.Prelude.{nat_eq, nat_lt, filter, sum_by}

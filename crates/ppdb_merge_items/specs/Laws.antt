@@ -6,10 +6,11 @@ use Rattle.ppdb_values_sound_laws.specs.Sound.{IsSound}
 use Rattle.ppdb_merge_items.specs.{declared.file.AnnotatedFile.AnnotatedFile, Each.{Each, Pairs}, Annotated.annotated_file, Sorted.in_order, Unannotated.value_of_annotated}
 use Rattle.ppdb_merge_items.specs.{AnnotatedMeaning.{annotated_meaning, annotated_links}, SoundParts.SoundParts}
 
--- What a value says of an offset of a method, and of a method, is read off its noted form.
+-- What a value says of an offset of a method is read off the form with its records at their items (`annotated_file`).
 abbrev pub MeaningsAreAnnotated : Type 0
 MeaningsAreAnnotated = (value : FileValue) (method x : ℕ) → meaning value method x ≡ annotated_meaning (annotated_file value) method x
 
+-- What a value says of a method is read off the form with its records at their items (`annotated_file`).
 abbrev pub LinksAreAnnotated : Type 0
 LinksAreAnnotated = (value : FileValue) (method : ℕ) → links value method ≡ annotated_links (annotated_file value) method
 
@@ -29,11 +30,11 @@ abbrev pub FilesComeBack : Type 0
 FilesComeBack = (file : AnnotatedFile) → Each (λ custom. custom.parent.table < 0x2d) file.customs
     → Pairs (λ a b. coded_of a.parent ≤ coded_of b.parent) file.customs → annotated_file (value_of_annotated file) ≡ file
 
--- A sound value is the value of its noted form.
+-- A sound value is the value of the form with its records at their items (`annotated_file`).
 abbrev pub ValuesComeBack : Type 0
 ValuesComeBack = (value : FileValue) → IsSound value → value_of_annotated (annotated_file value) ≡ value
 
--- A value is sound exactly where the parts of its noted form are.
+-- A value is sound if and only if the parts of the form with its records at their items (`annotated_file`) are.
 pub record SoundnessIsAnnotated : Type 0 where
   pub parts : (value : FileValue) → IsSound value → SoundParts (annotated_file value)
   pub value : (file : AnnotatedFile) → SoundParts file → IsSound (value_of_annotated file)

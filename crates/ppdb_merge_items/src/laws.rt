@@ -4,13 +4,13 @@ ghost use Rattle.ppdb_merge_items.specs.Worked.{WorkedAnnotated};
 
 use ppdb_tables::codes_are_parents;
 
-/// What a value says of an offset of a method, and of a method, is read off its noted form.
+/// What a value says of an offset of a method, and of a method, is read off the form with its records at their items (`annotated_file`).
 pub fn meanings_are_annotated()
     ensures offsets { MeaningsAreAnnotated }
     ensures methods { LinksAreAnnotated }
 {}
 
-/// The noted forms of four worked files, and their values.
+/// The forms of four worked files with their records at their items (`annotated_file`), and their values.
 pub fn worked_files_are_annotated()
     ensures { WorkedAnnotated }
 {}
@@ -20,19 +20,19 @@ pub fn sorted_in_order<T>()
     ensures { SortedInOrder T }
 {}
 
-/// A file whose records stand at their items is the noted form of its value.
+/// A file whose records are at their items is the form of its value with the records at their items (`annotated_file`).
 pub fn files_come_back()
     ensures { FilesComeBack }
 {}
 
-/// A sound value is the value of its noted form.
+/// A sound value is the value of the form with its records at their items (`annotated_file`).
 pub fn values_come_back()
     ensures { ValuesComeBack }
 {
     codes_are_parents()
 }
 
-/// A value is sound exactly where the parts of its noted form are.
+/// A value is sound if and only if the parts of the form with its records at their items (`annotated_file`) are.
 pub fn soundness_is_annotated()
     ensures { SoundnessIsAnnotated }
 {

@@ -1,4 +1,5 @@
--- What joined files keep of their inputs: what each said of a method at an IL offset that its map keeps.
+-- What joined files keep of their inputs: what each said of a method at an IL offset that its map keeps (docs/FORMAT.md, "Joining", "What is
+-- kept").
 use Rattle.ppdb_values.specs.Names.{Kept, Point}
 use Rattle.std.specs.Prelude.{◌≡◌, ℕ, Bool, true, false, List, [], ◌∷◌, Some, Contains, map}
 use Rattle.ppdb_maps.specs.{Map.{Map, moved_row, row_within, offsets_in}, Readable.IsReadable}
@@ -13,7 +14,7 @@ pub record MovedBy : Type 0 where
   pub value : FileValue
   pub map : Map
 
--- an input, and whether it is the first: its entry point alone counts
+-- an input, with whether it is the first, of which alone the entry point counts
 abbrev pub Input : Type 0
 Input = Bool × MovedBy
 
@@ -54,6 +55,7 @@ pub record InputsFit (inputs : List MovedBy) : Type 0 where
 
 -- ---- the file that they make
 
+-- the file that inputs become, each moved by its map, and all joined (docs/FORMAT.md, "Joining")
 abbrev pub joined_inputs : List MovedBy → FileValue
 joined_inputs inputs = value_of_annotated (joined (map moved_input (in_turn inputs)))
 

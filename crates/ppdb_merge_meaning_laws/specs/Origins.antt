@@ -1,4 +1,5 @@
--- Where what joined files say comes from: of each method from one input, and on any other row from all that have records on it.
+-- Where what joined files say comes from: of each method from one input, and on any other row from all that have records on it
+-- (docs/FORMAT.md, "Joining", "What is kept").
 use Rattle.std.specs.Prelude.{◌≡◌, ℕ, ◌<◌, ◌⊎◌, List, [], ◌∷◌, Some, Contains, map, filter, flat_map}
 use Rattle.ppdb_tables.specs.RawTables.{row_at}
 use Rattle.ppdb_maps.specs.Map.{moved_row, row_within}

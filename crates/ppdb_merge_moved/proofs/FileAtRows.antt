@@ -1,4 +1,4 @@
--- A file whose parts have the records on their rows is the noted form of its value.
+-- A file whose parts have the records on their rows is the form of its value with the records at their items (`annotated_file`).
 use Rattle.std.proofs.Common.{◌≡◌, ℕ, ◌+◌, ◌-◌, ◌<◌, ◌≤◌, List, [], length, refl, ap, subst, ◌∙◌, arith}
 use Rattle.std.specs.List.{sum_by}
 use Rattle.ppdb_values.specs.declared.file.FileValue.{FileValue}

@@ -1,4 +1,5 @@
--- When a map fits a file (docs/FORMAT.md, "Fitting").
+-- When a map fits a file (docs/FORMAT.md, "Fitting"): none of M1, M2, M4, M5 and M10 to M12 holds. No part of this are M6
+-- (unknown kinds), M3, M7, M8 and M13 (which compare inputs) and M9 (an image above the rows of the output).
 use Rattle.ppdb_values.specs.Names.{Kept, old_size, Slot, Empty, Held, AsyncStep}
 use Rattle.std.specs.Prelude.{◌≡◌, ◌≢◌, ℕ, ◌<◌, ◌≤◌, ◌&&◌, ◌||◌, Bool, true, false, nat_eq, IfSome, List, Some, Contains}
 use Rattle.ppdb_maps.specs.{Map.{Map, row_image, offsets_in, slot_image, moved_name}, declared.image.RowImage.TheVariants.Row}
@@ -67,7 +68,8 @@ NamesDiffer m a b = moved_name m a.item.name ≢ moved_name m b.item.name
 
 -- Each row that the file names has a row as its image, and no two of a table have the same one unless they may share it; points lie below the
 -- old size of their method, and ranges end within it; async offsets are kept; slots of variables have images, and no two of a method have the
--- same one; no two documents get one name. Nothing is asked of what is removed.
+-- same one; no two documents get one name. Nothing is asked of what is at a dropped method or is otherwise removed before a
+-- file is judged (`live_file`); a scope whose range becomes empty is still asked.
 pub record Fits (first : Bool) (m : Map) (file : AnnotatedFile) : Type 0 where
   pub images : Each (IsImaged m) (named_rows first m file)
   pub apart : (a b : Named) → Contains (named_rows first m file) a → Contains (named_rows first m file) b → AreApart m a b

@@ -1,4 +1,5 @@
--- What a meaning, and what is linked to a method, becomes where a file is moved by a map.
+-- What a meaning, and what is linked to a method, becomes where a file is moved by a map (docs/FORMAT.md, "Moving", and "Joining", "What is
+-- kept").
 use Rattle.std.specs.Prelude.{ℕ, ◌&&◌, Bool, cond, Option, Some, None, map, filter, option_map, option_and_then}
 use Rattle.ppdb_base.specs.Offsets.{moved}
 use Rattle.ppdb_maps.specs.Map.{Map, moved_row, moved_signature, offsets_in, is_dropped}
@@ -38,7 +39,8 @@ meaning_image m method a = record {
 abbrev pub partner_image : Map → ℕ → Option ℕ
 partner_image m method = cond (is_dropped m method) None (Some (moved_row m 0x06 method))
 
--- only the entry point of the first input is kept
+-- what is linked to a method, moved: partners become their images, or none if dropped; records move; and only the first input's entry mark is
+-- kept
 abbrev pub links_image : Bool → Map → ℕ → Links → Links
 links_image first m method l = record {
   kickoff = option_and_then (partner_image m) l.kickoff;

@@ -155,6 +155,7 @@ abbrev pub moved_counts : Map → ℕ → List ℕ → List ℕ
 moved_counts m table [] = []
 moved_counts m table (n ∷ ns) = unwrap_or (count_of m table) n ∷ moved_counts m (table + 1) ns
 
+-- a file that a map moves: each part becomes its image, and what has none is removed (docs/FORMAT.md, "Moving")
 abbrev pub moved_file : Map → AnnotatedFile → AnnotatedFile
 moved_file m file = record {
   id = file.id;

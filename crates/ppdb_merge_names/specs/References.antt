@@ -137,5 +137,7 @@ of_others m raw =
     ++ (flat_map (of_machine m) (numbered raw.machines)
     ++ flat_map (of_custom m raw) (numbered raw.customs))
 
+-- the rows of the type system that an input names and whose images are needed, in the order of their places; the entry point only of the
+-- first input (docs/FORMAT.md, "References")
 unfoldable pub references : Bool → Map → RawFile → List Reference
 references first m raw = of_entry first m raw.entry ++ (of_methods m raw.tables ++ of_others m raw.tables)

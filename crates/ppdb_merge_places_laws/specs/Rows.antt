@@ -15,7 +15,7 @@ abbrev pub FirstUnknownKindsAreReported : Type 0
 FirstUnknownKindsAreReported = (marks : List (List ℕ)) (m : Map) (value : FileValue)
     → ReportsFirst (IsUnknown marks m value) (unknown_kinds marks m value)
 
--- what a function may be asked of
+-- what a function may be asked of: of `used m` a MethodSlot, a slot that a variable of a method has
 abbrev pub Asked : {X Y : Type 0} → (X → Option Y) → Type 0
 Asked {X} {Y} answer = X
 

@@ -157,7 +157,7 @@ impl<'a> Model for HoistedCursor<'a> {
 }
 
 impl<'a> HoistedCursor<'a> {
-    /// The next hoisted local; None exactly at the end. Each record that it passes is read once.
+    /// The next hoisted local; None exactly at the end. It reads as many records as it passes.
     pub fn next<L: Ledger>(&mut self, steps: &mut Steps<L>) -> Option<Hoisted>
         ensures answer { result ≡ next_of self.old.items }
         ensures left { self.new.items ≡ tail self.old.items }
@@ -177,8 +177,8 @@ impl<'a> HoistedCursor<'a> {
     }
 }
 
-/// The hoisted locals of a method that hold an offset, by record and slot. A walk to the end reads each record of the method
-/// once.
+/// The hoisted locals of a method that hold an offset, by record and slot. A walk to the end reads in all at most as many
+/// records as the method has.
 ///
 /// # Errors
 ///

@@ -46,7 +46,7 @@ impl<'a> Model for ImportChain<'a> {
 }
 
 impl<'a> ImportChain<'a> {
-    /// The next import scope; None exactly at the end. Each is read once.
+    /// The next import scope; None exactly at the end. One row is read for each.
     pub fn next<L: Ledger>(&mut self, steps: &mut Steps<L>) -> Option<ImportLink<'a>>
         ensures answer { result ≡ next_of self.old }
         ensures left { self.new ≡ tail self.old }

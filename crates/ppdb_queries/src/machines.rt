@@ -148,7 +148,8 @@ fn rises_to(rises: bool, last: u32, next: u32) -> bool
     rises && last < next
 }
 
-/// The MoveNext method of the state machine whose kickoff is the method, and whether the kickoffs rise. Each machine is read once.
+/// The MoveNext method of the state machine whose kickoff is the method, and whether the kickoffs rise. In all at most
+/// as many rows are read as there are machines.
 fn read_order<L: Ledger>(
     file: &Verified<'_>,
     method: u32,
@@ -177,8 +178,8 @@ fn read_order<L: Ledger>(
     }
 }
 
-/// The answer of `move_next_of`, by what is known of the kickoffs of this file: the first call reads each machine once and notes
-/// whether the kickoffs rise, and if they do the later calls find it by halving.
+/// The answer of `move_next_of`, by what is known of the kickoffs of this file: the first call reads the machines and finds whether
+/// the kickoffs rise, and if they do the later calls find it by halving. A call reads in all at most as many rows as there are machines.
 ///
 /// # Errors
 ///

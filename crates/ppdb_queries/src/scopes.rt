@@ -135,7 +135,7 @@ impl<'a> Model for ScopeCursor<'a> {
 }
 
 impl<'a> ScopeCursor<'a> {
-    /// The next scope by row; None exactly at the end. Each row that it passes is read at most twice.
+    /// The next scope by row; None exactly at the end. It reads at most twice as many rows as it passes.
     pub fn next<L: Ledger>(&mut self, steps: &mut Steps<L>) -> Option<ScopeView>
         ensures answer { result ≡ next_of self.old.items }
         ensures left { self.new.items ≡ tail self.old.items }
@@ -155,7 +155,8 @@ impl<'a> ScopeCursor<'a> {
     }
 }
 
-/// The scopes of a method that hold an offset, by row. A walk to the end reads each row of the method at most twice.
+/// The scopes of a method that hold an offset, by row. A walk to the end takes in all at most two reads for each row of the
+/// method.
 ///
 /// # Errors
 ///

@@ -4,7 +4,8 @@ use Rattle.ppdb_base.specs.declared.limits.TheConstants.{MAX_ROWS, MAX_OFFSET}
 use Rattle.ppdb_maps.specs.{Forms.{IsHexadecimal, IsNumber}, Words.{IsSilent, line_words}}
 use Rattle.ppdb_queries_list.specs.declared.line.MethodOffset.{MethodOffset}
 
--- METHOD: a decimal number, or a token of MethodDef (ECMA-335 II.22), which is 0x06 and six hexadecimal digits of either case
+-- METHOD: a decimal number, or a token of MethodDef (ECMA-335 III.1.9, "Metadata tokens"; II.22), which is 0x06 and six hexadecimal digits of
+-- either case
 abbrev pub IsMethod : List ℕ → ℕ → Type 0
 IsMethod word n = IsNumber word 0 MAX_ROWS n ⊎ IsHexadecimal (codes "0x06") 6 6 word n
 

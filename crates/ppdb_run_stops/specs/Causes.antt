@@ -69,12 +69,13 @@ line_of (Unwritten name) = write_fault_line name
 line_of Unput = []
 line_of OutOfMemory = []
 
--- P holds where a line is still to say so; where the sink failed or there was no memory left the text may be cut off
+-- P holds where a line is still to say what the cause is: of each cause but that the sink failed or that there was no memory left
 abbrev pub OnUntold : Cause → Type 0 → Type 0
 OnUntold Unput P = Unit {0}
 OnUntold OutOfMemory P = Unit {0}
 OnUntold cause P = P
 
+-- P holds where the text may be cut off: the sink failed, or there was no memory left
 abbrev pub OnCut : Cause → Type 0 → Type 0
 OnCut Unput P = P
 OnCut OutOfMemory P = P

@@ -6,6 +6,7 @@ use Rattle.ppdb_show_lines.specs.{Lines.{Line, line_with, number, text_of}, Piec
 use Rattle.ppdb_run_stops.specs.{declared.status.Status.Status, Faults.{said, place_fields}, Lines.{about, merge_fields, limit_text, link_fields}}
 use Rattle.ppdb_run_stops.specs.declared.status.Status.TheVariants as statuses
 
+-- What a command comes to: its status, its text on standard output, and, if it writes a file, the name and the bytes of that file.
 pub record Outcome : Type 0 where
   pub status : Status
   pub text : List ℕ

@@ -20,6 +20,7 @@ shown_of_scope raw scope = with_customs raw 0x32 scope.row
 abbrev pub shown : RawTables → ℕ → ℕ → ℕ
 shown raw m x = sum_by (shown_of_scope raw) (scopes_at raw m x) + length (customs_at raw 0x06 m)
 
+-- the most rows that a query of an offset of a method reads beside the verifier
 unfoldable pub query_rows : RawTables → ℕ → ℕ → ℕ
 query_rows raw m x = 4 + 2 * digits (length raw.scopes) + 2 * scope_count raw m + 2 * length raw.machines
     + (4 * digits (length raw.customs) + 4) * (1 + shown raw m x)

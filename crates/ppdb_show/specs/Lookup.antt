@@ -26,6 +26,6 @@ answer_lines raw at =
 unfoldable pub lookup_text_of : Form → RawFile → List MethodOffset → List ℕ
 lookup_text_of form raw asked = lines_as form (flat_map (answer_lines raw) asked)
 
--- no more rows than the queries of all that is asked
+-- the sum of `query_rows` over all that is asked, also of methods that the file lacks
 abbrev pub lookup_rows : RawTables → List MethodOffset → ℕ
 lookup_rows raw asked = sum_by (λ (at : MethodOffset). query_rows raw at.method at.offset) asked

@@ -2,7 +2,7 @@
 use Rattle.std.specs.Prelude.{ℕ, ◌+◌, List, [], ◌∷◌, ◌==◌, if◌then◌else◌}
 use Rattle.ppdb_show_lines.specs.Lines.{Line, line_with, bare, octets, token}
 
--- the token of a MethodDef row, or of no method (ECMA-335 II.22)
+-- the token of a MethodDef row, or of no method, which is 0 (ECMA-335 III.1.9, "Metadata tokens"; II.22)
 abbrev pub token_of : ℕ → ℕ
 token_of row = if row == 0 then 0 else 0x06000000 + row
 

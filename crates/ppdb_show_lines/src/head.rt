@@ -44,7 +44,7 @@ pub fn put_entry_line<O: Sink>(
     )
 }
 
-/// The token of a MethodDef row, or of no method, which is 0 (ECMA-335 II.22).
+/// The token of a MethodDef row, or of no method, which is 0 (ECMA-335 III.1.9, "Metadata tokens"; II.22).
 fn method_token(row: u32) -> u32
     requires { row < 2 ^ 24 }
     ensures { result ≡ token_of row }

@@ -26,7 +26,7 @@ fn put_break<O: Sink>(printer: Printer<'_>, out: &mut O, found: &Break) -> Resul
     printer.put_line(out, "break", &[6, 5, 0, 1, 2, 4, 3], &parts)
 }
 
-/// Puts the lines of the breaks that are left, a line each. Each row that the walk passes is read once.
+/// Puts the lines of the breaks that are left, a line each. In all at most as many rows are read as the walk has left.
 pub fn put_breaks<O: Sink, L: Ledger>(
     printer: Printer<'_>,
     breaks: BreakCursor<'_>,

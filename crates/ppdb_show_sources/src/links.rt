@@ -104,7 +104,7 @@ fn put_link<O: Sink, L: Ledger>(
     }
 }
 
-/// Puts the lines of the documents, a line each. Each row of Document is read once.
+/// Puts the lines of the documents, a line each. In all at most as many rows are read as Document has.
 pub fn put_links<O: Sink, L: Ledger>(
     printer: Printer<'_>,
     file: &Verified<'_>,

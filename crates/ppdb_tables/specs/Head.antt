@@ -28,7 +28,7 @@ pub data PdbFieldFaults (stream : List ℕ) : Code → Place → Type 0 where
   rows : (table : ℕ) → table < 64 → HasCount (referenced stream) table → count_place 32 (referenced stream) table ≤ length stream → 16777215 < pdb_rows stream table
       → PdbFieldFaults stream PdbRows (at_byte 3 (count_place 32 (referenced stream) table))
 
--- a token of MethodDef, table 06, whose row is there (ECMA-335 II.22, II.22.26)
+-- a token of MethodDef, table 06, whose row is there (ECMA-335 III.1.9, "Metadata tokens"; II.22, II.22.26)
 abbrev pub NamesMethod : ℕ → ℕ → Type 0
 NamesMethod methods token = (row : ℕ) × (1 ≤ row) × (row ≤ methods) × (token ≡ 6 * 2 ^ 24 + row)
 
@@ -46,6 +46,6 @@ pub record IsHeadOf (stream : List ℕ) (head : PdbHead) : Type 0 where
   pub entry : head.entry ≡ entry_in stream % 2 ^ 24
   pub rows : (table : ℕ) → table < 64 → slice_index head.rows table ≡ pdb_rows stream table
 
--- that, as the stream's bytes have it
+-- what a #Pdb stream says, as a function of its bytes
 abbrev pub head_in : List ℕ → PdbHead
 head_in stream = record { id = take 20 stream; entry = entry_in stream % 2 ^ 24; rows = map (pdb_rows stream) (range_with_len 0 64) }

@@ -12,11 +12,11 @@ parent_in coded = option_map (λ table. record { table = table; row = coded / 32
 abbrev pub coded_in : Parent → Option ℕ
 coded_in parent = option_map (λ tag. parent.row * 32 + tag) (position (λ table. table == parent.table) parent_tables)
 
--- the coded index of a parent, and 0 if its table has no tag
+-- the coded index that names a parent, 0 if its table has no tag
 abbrev pub coded_of : Parent → ℕ
 coded_of parent = unwrap_or (coded_in parent) 0
 
--- the two undo each other
+-- `parent_in` and `coded_in` undo each other
 pub record CodesAreParents : Type 0 where
   pub coded : (parent : Parent) → IfSome (coded_in parent) (λ coded. parent_in coded ≡ Some parent)
   pub parent : (coded : ℕ) → IfSome (parent_in coded) (λ parent. coded_in parent ≡ Some coded)

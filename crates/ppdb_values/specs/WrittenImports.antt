@@ -78,7 +78,7 @@ abbrev pub AreTextsOf : (ℕ → Option (List ℕ)) → ImportValue → ℕ → 
 AreTextsOf heap import a n = (text_of heap a ≡ alias_text import) × (text_of heap n ≡ namespace_text import)
 
 pub record ImportsAreStored : Type 0 where
-  -- the two undo each other
+  -- `import_value` and `stored_import` undo each other
   pub back : (import : ImportValue) → import_value (stored_import import) ≡ import
   pub forth : (item : ImportItem) → stored_import (import_value item) ≡ item
   -- the numbers stand for the import

@@ -44,7 +44,7 @@ pub record MayBeStepping (methods : ℕ) (content : List ℕ) (made : Result Ste
 abbrev pub EachBlob : {X : Type 0} → RawTables → List X → (X → ℕ) → (X → List ℕ → Type 0) → Type 0
 EachBlob {X} raw rows cell P = (row : ℕ) (x : X) (content : List ℕ) → row_at rows row ≡ Some x → blob_at raw.blobs (cell x) ≡ Some content → P x content
 
--- The custom record is of the kind, whatever kinds are marked.
+-- The custom record is of the kind under some marks; for the three kinds that are read, under all.
 pub record HasKind (raw : RawTables) (x : CustomRow) (kind : Kind) : Type 0 where
   pub guid : List ℕ
   pub there : guid_at raw.guids x.kind ≡ Some guid

@@ -21,14 +21,14 @@ pub data DocumentFault (raw : RawTables) (row : ℕ) (document : DocumentRow) : 
       → DocumentFault raw row document 0 0 DocumentRepeated
   invalid_name : {fault : BlobFault} → (IsNil raw.blobs document.name → ⊥) → HasFault (names raw.blobs) raw.blobs document.name fault
       → DocumentFault raw row document 0 fault.byte fault.code
-  -- F21, F20, F21: the hash algorithm is no GUID, the hash no blob, the language no GUID
+  -- F21, F20, F21: the hash algorithm is above the GUIDs, the hash is no blob, the language is above the GUIDs
   no_algorithm : NamesNoGuid 0 raw.guids document.algorithm → DocumentFault raw row document 1 0 GuidIndex
   no_hash : blob_at raw.blobs document.hash ≡ None → DocumentFault raw row document 2 0 BlobIndex
   no_language : NamesNoGuid 0 raw.guids document.language → DocumentFault raw row document 3 0 GuidIndex
 
 -- MethodDebugInformation: Document, SequencePoints
 pub data MethodDebugFault (raw : RawTables) (row : ℕ) (method : MethodDebugRow) : ℕ → ℕ → Code → Type 0 where
-  -- F22: the document is no row
+  -- F22: the document is above the rows; 0 is none
   no_document : NamesNoRow 0 (count raw 0x30) method.document → MethodDebugFault raw row method 0 0 RowIndex
   -- F20: the points are no blob; F37 to F39: they are at fault by their grammar; a nil blob has none
   no_points : blob_at raw.blobs method.points ≡ None → MethodDebugFault raw row method 1 0 BlobIndex
@@ -40,7 +40,7 @@ pub data ScopeFault (raw : RawTables) (row : ℕ) (scope : ScopeRow) : ℕ → �
   -- F22: the method is no row; F26: an earlier scope is greater by method, start and then shorter length
   no_method : NamesNoRow 1 (count raw 0x06) scope.method → ScopeFault raw row scope 0 0 RowIndex
   out_of_order : HasEarlier (λ _ (e : ScopeRow). IsAbove e scope) raw.scopes row → ScopeFault raw row scope 0 0 ScopeOrder
-  -- F22: the import scope is no row
+  -- F22: the import scope is above the rows; 0 is none
   no_import : NamesNoRow 0 (count raw 0x35) scope.import → ScopeFault raw row scope 1 0 RowIndex
   -- F29: a list is out of range or falls
   no_variables : IsListOut (λ s. s.variables) (count raw 0x33) raw.scopes row scope → ScopeFault raw row scope 2 0 ListRange
@@ -76,7 +76,7 @@ pub data ConstantFault (raw : RawTables) (row : ℕ) (constant : ConstantRow) : 
 
 -- ImportScope: Parent, Imports
 pub data ImportFault (raw : RawTables) (row : ℕ) (import : ImportRow) : ℕ → ℕ → Code → Type 0 where
-  -- F22: the parent is no row; F32: the chain of parents never ends
+  -- F22: the parent is above the rows; 0 is none; F32: the chain of parents never ends
   no_parent : NamesNoRow 0 (count raw 0x35) import.parent → ImportFault raw row import 0 0 RowIndex
   cycle : NeverEnds (parent_at (λ (i : ImportRow). i.parent) raw.imports) row → ImportFault raw row import 0 0 ImportCycle
   -- F20: the list is no blob; F37 to F39: it is at fault by its grammar

@@ -3,7 +3,8 @@ use Rattle.std.specs.Prelude.{ℕ, zero, suc, ◌+◌, List, [], ◌∷◌, Opti
 use Rattle.blob_grammar.specs.{Grammar.{Value, number, integer, Form, unsigned, signed, Grammar}, Allowed.{is_row, is_number}}
 use Rattle.sequence_points.specs.{declared.point.PointLimits.PointLimits, Ranges.{is_offset, is_line, is_column}}
 
--- A record of the blob, its numbers as they are stored: offset, start line and start column are differences.
+-- A record of the blob, its numbers as they are stored: the offset is the difference from the last point, start line and start column are those
+-- from the last point that is not hidden; from 0 where there is none.
 pub data Entry : Type 0 where
   header : (signature row : ℕ) → Entry
   hidden : (offset : ℕ) → Entry

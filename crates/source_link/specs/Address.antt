@@ -7,7 +7,7 @@ use Rattle.source_link.specs.{declared.pair.Pair.Pair, Pairs.{star, is_pattern, 
 abbrev pub lower : List ℕ → List ℕ
 lower bytes = map to_ascii_lowercase bytes
 
--- a name has the key, or, where the key ends with a star, begins with what stands before that; ASCII letters without case
+-- a name is the key, or, where the key ends with a star, begins with what is before the star; ASCII letters are compared without case
 abbrev pub matches : List ℕ → Pair → Bool
 matches name pair =
     cond (is_pattern pair.key) (starts_with nat_eq (lower name) (lower (fixed_part pair.key)))

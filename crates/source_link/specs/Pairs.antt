@@ -11,7 +11,7 @@ star = 42
 abbrev pub is_pattern : List ℕ → Bool
 is_pattern key = ends_with nat_eq key (star ∷ [])
 
--- the key without that star
+-- the key without a star at its end
 abbrev pub fixed_part : List ℕ → List ℕ
 fixed_part key = cond (is_pattern key) (take (length key - 1) key) key
 

@@ -4,7 +4,7 @@ use Rattle.std.specs.Prelude.{ℕ, ◌-◌, List, Option, slice_range, find, opt
 use Rattle.ppdb_values.specs.Customs.{custom_of}
 use Rattle.source_link.specs.FileLinks.{bytes_in}
 
--- the first of this kind among the custom records from a row up to another
+-- the value of the first Source Link record among the custom records from a row up to and without another
 abbrev pub link_between : RawTables → ℕ → ℕ → Option (List ℕ)
 link_between raw first end =
     option_map (λ row. bytes_in (custom_of raw row.1).value)

@@ -39,7 +39,7 @@ pub data ImportItem : Type 0 where
   assembly_namespace_alias : (alias : List ℕ) (assembly : ℕ) (namespace : List ℕ) → ImportItem
   target_alias : (alias : List ℕ) (target : TypeToken) → ImportItem
 
--- #Blob as a partial function from indexes to contents, and the content where it is there
+-- the content at an index of a heap, a heap being a partial function from indexes to contents; no bytes where there is none
 abbrev pub text_of : (ℕ → Option (List ℕ)) → ℕ → List ℕ
 text_of heap index = unwrap_or (heap index) []
 

@@ -15,7 +15,7 @@ pub record Has {X : Type 0} (read : Result (ℕ × ℕ) IntFault) (test : ℕ �
   pub meaning : found.0 ≡ means n
   pub next : found.1 ≡ at + len
 
--- Such a number was read, or none is there that passes the test.
+-- A number was read that passes the test, or none that passes it is there.
 abbrev pub FieldIs : {X : Type 0} → Result (ℕ × ℕ) IntFault → (ℕ → Bool) → (ℕ → X) → ℕ → Option (X × ℕ) → Type 0
 FieldIs read test means at (Some found) = Has read test means at found
 FieldIs read test means at None = (n len : ℕ) → read ≡ Ok (n, len) → test n ≡ false
