@@ -80,14 +80,14 @@ hoisted_line local = line_with "hoisted" (bare "slot" (number local.slot) ∷ ba
 -- ---- the method ("#Pdb stream": EntryPoint, "StateMachineMethod Table")
 
 -- its key is its word, as in the line of a state machine
-abbrev pub link_line : List ℕ → ℕ → Line
-link_line word method = record { word = word; fields = field (codes " ") word (number method) ∷ [] }
+abbrev pub method_link_line : List ℕ → ℕ → Line
+method_link_line word method = record { word = word; fields = field (codes " ") word (number method) ∷ [] }
 
 -- whether it is the entry point, the kickoff of the state machine that it runs, and the MoveNext of the one that it starts
-abbrev pub link_lines : RawFile → ℕ → List Line
-link_lines raw m = (if raw.entry == m then line_with "entry" [] ∷ [] else [])
-    ++ (map (link_line (codes "kickoff")) (option_to_list (kickoff_of raw.tables.machines m))
-    ++ map (link_line (codes "move")) (option_to_list (move_next_of raw.tables.machines m)))
+abbrev pub method_link_lines : RawFile → ℕ → List Line
+method_link_lines raw m = (if raw.entry == m then line_with "entry" [] ∷ [] else [])
+    ++ (map (method_link_line (codes "kickoff")) (option_to_list (kickoff_of raw.tables.machines m))
+    ++ map (method_link_line (codes "move")) (option_to_list (move_next_of raw.tables.machines m)))
 
 -- ---- the other custom records of the method ("Async Method Stepping Information")
 
@@ -111,7 +111,7 @@ lines_of_record raw custom = lines_of_body (custom_found raw custom.1) (custom_o
 abbrev pub query_lines : RawFile → ℕ → ℕ → List Line
 query_lines raw m x = line_of_point raw m (last_point (points_of (value_of raw) m) x) ∷ []
     ++ (flat_map (scope_answer raw.tables) (scopes_at raw.tables m x)
-    ++ (map hoisted_line (hoisted_at raw.tables m x) ++ (link_lines raw m ++ flat_map (lines_of_record raw.tables) (customs_at raw.tables 0x06 m))))
+    ++ (map hoisted_line (hoisted_at raw.tables m x) ++ (method_link_lines raw m ++ flat_map (lines_of_record raw.tables) (customs_at raw.tables 0x06 m))))
 
 -- What `query` prints.
 unfoldable pub query_text_of : Form → RawFile → ℕ → ℕ → List ℕ

@@ -9,8 +9,8 @@ number_limit = 0x2000_0000
 abbrev pub IsOffset : ℕ → Type 0
 IsOffset offset = offset < number_limit
 
-abbrev pub is_offset : ℕ → Bool
-is_offset offset = nat_lt offset number_limit
+abbrev pub is_point_offset : ℕ → Bool
+is_point_offset offset = nat_lt offset number_limit
 
 abbrev pub IsDocument : ℕ → Type 0
 IsDocument row = (1 ≤ row) × (row < number_limit)

@@ -1,7 +1,7 @@
 -- Sequence points (Portable PDB v1.0, "Sequence Points Blob"): which field may follow the fields before it.
 use Rattle.std.specs.Prelude.{ℕ, zero, suc, ◌+◌, List, [], ◌∷◌, Option, Some, None, Bool, true, false, ◌&&◌, nat_le, if◌then◌else◌, ℤ, pos, ◌+ℤ◌, fold}
 use Rattle.blob_grammar.specs.{Grammar.{Value, number, integer, Form, unsigned, signed, Grammar}, Allowed.{is_row, is_number}}
-use Rattle.sequence_points.specs.{declared.point.PointLimits.PointLimits, Ranges.{is_offset, is_line, is_column}}
+use Rattle.sequence_points.specs.{declared.point.PointLimits.PointLimits, Ranges.{is_point_offset, is_line, is_column}}
 
 -- A record of the blob, its numbers as they are stored: the offset is the difference from the last point, start line and start column are those
 -- from the last point that is not hidden; from 0 where there is none.
@@ -80,7 +80,7 @@ second_allows limits before (number zero) value = if before.has_point then is_nu
 second_allows limits before _ value = true
 
 abbrev pub point_allows : PointLimits → Sums → List Value → Value → Bool
-point_allows limits before [] (number offset) = is_offset (before.offset + offset)
+point_allows limits before [] (number offset) = is_point_offset (before.offset + offset)
 point_allows limits before (offset ∷ []) value = second_allows limits before offset value
 point_allows limits before (offset ∷ lines ∷ []) columns = true
 point_allows limits before (offset ∷ lines ∷ columns ∷ []) line =

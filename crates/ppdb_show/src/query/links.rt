@@ -7,7 +7,7 @@ ghost use Rattle.ppdb_verify.specs.Views.{tables_of, raw_file};
 ghost use Rattle.ppdb_queries.specs.Digits.{digits};
 ghost use Rattle.ppdb_queries.specs.Machines.{IsOrderOf};
 ghost use Rattle.ppdb_show_lines.specs.Tokens.{IsKeyOrder};
-ghost use Rattle.ppdb_show.specs.Query.{link_line, link_lines};
+ghost use Rattle.ppdb_show.specs.Query.{method_link_line, method_link_lines};
 ghost use Rattle.ppdb_show.specs.QueryWalk.{Adds};
 
 use crate::query::text::put_line;
@@ -37,8 +37,8 @@ fn put_method(
     order: &[usize],
     method: Option<u32>,
 ) -> Result<(), Memory>
-    requires { (row : ℕ) → IsKeyOrder order.now (link_line word.now row) }
-    ensures { OnOk result (Adds printer.entry.form text.old text.new (map (link_line word.now) (option_to_list method))) }
+    requires { (row : ℕ) → IsKeyOrder order.now (method_link_line word.now row) }
+    ensures { OnOk result (Adds printer.entry.form text.old text.new (map (method_link_line word.now) (option_to_list method))) }
 {
     match method {
         Some(row) => put_line(
@@ -64,7 +64,7 @@ pub(crate) fn put_links<L: Ledger>(
     requires there { HasRow (raw_of (tables_of file.now)) 0x06 method }
     requires known { IsOrderOf (raw_of (tables_of file.now)).machines kickoffs.old }
     ensures known { IsOrderOf (raw_of (tables_of file.now)).machines kickoffs.new }
-    ensures ok { OnOk result (Adds printer.entry.form text.old text.new (link_lines (raw_file file.now) method)) }
+    ensures ok { OnOk result (Adds printer.entry.form text.old text.new (method_link_lines (raw_file file.now) method)) }
     ensures later { steps.old ≤ steps.new }
     ensures cost { steps.new ≤ steps.old + (digits (length (raw_of (tables_of file.now)).machines) + length (raw_of (tables_of file.now)).machines) }
 {
