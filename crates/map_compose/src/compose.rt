@@ -50,7 +50,8 @@ fn counted_map(alloc: Global, first: &MapText, second: &MapText) -> Result<Count
 ///
 /// # Errors
 ///
-/// The sizes of a method differ, the text is too long, or there was no memory left.
+/// The sizes of a method differ, the text is too long, or there was no memory left. The last is also answered if a name of one of the
+/// maps is longer than a map text may be, or if it has more names than a map text may have bytes.
 pub fn compose_maps(alloc: Global, first: &MapText, second: &MapText) -> Result<Bytes, ComposeError>
     ensures text { IfOk result (λ text. text ≡ map_text (composed first.now second.now)) }
     ensures read { IfOk result (λ text. IsMapOf text (composed first.now second.now)) }
