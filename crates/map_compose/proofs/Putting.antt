@@ -4,12 +4,13 @@ use Rattle.std.proofs.Common.{add-one, subst, Some, None, Result, Ok, Err, OnOk}
 use Rattle.std.specs.List.{flat_map, range_with_len, slice_get}
 use Rattle.std.specs.Prelude.{slice_index_or}
 use Rattle.std.proofs.lemmas.List.{append_assoc, append-nil, map-append}
-use Rattle.ppdb_maps.specs.declared.line.Line.{Line}
+use Rattle.ppdb_maps.specs.declared.line.Line.{Line, TheVariants.{Document}}
+use Rattle.ppdb_maps.specs.Map.{Map}
 use Rattle.ppdb_maps_text.specs.declared.counted.Counted.{Counted}
 use Rattle.ppdb_maps_text.specs.MapTexts.{ended, line_text}
 use Rattle.ppdb_maps_text.specs.Putting.{Puts}
 use Rattle.ppdb_maps_text.proofs.Putting.{puts_then}
-use Rattle.map_compose.specs.Says.{lines_text, PutsLines}
+use Rattle.map_compose.specs.{Composed.{document_entry}, Says.{lines_text, PutsLines}}
 
 pub lines_join : (xs ys : List Line) → lines_text (xs ++ ys) ≡ lines_text xs ++ lines_text ys
 lines_join [] ys = refl
@@ -145,3 +146,9 @@ some_next old mid new all rest next says is h put = record {
 
 pub some_all : (old new : Counted) (all rest : List Line) → rest ≡ [] → PutSome old new all rest → PutsLines old new all
 some_all old new all rest is h = says_same old new h.done all (sym (h.are ∙ ap (λ l. h.done ++ l) is ∙ append-nil h.done)) h.puts
+
+-- ---- names of documents
+
+-- the `document` lines of names in the map of two maps
+abbrev pub names_say : Map → Map → List (List ℕ) → List Line
+names_say f s names = map (λ d. Document d) (map (document_entry f s) names)

@@ -5,7 +5,7 @@ use Rattle.ppdb_maps.specs.declared.line.Line.{Line, TheVariants.{Rows, Dropped,
 use Rattle.ppdb_maps.specs.Map.{Map, MethodLine, row_within, slot_image}
 use Rattle.ppdb_maps_text.specs.{MapTexts.{ended, line_text, image_says, method_says}, declared.counted.Counted.Counted, Putting.Puts}
 use Rattle.map_compose.specs.Composed.{composed_count, composed_image, sources_of, has_image, composed_line, drops_one, has_slot_lines, slot_entries}
-use Rattle.map_compose.specs.Composed.{composed_signature, document_entry, document_entries}
+use Rattle.map_compose.specs.Composed.{composed_signature, document_entries}
 
 -- the text of lines, each ended by LF
 abbrev pub lines_text : List Line → List ℕ
@@ -71,9 +71,6 @@ abbrev pub line_of_both : Map → Map → ℕ → List Line
 line_of_both f s method = lined_says (composed_line f s method)
 
 -- ---- names of documents
-
-abbrev pub names_say : Map → Map → List (List ℕ) → List Line
-names_say f s names = map (λ d. Document d) (map (document_entry f s) names)
 
 abbrev pub documents_say : Map → Map → List Line
 documents_say f s = map (λ d. Document d) (document_entries f s)
