@@ -8,7 +8,7 @@ use Rattle.ppdb_maps.specs.Before.{count_in, row_in, cross_in, gone_in, has_imag
 use Rattle.ppdb_maps.specs.Rules.{Breaks, kind_of}
 use Rattle.ppdb_maps.specs.{declared.bit_set.BitSet.BitSet, declared.draft.Draft.Draft, declared.refusal.Refusal.{Refusal, TheVariants.{Breaks as refused, Memory}}}
 use Rattle.ppdb_maps.specs.{declared.line.Line.Line}
-use Rattle.ppdb_maps.specs.{declared.line.Line.TheVariants.Kept, declared.rule.Rule.Rule}
+use Rattle.ppdb_maps.specs.{declared.line.Line.TheVariants.{Kept, Silent}, declared.rule.Rule.Rule}
 use Rattle.std.specs.BTreeMap as tree
 use Rattle.std.specs.BTreeSet as sorted
 
@@ -61,6 +61,12 @@ pub record IsClosed (before : List Line) (draft : Draft) : Type 0 where
   pub others : HoldsOthers before draft
   pub methods : HasLines (methods_of before) draft
   pub closed : draft.current ≡ None
+
+-- The draft can take the line: no method is open, unless the line may be among a method's runs: a `run`, or a line that says nothing.
+abbrev pub IsReadyFor : Line → List Line → Draft → Type 0
+IsReadyFor Silent before draft = Holds before draft
+IsReadyFor (Kept run) before draft = Holds before draft
+IsReadyFor _ before draft = IsClosed before draft
 
 -- a line that is refused breaks this rule, and none with a lesser number
 abbrev pub RefusedBy : List Line → Line → Refusal → Type 0

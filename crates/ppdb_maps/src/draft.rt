@@ -6,7 +6,7 @@ ghost use Rattle.ppdb_maps.specs.Text.{HoldsWhat, Read};
 ghost use Rattle.ppdb_maps.specs.declared.line.Line.{Line};
 ghost use Rattle.ppdb_maps.specs.declared.line.Line.TheVariants.{Rows, Row, Cross, Gone, Method as SizesOf, Kept, Dropped, Slots, Slot, Signature, Document, Link};
 ghost use Rattle.ppdb_maps.specs.declared.line.Line.TheVariants.{Shares};
-ghost use Rattle.ppdb_maps.specs.Drafts.{Holds, IsClosed, IsAdded, IsAddedTo, HasLength};
+ghost use Rattle.ppdb_maps.specs.Drafts.{Holds, IsClosed, IsReadyFor, AddsLine, IsAdded, IsAddedTo, HasLength};
 ghost use Rattle.ppdb_maps.specs.Rules.{IsNamed};
 
 use crate::bit_set::{BitSet, RowSet};
@@ -260,20 +260,6 @@ impl Draft {
         Ok(())
     }
 
-    fn close_and_add_document(&mut self, document: NameLine) -> Result<(), Refusal>
-        ensures { IsAddedTo (Document document) self.old result self.new }
-    {
-        self.close()?;
-        self.add_document(document)
-    }
-
-    fn close_and_add_link(&mut self, value: Bytes) -> Result<(), Refusal>
-        ensures { IsAddedTo (Link value) self.old result self.new }
-    {
-        self.close()?;
-        self.add_link(value)
-    }
-
     fn add_run(&mut self, run: Run) -> Result<(), Refusal>
         requires { 0 < run.length }
         ensures { IsAddedTo (Kept run) self.old result self.new }
@@ -284,61 +270,50 @@ impl Draft {
         }
     }
 
+    /// Puts the open method among the others, unless the line may be among its runs.
+    fn close_before(&mut self, line: &Line) -> Result<(), Memory>
+        ensures { OnOk result ((before : List Line) → Holds before self.old → IsReadyFor line.now before self.new) }
+    {
+        match line {
+            Line::Silent | Line::Kept(_) => Ok(()),
+            _ => self.close(),
+        }
+    }
+
+    /// Adds what a line says to a draft that can take the line.
+    fn add_ready(&mut self, alloc: Global, line: Line) -> Result<(), Refusal>
+        requires { HasLength line }
+        ensures { (before : List Line) → IsReadyFor line before self.old → AddsLine before line result self.new }
+    {
+        match line {
+            Line::Silent => Ok(()),
+            Line::Kept(run) => self.add_run(run),
+            Line::Rows { table, rows } => self.add_rows(table, rows),
+            Line::Row { table, old, new } => self.add_row(alloc, table, old, new),
+            Line::Cross(line) => self.add_cross(alloc, line),
+            Line::Gone { table, old } => self.add_gone(alloc, table, old),
+            Line::Method {
+                method,
+                old_size,
+                new_size,
+            } => self.add_method(alloc, method, old_size, new_size),
+            Line::Dropped(method) => self.add_drop(method),
+            Line::Slots(method) => self.add_slots(method),
+            Line::Slot { method, old, new } => self.add_slot(method, old, new),
+            Line::Signature { method, new } => self.add_signature(method, new),
+            Line::Document(document) => self.add_document(document.into_inner()),
+            Line::Link(value) => self.add_link(value.into_inner()),
+            Line::Shares => self.add_shares(),
+        }
+    }
+
     /// Adds what a line says.
     pub fn add(&mut self, alloc: Global, line: Line) -> Result<(), Refusal>
         requires { HasLength line }
         ensures { IsAddedTo line self.old result self.new }
     {
-        match line {
-            Line::Silent => Ok(()),
-            Line::Kept(run) => self.add_run(run),
-            Line::Rows { table, rows } => {
-                self.close()?;
-                self.add_rows(table, rows)
-            }
-            Line::Row { table, old, new } => {
-                self.close()?;
-                self.add_row(alloc, table, old, new)
-            }
-            Line::Cross(line) => {
-                self.close()?;
-                self.add_cross(alloc, line)
-            }
-            Line::Gone { table, old } => {
-                self.close()?;
-                self.add_gone(alloc, table, old)
-            }
-            Line::Method {
-                method,
-                old_size,
-                new_size,
-            } => {
-                self.close()?;
-                self.add_method(alloc, method, old_size, new_size)
-            }
-            Line::Dropped(method) => {
-                self.close()?;
-                self.add_drop(method)
-            }
-            Line::Slots(method) => {
-                self.close()?;
-                self.add_slots(method)
-            }
-            Line::Slot { method, old, new } => {
-                self.close()?;
-                self.add_slot(method, old, new)
-            }
-            Line::Signature { method, new } => {
-                self.close()?;
-                self.add_signature(method, new)
-            }
-            Line::Document(document) => self.close_and_add_document(document.into_inner()),
-            Line::Link(value) => self.close_and_add_link(value.into_inner()),
-            Line::Shares => {
-                self.close()?;
-                self.add_shares()
-            }
-        }
+        self.close_before(&line)?;
+        self.add_ready(alloc, line)
     }
 
     /// Adds what a line after the first says, or refuses it by the rule that it breaks by itself.
