@@ -1,7 +1,6 @@
 // The lines of the offsets that both maps keep.
-ghost use Rattle.std.specs.Prelude.{◌≡◌, ◌≤◌, ◌↔◌, IsTrue, OnOk, map, option_to_list, option_copied};
+ghost use Rattle.std.specs.Prelude.{◌≡◌, OnOk, map, option_to_list, option_copied};
 ghost use Rattle.std.specs.List.{filter_map};
-ghost use Rattle.ppdb_base.specs.Offsets.{end_of};
 ghost use Rattle.ppdb_maps.specs.Says.{offsets_of, lined_runs};
 ghost use Rattle.ppdb_maps.specs.declared.line.Line.TheVariants.{Kept};
 ghost use Rattle.map_compose.specs.Says.{PutsLines};
@@ -14,15 +13,8 @@ use crate::blocks::{count_inside, count_plain};
 use crate::joined::run_at;
 use crate::joining::{put_held, put_joined};
 use ppdb_base::{Memory, Run};
-use ppdb_maps::MethodMap;
+use ppdb_maps::{MethodMap, ends_by};
 use ppdb_maps_text::Counted;
-
-/// Whether the run ends before or at the offset.
-fn ends_by(run: &Run, offset: u32) -> bool
-    ensures { IsTrue result ↔ (end_of run.now ≤ offset) }
-{
-    run.old <= offset && run.length <= offset - run.old
-}
 
 /// How many of the runs end before or at the offset.
 fn count_ended(runs: &[Run], offset: u32) -> usize

@@ -34,6 +34,8 @@ pub use laws::{
 pub use map_text::MapText;
 pub use method_map::MethodMap;
 pub use read::read_map;
+pub use reading::is_silent;
 pub use refusal::MapError;
+pub use runs::ends_by;
 pub use sample::sample_map;
 pub use words::{cut_at, first_line};

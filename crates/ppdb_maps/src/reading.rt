@@ -33,7 +33,7 @@ pub fn version_of(line: &[u8]) -> Option<u8>
 }
 
 /// Whether a line is empty or a comment.
-fn is_silent(line: &[u8]) -> bool
+pub fn is_silent(line: &[u8]) -> bool
     ensures { IsTrue result ↔ IsSilent line.now }
 {
     match line {

@@ -1,12 +1,11 @@
 // What a line of a list says.
-ghost use Rattle.std.specs.Prelude.{◌↔◌, IsTrue, MatchOption};
-ghost use Rattle.ppdb_maps.specs.Words.{IsSilent};
+ghost use Rattle.std.specs.Prelude.{MatchOption};
 ghost use Rattle.ppdb_queries_list.specs.Lists.{Asks, IsListed};
 ghost use Rattle.ppdb_queries_list.specs.Said.{IsSaid, AreWords};
 ghost use Rattle.ppdb_queries_list.specs.declared.line.MethodOffset.{MethodOffset as At};
 
 use crate::word::{method_of, offset_of};
-use ppdb_maps::cut_at;
+use ppdb_maps::{cut_at, is_silent};
 
 /// An offset of a method.
 #[derive(Clone, Copy, Debug, PartialEq, Eq)]
@@ -24,16 +23,6 @@ pub enum Said {
     Nothing,
     /// It asks for an offset of a method.
     Asks(MethodOffset),
-}
-
-/// Whether a line is empty or a comment.
-fn is_silent(line: &[u8]) -> bool
-    ensures { IsTrue result ↔ IsSilent line.now }
-{
-    match line {
-        [] => true,
-        [first, ..] => *first == b'#',
-    }
 }
 
 /// The method and the offset that are the two words of a line.
