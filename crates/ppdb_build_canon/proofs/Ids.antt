@@ -6,9 +6,10 @@ use Rattle.std.proofs.lemmas.List.{take_at, drop_at, length-take, length-set}
 use Rattle.byteorder.specs.Endian.{little_bytes}
 use Rattle.sha2.specs.Sha256.{sha256}
 use Rattle.sha2.proofs.Facts256.{length-sha256}
+use Rattle.ppdb_tables.specs.Head.{method_token}
 use Rattle.ppdb_values.specs.declared.file.FileValue.{FileValue}
 use Rattle.ppdb_values.specs.RawFile.{RawFile}
-use Rattle.ppdb_build_layout.specs.Bytes.{file_bytes, prefix_bytes, pdb_stream, tables_stream, padded, padding, with_rows, bits_of, counts_of, token_of, root_prefix}
+use Rattle.ppdb_build_layout.specs.Bytes.{file_bytes, prefix_bytes, pdb_stream, tables_stream, padded, padding, with_rows, bits_of, counts_of, root_prefix}
 use Rattle.ppdb_build_layout.specs.Bytes.{headers, stream_headers, rows_of, heaps_of}
 use Rattle.ppdb_build_canon.specs.declared.choice.IdChoice.{IdChoice}
 use Rattle.ppdb_build_canon.specs.declared.choice.IdChoice.TheVariants.{Hash, Keep}
@@ -22,7 +23,7 @@ use Rattle.ppdb_build_canon.specs.Laws.{CanonicalFilesForgetIds, IdsStandAfterTh
 unfoldable pdb_rest : ℕ → List ℕ → List ℕ
 pdb_rest entry counts =
     let tables = with_rows counts (range_with_len 0 0x2d) in
-    little_bytes 4 (token_of entry) ++ little_bytes 8 (bits_of tables) ++ counts_of counts tables
+    little_bytes 4 (method_token entry) ++ little_bytes 8 (bits_of tables) ++ counts_of counts tables
 
 abbrev pdb_tail : ℕ → List ℕ → List ℕ
 pdb_tail entry counts = pdb_rest entry counts ++ replicate (padding (20 + length (pdb_rest entry counts))) 0
@@ -32,7 +33,7 @@ unfolding pdb_stream pdb_rest
 pdb_split id entry counts long =
     let tables = with_rows counts (range_with_len 0 0x2d) in
     let rest = pdb_rest entry counts in
-    let one : id ++ little_bytes 4 (token_of entry) ++ little_bytes 8 (bits_of tables) ++ counts_of counts tables ≡ id ++ rest = simp append_assoc in
+    let one : id ++ little_bytes 4 (method_token entry) ++ little_bytes 8 (bits_of tables) ++ counts_of counts tables ≡ id ++ rest = simp append_assoc in
     ap padded one ∙ append_assoc id rest (replicate (padding (length (id ++ rest))) 0)
     ∙ ap (λ n. id ++ (rest ++ replicate (padding n) 0)) (length-append id rest ∙ ap (λ n. n + length rest) long)
 

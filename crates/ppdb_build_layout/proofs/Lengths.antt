@@ -9,12 +9,13 @@ use Rattle.row_layout.specs.declared.column.Column.{Column}
 use Rattle.row_layout.specs.declared.column.Sizes.{Sizes}
 use Rattle.row_layout.specs.Rows.{row_bytes}
 use Rattle.row_layout.proofs.Cells.{length-row_bytes}
+use Rattle.ppdb_tables.specs.Head.{method_token}
 use Rattle.ppdb_tables.specs.Layouts.{widths_of, document_columns, method_columns, scope_columns, variable_columns, constant_columns, import_columns}
 use Rattle.ppdb_tables.specs.Layouts.{machine_columns, custom_columns}
 use Rattle.ppdb_build_layout.specs.declared.rows.Rows.{Rows}
 use Rattle.ppdb_build_layout.specs.declared.rows.HeapLens.{HeapLens}
 use Rattle.ppdb_base.specs.Told.{told}
-use Rattle.ppdb_build_layout.specs.Bytes.{padding, padded, with_rows, bits_of, counts_of, token_of, pdb_stream, heap_bits, sizes_of, rows_bytes, all_rows}
+use Rattle.ppdb_build_layout.specs.Bytes.{padding, padded, with_rows, bits_of, counts_of, pdb_stream, heap_bits, sizes_of, rows_bytes, all_rows}
 use Rattle.ppdb_build_layout.specs.Bytes.{tables_stream, prefix_bytes, root_prefix, headers, stream_headers, document_cells, method_cells, scope_cells}
 use Rattle.ppdb_build_layout.specs.Bytes.{variable_cells, constant_cells, import_cells, machine_cells, custom_cells}
 
@@ -37,7 +38,7 @@ pub length-pdb : (id : List ℕ) (entry : ℕ) (counts : List ℕ) → length id
 unfolding pdb_stream
 length-pdb id entry counts long =
     let tables = with_rows counts (range_with_len 0 0x2d) in
-    let a = id ++ little_bytes 4 (token_of entry) in
+    let a = id ++ little_bytes 4 (method_token entry) in
     let b = a ++ little_bytes 8 (bits_of tables) in
     let whole : length (b ++ counts_of counts tables) ≡ pdb_sum counts =
     omega (
@@ -45,8 +46,8 @@ length-pdb id entry counts long =
       long,
       length-append b (counts_of counts tables),
       length-append a (little_bytes 8 (bits_of tables)),
-      length-append id (little_bytes 4 (token_of entry)),
-      length-bytes_low_first 0 4 (token_of entry),
+      length-append id (little_bytes 4 (method_token entry)),
+      length-bytes_low_first 0 4 (method_token entry),
       length-bytes_low_first 0 8 (bits_of tables),
       length-counts counts tables,
     ) in

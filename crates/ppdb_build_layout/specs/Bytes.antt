@@ -1,7 +1,7 @@
 -- A file as its bytes (ECMA-335 II.24.2.1, II.24.2.2 and II.24.2.6; Portable PDB v1.0, "#Pdb stream" and "#~ stream").
 use Rattle.ppdb_values.specs.Names.{range_with_len, Column, Sizes, row_bytes, DocumentRow, MethodDebugRow, ScopeRow, VariableRow, ConstantRow, ImportRow, MachineRow, CustomRow, widths_of}
-use Rattle.ppdb_values.specs.Names.{document_columns, method_columns, scope_columns, variable_columns, constant_columns, import_columns, machine_columns, custom_columns, RawTables}
-use Rattle.std.specs.Prelude.{ℕ, ◌+◌, ◌-◌, ◌%◌, ◌^◌, List, [], ◌∷◌, ◌++◌, length, filter, flat_map, replicate, sum_by, nat_lt, nat_le, ◌==◌, if◌then◌else◌, codes, slice_index}
+use Rattle.ppdb_values.specs.Names.{method_token, document_columns, method_columns, scope_columns, variable_columns, constant_columns, import_columns, machine_columns, custom_columns, RawTables}
+use Rattle.std.specs.Prelude.{ℕ, ◌+◌, ◌-◌, ◌%◌, ◌^◌, List, [], ◌∷◌, ◌++◌, length, filter, flat_map, replicate, sum_by, nat_lt, nat_le, if◌then◌else◌, codes, slice_index}
 use Rattle.byteorder.specs.Endian.{little_bytes}
 use Rattle.ppdb_values.specs.RawFile.{RawFile}
 use Rattle.ppdb_build_layout.specs.declared.rows.{Rows.Rows, HeapLens.HeapLens}
@@ -26,13 +26,10 @@ counts_of counts tables = flat_map (λ table. little_bytes 4 (slice_index counts
 
 -- ---- #Pdb: the id, the token of the entry point, and the counts of the type system's tables
 
-abbrev pub token_of : ℕ → ℕ
-token_of row = if row == 0 then 0 else 0x06000000 + row
-
 unfoldable pub pdb_stream : List ℕ → ℕ → List ℕ → List ℕ
 pdb_stream id entry counts =
     let tables = with_rows counts (range_with_len 0 0x2d) in
-    padded (id ++ little_bytes 4 (token_of entry) ++ little_bytes 8 (bits_of tables) ++ counts_of counts tables)
+    padded (id ++ little_bytes 4 (method_token entry) ++ little_bytes 8 (bits_of tables) ++ counts_of counts tables)
 
 -- ---- #~
 

@@ -1,21 +1,13 @@
 // The stream `#Pdb` (Portable PDB v1.0, "#Pdb stream").
 ghost use Rattle.std.specs.Prelude.{◌≡◌, ◌≤◌, ◌++◌, length, OnOk, OnErr};
 ghost use Rattle.ppdb_base.specs.Written.{BeginsWith};
-ghost use Rattle.ppdb_build_layout.specs.Bytes.{token_of, pdb_stream};
+ghost use Rattle.ppdb_build_layout.specs.Bytes.{pdb_stream};
 ghost use Rattle.std.specs.Prelude.{List as Seq, ℕ};
 
 use crate::counts::{bits, count, put_counts};
 use crate::numbers::{padding, put_padding, put_u32, put_u64};
 use ppdb_base::{Bytes, Memory};
-use ppdb_tables::TYPE_TABLES;
-
-/// The token of the entry point, or 0.
-fn token(entry: u32) -> u32
-    requires { entry ≤ 0xffffff }
-    ensures { result ≡ token_of entry }
-{
-    if entry == 0 { 0 } else { 0x0600_0000 + entry }
-}
+use ppdb_tables::{TYPE_TABLES, method_token};
 
 /// How many bytes the stream has, with its padding.
 pub fn pdb_len(counts: &[u32; 64]) -> u64
@@ -39,7 +31,7 @@ pub fn put_pdb(
 {
     let start = into.len();
     into.append(id)?;
-    put_u32(token(entry), into)?;
+    put_u32(method_token(entry), into)?;
     put_u64(bits(counts, 0, TYPE_TABLES as usize), into)?;
     put_counts(counts, 0, TYPE_TABLES as usize, into)?;
     put_padding(into.len() - start, into)?;

@@ -13,10 +13,10 @@ use Rattle.ppdb_base.proofs.Judging.{accepted_then}
 use Rattle.metadata_root.specs.Fields.{number_at}
 use Rattle.ppdb_tables.specs.Counts.{counts_below}
 use Rattle.ppdb_tables.proofs.RowCounts.{sum-fields}
-use Rattle.ppdb_tables.specs.Head.{PdbFieldFaults, EntryFaults, PdbFaults, entry_in, referenced, pdb_fields, pdb_rows}
+use Rattle.ppdb_tables.specs.Head.{PdbFieldFaults, EntryFaults, PdbFaults, entry_in, method_token, referenced, pdb_fields, pdb_rows}
 use Rattle.ppdb_tables.specs.Head.PdbFieldFaults.{short, foreign, rows}
 use Rattle.ppdb_tables.specs.Head.EntryFaults.{entry}
-use Rattle.ppdb_build_layout.specs.Bytes.{padding, with_rows, bits_of, counts_of, token_of, pdb_stream}
+use Rattle.ppdb_build_layout.specs.Bytes.{padding, with_rows, bits_of, counts_of, pdb_stream}
 use Rattle.ppdb_build_layout.proofs.Lengths.{length-pdb}
 use Rattle.ppdb_build_layout_laws.proofs.Bits.{number_from, bits-are, number-below}
 use Rattle.ppdb_build_layout_laws.proofs.Counts.{among, among-in, among-small, rows_back, below_all}
@@ -30,10 +30,10 @@ number-behind stream prefix rest at len n is e small =
     ∙ little_number-reads_back len n rest small
 
 -- the token of a row
-token-none : (row : ℕ) → row ≡ 0 → token_of row ≡ 0
+token-none : (row : ℕ) → row ≡ 0 → method_token row ≡ 0
 token-none row e = ap (λ b. if b then 0 else 0x06000000 + row) (eq-eqb row 0 e)
 
-token-some : (row : ℕ) → row ≢ 0 → token_of row ≡ 0x06000000 + row
+token-some : (row : ℕ) → row ≢ 0 → method_token row ≡ 0x06000000 + row
 token-some row some = ap (λ b. if b then 0 else 0x06000000 + row) (ne_eqb row 0 some)
 
 module _ (id : List ℕ) (entry_row : ℕ) (counts : List ℕ) (long : length id ≡ 20) (small : (t : ℕ)
@@ -45,11 +45,11 @@ module _ (id : List ℕ) (entry_row : ℕ) (counts : List ℕ) (long : length id
   stream = pdb_stream id entry_row counts
 
   abbrev zeros : List ℕ
-  zeros = replicate (padding (length (id ++ little_bytes 4 (token_of entry_row) ++ little_bytes 8 (bits_of tables) ++ counts_of counts tables))) 0
+  zeros = replicate (padding (length (id ++ little_bytes 4 (method_token entry_row) ++ little_bytes 8 (bits_of tables) ++ counts_of counts tables))) 0
 
-  parts : stream ≡ id ++ (little_bytes 4 (token_of entry_row) ++ (little_bytes 8 (bits_of tables) ++ (counts_of counts tables ++ zeros)))
+  parts : stream ≡ id ++ (little_bytes 4 (method_token entry_row) ++ (little_bytes 8 (bits_of tables) ++ (counts_of counts tables ++ zeros)))
   unfolding pdb_stream
-  parts = four id (little_bytes 4 (token_of entry_row)) (little_bytes 8 (bits_of tables)) (counts_of counts tables) zeros
+  parts = four id (little_bytes 4 (method_token entry_row)) (little_bytes 8 (bits_of tables)) (counts_of counts tables) zeros
     where
       four : (a b c d e : List ℕ) → a ++ b ++ c ++ d ++ e ≡ a ++ (b ++ (c ++ (d ++ e)))
       four a b c d e = simp append_assoc refl
@@ -63,22 +63,22 @@ module _ (id : List ℕ) (entry_row : ℕ) (counts : List ℕ) (long : length id
 
   bits_back : referenced stream ≡ bits_of tables
   bits_back =
-      number-behind stream (id ++ little_bytes 4 (token_of entry_row)) (counts_of counts tables ++ zeros) 24 8 (bits_of tables)
-      (parts ∙ sym (append_assoc id (little_bytes 4 (token_of entry_row)) (little_bytes 8 (bits_of tables) ++ (counts_of counts tables ++ zeros))))
-      (length-append id (little_bytes 4 (token_of entry_row)) ∙ omega (arith, long, length-bytes_low_first 0 4 (token_of entry_row)))
+      number-behind stream (id ++ little_bytes 4 (method_token entry_row)) (counts_of counts tables ++ zeros) 24 8 (bits_of tables)
+      (parts ∙ sym (append_assoc id (little_bytes 4 (method_token entry_row)) (little_bytes 8 (bits_of tables) ++ (counts_of counts tables ++ zeros))))
+      (length-append id (little_bytes 4 (method_token entry_row)) ∙ omega (arith, long, length-bytes_low_first 0 4 (method_token entry_row)))
       (omega (arith, bits_small))
 
   counts_there : drop 32 stream ≡ counts_of counts tables ++ zeros
   counts_there =
-      let prefix = id ++ little_bytes 4 (token_of entry_row) ++ little_bytes 8 (bits_of tables) in
-      ap (drop 32) (parts ∙ three id (little_bytes 4 (token_of entry_row)) (little_bytes 8 (bits_of tables)) (counts_of counts tables ++ zeros))
+      let prefix = id ++ little_bytes 4 (method_token entry_row) ++ little_bytes 8 (bits_of tables) in
+      ap (drop 32) (parts ∙ three id (little_bytes 4 (method_token entry_row)) (little_bytes 8 (bits_of tables)) (counts_of counts tables ++ zeros))
       ∙ drop_at prefix (counts_of counts tables ++ zeros) 32
       (omega (
         arith,
         long,
-        length-append (id ++ little_bytes 4 (token_of entry_row)) (little_bytes 8 (bits_of tables)),
-        length-append id (little_bytes 4 (token_of entry_row)),
-        length-bytes_low_first 0 4 (token_of entry_row),
+        length-append (id ++ little_bytes 4 (method_token entry_row)) (little_bytes 8 (bits_of tables)),
+        length-append id (little_bytes 4 (method_token entry_row)),
+        length-bytes_low_first 0 4 (method_token entry_row),
         length-bytes_low_first 0 8 (bits_of tables),
       ))
     where
@@ -90,18 +90,18 @@ module _ (id : List ℕ) (entry_row : ℕ) (counts : List ℕ) (long : length id
   pdb_rows_back t h = rows_back counts 0 0x2d (omega arith) stream zeros 32 (referenced stream) bits_back counts_there small t h
 
   pub id_back : take 20 stream ≡ id
-  id_back = ap (take 20) parts ∙ take_at id (little_bytes 4 (token_of entry_row) ++ (little_bytes 8 (bits_of tables) ++
+  id_back = ap (take 20) parts ∙ take_at id (little_bytes 4 (method_token entry_row) ++ (little_bytes 8 (bits_of tables) ++
       (counts_of counts tables ++ zeros))) 20 long
 
-  token_small : token_of entry_row < 256 ^ 4
+  token_small : method_token entry_row < 256 ^ 4
   token_small =
       elim (cases_eq entry_row 0) [
         | inl none ↦ omega (arith, token-none entry_row none)
         | inr some ↦ omega (arith, token-some entry_row some, is_row, small 6)
       ]
 
-  token_back : entry_in stream ≡ token_of entry_row
-  token_back = number-behind stream id (little_bytes 8 (bits_of tables) ++ (counts_of counts tables ++ zeros)) 20 4 (token_of entry_row) parts long token_small
+  token_back : entry_in stream ≡ method_token entry_row
+  token_back = number-behind stream id (little_bytes 8 (bits_of tables) ++ (counts_of counts tables ++ zeros)) 20 4 (method_token entry_row) parts long token_small
 
   pub entry_back : entry_in stream % 2 ^ 24 ≡ entry_row
   entry_back =

@@ -1,14 +1,15 @@
 // The lines of a file's identity and of its entry point.
-ghost use Rattle.std.specs.Prelude.{◌≡◌, ◌<◌, ◌^◌, [], ◌∷◌};
+ghost use Rattle.std.specs.Prelude.{◌<◌, ◌^◌, [], ◌∷◌};
 ghost use Rattle.ppdb_base.specs.Written.{PutsInto};
 ghost use Rattle.ppdb_show_lines.specs.Forms.{lines_as};
-ghost use Rattle.ppdb_show_lines.specs.Heads.{id_line, entry_line, token_of};
+ghost use Rattle.ppdb_show_lines.specs.Heads.{id_line, entry_line};
 
 use crate::form::Printer;
 use crate::key::Key;
 use crate::line::Item::{Octets, Token};
 use crate::line::Part::Field;
 use ppdb_base::{Sink, WriteError};
+use ppdb_tables::method_token;
 
 /// Puts the line of an identity.
 pub fn put_id_line<O: Sink>(
@@ -42,12 +43,4 @@ pub fn put_entry_line<O: Sink>(
         &[1, 0],
         &[Field(" ", Key::Other("entry"), token)],
     )
-}
-
-/// The token of a MethodDef row, or of no method, which is 0 (ECMA-335 III.1.9, "Metadata tokens"; II.22).
-fn method_token(row: u32) -> u32
-    requires { row < 2 ^ 24 }
-    ensures { result ≡ token_of row }
-{
-    if row == 0 { 0 } else { 0x0600_0000 + row }
 }

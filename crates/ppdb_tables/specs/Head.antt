@@ -1,5 +1,5 @@
 -- The #Pdb stream, and what is wrong with it (Portable PDB v1.0, "Standalone debugging metadata", #Pdb).
-use Rattle.std.specs.{Prelude.{◌≡◌, ◌≢◌, ℕ, ◌+◌, ◌*◌, ◌%◌, ◌^◌, ◌<◌, ◌≤◌, List, ◌∷◌, length, map, take, slice_index}, List.range_with_len}
+use Rattle.std.specs.{Prelude.{◌≡◌, ◌≢◌, ℕ, ◌+◌, ◌*◌, ◌%◌, ◌^◌, ◌<◌, ◌≤◌, ◌==◌, if◌then◌else◌, List, ◌∷◌, length, map, take, slice_index}, List.range_with_len}
 use Rattle.ppdb_base.specs.{declared.code.Code.{Code, TheVariants.{PdbShort, PdbTables, PdbRows, EntryPoint}}, declared.fault.Place.Place, Place.at_byte, First.Then, Fields.IsField}
 use Rattle.metadata_root.specs.Fields.{number_at}
 use Rattle.ppdb_tables.specs.{declared.head.PdbHead.PdbHead, Counts.{HasCount, count_fields, count_place, rows_in}}
@@ -27,6 +27,10 @@ pub data PdbFieldFaults (stream : List ℕ) : Code → Place → Type 0 where
   foreign : 24 ≤ length stream → 2 ^ 0x2D ≤ referenced stream → PdbFieldFaults stream PdbTables (at_byte 3 24)
   rows : (table : ℕ) → table < 64 → HasCount (referenced stream) table → count_place 32 (referenced stream) table ≤ length stream → 16777215 < pdb_rows stream table
       → PdbFieldFaults stream PdbRows (at_byte 3 (count_place 32 (referenced stream) table))
+
+-- the token of a row of MethodDef, table 06, or of no method, which is 0 (ECMA-335 III.1.9, "Metadata tokens"; II.22.26)
+abbrev pub method_token : ℕ → ℕ
+method_token row = if row == 0 then 0 else 0x06000000 + row
 
 -- a token of MethodDef, table 06, whose row is there (ECMA-335 III.1.9, "Metadata tokens"; II.22, II.22.26)
 abbrev pub NamesMethod : ℕ → ℕ → Type 0

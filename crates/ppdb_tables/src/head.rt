@@ -2,7 +2,7 @@ ghost use Rattle.std.specs.Prelude.{◌≡◌, ◌≢◌, ◌%◌, ◌^◌, ◌<
 ghost use Rattle.ppdb_base.specs.First.{IsFirst, IsAccepted};
 ghost use Rattle.metadata_root.specs.declared.kind.StreamKind.TheVariants.{Pdb};
 ghost use Rattle.metadata_root.specs.Streams.{bytes_of};
-ghost use Rattle.ppdb_tables.specs.Head.{PdbFieldFaults, PdbFaults, IsHeadOf, NamesMethod, referenced, pdb_rows};
+ghost use Rattle.ppdb_tables.specs.Head.{PdbFieldFaults, PdbFaults, IsHeadOf, NamesMethod, method_token, referenced, pdb_rows};
 
 use crate::counts::Part;
 use crate::streams::stream_bytes;
@@ -60,6 +60,14 @@ fn read_rows(bytes: &[u8], bits: u64) -> Result<[u32; 64], Fault>
         at = end;
     }
     Ok(rows)
+}
+
+/// The token of a row of MethodDef, or of no method, which is 0 (ECMA-335 II.22).
+pub fn method_token(row: u32) -> u32
+    requires { row < 2 ^ 24 }
+    ensures { result ≡ method_token row }
+{
+    if row == 0 { 0 } else { 0x0600_0000 + row }
 }
 
 /// The method row that a token names, or 0 for the token 0.

@@ -14,7 +14,7 @@ mod streams;
 mod table;
 mod tables;
 
-pub use head::{PdbHead, read_head};
+pub use head::{PdbHead, method_token, read_head};
 pub use numbers::{
     ASSEMBLY, ASSEMBLY_REF, CUSTOM, DOCUMENT, IMPORT_SCOPE, LOCAL_CONSTANT, LOCAL_SCOPE,
     LOCAL_VARIABLE, METHOD_DEBUG, METHOD_DEF, MODULE, STAND_ALONE_SIG, STATE_MACHINE, TYPE_DEF,

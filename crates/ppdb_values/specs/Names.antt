@@ -14,7 +14,7 @@ pub use Rattle.row_layout.specs.{Rows.{Fit, row_bytes}, declared.column.{Column.
 pub use Rattle.metadata_root.specs.{Streams.{AreStreamsOf, ContainerFaults, Streams, bytes_of}, declared.kind.StreamKind.TheVariants.Pdb}
 pub use Rattle.blob_grammar.specs.{Grammar.{Grammar, Value, cut}, Reader.{Left, answer, prefix_of}, Reading.Reading}
 pub use Rattle.ppdb_heaps.specs.{Cursor.NameLeft, Heaps.{blob_at, guid_at, text_at}, Names.{IsName, NameReading, name_of, names}}
-pub use Rattle.ppdb_tables.specs.{Chains.{NeverEnds, parent_at}, Head.{PdbFaults, head_in}}
+pub use Rattle.ppdb_tables.specs.{Chains.{NeverEnds, parent_at}, Head.{PdbFaults, head_in, method_token}}
 pub use Rattle.ppdb_tables.specs.Layouts.{constant_columns, custom_columns, document_columns, import_columns, machine_columns, method_columns, scope_columns, variable_columns, widths_of}
 pub use Rattle.ppdb_tables.specs.{Parents.{coded_in, coded_of, parent_in}, RawTables.{HasShape, RawTables, count, numbered, row_at}, Tables.{TablesFaults, tables_in}, declared.head.PdbHead.PdbHead}
 pub use Rattle.ppdb_tables.specs.{declared.parent.Parent.Parent, declared.rows.{ConstantRow.ConstantRow, CustomRow.CustomRow, DocumentRow.DocumentRow, ImportRow.ImportRow, MachineRow.MachineRow}}
