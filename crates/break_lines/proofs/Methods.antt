@@ -14,7 +14,7 @@ use Rattle.ppdb_values.specs.RawFile.{RawFile}
 use Rattle.ppdb_values.specs.Rows.{method_in}
 use Rattle.ppdb_values.specs.Value.{value_of}
 use Rattle.ppdb_values.proofs.Rows.{method_is_row}
-use Rattle.ppdb_queries.specs.Cursors.{next_of}
+use Rattle.sequence_points.specs.Written.{first_of}
 use Rattle.break_lines.specs.declared.item.Break.{Break}
 use Rattle.break_lines.specs.Walks.{breaks_of}
 use Rattle.break_lines.specs.Walks.{breaks_by, breaks_at_row, breaks_now, breaks_left}
@@ -67,6 +67,6 @@ none_after raw document line done now past none =
     (drop_all done (numbered raw.methods) (omega (arith, length-enumerate_from 1 raw.methods, past)))
 
 -- where a list has no next item it is empty
-pub none_left : (xs : List Break) (next : Option Break) → next ≡ next_of xs → ((x : Break) → next ≡ Some x → ⊥) → xs ≡ []
+pub none_left : (xs : List Break) (next : Option Break) → next ≡ first_of xs → ((x : Break) → next ≡ Some x → ⊥) → xs ≡ []
 none_left [] next e never = refl
 none_left (x ∷ xs) next e never = absurd (never x e)

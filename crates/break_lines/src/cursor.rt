@@ -6,7 +6,7 @@ ghost use Rattle.ppdb_tables.specs.RawTables.{count as count_of, row_at};
 ghost use Rattle.ppdb_values.specs.Rules.{HasRow};
 ghost use Rattle.ppdb_values.specs.Value.{value_of};
 ghost use Rattle.ppdb_verify.specs.Views.{raw_file};
-ghost use Rattle.ppdb_queries.specs.Cursors.{next_of};
+ghost use Rattle.sequence_points.specs.Written.{first_of};
 ghost use Rattle.break_lines.specs.Breaks.{breaks_in};
 ghost use Rattle.break_lines.specs.Walks.{breaks_at_row, breaks_now};
 
@@ -49,7 +49,7 @@ fn method_breaks<'a, L: Ledger>(
 
 /// The next break of the method that a walk is in; None where it is in none or at its end.
 fn next_now(current: &mut Option<MethodBreaks<'_>>) -> Option<Break>
-    ensures answer { result ≡ next_of (breaks_now current.old) }
+    ensures answer { result ≡ first_of (breaks_now current.old) }
     ensures left { breaks_now current.new ≡ tail (breaks_now current.old) }
 {
     match current {
@@ -87,7 +87,7 @@ impl<'a> Model for BreakCursor<'a> {
 impl<'a> BreakCursor<'a> {
     /// The next break; None exactly at the end. It reads as many rows as it passes.
     pub fn next<L: Ledger>(&mut self, steps: &mut Steps<L>) -> Option<Break>
-        ensures answer { result ≡ next_of self.old.items }
+        ensures answer { result ≡ first_of self.old.items }
         ensures left { self.new.items ≡ tail self.old.items }
         ensures cost { steps.new + self.new.rows ≡ steps.old + self.old.rows }
         ensures later { steps.old ≤ steps.new }

@@ -1,7 +1,7 @@
 // The breaks of one method.
 ghost use Rattle.std.specs.Prelude.{◌≡◌, None};
 ghost use Rattle.blob_grammar.specs.Reader.{tail};
-ghost use Rattle.ppdb_queries.specs.Cursors.{next_of};
+ghost use Rattle.sequence_points.specs.Written.{first_of};
 ghost use Rattle.break_lines.specs.Breaks.{break_of as the_break};
 
 use crate::item::Break;
@@ -54,7 +54,7 @@ impl<'a> Model for MethodBreaks<'a> {
 impl<'a> MethodBreaks<'a> {
     /// The next break; None at the end.
     pub fn next(&mut self) -> Option<Break>
-        ensures answer { result ≡ next_of self.old }
+        ensures answer { result ≡ first_of self.old }
         ensures left { self.new ≡ tail self.old }
     {
         'points: while let Ok(Some(point)) = self.points.next() {

@@ -10,7 +10,7 @@ use Rattle.type_blobs.specs.Imports.{ImportItem}
 use Rattle.ppdb_verify_rows.specs.Imports.{imports_in}
 use Rattle.ppdb_queries.specs.declared.imports.ImportLink.{ImportLink}
 use Rattle.ppdb_queries.specs.Chains.{link_of, links_from}
-use Rattle.ppdb_queries.specs.Cursors.{next_of}
+use Rattle.sequence_points.specs.Written.{first_of}
 use Rattle.ppdb_tables.specs.RawTables.{RawTables, row_at}
 use Rattle.ppdb_values.specs.Chains.{chain_for, chain_of}
 
@@ -40,13 +40,13 @@ links_next raw row scope left keeps within e same =
 pub links_zero : (raw : RawTables) (row : ℕ) → row ≡ 0 → links_from raw row ≡ []
 links_zero raw row e = rw e (ap (map (link_of raw)) (chain_zero (λ scope. scope.parent) raw.imports))
 
-pub answer_none : {X : Type 0} (now : List X) → now ≡ [] → None ≡ next_of now
+pub answer_none : {X : Type 0} (now : List X) → now ≡ [] → None ≡ first_of now
 answer_none now e = rw e refl
 
 pub left_none : {X : Type 0} (now : List X) → now ≡ [] → now ≡ tail now
 left_none now e = rw e refl
 
-pub answer_some : {X : Type 0} (now rest : List X) (x : X) → now ≡ x ∷ rest → Some x ≡ next_of now
+pub answer_some : {X : Type 0} (now rest : List X) (x : X) → now ≡ x ∷ rest → Some x ≡ first_of now
 answer_some now rest x e = rw e refl
 
 pub left_some : {X : Type 0} (now rest : List X) (x : X) → now ≡ x ∷ rest → rest ≡ tail now

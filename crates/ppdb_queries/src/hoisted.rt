@@ -6,7 +6,7 @@ ghost use Rattle.ppdb_tables.specs.RawTables.{row_at};
 ghost use Rattle.ppdb_tables.specs.declared.rows.CustomRow.{CustomRow};
 ghost use Rattle.ppdb_values.specs.Rules.{HasRow};
 ghost use Rattle.ppdb_verify.specs.Views.{tables_of};
-ghost use Rattle.ppdb_queries.specs.Cursors.{next_of};
+ghost use Rattle.sequence_points.specs.Written.{first_of};
 ghost use Rattle.ppdb_queries.specs.Digits.{digits};
 ghost use Rattle.ppdb_queries.specs.Hoisted.{hoisted_at as hoisted_of, range_at as range_of, slots_from, slots_of};
 ghost use Rattle.ppdb_queries.specs.Runs.{IsNoMethod, customs_at};
@@ -79,7 +79,7 @@ impl<'a> RecordSlots<'a> {
 
     /// The next slot; None at the end.
     fn next(&mut self) -> Option<Hoisted>
-        ensures answer { result ≡ next_of self.old }
+        ensures answer { result ≡ first_of self.old }
         ensures left { self.new ≡ tail self.old }
     {
         'slots: while let Ok(Some(slot)) = self.slots.next() {
@@ -159,7 +159,7 @@ impl<'a> Model for HoistedCursor<'a> {
 impl<'a> HoistedCursor<'a> {
     /// The next hoisted local; None exactly at the end. It reads as many records as it passes.
     pub fn next<L: Ledger>(&mut self, steps: &mut Steps<L>) -> Option<Hoisted>
-        ensures answer { result ≡ next_of self.old.items }
+        ensures answer { result ≡ first_of self.old.items }
         ensures left { self.new.items ≡ tail self.old.items }
         ensures cost { steps.new + self.new.rows ≡ steps.old + self.old.rows }
     {

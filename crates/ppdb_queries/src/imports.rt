@@ -5,7 +5,7 @@ ghost use Rattle.ppdb_tables.specs.RawOf.{raw_of};
 ghost use Rattle.ppdb_values.specs.Rules.{HasRowOrNone};
 ghost use Rattle.ppdb_verify.specs.Views.{tables_of};
 ghost use Rattle.ppdb_queries.specs.Chains.{links_from};
-ghost use Rattle.ppdb_queries.specs.Cursors.{next_of};
+ghost use Rattle.sequence_points.specs.Written.{first_of};
 
 use ppdb_base::Steps;
 use ppdb_verify::Verified;
@@ -48,7 +48,7 @@ impl<'a> Model for ImportChain<'a> {
 impl<'a> ImportChain<'a> {
     /// The next import scope; None exactly at the end. One row is read for each.
     pub fn next<L: Ledger>(&mut self, steps: &mut Steps<L>) -> Option<ImportLink<'a>>
-        ensures answer { result ≡ next_of self.old }
+        ensures answer { result ≡ first_of self.old }
         ensures left { self.new ≡ tail self.old }
         ensures cost { steps.new + length self.new ≡ steps.old + length self.old }
     {

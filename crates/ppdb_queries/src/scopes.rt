@@ -6,7 +6,7 @@ ghost use Rattle.ppdb_values.specs.Parts.{holds as holds_offset};
 ghost use Rattle.ppdb_values.specs.Rules.{HasRow};
 ghost use Rattle.ppdb_values.specs.Value.{range_of as range_in};
 ghost use Rattle.ppdb_verify.specs.Views.{tables_of};
-ghost use Rattle.ppdb_queries.specs.Cursors.{next_of};
+ghost use Rattle.sequence_points.specs.Written.{first_of};
 ghost use Rattle.ppdb_queries.specs.Digits.{digits};
 ghost use Rattle.ppdb_queries.specs.Runs.{IsNoMethod};
 ghost use Rattle.ppdb_queries.specs.Scopes.{scope_view, scopes_at as scopes_in, scope_count, NextScope, rows_passed};
@@ -137,7 +137,7 @@ impl<'a> Model for ScopeCursor<'a> {
 impl<'a> ScopeCursor<'a> {
     /// The next scope by row; None exactly at the end. It reads at most twice as many rows as it passes.
     pub fn next<L: Ledger>(&mut self, steps: &mut Steps<L>) -> Option<ScopeView>
-        ensures answer { result ≡ next_of self.old.items }
+        ensures answer { result ≡ first_of self.old.items }
         ensures left { self.new.items ≡ tail self.old.items }
         ensures later { steps.old ≤ steps.new }
         ensures cost { steps.new + 2 * self.new.rows ≤ steps.old + 2 * self.old.rows }

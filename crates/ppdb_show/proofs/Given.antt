@@ -3,7 +3,7 @@ use Rattle.std.proofs.Common.{◌≡◌, List, [], ◌∷◌, refl, sym, ap, ◌
 use Rattle.std.specs.Prelude.{Option, Some, None, Ok, Err}
 use Rattle.ppdb_base.specs.declared.BlobFault.{BlobFault}
 use Rattle.blob_grammar.specs.Reader.{Left, answer, answer_from, tail}
-use Rattle.ppdb_queries.specs.Cursors.{next_of}
+use Rattle.sequence_points.specs.Written.{first_of}
 
 -- this holds of each item
 abbrev pub Each : {X : Type 0} → (X → Type 0) → List X → Type 0
@@ -16,12 +16,12 @@ each_first P items rest x e h = let k : Each P (x ∷ rest) = rw e at h in k.0
 pub each_rest : {X : Type 0} (P : X → Type 0) (items rest : List X) (x : X) → items ≡ x ∷ rest → Each P items → Each P rest
 each_rest P items rest x e h = let k : Each P (x ∷ rest) = rw e at h in k.1
 
-next_first : {X : Type 0} (items rest : List X) (x : X) → next_of items ≡ Some x → rest ≡ tail items → items ≡ x ∷ rest
+next_first : {X : Type 0} (items rest : List X) (x : X) → first_of items ≡ Some x → rest ≡ tail items → items ≡ x ∷ rest
 next_first [] rest x e t = cc
 next_first {X} (y ∷ ys) rest x e t = let same : y ≡ x = cc in ap (λ (z : X). z ∷ ys) same ∙ ap (λ (zs : List X). x ∷ zs) (sym t)
 
 -- the item that was given is the first
-pub given_next : {X : Type 0} (items rest : List X) (x : X) (next : Option X) → next ≡ next_of items → next ≡ Some x → rest ≡ tail items → items ≡ x ∷ rest
+pub given_next : {X : Type 0} (items rest : List X) (x : X) (next : Option X) → next ≡ first_of items → next ≡ Some x → rest ≡ tail items → items ≡ x ∷ rest
 given_next items rest x next e is t = next_first items rest x (sym e ∙ is) t
 
 answer_first : {X : Type 0} (items rest : List X) (fault : Option BlobFault) (x : X) → answer_from items fault ≡ Ok (Some x) → rest ≡ tail items

@@ -10,7 +10,7 @@ use Rattle.ppdb_show_lines.proofs.Putting.{Putting}
 use Rattle.ppdb_show_lines.specs.declared.form.Form.{Form}
 use Rattle.ppdb_show_lines.specs.Forms.{lines_as}
 use Rattle.ppdb_show_lines.proofs.Texts.{more_lines, no_lines}
-use Rattle.ppdb_queries.specs.Cursors.{next_of}
+use Rattle.ppdb_values.specs.Names.{first_of}
 use Rattle.ppdb_values.specs.declared.file.FileValue.{FileValue}
 use Rattle.break_lines.specs.declared.item.Break.{Break}
 use Rattle.source_link.specs.declared.pair.Pair.{Pair}
@@ -29,7 +29,7 @@ pub puts_as : (r : Result (Unit {0}) WriteError) (old new : Option (List ℕ)) (
     → Puts r old new before after text → Puts r old new before after other
 puts_as r old new before after text other e h = subst (λ (l : List ℕ). Puts r old new before after l) e h
 
-pub next_text : (form : Form) (items next : List Break) (found : Break) → Some found ≡ next_of items → next ≡ tail items
+pub next_text : (form : Form) (items next : List Break) (found : Break) → Some found ≡ first_of items → next ≡ tail items
     → text_of_breaks form items ≡ lines_as form (break_line found ∷ []) ++ text_of_breaks form next
 next_text form [] next found e is = absurd (cc)
 next_text form (x ∷ xs) next found e is =
@@ -39,7 +39,7 @@ next_text form (x ∷ xs) next found e is =
     ∙ ap (λ (l : List Break). lines_as form (break_line found ∷ []) ++ text_of_breaks form l) (sym is)
 
 -- no break is left
-pub no_text : (form : Form) (items : List Break) (next : Option Break) → next ≡ next_of items → ((x : Break) → next ≡ Some x → ⊥)
+pub no_text : (form : Form) (items : List Break) (next : Option Break) → next ≡ first_of items → ((x : Break) → next ≡ Some x → ⊥)
     → text_of_breaks form items ≡ []
 no_text form [] next e never = no_lines form
 no_text form (x ∷ xs) next e never = absurd (never x e)

@@ -1,6 +1,6 @@
 use Rattle.std.proofs.Common.{◌≡◌, ◌<◌, ◌∙◌, ◌+◌, ◌≤◌, [], length, refl, sym, ap, arith}
 use Rattle.blob_grammar.specs.Reader.{tail}
-use Rattle.ppdb_queries.specs.Cursors.{next_of}
+use Rattle.sequence_points.specs.Written.{first_of}
 use Rattle.ppdb_tables.specs.RawOf.{raw_of}
 use Rattle.ppdb_verify.specs.Views.{tables_of}
 use Rattle.break_lines.specs.Walks.{breaks_now}
@@ -35,7 +35,7 @@ returns-then-self-count-clause-answer g c =
     let past : length raw.methods ≤ s.done = omega (arith, shape, count, all) in
     let none = none_left (breaks_now s.current) c.next_now.result c.next_now.ensures.answer c.in_default.not-Some in
     let items : c.args.self.now.items ≡ [] = sym c.methods.invariant.same ∙ none_after raw s.document s.line s.done s.current past none in
-    ap next_of (sym items)
+    ap first_of (sym items)
 
 pub returns-then-self-count-clause-left : goal.returns-then-self-count-clause-left
 returns-then-self-count-clause-left g c =
