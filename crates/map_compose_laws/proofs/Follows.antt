@@ -28,7 +28,8 @@ use Rattle.ppdb_merge_items.specs.NamedRows.{live_signature}
 use Rattle.ppdb_merge_items.specs.SoundParts.{SoundMoved}
 use Rattle.ppdb_merge_items.specs.Unannotated.{value_of_annotated}
 use Rattle.ppdb_merge_joined.proofs.Each.{Each-with}
-use Rattle.ppdb_merge_moved.specs.Moved.{is_empty, is_link, linked, moved_body, moved_custom, moved_record, moved_file, moved_parent, table_in, row_in}
+use Rattle.ppdb_values.specs.Parts.{is_link}
+use Rattle.ppdb_merge_moved.specs.Moved.{is_empty, linked, moved_body, moved_custom, moved_record, moved_file, moved_parent, table_in, row_in}
 use Rattle.ppdb_merge_moved.specs.Moved.{moved_machine, moved_method, moved_scope, moved_step, scope_image, with_points}
 use Rattle.ppdb_merge_moved.proofs.Fitting.{moved_dropped}
 use Rattle.ppdb_merge_moved.proofs.ImageRows.{image_stays, within_is, never_method, method_moves, lives_on_method}

@@ -10,7 +10,8 @@ use Rattle.ppdb_values.specs.declared.custom.CustomBody.{CustomBody}
 use Rattle.ppdb_values.specs.declared.custom.CustomBody.TheVariants.{Unread}
 use Rattle.ppdb_values.specs.declared.custom.CustomValue.{CustomValue}
 use Rattle.ppdb_values.specs.declared.file.DocumentValue.{DocumentValue}
-use Rattle.ppdb_merge_moved.specs.Moved.{is_link, linked, moved_document}
+use Rattle.ppdb_values.specs.Parts.{is_link}
+use Rattle.ppdb_merge_moved.specs.Moved.{linked, moved_document}
 use Rattle.map_compose_laws.specs.Names.{NamesCompose}
 
 pub document_on : (f s : Map) → IsComposition f s (composed f s) → (d : DocumentValue) → moved_document s (moved_document f d) ≡ moved_document (composed f s) d

@@ -18,7 +18,8 @@ use Rattle.ppdb_values.specs.declared.custom.CustomValue.{CustomValue}
 use Rattle.ppdb_merge_joined.specs.Same.{same_body, same_record, same_slot, same_step}
 use Rattle.ppdb_build_merged.specs.declared.customs_said.RecordKey.{RecordKey}
 use Rattle.ppdb_build_merged.specs.contracts.customs_said.RecordKeyOrd.TheImpl as key_ord
-use Rattle.ppdb_build_merged.specs.Said.{Said, bytes_in, form_of, handler_numbers, numbers_in, said, same_said, shown, slot_numbers, step_numbers}
+use Rattle.ppdb_values.specs.Parts.{bytes_in}
+use Rattle.ppdb_build_merged.specs.Said.{Said, form_of, handler_numbers, numbers_in, said, same_said, shown, slot_numbers, step_numbers}
 use Rattle.std.specs.Option.{option_eq}
 use Rattle.ppdb_maps.proofs.Named.{bytes_turned}
 

@@ -2,7 +2,7 @@
 use Rattle.std.specs.Prelude.{◌≡◌, ℕ, ◌&&◌, ◌++◌, Bool, Option, Some, None, List, [], ◌∷◌, nat_eq, bytes_eq, flat_map}
 use Rattle.std.specs.{BTreeSet.{BTreeSet, contains}, List.list_any}
 use Rattle.custom_info.specs.{declared.slots.Slot.{Slot, TheVariants.{Empty, Held}}, declared.stepping.AsyncStep.AsyncStep}
-use Rattle.ppdb_values.specs.{declared.custom.{CustomBody.{CustomBody, TheVariants.{Async, Hoisted, TypeDocuments, Unread}}, CustomValue.CustomValue}}
+use Rattle.ppdb_values.specs.{declared.custom.{CustomBody.{CustomBody, TheVariants.{Async, Hoisted, TypeDocuments, Unread}}, CustomValue.CustomValue}, Parts.bytes_in}
 use Rattle.ppdb_build_merged.specs.declared.customs_said.RecordKey.{RecordKey}
 use Rattle.ppdb_build_merged.specs.contracts.customs_said.RecordKeyOrd.TheImpl as key_ord
 
@@ -39,10 +39,6 @@ numbers_in (Async handler steps) = handler_numbers handler ++ flat_map step_numb
 numbers_in (Hoisted slots) = flat_map slot_numbers slots
 numbers_in (TypeDocuments rows) = rows
 numbers_in (Unread bytes) = []
-
-abbrev pub bytes_in : CustomBody → List ℕ
-bytes_in (Unread bytes) = bytes
-bytes_in _ = []
 
 -- ---- records
 

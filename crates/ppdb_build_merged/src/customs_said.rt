@@ -1,6 +1,7 @@
 // What custom records say, as keys by which equal ones are found.
 ghost use Rattle.std.specs.Prelude.{◌≡◌, ◌++◌, flat_map, OnOk, IfOk};
-ghost use Rattle.ppdb_build_merged.specs.Said.{bytes_in, form_of, handler_numbers, numbers_in, said, shown, slot_numbers, step_numbers};
+ghost use Rattle.ppdb_values.specs.Parts.{bytes_in};
+ghost use Rattle.ppdb_build_merged.specs.Said.{form_of, handler_numbers, numbers_in, said, shown, slot_numbers, step_numbers};
 
 use custom_info::{AsyncStep, Slot};
 use ppdb_base::Memory;

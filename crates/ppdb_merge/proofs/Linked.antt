@@ -9,7 +9,7 @@ use Rattle.ppdb_base.specs.declared.merge_error.MergeError.TheVariants.{LinkDiff
 use Rattle.ppdb_maps.specs.Map.{Map}
 use Rattle.ppdb_tables.specs.RawTables.{numbered}
 use Rattle.ppdb_values.specs.declared.custom.CustomValue.{CustomValue}
-use Rattle.ppdb_merge_moved.specs.Moved.{is_link}
+use Rattle.ppdb_values.specs.Parts.{is_link}
 use Rattle.ppdb_merge.specs.declared.trace.Trace.{Trace}
 use Rattle.ppdb_merge.specs.Indexes.{link_row}
 use Rattle.ppdb_merge.specs.Refusals.{has_other_link, is_other_link, link_differs, links_differ, says_other_before}

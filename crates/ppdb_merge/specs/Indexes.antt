@@ -1,8 +1,7 @@
 -- What is looked up of the inputs before a further one.
-use Rattle.ppdb_values.specs.{Names.{slice_cmp, nat_cmp, numbered}, declared.custom.CustomValue.CustomValue, declared.file.DocumentValue.DocumentValue}
+use Rattle.ppdb_values.specs.{Names.{slice_cmp, nat_cmp, numbered}, declared.custom.CustomValue.CustomValue, declared.file.DocumentValue.DocumentValue, Parts.is_link}
 use Rattle.std.specs.Prelude.{◌≡◌, ℕ, ◌&&◌, Bool, cond, List, [], Option, Some, None, is_some, ◌∷◌, length, map, find, option_map, nat_eq, nat_lt, bytes_eq}
 use Rattle.std.specs.BTreeMap as tree
-use Rattle.ppdb_merge_moved.specs.Moved.{is_link}
 use Rattle.ppdb_merge_names.specs.declared.imaged.Imaged.{Imaged}
 use Rattle.ppdb_merge_joined.specs.Joined.{joined_documents}
 use Rattle.ppdb_merge.specs.{declared.documents.{Documents.Documents, Standing.Standing}, declared.index.Index.Index, declared.methods.{Claim.Claim, Methods.Methods}, declared.trace.Trace.Trace}

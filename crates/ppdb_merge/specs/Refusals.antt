@@ -3,10 +3,10 @@ use Rattle.ppdb_values.specs.Names.{MergeError, MethodTaken, DocumentConflict, L
 use Rattle.std.specs.Prelude.{ℕ, ◌&&◌, not, Bool, false, cond, nat_eq, bytes_eq, List, [], ◌∷◌, ◌++◌, Option, Some, None, Result, Ok, slice_get, filter, find, flat_map, map, option_map}
 use Rattle.std.specs.{Prelude.{filter_map, option_and_then, option_to_list}, Option.{option_eq, option_or}}
 use Rattle.ppdb_maps.specs.Map.{Map, moved_row, is_gone_row}
-use Rattle.ppdb_values.specs.{declared.file.{DocumentValue.DocumentValue, FileValue.FileValue}, declared.custom.{CustomBody.{CustomBody, TheVariants.Unread}, CustomValue.CustomValue}, Parts.is_at}
-use Rattle.ppdb_values.specs.{RawFile.RawFile, Value.value_of}
+use Rattle.ppdb_values.specs.{declared.file.{DocumentValue.DocumentValue, FileValue.FileValue}, declared.custom.{CustomBody.{CustomBody, TheVariants.Unread}, CustomValue.CustomValue}}
+use Rattle.ppdb_values.specs.{Parts.{is_at, is_link}, RawFile.RawFile, Value.value_of}
 use Rattle.ppdb_merge_items.specs.{Sorted.in_order, declared.file.AnnotatedFile.AnnotatedFile}
-use Rattle.ppdb_merge_moved.specs.Moved.{is_link, moved_document}
+use Rattle.ppdb_merge_moved.specs.Moved.{moved_document}
 use Rattle.ppdb_merge_names.specs.declared.imaged.Imaged.{Imaged}
 use Rattle.ppdb_merge_joined.specs.Joined.{joined_documents}
 use Rattle.ppdb_merge_fits.specs.{Clashes.first_clash, Signatures.all_images}

@@ -38,7 +38,8 @@ use Rattle.ppdb_merge_joined.proofs.Each.{Each-flat}
 use Rattle.ppdb_merge_items.specs.Annotated.{with_item}
 use Rattle.ppdb_merge_moved.specs.Moved.{moved_range, is_empty, moved_token, moved_modifier, moved_constant, moved_constant_body, moved_import}
 use Rattle.ppdb_merge_moved.specs.Moved.{moved_import_scope, with_points, moved_method, scope_image, moved_scope, moved_machine, moved_step, moved_body, moved_custom}
-use Rattle.ppdb_merge_moved.specs.Moved.{is_link, linked, moved_record, moved_parent, moved_file, of_assembly, table_in, row_in}
+use Rattle.ppdb_values.specs.Parts.{is_link}
+use Rattle.ppdb_merge_moved.specs.Moved.{linked, moved_record, moved_parent, moved_file, of_assembly, table_in, row_in}
 use Rattle.ppdb_merge_moved.proofs.Elements.{each_parts}
 use Rattle.ppdb_merge_moved.proofs.Lists.{Each-both, Each-filter_map}
 use Rattle.ppdb_merge_moved.proofs.NamedParts.{NamedParts}

@@ -11,14 +11,14 @@ use Rattle.ppdb_maps.specs.declared.image.RowImage.TheVariants.{Row, Gone, Missi
 use Rattle.ppdb_maps.specs.Readable.{IsReadable}
 use Rattle.ppdb_maps.specs.Map.{Map, row_image, moved_row, offsets_in, is_dropped, method_line}
 use Rattle.custom_info.specs.Kinds.{source_link}
-use Rattle.ppdb_values.specs.Parts.{is_at}
+use Rattle.ppdb_values.specs.Parts.{is_at, is_link}
 use Rattle.ppdb_values.specs.declared.custom.CustomBody.TheVariants.{Unread}
 use Rattle.ppdb_values.specs.declared.custom.CustomValue.{CustomValue}
 use Rattle.ppdb_merge_items.specs.Each.{Each}
 use Rattle.ppdb_merge_items.specs.declared.file.AnnotatedFile.{AnnotatedFile}
 use Rattle.ppdb_merge_items.specs.NamedRows.{live_custom}
 use Rattle.ppdb_merge_items.proofs.Lists.{Each-filter, Each-weaker}
-use Rattle.ppdb_merge_moved.specs.Moved.{is_link, linked, moved_body, moved_custom, moved_file, moved_parent, row_in, table_in}
+use Rattle.ppdb_merge_moved.specs.Moved.{linked, moved_body, moved_custom, moved_file, moved_parent, row_in, table_in}
 use Rattle.ppdb_merge_moved.specs.FitsMethod.{FitsCustom, MovesAsMethod}
 use Rattle.ppdb_merge_moved.proofs.ImageRows.{lives_on_method, method_moves, never_method}
 use Rattle.ppdb_merge_moved.proofs.Lists.{Alike, filter-filter_map, filter_map-map}

@@ -15,11 +15,11 @@ use Rattle.ppdb_maps.specs.Map.{Map, row_image, row_within, row_line, cross_line
 use Rattle.ppdb_maps.specs.Map.{is_gone_row, is_in_table, leaves_table}
 use Rattle.ppdb_maps.specs.Readable.{IsReadable, IsRowOf, IsCrossOf, IsGoneOf}
 use Rattle.custom_info.specs.Kinds.{source_link}
-use Rattle.ppdb_values.specs.Parts.{is_at}
+use Rattle.ppdb_values.specs.Parts.{is_at, is_link}
 use Rattle.ppdb_values.specs.declared.custom.CustomBody.TheVariants.{Unread}
 use Rattle.ppdb_values.specs.declared.custom.CustomValue.{CustomValue}
 use Rattle.ppdb_merge_items.specs.NamedRows.{names, is_type_documents, leaves_types, live_custom}
-use Rattle.ppdb_merge_moved.specs.Moved.{is_link, linked}
+use Rattle.ppdb_merge_moved.specs.Moved.{linked}
 use Rattle.ppdb_merge_moved.specs.Fits.{IsImaged, may_share}
 use Rattle.ppdb_merge_moved.proofs.RowImages.{IsWithin, within_in, moved_is_image}
 

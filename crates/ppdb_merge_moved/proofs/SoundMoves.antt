@@ -33,7 +33,7 @@ use Rattle.ppdb_values.specs.declared.scope.VariableValue.{VariableValue}
 use Rattle.custom_info.specs.Kinds.{kind_of, source_link}
 use Rattle.custom_info.specs.declared.kinds.Kind.{Kind}
 use Rattle.custom_info.specs.declared.kinds.Kind.TheVariants as kinds
-use Rattle.ppdb_values.specs.Parts.{is_at}
+use Rattle.ppdb_values.specs.Parts.{is_at, is_link}
 use Rattle.ppdb_values.specs.declared.custom.CustomBody.{CustomBody}
 use Rattle.ppdb_values.specs.declared.custom.CustomBody.TheVariants.{Async, Hoisted, TypeDocuments, Unread}
 use Rattle.ppdb_values.specs.Rules.{StandsOn}
@@ -58,7 +58,7 @@ use Rattle.ppdb_merge_moved.specs.Fits.{Fits, IsImaged, HasSlot, KeepsAsync, Are
 use Rattle.ppdb_merge_moved.specs.Laws.{IsImageOfNamed, MovedNames}
 use Rattle.ppdb_merge_moved.specs.Moved.{moved_range, is_empty, moved_variable, moved_constant, moved_import, moved_import_scope, with_points}
 use Rattle.ppdb_merge_moved.specs.Moved.{moved_method, scope_image, moved_scope, moved_machine, moved_body, moved_record, moved_custom, moved_file}
-use Rattle.ppdb_merge_moved.specs.Moved.{is_link, linked, moved_document, row_in, table_in}
+use Rattle.ppdb_merge_moved.specs.Moved.{linked, moved_document, row_in, table_in}
 use Rattle.ppdb_merge_moved.proofs.Fitting.{offsets_rise}
 use Rattle.ppdb_merge_moved.proofs.Elements.{each_in}
 use Rattle.ppdb_merge_moved.proofs.Lists.{Each-filter_map, Pairs-filter_map, Each-both, each_of_three, each_of_four}

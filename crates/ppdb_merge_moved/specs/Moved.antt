@@ -1,6 +1,6 @@
 -- A file moved by a map (docs/FORMAT.md, "Moving"): what each of its parts becomes, and which parts are removed.
-use Rattle.ppdb_values.specs.Names.{Offsets, moved, Point, TypeToken, Modifier, Range, Slot, Empty, Held, AsyncStep, MachineRow, moved_points, source_link, Parent}
-use Rattle.std.specs.Prelude.{ℕ, ◌+◌, ◌&&◌, ◌||◌, not, Bool, cond, nat_lt, bytes_eq, List, [], ◌∷◌, Option, Some, None, unwrap_or, map, filter, filter_map, option_map}
+use Rattle.ppdb_values.specs.Names.{Offsets, moved, Point, TypeToken, Modifier, Range, Slot, Empty, Held, AsyncStep, MachineRow, moved_points, Parent}
+use Rattle.std.specs.Prelude.{ℕ, ◌+◌, ◌||◌, not, Bool, cond, nat_lt, List, [], ◌∷◌, Option, Some, None, unwrap_or, map, filter, filter_map, option_map}
 use Rattle.ppdb_maps.specs.Map.{Map, row_image, moved_row, moved_signature, moved_name, offsets_in, slot_image, is_dropped, count_of, is_in_table}
 use Rattle.ppdb_maps.specs.declared.image.RowImage.{RowImage, TheVariants.Row}
 use Rattle.ppdb_values.specs.declared.file.{DocumentValue.DocumentValue, MethodValue.MethodValue}
@@ -8,7 +8,7 @@ use Rattle.ppdb_values.specs.declared.scope.{VariableValue.VariableValue, Consta
 use Rattle.ppdb_values.specs.{declared.scope.ConstantBody.TheVariants.{Enumerated, General}, declared.import.ImportValue.ImportValue}
 use Rattle.ppdb_values.specs.declared.import.ImportValue.TheVariants.{Namespace, AssemblyNamespace, Target, AssemblyAlias, NamespaceAlias, AssemblyNamespaceAlias, TargetAlias}
 use Rattle.ppdb_values.specs.declared.import.{ImportScopeValue.ImportScopeValue}
-use Rattle.ppdb_values.specs.{declared.custom.{CustomBody.{CustomBody, TheVariants.{Async, Hoisted, Unread}}, CustomValue.CustomValue}, Parts.is_at}
+use Rattle.ppdb_values.specs.{declared.custom.{CustomBody.{CustomBody, TheVariants.{Async, Hoisted, Unread}}, CustomValue.CustomValue}, Parts.is_link}
 use Rattle.ppdb_merge_items.specs.{declared.file.{AnnotatedScope.AnnotatedScope, AnnotatedFile.AnnotatedFile}, Annotated.with_item}
 use Rattle.ppdb_merge_items.specs.NamedRows.{live_constants, live_custom, live_import}
 
@@ -78,10 +78,6 @@ moved_import m (TargetAlias alias target) = TargetAlias alias (moved_token m tar
 moved_import m import = import
 
 -- ---- Source Link
-
--- a Source Link record on row 1 of Module
-abbrev pub is_link : CustomValue → Bool
-is_link c = is_at 0x00 1 c.parent && bytes_eq c.kind source_link
 
 -- A record before it moves: a Source Link record on row 1 of Module says the VALUE of the map's `link` line, where there is one.
 abbrev pub linked : Map → CustomValue → CustomValue

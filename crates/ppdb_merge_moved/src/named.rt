@@ -2,7 +2,8 @@
 ghost use Rattle.std.specs.Prelude.{◌≡◌, map, IfOk, OnOk};
 ghost use Rattle.std.specs.List.{filter_map};
 ghost use Rattle.ppdb_merge_items.specs.Annotated.{with_item};
-ghost use Rattle.ppdb_merge_moved.specs.Moved.{is_link, linked, moved_custom, moved_document};
+ghost use Rattle.ppdb_values.specs.Parts.{is_link};
+ghost use Rattle.ppdb_merge_moved.specs.Moved.{linked, moved_custom, moved_document};
 
 use crate::moves::moved_all;
 use custom_info::SOURCE_LINK;

@@ -49,7 +49,8 @@ use Rattle.ppdb_merge_joined.proofs.One.{map_same}
 use Rattle.ppdb_merge_items.specs.Annotated.{with_item}
 use Rattle.ppdb_merge_moved.specs.Moved.{moved_body, moved_constant, moved_constant_body, moved_counts, moved_custom, moved_file, moved_import}
 use Rattle.ppdb_merge_moved.specs.Moved.{moved_import_scope, moved_machine, moved_method, moved_modifier, moved_range, moved_scope, moved_slot, moved_step}
-use Rattle.ppdb_merge_moved.specs.Moved.{moved_token, moved_variable, scope_image, with_points, is_link, linked, moved_document, moved_parent, moved_record}
+use Rattle.ppdb_values.specs.Parts.{is_link}
+use Rattle.ppdb_merge_moved.specs.Moved.{moved_token, moved_variable, scope_image, with_points, linked, moved_document, moved_parent, moved_record}
 use Rattle.ppdb_merge_moved.specs.Moved.{row_in, table_in}
 use Rattle.ppdb_merge_moved.proofs.RisingPoints.{itself_moved}
 use Rattle.ppdb_merge_items.proofs.Parts.{live_constant}

@@ -29,7 +29,8 @@ use Rattle.ppdb_merge_items.specs.Annotated.{annotated_file}
 use Rattle.ppdb_merge_items.specs.Sorted.{in_order}
 use Rattle.ppdb_merge_items.proofs.Lists.{Each-weaker, Each-unmap, each_of}
 use Rattle.ppdb_merge_moved.specs.Fits.{Fits}
-use Rattle.ppdb_merge_moved.specs.Moved.{is_link, moved_file}
+use Rattle.ppdb_values.specs.Parts.{is_link}
+use Rattle.ppdb_merge_moved.specs.Moved.{moved_file}
 use Rattle.ppdb_merge_moved.proofs.Lists.{Each-filter_map}
 use Rattle.ppdb_merge_fits.specs.Clashes.{first_clash, is_at_gone}
 use Rattle.ppdb_merge_fits.specs.Laws.{NoClash}

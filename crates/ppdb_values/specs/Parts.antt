@@ -1,8 +1,8 @@
 -- What of a value belongs to a method, to a row and to an offset (Portable PDB v1.0).
-use Rattle.ppdb_values.specs.Names.{last_or, option_map_or, Point, Range, Slot, Parent, numbered}
-use Rattle.std.specs.Prelude.{ℕ, suc, ◌-◌, ◌==◌, ◌&&◌, nat_le, nat_lt, List, [], Option, Some, None, Bool, take, filter, filter_map, find, sum_by}
+use Rattle.ppdb_values.specs.Names.{last_or, option_map_or, Point, Range, Slot, Parent, numbered, source_link}
+use Rattle.std.specs.Prelude.{ℕ, suc, ◌-◌, ◌==◌, ◌&&◌, nat_le, nat_lt, List, [], Option, Some, None, Bool, take, filter, filter_map, find, sum_by, bytes_eq}
 use Rattle.ppdb_values.specs.{declared.file.{FileValue.FileValue, MethodValue.MethodValue}, declared.scope.ScopeValue.ScopeValue, declared.import.ImportScopeValue.ImportScopeValue}
-use Rattle.ppdb_values.specs.{declared.custom.{CustomBody.{CustomBody, TheVariants.Hoisted}, CustomValue.CustomValue}, Chains.chain_of}
+use Rattle.ppdb_values.specs.{declared.custom.{CustomBody.{CustomBody, TheVariants.{Hoisted, Unread}}, CustomValue.CustomValue}, Chains.chain_of}
 
 -- ---- points ("Sequence Points Blob")
 
@@ -48,6 +48,15 @@ is_at table row parent = (parent.table == table) && (parent.row == row)
 -- the records on a row
 abbrev pub customs_on : FileValue → ℕ → ℕ → List CustomValue
 customs_on value table row = filter (λ custom. is_at table row custom.parent) value.customs
+
+-- a Source Link record on row 1 of Module ("Source Link")
+abbrev pub is_link : CustomValue → Bool
+is_link custom = is_at 0x00 1 custom.parent && bytes_eq custom.kind source_link
+
+-- the bytes of a record whose kind is not read
+abbrev pub bytes_in : CustomBody → List ℕ
+bytes_in (Unread bytes) = bytes
+bytes_in _ = []
 
 abbrev pub slots_in : CustomBody → Option (List Slot)
 slots_in (Hoisted slots) = Some slots

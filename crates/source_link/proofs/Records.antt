@@ -13,14 +13,14 @@ use Rattle.ppdb_tables.specs.declared.rows.CustomRow.{CustomRow}
 use Rattle.ppdb_tables.specs.RawTables.{RawTables, numbered, count, row_at}
 use Rattle.ppdb_values.specs.declared.custom.CustomValue.{CustomValue}
 use Rattle.ppdb_values.specs.Customs.{custom_of, custom_body, kind_in, parent_of}
-use Rattle.ppdb_values.specs.Parts.{is_at}
+use Rattle.ppdb_values.specs.Parts.{bytes_in, is_at, is_link}
 use Rattle.ppdb_values.specs.RawFile.{RawFile, blob}
 use Rattle.ppdb_values.specs.Rules.{KeepsCustoms}
 use Rattle.ppdb_values.specs.Value.{value_of}
 use Rattle.ppdb_queries.specs.declared.run.Run.{Run}
 use Rattle.ppdb_queries.specs.Runs.{customs_at, rows_in}
 use Rattle.ppdb_queries.proofs.Views.{run_step}
-use Rattle.source_link.specs.FileLinks.{is_link_record, bytes_in, link_record}
+use Rattle.source_link.specs.FileLinks.{link_record}
 use Rattle.source_link.specs.RecordRows.{link_between}
 use Rattle.source_link.proofs.Best.{found}
 
@@ -62,8 +62,8 @@ link_all raw run all =
     ap (λ (l : List (ℕ × CustomRow)). option_map (λ row. g row.1) (find (λ row. bytes_eq (kind_in raw.tables row.1) source_link) l)) all
     ∙ ap (option_map (λ (row : ℕ × CustomRow). g row.1)) (find_filtered (λ row. is_at 0x00 1 (parent_of row.1.parent))
     (λ row. bytes_eq (kind_in raw.tables row.1) source_link) (numbered rows))
-    ∙ find_numbered g (λ row. is_link_record (custom_of raw.tables row)) 1 rows
-    ∙ sym (find_mapped (custom_of raw.tables) (λ (custom : CustomValue). bytes_in custom.value) is_link_record rows)
+    ∙ find_numbered g (λ row. is_link (custom_of raw.tables row)) 1 rows
+    ∙ sym (find_mapped (custom_of raw.tables) (λ (custom : CustomValue). bytes_in custom.value) is_link rows)
 
 pub link_passed : (raw : RawTables) (row end : ℕ) (cells : CustomRow) → row_at raw.customs row ≡ Some cells → row < end
     → bytes_eq (kind_in raw cells) source_link ≡ false
@@ -91,12 +91,12 @@ on_module : (parent : Parent) (b : Bool) → (is_at 0x00 1 parent && b) ≡ true
 on_module parent b h = grind (arith, nat_tests)
 
 pub no_module : (raw : RawFile) → KeepsCustoms raw.tables → count raw.tables 0x00 ≡ 0 → link_record (value_of raw) ≡ None
-no_module raw keeps none = ap (option_map (λ (custom : CustomValue). bytes_in custom.value)) (step (find is_link_record (value_of raw).customs) refl)
+no_module raw keeps none = ap (option_map (λ (custom : CustomValue). bytes_in custom.value)) (step (find is_link (value_of raw).customs) refl)
   where
-    step : (o : Option CustomValue) → find is_link_record (value_of raw).customs ≡ o → find is_link_record (value_of raw).customs ≡ None
+    step : (o : Option CustomValue) → find is_link (value_of raw).customs ≡ o → find is_link (value_of raw).customs ≡ None
     step None e = e
     step (Some custom) e =
-        let f = found is_link_record custom (value_of raw).customs e in
+        let f = found is_link custom (value_of raw).customs e in
         let m = mapped_there (custom_of raw.tables) raw.tables.customs custom f.0 in
         let here = on_module custom.parent (bytes_eq custom.kind source_link) f.1 in
         let kept = keeps.each (suc m.0) m.1 m.2 in

@@ -1,8 +1,7 @@
 -- The Source Link record among some rows of CustomDebugInformation, as a walk over them finds it.
 use Rattle.ppdb_values.specs.Names.{source_link, RawTables, numbered}
 use Rattle.std.specs.Prelude.{ℕ, ◌-◌, List, Option, slice_range, find, option_map, bytes_eq}
-use Rattle.ppdb_values.specs.Customs.{custom_of}
-use Rattle.source_link.specs.FileLinks.{bytes_in}
+use Rattle.ppdb_values.specs.{Customs.custom_of, Parts.bytes_in}
 
 -- the value of the first Source Link record among the custom records from a row up to and without another
 abbrev pub link_between : RawTables → ℕ → ℕ → Option (List ℕ)

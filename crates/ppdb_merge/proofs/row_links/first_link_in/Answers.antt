@@ -4,7 +4,7 @@ use Rattle.ppdb_values.specs.Customs.{custom_of}
 use Rattle.ppdb_values.specs.Value.{value_of}
 use Rattle.ppdb_values.specs.declared.custom.CustomValue.{CustomValue}
 use Rattle.ppdb_verify.specs.Views.{raw_file}
-use Rattle.ppdb_merge_moved.specs.Moved.{is_link}
+use Rattle.ppdb_values.specs.Parts.{is_link}
 use Rattle.ppdb_merge.specs.Indexes.{link_row}
 use Rattle.ppdb_merge.proofs.RowWalks.{all_silent, row_silent, row_told, said}
 use Rattle.ppdb_merge.proofs.row_links.first_link_in.Goals as goal
