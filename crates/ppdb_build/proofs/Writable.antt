@@ -25,7 +25,8 @@ use Rattle.ppdb_build_canon.proofs.Limits.{nothing_mapped, no_first, none_made, 
 use Rattle.ppdb_build_limits.proofs.Firsts.{first_at}
 use Rattle.ppdb_build.specs.declared.error.BuildError.{BuildError}
 use Rattle.ppdb_build.specs.declared.error.BuildError.TheVariants.{Limit as Passed, Memory}
-use Rattle.ppdb_build.specs.Building.{IsLimit, early_limit_of, IsWritableMethod, IsWritableConstant, IsWritableScope, IsWritableImport}
+use Rattle.ppdb_build.specs.Building.{IsLimit, early_limit_of, IsWritableMethod, IsWritableConstant, IsWritableScope}
+use Rattle.ppdb_build_merged.specs.Writable.{IsWritableImport}
 use Rattle.ppdb_build.specs.Building.{IsWritableCustom, ArePartsWritable}
 use Rattle.ppdb_build.proofs.Limits.{neither}
 use Rattle.ppdb_build.proofs.Counted.{AreFew, are_few}

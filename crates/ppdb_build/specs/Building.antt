@@ -2,10 +2,11 @@
 use Rattle.ppdb_values.specs.Names.{CanBeWritten, first_of, IsToken, IsBody, Limit, PdbHead}
 use Rattle.std.specs.Prelude.{◌≡◌, ◌≤◌, [], ◌∷◌, fold, length, take, Option, Some, None, All, filter_map}
 use Rattle.ppdb_values.specs.{declared.file.{FileValue.FileValue, MethodValue.MethodValue}, declared.scope.{ScopeValue.ScopeValue, ConstantValue.ConstantValue}}
-use Rattle.ppdb_values.specs.{declared.import.ImportScopeValue.ImportScopeValue, declared.custom.CustomValue.CustomValue, Types.HasTypes}
-use Rattle.ppdb_values_sound_laws.specs.{Scopes.stored_body, Sound.IsSound, Writing.{HasSpelling, IsWritable}}
+use Rattle.ppdb_values.specs.{declared.custom.CustomValue.CustomValue, Types.HasTypes}
+use Rattle.ppdb_values_sound_laws.specs.{Scopes.stored_body, Sound.IsSound, Writing.IsWritable}
 use Rattle.ppdb_build_canon.specs.Limits.{first_met, too_many_rows, tables, list_past_end, large_offset, large_step_of, first_limit}
 use Rattle.ppdb_build_draft.specs.{Draft.{Draft, with_scope, with_constants, with_import, with_machine, with_custom}, Drafted.IsDraftOf}
+use Rattle.ppdb_build_merged.specs.Writable.{IsWritableImport}
 use Rattle.ppdb_build.specs.declared.error.BuildError.{BuildError, TheVariants.{Limit as Passed, Memory}}
 
 -- a refusal that names a limit names this one
@@ -33,9 +34,6 @@ IsWritableConstant constant = All (λ m. IsToken m.target) constant.modifiers ×
 
 abbrev pub IsWritableScope : ScopeValue → Type 0
 IsWritableScope scope = (scope.range.start ≤ scope.range.end) × All IsWritableConstant scope.constants
-
-abbrev pub IsWritableImport : ImportScopeValue → Type 0
-IsWritableImport scope = All HasSpelling scope.imports
 
 abbrev pub IsWritableCustom : CustomValue → Type 0
 IsWritableCustom custom = (custom.parent.row ≤ 16777215) × IsWritable custom.value

@@ -6,7 +6,8 @@ ghost use Rattle.ppdb_build_canon.specs.Limits.{large_step_of};
 ghost use Rattle.ppdb_build_draft.specs.Draft.{empty_draft, with_document, with_method, with_all_methods, with_variable, with_scope};
 ghost use Rattle.ppdb_build_draft.specs.Draft.{with_constant, with_constants, with_import, with_machine, with_custom};
 ghost use Rattle.ppdb_build_draft.specs.Drafted.{drafted};
-ghost use Rattle.ppdb_build.specs.Building.{IsWritableMethod, IsWritableConstant, IsWritableScope, IsWritableImport, IsWritableCustom};
+ghost use Rattle.ppdb_build.specs.Building.{IsWritableMethod, IsWritableConstant, IsWritableScope, IsWritableCustom};
+ghost use Rattle.ppdb_build_merged.specs.Writable.{IsWritableImport};
 ghost use Rattle.ppdb_build.specs.Building.{ArePartsWritable, IsLimit, after_methods};
 
 use crate::error::BuildError;

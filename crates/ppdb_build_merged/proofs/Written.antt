@@ -13,7 +13,7 @@ use Rattle.ppdb_build_draft.specs.Draft.{with_custom, with_import, with_machine}
 use Rattle.ppdb_build_draft.specs.Drafted.{drafted, with_lists}
 use Rattle.ppdb_merge_items.specs.Each.{Each}
 use Rattle.ppdb_merge_items.proofs.Lists.{each_row}
-use Rattle.ppdb_build_merged.specs.Writable.{IsTaken, HasConstants, HasImports}
+use Rattle.ppdb_build_merged.specs.Writable.{IsTaken, HasConstants, IsWritableImport}
 
 pub methods_there : (value : FileValue) → IsSound value → Each (λ (method : MethodValue). 1 ≤ method.method) value.methods
 methods_there value sound =
@@ -28,10 +28,10 @@ module _ (written : SoundPartsCanBeWritten) (value : FileValue) (sound : IsSound
         body = parts.bodies row scope here at constant there;
       }))
 
-  pub imports_taken : Each HasImports value.imports
+  pub imports_taken : Each IsWritableImport value.imports
   imports_taken =
       let parts = written value sound few in
-      each_row HasImports value.imports (λ row scope here. each_all HasSpelling scope.imports (parts.imports row scope here))
+      each_row IsWritableImport value.imports (λ row scope here. each_all HasSpelling scope.imports (parts.imports row scope here))
 
   pub customs_taken : Each (λ (custom : CustomValue). IsWritable custom.value) value.customs
   customs_taken =

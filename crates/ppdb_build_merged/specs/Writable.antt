@@ -13,5 +13,5 @@ pub record IsTaken (constant : ConstantValue) : Type 0 where
 abbrev pub HasConstants : ScopeValue → Type 0
 HasConstants scope = Each IsTaken scope.constants
 
-abbrev pub HasImports : ImportScopeValue → Type 0
-HasImports scope = All HasSpelling scope.imports
+abbrev pub IsWritableImport : ImportScopeValue → Type 0
+IsWritableImport scope = All HasSpelling scope.imports

@@ -6,7 +6,7 @@ ghost use Rattle.ppdb_build_draft.specs.Draft.{with_import};
 ghost use Rattle.ppdb_merge_items.specs.Each.{Each};
 ghost use Rattle.ppdb_build_merged.specs.Inputs.{HasRoom, raw_of};
 ghost use Rattle.ppdb_build_merged.specs.Keyed.{imports_of};
-ghost use Rattle.ppdb_build_merged.specs.Writable.{HasImports};
+ghost use Rattle.ppdb_build_merged.specs.Writable.{IsWritableImport};
 
 use crate::inputs::Placed;
 use ppdb_base::{Memory, Steps};
@@ -27,7 +27,7 @@ fn add_import<L: Ledger>(
 ) -> Result<(), Memory>
     requires room { HasRoom placed.now }
     requires there { HasRow (raw_of placed.now).tables 0x35 row }
-    requires taken { Each HasImports (option_to_list (row_at (imports_of placed.now) row)) }
+    requires taken { Each IsWritableImport (option_to_list (row_at (imports_of placed.now) row)) }
     ensures { OnOk result (draft.new ≡ fold with_import draft.old (option_to_list (row_at (imports_of placed.now) row))) }
 {
     let input = placed.input;
@@ -44,7 +44,7 @@ fn add_input<L: Ledger>(
     steps: &mut Steps<L>,
 ) -> Result<(), Memory>
     requires room { HasRoom placed.now }
-    requires taken { Each HasImports (imports_of placed.now) }
+    requires taken { Each IsWritableImport (imports_of placed.now) }
     ensures { OnOk result (draft.new ≡ fold with_import draft.old (imports_of placed.now)) }
 {
     let file = &placed.input.file;
@@ -66,7 +66,7 @@ pub(crate) fn add_imports<L: Ledger>(
     steps: &mut Steps<L>,
 ) -> Result<(), Memory>
     requires room { Each HasRoom placed.now }
-    requires taken { Each HasImports (flat_map imports_of placed.now) }
+    requires taken { Each IsWritableImport (flat_map imports_of placed.now) }
     ensures { OnOk result (draft.new ≡ fold with_import draft.old (flat_map imports_of placed.now)) }
 {
     for one in placed {

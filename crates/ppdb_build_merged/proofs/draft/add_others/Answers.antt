@@ -6,7 +6,7 @@ use Rattle.ppdb_merge_parts.specs.Flat.{joined_inputs}
 use Rattle.ppdb_merge_order.specs.declared.keys.Key.{Key}
 use Rattle.ppdb_merge_rows.specs.Inputs.{moved_inputs}
 use Rattle.ppdb_build_merged.specs.Keyed.{machine_of}
-use Rattle.ppdb_build_merged.specs.Writable.{HasImports}
+use Rattle.ppdb_build_merged.specs.Writable.{IsWritableImport}
 use Rattle.ppdb_build_merged.proofs.Tables.{imports_found, machines_found}
 use Rattle.ppdb_build_merged.proofs.Written.{imports_taken}
 use Rattle.ppdb_build_merged.proofs.draft.add_others.Goals as goal
@@ -15,7 +15,7 @@ pub add_imports-requires-clause-taken : goal.add_imports-requires-clause-taken
 add_imports-requires-clause-taken g c =
     let value = joined_inputs (moved_inputs c.args.inputs.now) in
     let found = imports_found c.joined_parts_are_flat.ensures c.args.inputs.now c.args.placed.now c.requires.placed in
-    subst (Each HasImports) (sym found) (imports_taken c.sound_parts_can_be_written.ensures value c.requires.sound c.requires.few)
+    subst (Each IsWritableImport) (sym found) (imports_taken c.sound_parts_can_be_written.ensures value c.requires.sound c.requires.few)
 
 pub returns : goal.returns
 returns g c =

@@ -1,7 +1,7 @@
 use Rattle.ppdb_build_draft.specs.Draft.{with_import}
 use Rattle.ppdb_build_merged.specs.Keyed.{imports_of}
 use Rattle.ppdb_build_merged.specs.Inputs.{HasRoom}
-use Rattle.ppdb_build_merged.specs.Writable.{HasImports}
+use Rattle.ppdb_build_merged.specs.Writable.{IsWritableImport}
 use Rattle.ppdb_build_merged.proofs.Added.{each_part, item_each_of, part_added, parts_added}
 use Rattle.ppdb_build_merged.proofs.imports.add_imports.Goals as goal
 
@@ -11,7 +11,7 @@ add_input-requires-clause-room g c =
 
 pub add_input-requires-clause-taken : goal.add_input-requires-clause-taken
 add_input-requires-clause-taken g c =
-    each_part HasImports imports_of c.args.placed.now c.loop-one.one-index c.one-item.result c.loop-one-test.true c.one-item.is c.requires.taken
+    each_part IsWritableImport imports_of c.args.placed.now c.loop-one.one-index c.one-item.result c.loop-one-test.true c.one-item.is c.requires.taken
 
 pub loop-one-preserved : goal.loop-one-preserved
 loop-one-preserved g c =

@@ -8,13 +8,13 @@ use Rattle.ppdb_merge_joined.specs.Joined.{renumbered_import}
 use Rattle.ppdb_merge_moved.specs.Moved.{moved_import_scope}
 use Rattle.ppdb_build_merged.specs.Inputs.{raw_of}
 use Rattle.ppdb_build_merged.specs.Keyed.{imports_of}
-use Rattle.ppdb_build_merged.specs.Writable.{HasImports}
+use Rattle.ppdb_build_merged.specs.Writable.{IsWritableImport}
 use Rattle.ppdb_build_merged.proofs.Rows.{row_added, row_each, rows_added}
 use Rattle.ppdb_build_merged.proofs.imports.add_input.Goals as goal
 
 pub add_import-requires-clause-taken : goal.add_import-requires-clause-taken
 add_import-requires-clause-taken g c =
-    (row_each HasImports (imports_of c.args.placed.now) c.rows.row c.rows.invariant.from c.rows.invariant.taken).0
+    (row_each IsWritableImport (imports_of c.args.placed.now) c.rows.row c.rows.invariant.from c.rows.invariant.taken).0
 
 pub rows-preserved : goal.rows-preserved
 rows-preserved g c =
@@ -22,7 +22,7 @@ rows-preserved g c =
     record {
       from = omega arith;
       to = omega arith;
-      taken = (row_each HasImports scopes c.rows.row c.rows.invariant.from c.rows.invariant.taken).1;
+      taken = (row_each IsWritableImport scopes c.rows.row c.rows.invariant.from c.rows.invariant.taken).1;
       added = row_added with_import scopes (fold with_import c.args.draft.now scopes) c.rows.draft c.add_import.new.draft c.rows.row c.rows.invariant.from
           c.rows.invariant.added c.in_ok-add_import.ensures;
     }

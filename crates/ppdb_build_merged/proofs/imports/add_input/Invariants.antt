@@ -2,14 +2,14 @@ use Rattle.std.proofs.Common.{◌≡◌, ◌+◌, ◌-◌, ◌≤◌, drop, fold
 use Rattle.ppdb_build_draft.specs.Draft.{with_import}
 use Rattle.ppdb_merge_items.specs.Each.{Each}
 use Rattle.ppdb_build_merged.specs.Keyed.{imports_of}
-use Rattle.ppdb_build_merged.specs.Writable.{HasImports}
+use Rattle.ppdb_build_merged.specs.Writable.{IsWritableImport}
 use Rattle.ppdb_build_merged.proofs.imports.add_input.Given as goal
 
 abbrev pub invariant-rows : goal.invariant-rows
 invariant-rows g l = record {
   from : 1 ≤ l.row;
   to : l.row ≤ l.count + 1;
-  taken : Each HasImports (drop (l.row - 1) (imports_of l.placed));
+  taken : Each IsWritableImport (drop (l.row - 1) (imports_of l.placed));
   added : fold with_import l.draft (drop (l.row - 1) (imports_of l.placed)) ≡ fold with_import l.fn.draft (imports_of l.placed);
 }
 
