@@ -14,7 +14,7 @@ use Rattle.ppdb_tables.specs.RawTables.{RawTables, row_at}
 use Rattle.ppdb_values.specs.Chains.{NeverEnds, parent_at, chain_for, chain_of}
 use Rattle.ppdb_values.specs.declared.file.FileValue.{FileValue}
 use Rattle.ppdb_values.specs.declared.import.ImportScopeValue.{ImportScopeValue}
-use Rattle.ppdb_values.specs.Imports.{heap_of, import_value, import_scope_of}
+use Rattle.ppdb_values.specs.Imports.{import_value, import_scope_of}
 use Rattle.ppdb_values.specs.RawFile.{blob, records_of, type_limits as raw_limits}
 use Rattle.ppdb_values.specs.Rules.{IsImport, KeepsImports}
 use Rattle.ppdb_values.specs.WrittenImports.{stored_import}
@@ -58,21 +58,21 @@ module _ (value : FileValue) (entries : length value.rows ≡ 64) (most : (table
   all_sound scope is import among = each_among (λ import. SoundImport value import) scope.imports import (sound_scope scope is).imports among
 
   scope_reading : (scope : ImportScopeValue) → Contains value.imports scope
-      → Reading (imports (raw_limits raw) (heap_of raw)) (blob raw (import_row value scope).imports) (map stored_import scope.imports) None
+      → Reading (imports (raw_limits raw) (blob_at raw.blobs)) (blob raw (import_row value scope).imports) (map stored_import scope.imports) None
   scope_reading scope is =
-      subst (λ content. Reading (imports (raw_limits raw) (heap_of raw)) content (map stored_import scope.imports) None)
+      subst (λ content. Reading (imports (raw_limits raw) (blob_at raw.blobs)) content (map stored_import scope.imports) None)
       (sym (blob_is raw (import_row value scope).imports (blob_bytes (blobs value) (import_blob scope)) (imports_there scope is)))
       (subst
-      (λ (limits : TypeLimits). Reading (imports limits (heap_of raw)) (blob_bytes (blobs value) (import_blob scope)) (map stored_import scope.imports) None)
+      (λ (limits : TypeLimits). Reading (imports limits (blob_at raw.blobs)) (blob_bytes (blobs value) (import_blob scope)) (map stored_import scope.imports) None)
       (sym (type_limits_are value entries))
       (imports_reading value small most scope.imports (all_sound scope is) (texts_there scope is)))
 
   import_scope_read : (scope : ImportScopeValue) → Contains value.imports scope → import_scope_of raw (import_row value scope) ≡ scope
   import_scope_read scope is =
       let records =
-      records_are (imports (raw_limits raw) (heap_of raw)) (blob raw (import_row value scope).imports) (map stored_import scope.imports) None
+      records_are (imports (raw_limits raw) (blob_at raw.blobs)) (blob raw (import_row value scope).imports) (map stored_import scope.imports) None
       (scope_reading scope is) in
-      let all : map import_value (records_of (imports (raw_limits raw) (heap_of raw)) (blob raw (import_row value scope).imports)) ≡ scope.imports =
+      let all : map import_value (records_of (imports (raw_limits raw) (blob_at raw.blobs)) (blob raw (import_row value scope).imports)) ≡ scope.imports =
       ap (λ (items : List ImportItem). map import_value items) records ∙ map_back stored_import import_value scope.imports (λ import _. back import) in
       λ t. record { parent = scope.parent; imports = all t }
 
@@ -84,7 +84,7 @@ module _ (value : FileValue) (entries : length value.rows ≡ 64) (most : (table
         parent = omega (arith, parent, counted);
         imports = has_blob (canonical_tables value) (import_row value scope).imports (blob_bytes (blobs value) (import_blob scope)) (imports_there scope is);
         imports_whole =
-            is_whole (imports (raw_limits (canonical_tables value)) (heap_of (canonical_tables value)))
+            is_whole (imports (raw_limits (canonical_tables value)) (blob_at (canonical_tables value).blobs))
             (blob (canonical_tables value) (import_row value scope).imports) (map stored_import scope.imports) (scope_reading scope is);
       }
 

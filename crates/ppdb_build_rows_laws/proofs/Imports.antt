@@ -24,7 +24,6 @@ use Rattle.ppdb_values.specs.declared.file.FileValue.{FileValue}
 use Rattle.ppdb_values.specs.declared.import.ImportValue.{ImportValue}
 use Rattle.ppdb_values.specs.declared.import.ImportValue.TheVariants.{Namespace, AssemblyNamespace, Target, Xml, Alias as AliasValue, AssemblyAlias}
 use Rattle.ppdb_values.specs.declared.import.ImportValue.TheVariants.{NamespaceAlias, AssemblyNamespaceAlias, TargetAlias}
-use Rattle.ppdb_values.specs.Imports.{heap_of}
 use Rattle.ppdb_values.specs.WrittenImports.{stored_import, kind_of_import, alias_text, namespace_text, assembly_row, target_type, import_numbers}
 use Rattle.ppdb_values.proofs.StoredImports.{numbers_stand, kind_from, kind_to}
 use Rattle.ppdb_values_sound_laws.specs.Imports.{SoundImport}
@@ -173,7 +172,7 @@ module _ (value : FileValue) (small : length (canonical_tables value).blobs ≤ 
       ∙ ap (λ rest. import_spelling (numbers_of import) ++ rest) (imports_bytes imports (λ other is. are other (among_later import other imports is)))
 
   abbrev heap : ℕ → Option (List ℕ)
-  heap = heap_of raw
+  heap = blob_at raw.blobs
 
   abbrev PartThere : ImportValue → ImportPart → Type 0
   PartThere import = IsPartThere (type_limits value) heap (numbers_of import)

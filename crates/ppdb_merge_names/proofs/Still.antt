@@ -24,10 +24,10 @@ use Rattle.ppdb_tables.specs.declared.rows.ConstantRow.{ConstantRow}
 use Rattle.ppdb_tables.specs.declared.rows.ImportRow.{ImportRow}
 use Rattle.ppdb_tables.specs.declared.rows.MachineRow.{MachineRow}
 use Rattle.ppdb_tables.specs.declared.rows.CustomRow.{CustomRow}
+use Rattle.ppdb_values.specs.Names.{blob_at}
 use Rattle.ppdb_values.specs.declared.file.MethodValue.{MethodValue}
 use Rattle.ppdb_values.specs.Documents.{method_of}
 use Rattle.ppdb_values.specs.Customs.{parent_of, kind_in}
-use Rattle.ppdb_values.specs.Imports.{heap_of}
 use Rattle.ppdb_values.specs.RawFile.{RawFile, blob, type_limits}
 use Rattle.type_blobs_rows.specs.declared.row.PlacedRow.{PlacedRow}
 use Rattle.type_blobs_rows.specs.Rows.{constant_types, import_rows, method_behind, resume_method, resume_methods}
@@ -158,7 +158,7 @@ module _ (m : Map) (readable : IsReadable m) where
   constant_row raw x = unless (IsStill m) (is_dropped_constant m raw x.0) _ (inside_types m x.0 (constant_types (type_limits raw) (blob raw x.1.signature)))
 
   import_row : (raw : RawTables) (x : ℕ × ImportRow) → AllByRecursion (IsStill m) (of_import m raw x)
-  import_row raw x = inside_live m 0x35 x.0 1 (import_rows (type_limits raw) (heap_of raw) (blob raw x.1.imports))
+  import_row raw x = inside_live m 0x35 x.0 1 (import_rows (type_limits raw) (blob_at raw.blobs) (blob raw x.1.imports))
 
   machine_row : (x : ℕ × MachineRow) → AllByRecursion (IsStill m) (of_machine m x)
   machine_row x = unless (IsStill m) (is_dropped m x.1.move_next || is_dropped m x.1.kickoff)

@@ -2,12 +2,12 @@
 -- stream", "Metadata Tables" and the formats of its blobs). What is removed at dropped methods, and what else is removed,
 -- names none (docs/FORMAT.md, "Fitting"), nor does the stored local signature of a method that has a `signature` line.
 use Rattle.ppdb_values.specs.Names.{Place, at_byte, cell, kind_of, Kind, Async, Parent, list_any, MethodDebugRow, ScopeRow, ConstantRow, ImportRow, MachineRow}
-use Rattle.ppdb_values.specs.Names.{CustomRow, RawTables, count, numbered, row_at}
+use Rattle.ppdb_values.specs.Names.{blob_at, CustomRow, RawTables, count, numbered, row_at}
 use Rattle.std.specs.Prelude.{map, filter, ℕ, ◌&&◌, ◌||◌, not, Bool, true, false, cond, nat_eq, nat_lt, is_some, List, [], ◌∷◌, ◌++◌, flat_map}
 use Rattle.std.specs.{Prelude.option_and_then, Option.option_map_or}
 use Rattle.custom_info.specs.declared.kinds.Kind.TheVariants.{TypeDocuments}
 use Rattle.ppdb_maps.specs.Map.{Map, is_dropped, is_gone_row, is_in_table, leaves_table, row_image, signature_line}
-use Rattle.ppdb_values.specs.{RawFile.{RawFile, blob, type_limits}, Documents.method_of, Imports.heap_of}
+use Rattle.ppdb_values.specs.{RawFile.{RawFile, blob, type_limits}, Documents.method_of}
 use Rattle.ppdb_values.specs.{Customs.{parent_of, kind_in}, Value.owner_of}
 use Rattle.type_blobs_rows.specs.declared.row.{PlacedRow.PlacedRow, Role.{Role, TheVariants.{Enumeration, AliasedAssembly}}}
 use Rattle.type_blobs_rows.specs.Rows.{constant_types, import_rows, resume_methods}
@@ -84,7 +84,7 @@ abbrev pub of_constant : Map → RawTables → ℕ × ConstantRow → List Refer
 of_constant m raw x = cond (is_dropped_constant m raw x.0) [] (types_of m raw x)
 
 abbrev pub of_import : Map → RawTables → ℕ × ImportRow → List Reference
-of_import m raw x = inside 0x35 x.0 1 (filter (is_live m) (import_rows (type_limits raw) (heap_of raw) (blob raw x.1.imports)))
+of_import m raw x = inside 0x35 x.0 1 (filter (is_live m) (import_rows (type_limits raw) (blob_at raw.blobs) (blob raw x.1.imports)))
 
 abbrev pub of_machine : Map → ℕ × MachineRow → List Reference
 of_machine m x =

@@ -24,6 +24,7 @@ use Rattle.ppdb_tables.specs.declared.rows.MachineRow.{MachineRow}
 use Rattle.ppdb_tables.specs.declared.rows.CustomRow.{CustomRow}
 use Rattle.ppdb_tables.specs.declared.parent.Parent.{Parent}
 use Rattle.ppdb_tables.specs.RawTables.{RawTables, count, numbered, row_at}
+use Rattle.ppdb_values.specs.Names.{blob_at}
 use Rattle.ppdb_values.specs.declared.custom.CustomValue.{CustomValue}
 use Rattle.ppdb_values.specs.declared.import.ImportScopeValue.{ImportScopeValue}
 use Rattle.ppdb_values.specs.declared.annotation.Annotation.{Annotation}
@@ -31,7 +32,7 @@ use Rattle.ppdb_values.specs.declared.scope.ConstantValue.{ConstantValue}
 use Rattle.ppdb_values.specs.declared.scope.ConstantBody.TheVariants.{Object}
 use Rattle.ppdb_values.specs.Constants.{body_value, constant_of}
 use Rattle.ppdb_values.specs.Customs.{custom_of, custom_body, async_body, parent_of, kind_in}
-use Rattle.ppdb_values.specs.Imports.{import_scope_of, import_value, heap_of}
+use Rattle.ppdb_values.specs.Imports.{import_scope_of, import_value}
 use Rattle.ppdb_values.specs.Owners.{ListsAreOwned, list_of}
 use Rattle.ppdb_values.specs.Parts.{first_item}
 use Rattle.ppdb_values.specs.RawFile.{RawFile, blob, records_of, begun_of, type_limits}
@@ -154,15 +155,15 @@ module _ (m : Map) (raw : RawFile) (owned : ListsAreOwned) (keeps : KeepsRules r
   import-named : (row : ℕ) (cells : ImportRow) → row_at raw.tables.imports row ≡ Some cells
       → unplaced (of_import m raw.tables (row, cells)) ≡ flat_map in_import (live_imports m (import_scope_of raw.tables cells).imports)
   import-named row cells there =
-      let g = import_grammar (type_limits raw.tables) (heap_of raw.tables) in
+      let g = import_grammar (type_limits raw.tables) (blob_at raw.tables.blobs) in
       let content = blob raw.tables cells.imports in
       let whole = (keeps.imports.each row cells there).imports_whole in
       let prefix = longest-prefix_of g content whole.fields whole.after whole.prefix in
       let ends : (cut g (prefix_of g content)).begun
       ≡ [] = no_begun (cut g (prefix_of g content)).begun (ap (λ fs. is_between (cut g fs).begun) (sym prefix) ∙ whole.ends.1) in
       inside-named 0x35 row 1 _
-      ∙ imports_live m (import_rows (type_limits raw.tables) (heap_of raw.tables) content) (map import_value (records_of g content))
-      (import-names (heap_of raw.tables) (type_limits raw.tables) content ends ∙ sym (flat_map-made import_value import_said (records_of g content)))
+      ∙ imports_live m (import_rows (type_limits raw.tables) (blob_at raw.tables.blobs) content) (map import_value (records_of g content))
+      (import-names (blob_at raw.tables.blobs) (type_limits raw.tables) content ends ∙ sym (flat_map-made import_value import_said (records_of g content)))
 
   pub imports-named : unplaced (flat_map (of_import m raw.tables) (numbered raw.tables.imports))
       ≡ flat_map (λ (i : Annotation ImportScopeValue). flat_map in_import i.item.imports)

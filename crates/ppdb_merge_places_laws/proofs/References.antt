@@ -15,10 +15,10 @@ use Rattle.ppdb_tables.specs.declared.rows.ImportRow.{ImportRow}
 use Rattle.ppdb_tables.specs.declared.rows.MachineRow.{MachineRow}
 use Rattle.ppdb_tables.specs.declared.rows.CustomRow.{CustomRow}
 use Rattle.ppdb_tables.specs.RawTables.{RawTables, count}
+use Rattle.ppdb_values.specs.Names.{blob_at}
 use Rattle.ppdb_values.specs.declared.file.MethodValue.{MethodValue}
 use Rattle.ppdb_values.specs.RawFile.{blob, type_limits}
 use Rattle.ppdb_values.specs.Documents.{method_of}
-use Rattle.ppdb_values.specs.Imports.{heap_of}
 use Rattle.ppdb_values.specs.Customs.{parent_of, kind_in}
 use Rattle.ppdb_merge_items.specs.Each.{Each, Pairs}
 use Rattle.ppdb_merge_items.proofs.Lists.{Each-weaker}
@@ -80,10 +80,10 @@ constant_row m raw row x =
 
 import_row_of : (m : Map) (raw : RawTables) (row : ℕ) (x : ImportRow) → OfRow 0x35 row (of_import m raw (row, x))
 import_row_of m raw row x =
-    let rows = import_rows (type_limits raw) (heap_of raw) (blob raw x.imports) in
+    let rows = import_rows (type_limits raw) (blob_at raw.blobs) (blob raw x.imports) in
     record {
       rise = inside_rises 0x35 row 1 (filter (is_live m) rows)
-          (rows_left (is_live m) rows (imports_rise (type_limits raw) (heap_of raw) (blob raw x.imports)));
+          (rows_left (is_live m) rows (imports_rise (type_limits raw) (blob_at raw.blobs) (blob raw x.imports)));
       each = inside_row 0x35 row 1 (filter (is_live m) rows);
     }
 

@@ -1,14 +1,10 @@
 -- The value of an import scope (Portable PDB v1.0, "ImportScope Table", "Imports Blob").
 use Rattle.ppdb_values.specs.Names.{blob_at, imports, ImportItem, namespace, assembly_namespace, target, xml, alias, assembly_alias, namespace_alias, assembly_namespace_alias, target_alias, ImportRow}
 use Rattle.ppdb_values.specs.Names.{RawTables}
-use Rattle.std.specs.Prelude.{map, ℕ, List, Option}
+use Rattle.std.specs.Prelude.{map}
 use Rattle.ppdb_values.specs.declared.import.ImportValue.{ImportValue}
 use Rattle.ppdb_values.specs.declared.import.ImportValue.TheVariants.{Namespace, AssemblyNamespace, Target, Xml, Alias, AssemblyAlias, NamespaceAlias, AssemblyNamespaceAlias, TargetAlias}
 use Rattle.ppdb_values.specs.{declared.import.ImportScopeValue.ImportScopeValue, RawFile.{blob, records_of, type_limits}}
-
--- the contents of #Blob by their indexes
-abbrev pub heap_of : RawTables → ℕ → Option (List ℕ)
-heap_of raw index = blob_at raw.blobs index
 
 abbrev pub import_value : ImportItem → ImportValue
 import_value (namespace name) = Namespace name
@@ -25,5 +21,5 @@ import_value (target_alias name type) = TargetAlias name type
 abbrev pub import_scope_of : RawTables → ImportRow → ImportScopeValue
 import_scope_of raw row = record {
   parent = row.parent;
-  imports = map import_value (records_of (imports (type_limits raw) (heap_of raw)) (blob raw row.imports));
+  imports = map import_value (records_of (imports (type_limits raw) (blob_at raw.blobs)) (blob raw row.imports));
 }

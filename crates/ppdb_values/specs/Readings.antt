@@ -1,10 +1,10 @@
 -- What the value of a file takes from a blob is what the blob holds by its grammar, however it is read (Portable PDB v1.0, the
 -- formats of its blobs).
 use Rattle.ppdb_values.specs.Names.{BlobFault, Reading, IsName, name_of, Point, PointsReading, Modifier, constants, ConstantBody, body_of, ConstantReading, body, imports, ImportItem, Slot, AsyncStep}
-use Rattle.ppdb_values.specs.Names.{async_stepping, entries_of, type_documents, RawTables, count}
+use Rattle.ppdb_values.specs.Names.{blob_at, async_stepping, entries_of, type_documents, RawTables, count}
 use Rattle.std.specs.Prelude.{◌≡◌, ℕ, List, Option, Some}
 use Rattle.custom_info.specs.HoistedScopes.{hoisted_scopes}
-use Rattle.ppdb_values.specs.{declared.custom.CustomBody.TheVariants.Async, RawFile.{records_of, begun_of, point_limits, type_limits}, Documents.{points_in, signature_in}, Imports.heap_of}
+use Rattle.ppdb_values.specs.{declared.custom.CustomBody.TheVariants.Async, RawFile.{records_of, begun_of, point_limits, type_limits}, Documents.{points_in, signature_in}}
 use Rattle.ppdb_values.specs.Customs.{async_body}
 
 -- The text of a whole name, the points and the signature, the imports, the async steps, the slots and the rows are those of the reading.
@@ -15,7 +15,7 @@ pub record ValuesAreRead : Type 0 where
   pub signature : (raw : RawTables) (column signature : ℕ) (content : List ℕ) (points : List Point) (fault : Option BlobFault)
       → PointsReading column (point_limits raw) content signature points fault → signature_in raw column content ≡ Some signature
   pub imports : (raw : RawTables) (content : List ℕ) (items : List ImportItem) (fault : Option BlobFault)
-      → Reading (imports (type_limits raw) (heap_of raw)) content items fault → records_of (imports (type_limits raw) (heap_of raw)) content ≡ items
+      → Reading (imports (type_limits raw) (blob_at raw.blobs)) content items fault → records_of (imports (type_limits raw) (blob_at raw.blobs)) content ≡ items
   pub slots : (content : List ℕ) (slots : List Slot) (fault : Option BlobFault)
       → Reading hoisted_scopes content slots fault → records_of hoisted_scopes content ≡ slots
   pub rows : (raw : RawTables) (content rows : List ℕ) (fault : Option BlobFault)

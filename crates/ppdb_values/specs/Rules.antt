@@ -4,7 +4,7 @@ use Rattle.ppdb_values.specs.Names.{Grammar, Reading, text_at, blob_at, guid_at,
 use Rattle.ppdb_values.specs.Names.{async_stepping, type_documents, DocumentRow, MethodDebugRow, ScopeRow, ConstantRow, ImportRow, MachineRow, CustomRow, parent_in, RawTables, HasShape, count, row_at}
 use Rattle.std.specs.Prelude.{◌≡◌, ◌≢◌, ℕ, suc, ◌+◌, ◌<◌, ◌≤◌, ◌⊎◌, map, List, [], length, Some, None, is_some, true}
 use Rattle.custom_info.specs.HoistedScopes.{hoisted_scopes}
-use Rattle.ppdb_values.specs.{RawFile.{RawFile, text, blob, records_of, begun_of, point_limits, type_limits}, Documents.document_of, Imports.heap_of, Customs.{parent_of, kind_in}}
+use Rattle.ppdb_values.specs.{RawFile.{RawFile, text, blob, records_of, begun_of, point_limits, type_limits}, Documents.document_of, Customs.{parent_of, kind_in}}
 use Rattle.ppdb_values.specs.{Ranges.{ComesAfter, IsInOrAfter}, Value.{owner_of, range_of}, Chains.{chain_for, chain_of}, Ordered.{EachRow, EachPair, IsSorted, Rises}}
 
 -- ---- items that are there
@@ -104,7 +104,7 @@ pub record KeepsConstants (raw : RawTables) : Type 0 where
 pub record IsImport (raw : RawTables) (row : ImportRow) : Type 0 where
   pub parent : HasRowOrNone raw 0x35 row.parent
   pub imports : HasBlob raw row.imports
-  pub imports_whole : IsWhole (import_grammar (type_limits raw) (heap_of raw)) (blob raw row.imports)
+  pub imports_whole : IsWhole (import_grammar (type_limits raw) (blob_at raw.blobs)) (blob raw row.imports)
 
 -- Each chain of parents ends: one link more than there are rows adds nothing.
 pub record KeepsImports (raw : RawTables) : Type 0 where

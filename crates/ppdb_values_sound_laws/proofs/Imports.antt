@@ -8,10 +8,11 @@ use Rattle.type_blobs.specs.Imports.{ImportItem, namespace, assembly_namespace, 
 use Rattle.type_blobs.specs.Imports.{assembly_namespace_alias, target_alias}
 use Rattle.ppdb_tables.specs.declared.rows.ImportRow.{ImportRow}
 use Rattle.ppdb_tables.specs.RawTables.{row_at}
+use Rattle.ppdb_heaps.specs.Heaps.{blob_at}
 use Rattle.ppdb_values.specs.declared.file.FileValue.{FileValue}
 use Rattle.ppdb_values.specs.declared.import.ImportScopeValue.{ImportScopeValue}
 use Rattle.ppdb_values.specs.Chains.{NeverEnds, ancestor_of, parent_at, chain_for, chain_of}
-use Rattle.ppdb_values.specs.Imports.{import_value, import_scope_of, heap_of}
+use Rattle.ppdb_values.specs.Imports.{import_value, import_scope_of}
 use Rattle.ppdb_values.specs.RawFile.{RawFile, blob, type_limits as raw_limits}
 use Rattle.ppdb_values.specs.Rules.{KeepsRules, IsImport}
 use Rattle.ppdb_values.specs.Value.{value_of}
@@ -82,7 +83,7 @@ same_ancestor f g same row (suc steps) = ap (λ n. ancestor_of f n steps) (same 
 module _ (raw : RawFile) (keeps : KeepsRules raw) where
   imports_sound_in : (row : ImportRow) → IsImport raw.tables row → SoundImportScope (value_of raw) (import_scope_of raw.tables row)
   imports_sound_in row kept =
-      let read = imports_read (raw_limits raw.tables) (heap_of raw.tables) (limits_small raw keeps) (blob raw.tables row.imports) _ None kept.imports_whole in
+      let read = imports_read (raw_limits raw.tables) (blob_at raw.tables.blobs) (limits_small raw keeps) (blob raw.tables row.imports) _ None kept.imports_whole in
       let counted = imports_counted raw keeps in
       record {
         parent = rw counted kept.parent;

@@ -16,7 +16,6 @@ use Rattle.sequence_points.specs.Records.{sequence_points}
 use Rattle.type_blobs.specs.Constants.{constants}
 use Rattle.type_blobs.specs.Imports.{imports}
 use Rattle.ppdb_values.specs.Customs.{kind_in}
-use Rattle.ppdb_values.specs.Imports.{heap_of}
 use Rattle.ppdb_values.specs.RawFile.{RawFile, blob, point_limits, type_limits}
 use Rattle.ppdb_values.specs.Rules.{IsWhole, IsWholeOfKind, KeepsRules}
 use Rattle.ppdb_verify_accepted_laws.specs.Cursors.{CursorsNeverFault, HasKind}
@@ -74,8 +73,8 @@ module _ (file : RawFile) (keeps : KeepsRules file) where
         reads;
     imports = λ row x content here there made reads.
         let import = keeps.imports.each row x here in
-        reads_on (imports (type_limits file.tables) (heap_of file.tables)) content made
-        (named file.tables x.imports content (λ bytes. IsWhole (imports (type_limits file.tables) (heap_of file.tables)) bytes) import.imports there
+        reads_on (imports (type_limits file.tables) (blob_at file.tables.blobs)) content made
+        (named file.tables x.imports content (λ bytes. IsWhole (imports (type_limits file.tables) (blob_at file.tables.blobs)) bytes) import.imports there
         import.imports_whole) reads;
     stepping = λ row x content here there has made may.
         stepping_reads_on (count file.tables 0x06) content made (of_kind row x content Async (λ e. cc) (λ e. cc) here there has) may;

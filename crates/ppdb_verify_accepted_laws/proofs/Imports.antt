@@ -10,8 +10,8 @@ use Rattle.type_blobs.specs.Imports.{imports as import_grammar}
 use Rattle.ppdb_verify_rules.specs.Rows.{RowFaults, ImportFault}
 use Rattle.ppdb_verify_rules.specs.Rows.RowFaults.{in_import}
 use Rattle.ppdb_verify_rules.specs.Rows.ImportFault.{no_parent, cycle, no_list, invalid_list}
+use Rattle.ppdb_heaps.specs.Heaps.{blob_at}
 use Rattle.ppdb_values.specs.Chains.{NeverEnds, parent_at}
-use Rattle.ppdb_values.specs.Imports.{heap_of}
 use Rattle.ppdb_values.specs.RawFile.{type_limits}
 use Rattle.ppdb_values.specs.Rules.{HasBlob, HasRowOrNone, IsImport, KeepsImports}
 use Rattle.ppdb_values.proofs.ChainEnds.{chains_end}
@@ -36,7 +36,7 @@ module _ (raw : RawTables) (accepted : IsAccepted (RowFaults raw)) where
     kept = record {
       parent = parent_within;
       imports = list_there;
-      imports_whole = whole_there raw (import_grammar (type_limits raw) (heap_of raw)) x.imports list_there
+      imports_whole = whole_there raw (import_grammar (type_limits raw) (blob_at raw.blobs)) x.imports list_there
           (λ fault invalid. no_fault (invalid_list {fault = fault} invalid));
     }
 

@@ -7,7 +7,7 @@ use Rattle.std.specs.Prelude.{◌≡◌, ◌≢◌, ℕ, zero, suc, List, [], So
 use Rattle.blob_grammar.specs.Reader.{rest_of}
 use Rattle.type_blobs.specs.ConstantReading.{rest_of as constant_rest}
 use Rattle.custom_info.specs.HoistedScopes.{hoisted_scopes}
-use Rattle.ppdb_values.specs.{Imports.heap_of, RawFile.{point_limits, type_limits}}
+use Rattle.ppdb_values.specs.RawFile.{point_limits, type_limits}
 
 -- ---- a cursor that answers no fault
 
@@ -65,7 +65,7 @@ pub record CursorsNeverFault (raw : RawTables) : Type 0 where
       (made : ConstantLeft) → ConstantReading (type_limits raw) content made → ConstantNeverFaults made)
   -- `ImportCursor`
   pub imports : EachBlob raw raw.imports (λ x. x.imports) (λ x content.
-      (made : Left ImportItem) → Reading (import_grammar (type_limits raw) (heap_of raw)) content made.items made.fault → NeverFaults made)
+      (made : Left ImportItem) → Reading (import_grammar (type_limits raw) (blob_at raw.blobs)) content made.items made.fault → NeverFaults made)
   -- `AsyncCursor`
   pub stepping : EachBlob raw raw.customs (λ x. x.value) (λ x content. HasKind raw x Async
       → (made : Result Stepping BlobFault) → MayBeStepping (count raw 0x06) content made → IsOkAnd made (λ c. NeverFaults c.left))

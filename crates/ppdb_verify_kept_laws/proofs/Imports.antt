@@ -9,8 +9,8 @@ use Rattle.ppdb_tables.proofs.NumberedRows.{row_within}
 use Rattle.type_blobs.specs.Imports.{imports as import_grammar}
 use Rattle.ppdb_verify_rules.specs.Rows.{ImportFault}
 use Rattle.ppdb_verify_rules.specs.Rows.ImportFault.{no_parent, cycle, no_list, invalid_list}
+use Rattle.ppdb_heaps.specs.Heaps.{blob_at}
 use Rattle.ppdb_values.specs.Chains.{NeverEnds as GoesOn, ancestor_of, chain_for, parent_at}
-use Rattle.ppdb_values.specs.Imports.{heap_of}
 use Rattle.ppdb_values.specs.RawFile.{type_limits}
 use Rattle.ppdb_values.specs.Rules.{IsImport, KeepsImports}
 use Rattle.ppdb_verify_kept_laws.proofs.Items.{row_named}
@@ -53,4 +53,4 @@ module _ (raw : RawTables) (keeps : KeepsImports raw) (row : ℕ) (x : ImportRow
       no_cycle (λ scope. scope.parent) raw.imports row (keeps.chains_end row (row_within raw.imports row x here).1) never
   no_import_fault _ _ _ (no_list none) = let some = is.imports in cc
   no_import_fault _ _ _ (invalid_list {fault} invalid) =
-      no_fault_there raw (import_grammar (type_limits raw) (heap_of raw)) x.imports fault is.imports is.imports_whole invalid
+      no_fault_there raw (import_grammar (type_limits raw) (blob_at raw.blobs)) x.imports fault is.imports is.imports_whole invalid

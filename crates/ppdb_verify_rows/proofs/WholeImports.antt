@@ -10,7 +10,6 @@ use Rattle.type_blobs.specs.ImportReading.{heap_of as heap_in}
 use Rattle.type_blobs.specs.Imports.{imports, ImportItem}
 use Rattle.ppdb_tables.specs.declared.rows.ImportRow.{ImportRow}
 use Rattle.ppdb_tables.specs.RawTables.{RawTables}
-use Rattle.ppdb_values.specs.Imports.{heap_of}
 use Rattle.ppdb_values.specs.RawFile.{blob, records_of, type_limits}
 use Rattle.ppdb_values.specs.Rules.{IsImport}
 use Rattle.ppdb_verify_rows.specs.Imports.{imports_in}
@@ -21,7 +20,7 @@ pub imports_begun : (raw : RawTables) (row : ImportRow) (content : List ℕ) (bl
     → IsImport raw row → content ≡ blob raw row.imports → blobs_of blobs ≡ raw.blobs → limits ≡ type_limits raw
     → Reading (imports limits (heap_in blobs)) content left.items left.fault → left ≡ imports_in raw row
 imports_begun raw row content blobs limits left keeps same heap counts reading =
-    let g = imports (type_limits raw) (heap_of raw) in
+    let g = imports (type_limits raw) (blob_at raw.blobs) in
     let there : Reading g (blob raw row.imports) left.items left.fault =
     subst (λ (heap : List ℕ). Reading (imports (type_limits raw) (λ index. blob_at heap index)) (blob raw row.imports) left.items left.fault) heap
     (subst (λ (l : TypeLimits). Reading (imports l (heap_in blobs)) (blob raw row.imports) left.items left.fault) counts
