@@ -1,25 +1,13 @@
--- What the map of a heap's items says of them.
+-- What is said of items, with one more.
 use Rattle.std.proofs.Common.{◌≡◌, ℕ, ◌+◌, Bool, true, false, cond, List, [], ◌∷◌, ◌++◌, ◌||◌, length, refl, sym, ap, subst, ◌∙◌, arith}
 use Rattle.std.proofs.Common.{Ordering, Result, Ok, Err, OnOk, is_err, true≢false, bytes_eq, Option, Some, None, IfSome, IfNone, min, if◌then◌else◌}
-use Rattle.std.proofs.lemmas.List.Sums.{sum_by_push}
-use Rattle.std.proofs.lemmas.Map.Text.{is_eq-slice_cmp}
-use Rattle.std.specs.{Borrow.Bor, List.list_any, BTreeMap.{BTreeMap, get, get_by, is_at}}
-use Rattle.std.specs.{Cmp.Lexicographic.{slice_cmp, bytes_decides}, Ordering.nat_cmp}
+use Rattle.std.specs.{List.list_any, Cmp.Lexicographic.bytes_decides}
 use Rattle.ppdb_build_heaps.specs.declared.heap.HeapKind.{HeapKind}
 use Rattle.ppdb_build_heaps.specs.Kinds.{spelled}
 use Rattle.ppdb_base.specs.Told.{told}
 use Rattle.ppdb_build_heaps.specs.Items.{with_use, index_of}
-use Rattle.ppdb_build_heaps.specs.Interned.{length_of, index_in, AreIndexes, IsIndexOf}
+use Rattle.ppdb_build_heaps.specs.Interned.{length_of}
 use Rattle.ppdb_build_heaps.proofs.Items.{index-new, index-stable, stays-there, list_any-last, itself}
-
--- what is said of an answer that is no error
-pub on_ok : {X E : Type 0} {P : Type 0} (r : Result X E) → is_err r ≡ false → OnOk r P → P
-on_ok (Ok x) fine p = p
-on_ok (Err e) fails p = absurd (true≢false fails)
-
--- slices are ordered by their bytes
-abbrev pub by_bytes : Bor (List ℕ) → Bor (List ℕ) → Ordering
-by_bytes x y = slice_cmp nat_cmp x.now y.now
 
 -- ---- one more item
 
@@ -70,45 +58,6 @@ said_more said items new item last stays at = by (bytes_eq new item) refl
         (ap (λ b. if b then Some (said all new) else None) (list_any-last (bytes_eq new) items new (itself new)) ∙ ap Some at)
         ∙ ap (λ b. cond b (Some last) was) (sym is)
     by false differ = other (list_any (bytes_eq item) items) refl differ ∙ ap (λ b. cond b (Some last) was) (sym differ)
-
-module _ (kind : HeapKind) (items : List (List ℕ)) where
-  -- the map of one more item, with the length of all before it
-  pub indexes_push : (new : Bor (List ℕ)) (old now : BTreeMap (Bor (List ℕ)) ℕ) (index : ℕ) → AreIndexes kind items old
-      → list_any (bytes_eq new.now) items ≡ false → index ≡ told (length_of kind items)
-      → ((key : Bor (List ℕ)) → get by_bytes now key ≡ cond (is_at (by_bytes new) key) (Some index) (get by_bytes old key))
-      → AreIndexes kind (items ++ new.now ∷ []) now
-  indexes_push new old now index are none at updates item =
-      updates (record { ref_ptr = (0, 0); now = item })
-      ∙ ap (λ b. cond b (Some index) (get_by (λ (key : Bor (List ℕ)). slice_cmp nat_cmp item key.now) old)) (is_eq-slice_cmp new.now item)
-      ∙ ap (λ was. cond (bytes_eq new.now item) (Some index) was) (are item)
-      ∙ sym (said_more (λ all one. told (index_of (spelled kind) all one)) items new.now item index
-      (λ there. ap told (index-stable (spelled kind) items (new.now ∷ []) item there))
-      (ap told (index-new (spelled kind) items new.now none) ∙ sym at))
-
-  pub length_push_item : (new : List ℕ) (index len : ℕ) → index ≡ told (length_of kind items) → len ≡ told (length (spelled kind new))
-      → min (index + len) 18446744073709551615 ≡ told (length_of kind (items ++ new ∷ []))
-  length_push_item new index len at more =
-      let all : length_of kind (items ++ new ∷ []) ≡ length_of kind items + length (spelled kind new) = sum_by_push
-      (λ item. length (spelled kind item)) items new in
-      omega arith
-
-  -- an item that is found has the index of its place, and one that is not found is not there
-  pub index_found : (item : List ℕ) (o : Option ℕ) → o ≡ index_in kind items item → IfSome o (IsIndexOf (record { kind = kind; items = items }) item)
-  index_found item o is = subst (λ found. IfSome found (IsIndexOf (record { kind = kind; items = items }) item)) (sym is)
-      (by (list_any (bytes_eq item) items) refl)
-    where
-      by : (b : Bool) → list_any (bytes_eq item) items ≡ b
-          → IfSome (if b then Some (told (index_of (spelled kind) items item)) else None) (IsIndexOf (record { kind = kind; items = items }) item)
-      by true there = (there, refl)
-      by false none = tt
-
-  pub none_found : (item : List ℕ) (o : Option ℕ) → o ≡ index_in kind items item → IfNone o (list_any (bytes_eq item) items ≡ false)
-  none_found item o is = subst (λ found. IfNone found (list_any (bytes_eq item) items ≡ false)) (sym is) (by (list_any (bytes_eq item) items) refl)
-    where
-      by : (b : Bool) → list_any (bytes_eq item) items ≡ b
-          → IfNone (if b then Some (told (index_of (spelled kind) items item)) else None) (list_any (bytes_eq item) items ≡ false)
-      by true there = tt
-      by false none = none
 
 -- the index of a new item
 pub index_new : (kind : HeapKind) (items : List (List ℕ)) (item : List ℕ) → list_any (bytes_eq item) items ≡ false

@@ -3,6 +3,8 @@ pub mod Stable
 pub mod Stands
 pub mod FirstUses
 pub mod Interned
+pub mod Spellings
+pub mod Marks
 pub mod GuidSets
 pub mod Parts
 pub mod Drafts

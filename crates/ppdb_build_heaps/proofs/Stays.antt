@@ -31,7 +31,7 @@ pub before-length : (items : List (List ℕ)) (item : List ℕ) → length (befo
 before-length items item = length-take-le (position_or_len (bytes_eq item) items) items (prefix_len-le-length (λ other. not (bytes_eq item other)) items)
 
 -- the place of an item that is there
-counted : (items : List (List ℕ)) (item : List ℕ) → IsIn items item → position_or_len (bytes_eq item) items < length items
+pub counted : (items : List (List ℕ)) (item : List ℕ) → IsIn items item → position_or_len (bytes_eq item) items < length items
 counted items item is =
     let stands = there items item is in
     let before = before_first (bytes_eq item) items in

@@ -1,8 +1,7 @@
 -- What the code keeps of a heap: its items in order of first use, and each one's index.
-use Rattle.std.specs.{Prelude.{ℕ, ◌≡◌, List, map, length, sum_by, bytes_eq, if◌then◌else◌, Option, Some, None}, List.list_any}
-use Rattle.std.specs.{Borrow.Bor, BTreeMap.{BTreeMap, get_by}, Cmp.Lexicographic.slice_cmp, Ordering.nat_cmp}
+use Rattle.std.specs.{Prelude.{ℕ, List, length, sum_by, bytes_eq, if◌then◌else◌, Option, Some, None}, List.list_any}
 use Rattle.ppdb_base.specs.Told.{told}
-use Rattle.ppdb_build_heaps.specs.{declared.heap.HeapKind.HeapKind, Items.{IsIn, index_of}, Kinds.spelled}
+use Rattle.ppdb_build_heaps.specs.{declared.heap.HeapKind.HeapKind, Items.index_of, Kinds.spelled}
 
 -- A heap as it is seen: its kind and its items.
 pub record Contents : Type 0 where
@@ -13,17 +12,6 @@ pub record Contents : Type 0 where
 abbrev pub length_of : HeapKind → List (List ℕ) → ℕ
 length_of kind items = sum_by (λ item. length (spelled kind item)) items
 
--- the item is there, at this index
-abbrev pub IsIndexOf : Contents → List ℕ → ℕ → Type 0
-IsIndexOf heap item index = IsIn heap.items item × (index ≡ told (index_of (spelled heap.kind) heap.items item))
-
 -- the index of an item; none of one that is not there
 abbrev pub index_in : HeapKind → List (List ℕ) → List ℕ → Option ℕ
 index_in kind items item = if list_any (bytes_eq item) items then Some (told (index_of (spelled kind) items item)) else None
-
-abbrev pub bytes_of : List (Bor (List ℕ)) → List (List ℕ)
-bytes_of items = map (λ item. item.now) items
-
--- the map has the index of each item, and no other
-abbrev pub AreIndexes : HeapKind → List (List ℕ) → BTreeMap (Bor (List ℕ)) ℕ → Type 0
-AreIndexes kind items indexes = (item : List ℕ) → get_by (λ (key : Bor (List ℕ)). slice_cmp nat_cmp item key.now) indexes ≡ index_in kind items item

@@ -1,6 +1,8 @@
 pub mod Items
 pub mod Kinds
 pub mod Interned
+pub mod Spelled
+pub mod Marks
 pub mod Guids
 pub mod Uses
 pub mod Drafts

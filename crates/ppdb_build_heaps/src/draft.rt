@@ -18,7 +18,7 @@ pub enum BlobPiece<'a> {
 }
 
 /// Notes the use of a blob whose index a draft holds next, and appends that index.
-pub fn put_index(heap: &mut Heap<'_>, content: &[u8], draft: &mut Bytes) -> Result<(), Memory>
+pub fn put_index(heap: &mut Heap, content: &[u8], draft: &mut Bytes) -> Result<(), Memory>
     requires { heap.old.kind ≡ Blobs }
     ensures items { OnOk result (heap.new ≡ record heap.old { items = with_use heap.old.items content.now }) }
     ensures bytes { OnOk result (draft.new ≡ draft.old ++ shortest (index_of as_blob heap.new.items content.now)) }
@@ -29,7 +29,7 @@ pub fn put_index(heap: &mut Heap<'_>, content: &[u8], draft: &mut Bytes) -> Resu
 }
 
 /// Appends a piece to a draft; the blob whose index it holds is noted before.
-fn put_piece(heap: &mut Heap<'_>, piece: &BlobPiece<'_>, draft: &mut Bytes) -> Result<(), Memory>
+fn put_piece(heap: &mut Heap, piece: &BlobPiece<'_>, draft: &mut Bytes) -> Result<(), Memory>
     requires { heap.old.kind ≡ Blobs }
     ensures kind { OnOk result (heap.new.kind ≡ Blobs) }
     ensures draft { OnOk result ((before : List (List ℕ)) (pieces : List Piece) → IsDraft before pieces heap.old.items draft.old
@@ -45,7 +45,7 @@ fn put_piece(heap: &mut Heap<'_>, piece: &BlobPiece<'_>, draft: &mut Bytes) -> R
 /// Notes the blobs whose indexes the pieces hold, and then the blob that the pieces make, and answers its index.
 /// The draft may hold anything before, and serves for many blobs.
 pub fn use_pieces(
-    heap: &mut Heap<'_>,
+    heap: &mut Heap,
     pieces: &[BlobPiece<'_>],
     draft: &mut Bytes,
 ) -> Result<u64, Memory>

@@ -1,13 +1,10 @@
 // The items of a heap, each of which is kept once.
-ghost use Rattle.std.specs.Prelude.{◌≡◌, length};
-ghost use Rattle.ppdb_build_heaps.specs.Kinds.{spelled};
-ghost use Rattle.ppdb_base.specs.Told.{told};
-
-use crate::put::put_items;
-use crate::store::ItemStore;
+use crate::mark::mark_of;
+use crate::spelled::Spelled;
 use ppdb_base::{Bytes, Memory};
 use std::alloc::{AllocFailed, Global};
 use std::collections::BTreeMap;
+use std::collections::btree_map::Entry;
 use std::marker::Model;
 
 /// What a heap holds.
@@ -17,65 +14,46 @@ pub enum HeapKind {
     Blobs,
 }
 
-impl HeapKind {
-    /// How many bytes an item takes.
-    #[tactic(auto, unfolding(cli_ints::specs::Shortest::short_unsigned))]
-    fn spelled_len(self, item: &[u8]) -> u64
-        ensures { result ≡ told (length (spelled self item.now)) }
-    {
-        let len = item.len() as u64;
-        match self {
-            HeapKind::Texts => len + 1,
-            HeapKind::Blobs if len < 0x80 => len + 1,
-            HeapKind::Blobs if len < 0x4000 => len + 2,
-            HeapKind::Blobs => len + 4,
-        }
-    }
-}
-
 /// The items of a heap, each of which is kept once. Contracts see it as its kind and its items.
 #[derive(Drop)]
-pub struct Heap<'a> {
-    store: &'a ItemStore,
-    kind: HeapKind,
-    /// In order of first use.
-    items: Vec<&'a [u8]>,
-    /// Each item's index.
-    indexes: BTreeMap<&'a [u8], u64>,
-    /// How many bytes all of them take.
-    len: u64,
+pub struct Heap {
+    alloc: Global,
+    items: Spelled,
+    /// The number of the first item with each mark, from 0.
+    firsts: BTreeMap<u64, u64>,
+    /// The index of each other item.
+    others: BTreeMap<Vec<u8>, u64>,
 }
 
-impl<'a> Model for Heap<'a> {
-    ghost use Rattle.std.specs.Prelude.{◌≡◌};
-    ghost use Rattle.ppdb_base.specs.Told.{told};
-    ghost use Rattle.ppdb_build_heaps.specs.Interned.{Contents, bytes_of, length_of, AreIndexes};
+impl Model for Heap {
+    ghost use Rattle.ppdb_build_heaps.specs.Interned.{Contents};
+    ghost use Rattle.ppdb_build_heaps.specs.Marks.{AreFirsts, AreOthers};
 
     ghost Value = { Contents };
 
-    ghost view = { λ h. record { kind = h.kind; items = bytes_of h.items.items } };
+    ghost view = { λ h. h.items };
 
-    ghost invariant = { λ h. AreIndexes h.kind (bytes_of h.items.items) h.indexes × (h.len ≡ told (length_of h.kind (bytes_of h.items.items))) };
+    ghost invariant = { λ h. AreFirsts h.items.items h.firsts × AreOthers h.items.kind h.items.items h.others };
 }
 
-impl<'a> Heap<'a> {
-    ghost use Rattle.std.specs.Prelude.{◌≡◌, false, [], ◌∷◌, ◌++◌, flat_map, bytes_eq, OnOk, OnErr, IfOk, IfSome, IfNone};
+impl Heap {
+    ghost use Rattle.std.specs.Prelude.{◌≡◌, [], ◌++◌, flat_map, bytes_eq, false, OnOk, OnErr, IfOk, IsSome};
     ghost use Rattle.std.specs.List.{list_any};
     ghost use Rattle.ppdb_base.specs.Told.{told};
     ghost use Rattle.ppdb_build_heaps.specs.Kinds.{spelled};
-    ghost use Rattle.ppdb_build_heaps.specs.Interned.{length_of, IsIndexOf};
+    ghost use Rattle.ppdb_build_heaps.specs.Interned.{length_of};
     ghost use Rattle.ppdb_build_heaps.specs.Items.{with_use, index_of};
+    ghost use Rattle.ppdb_build_heaps.specs.Marks.{mark, first_with, is_first};
 
-    /// A heap without items, whose new items the store keeps.
-    pub fn new(alloc: Global, store: &'a ItemStore, kind: HeapKind) -> Heap<'a>
+    /// A heap without items.
+    pub fn new(alloc: Global, kind: HeapKind) -> Heap
         ensures { result ≡ record { kind = kind; items = [] } }
     {
         Heap {
-            store,
-            kind,
-            items: Vec::new(alloc),
-            indexes: BTreeMap::new(alloc),
-            len: 0,
+            alloc,
+            items: Spelled::new(alloc, kind),
+            firsts: BTreeMap::new(alloc),
+            others: BTreeMap::new(alloc),
         }
     }
 
@@ -83,32 +61,41 @@ impl<'a> Heap<'a> {
     pub fn len(&self) -> u64
         ensures { result ≡ told (length_of self.now.kind self.now.items) }
     {
-        self.len
+        self.items.len()
     }
 
-    /// The index of an item; none of one that is not there.
-    fn find(&self, item: &[u8]) -> Option<u64>
-        ensures there { IfSome result (IsIndexOf self.now item.now) }
-        ensures new { IfNone result (list_any (bytes_eq item.now) self.now.items ≡ false) }
-    {
-        self.indexes.get(item).copied()
-    }
-
-    /// Adds an item that is not there, and answers its index.
-    fn add(&mut self, item: &'a [u8]) -> Result<u64, Memory>
-        requires { list_any (bytes_eq item.now) self.old.items ≡ false }
-        ensures items { OnOk result (self.new ≡ record self.old { items = self.old.items ++ item.now ∷ [] }) }
-        ensures index { IfOk result (λ index. index ≡ told (length_of self.old.kind self.old.items)) }
+    /// Adds an item that is not there, whose mark another item has, and answers its index.
+    fn add_other(&mut self, key: Vec<u8>, item: &[u8]) -> Result<u64, Memory>
+        requires key { key.items ≡ item.now }
+        requires new { list_any (bytes_eq item.now) self.old.items ≡ false }
+        requires some { IsSome (first_with self.old.items (mark item.now)) }
+        requires other { is_first self.old.items item.now ≡ false }
+        ensures items { OnOk result (self.new ≡ record self.old { items = with_use self.old.items item.now }) }
+        ensures index { IfOk result (λ index. index ≡ told (index_of (spelled self.old.kind) (with_use self.old.items item.now) item.now)) }
         ensures err { OnErr result (self.new ≡ self.old) }
     {
-        let index = self.len;
-        self.items.push(item)?;
-        if self.indexes.insert(item, index).is_err() {
-            let _item = self.items.pop();
+        let index = self.items.len();
+        self.others.insert(key, index)?;
+        if self.items.push(item).is_err() {
+            let _index = self.others.remove(item);
             return Err(Memory);
         }
-        self.len = index.saturating_add(self.kind.spelled_len(item));
         Ok(index)
+    }
+
+    /// Notes a use of an item that is not the first with its mark, and answers its index.
+    fn use_other(&mut self, item: &[u8]) -> Result<u64, Memory>
+        requires some { IsSome (first_with self.old.items (mark item.now)) }
+        requires other { is_first self.old.items item.now ≡ false }
+        ensures items { OnOk result (self.new ≡ record self.old { items = with_use self.old.items item.now }) }
+        ensures index { IfOk result (λ index. index ≡ told (index_of (spelled self.old.kind) (with_use self.old.items item.now) item.now)) }
+        ensures err { OnErr result (self.new ≡ self.old) }
+    {
+        let key = Vec::from_slice(self.alloc, item)?;
+        match self.others.get(&key).copied() {
+            Some(index) => Ok(index),
+            None => self.add_other(key, item),
+        }
     }
 
     /// Notes a use of an item, and answers its index.
@@ -117,19 +104,26 @@ impl<'a> Heap<'a> {
         ensures index { IfOk result (λ index. index ≡ told (index_of (spelled self.old.kind) (with_use self.old.items item.now) item.now)) }
         ensures err { OnErr result (self.new ≡ self.old) }
     {
-        if let Some(index) = self.find(item) {
-            return Ok(index);
+        let first = match self.firsts.entry(mark_of(item))? {
+            Entry::Occupied(entry) => *entry.get(),
+            Entry::Vacant(entry) => {
+                let index = self.items.len();
+                let number = self.items.count();
+                self.items.push(item)?;
+                entry.insert(number);
+                return Ok(index);
+            }
+        };
+        if self.items.item(first) == item {
+            return Ok(self.items.index(first));
         }
-        let kept = self.store.keep(item)?;
-        let index = self.add(kept)?;
-        Ok(index)
+        self.use_other(item)
     }
 
     /// Appends the items as they are spelled.
     pub fn put(&self, into: &mut Bytes) -> Result<(), Memory>
         ensures { OnOk result (into.new ≡ into.old ++ flat_map (spelled self.now.kind) self.now.items) }
     {
-        put_items(self.kind, self.items.as_slice(), into)?;
-        Ok(())
+        into.append(self.items.as_slice())
     }
 }

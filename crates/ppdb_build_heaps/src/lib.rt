@@ -5,9 +5,10 @@ mod draft;
 mod guids;
 mod heap;
 mod laws;
+mod mark;
 mod number;
 mod put;
-mod store;
+mod spelled;
 
 pub use draft::{BlobPiece, put_index, use_pieces};
 pub use guids::GuidHeap;
@@ -17,4 +18,3 @@ pub use laws::{
     written_items_are_read,
 };
 pub use number::put_shortest;
-pub use store::ItemStore;

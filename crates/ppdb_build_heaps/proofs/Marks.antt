@@ -1,0 +1,313 @@
+-- What the maps of marks say of a heap's items.
+use Rattle.std.proofs.Common.{◌≡◌, ℕ, ◌+◌, ◌<◌, ◌≤◌, Bool, true, false, cond, not, List, [], ◌∷◌, ◌++◌, length, take, get_or, bytes_eq, refl, sym, ap, subst, ◌∙◌, arith}
+use Rattle.std.proofs.Common.{true≢false, Option, Some, None, IsSome, if◌then◌else◌, length-append}
+use Rattle.std.proofs.lemmas.Bool.{eq-eqb, eqb-true, ne_eqb, lt-ltb, le-ltb, ltb-true, ltb-false}
+use Rattle.std.proofs.lemmas.Bool.Decides.{nat_tests}
+use Rattle.std.specs.Ordering.{is_eq, nat_cmp}
+use Rattle.std.proofs.lemmas.List.{get_or_append_left, get_or_past}
+use Rattle.std.proofs.lemmas.List.Folds.{position_or_len_push, list_any_at}
+use Rattle.std.proofs.lemmas.List.Sums.{position_or_len_is, prefix_len_passes, prefix_len_stops, prefix_len-le-length}
+use Rattle.std.proofs.Math.Seq.{get_or-append_seam}
+use Rattle.std.specs.{Prelude.{nat_eq, nat_lt}, List.{list_any, position_or_len, position}, Cmp.Lexicographic.bytes_decides}
+use Rattle.ppdb_base.specs.Told.{told}
+use Rattle.ppdb_build_heaps.specs.declared.heap.HeapKind.{HeapKind}
+use Rattle.ppdb_build_heaps.specs.Kinds.{spelled}
+use Rattle.ppdb_build_heaps.specs.Items.{with_use, index_of}
+use Rattle.ppdb_build_heaps.specs.Interned.{length_of, index_in}
+use Rattle.ppdb_build_heaps.specs.Marks.{mark, has_mark, first_with, is_first, other_index}
+use Rattle.ppdb_build_heaps.proofs.Items.{itself, index-new, index-stable}
+use Rattle.ppdb_build_heaps.proofs.Interned.{said_more}
+use Rattle.ppdb_build_heaps.proofs.Stays.{counted}
+
+-- ---- the first place, with one more item
+
+module _ (p : List ℕ → Bool) (xs : List (List ℕ)) (y : List ℕ) where
+  at : ℕ
+  at = position_or_len p xs
+
+  most : position_or_len p xs ≤ length xs
+  most = prefix_len-le-length (λ x. not (p x)) xs
+
+  one_more : length (xs ++ y ∷ []) ≡ length xs + 1
+  one_more = length-append xs (y ∷ []) ∙ omega arith
+
+  pub place_stays : position_or_len p xs < length xs → position_or_len p (xs ++ y ∷ []) ≡ position_or_len p xs
+  place_stays less = position_or_len_push p xs y
+      ∙ ap (λ b. cond b (length xs + cond (p y) 0 1) (position_or_len p xs)) (ne_eqb (position_or_len p xs) (length xs) (λ same. omega (arith, same, less)))
+
+  pub place_new : position_or_len p xs ≡ length xs → p y ≡ true → position_or_len p (xs ++ y ∷ []) ≡ length xs
+  place_new none is = position_or_len_push p xs y
+      ∙ ap (λ b. cond b (length xs + cond (p y) 0 1) (position_or_len p xs)) (eq-eqb (position_or_len p xs) (length xs) none)
+      ∙ ap (λ b. length xs + cond b 0 1) is ∙ omega arith
+
+  pub place_none : position_or_len p xs ≡ length xs → p y ≡ false → position_or_len p (xs ++ y ∷ []) ≡ length xs + 1
+  place_none none is = position_or_len_push p xs y
+      ∙ ap (λ b. cond b (length xs + cond (p y) 0 1) (position_or_len p xs)) (eq-eqb (position_or_len p xs) (length xs) none)
+      ∙ ap (λ b. length xs + cond b 0 1) is
+
+  some_place : (n : ℕ) → n < length xs → position_or_len p xs ≡ n → position p xs ≡ Some n
+  some_place n less is = ap (λ i. cond (nat_lt i (length xs)) (Some i) None) is ∙ ap (λ b. cond b (Some n) None) (lt-ltb n (length xs) less)
+
+  pub position_stays : position_or_len p xs < length xs → position p (xs ++ y ∷ []) ≡ position p xs
+  position_stays less =
+      ap (λ i. cond (nat_lt i (length (xs ++ y ∷ []))) (Some i) None) (place_stays less)
+      ∙ ap (λ b. cond b (Some (position_or_len p xs)) None) (lt-ltb (position_or_len p xs) (length (xs ++ y ∷ [])) (omega (arith, less, one_more))
+          ∙ sym (lt-ltb (position_or_len p xs) (length xs) less))
+
+  pub position_new : position_or_len p xs ≡ length xs → p y ≡ true → position p (xs ++ y ∷ []) ≡ Some (length xs)
+  position_new none is =
+      ap (λ i. cond (nat_lt i (length (xs ++ y ∷ []))) (Some i) None) (place_new none is)
+      ∙ ap (λ b. cond b (Some (length xs)) None) (lt-ltb (length xs) (length (xs ++ y ∷ [])) (omega (arith, one_more)))
+
+  pub position_other : p y ≡ false → position p (xs ++ y ∷ []) ≡ position p xs
+  position_other is = by (nat_lt (position_or_len p xs) (length xs)) refl
+    where
+      by : (b : Bool) → nat_lt (position_or_len p xs) (length xs) ≡ b → position p (xs ++ y ∷ []) ≡ position p xs
+      by true less = position_stays (ltb-true (position_or_len p xs) (length xs) less)
+      by false not_less =
+          let none : position_or_len p xs ≡ length xs = omega (arith, most, ltb-false (position_or_len p xs) (length xs) not_less) in
+          ap (λ i. cond (nat_lt i (length (xs ++ y ∷ []))) (Some i) None) (place_none none is)
+          ∙ ap (λ b. cond b (Some (length xs + 1)) None) (le-ltb (length xs + 1) (length (xs ++ y ∷ [])) (omega (arith, one_more)))
+          ∙ sym (ap (λ b. cond b (Some (position_or_len p xs)) None) not_less)
+
+-- where a position is, and where none is
+pub found_at : (p : List ℕ → Bool) (xs : List (List ℕ)) (n : ℕ) → position p xs ≡ Some n → (position_or_len p xs ≡ n) × (n < length xs)
+found_at p xs n is = by (nat_lt (position_or_len p xs) (length xs)) refl is
+  where
+    by : (b : Bool) → nat_lt (position_or_len p xs) (length xs) ≡ b → cond b (Some (position_or_len p xs)) None ≡ Some n
+        → (position_or_len p xs ≡ n) × (n < length xs)
+    by true less e = let same : position_or_len p xs ≡ n = cc (e) in
+        (same, subst (λ i. i < length xs) same (ltb-true (position_or_len p xs) (length xs) less))
+    by false not_less e = absurd (cc (e))
+
+pub found_none : (p : List ℕ → Bool) (xs : List (List ℕ)) → position p xs ≡ None → position_or_len p xs ≡ length xs
+found_none p xs is = by (nat_lt (position_or_len p xs) (length xs)) refl is
+  where
+    by : (b : Bool) → nat_lt (position_or_len p xs) (length xs) ≡ b → cond b (Some (position_or_len p xs)) None ≡ None
+        → position_or_len p xs ≡ length xs
+    by true less e = absurd (cc (e))
+    by false not_less e = omega (arith, prefix_len-le-length (λ x. not (p x)) xs, ltb-false (position_or_len p xs) (length xs) not_less)
+
+-- ---- items and marks
+
+marked : (item : List ℕ) → has_mark (mark item) item ≡ true
+marked item = eq-eqb (mark item) (mark item) refl
+
+-- before the first place nothing passes
+earlier : (p : List ℕ → Bool) (xs : List (List ℕ)) (k : ℕ) → k < position_or_len p xs → p (get_or xs k []) ≡ false
+earlier p xs k less = by (p (get_or xs k [])) refl
+  where
+    by : (b : Bool) → p (get_or xs k []) ≡ b → b ≡ false
+    by true is = absurd (true≢false (sym (prefix_len_passes (λ x. not (p x)) xs k [] less) ∙ ap not is))
+    by false is = refl
+
+-- at the first place something passes
+at_place : (p : List ℕ → Bool) (xs : List (List ℕ)) → position_or_len p xs < length xs → p (get_or xs (position_or_len p xs) []) ≡ true
+at_place p xs less = by (p (get_or xs (position_or_len p xs) [])) refl
+  where
+    by : (b : Bool) → p (get_or xs (position_or_len p xs) []) ≡ b → b ≡ true
+    by true is = refl
+    by false is = absurd (true≢false (sym (ap not is) ∙ prefix_len_stops (λ x. not (p x)) xs [] less))
+
+module _ (items : List (List ℕ)) (item : List ℕ) where
+  place : ℕ
+  place = position_or_len (has_mark (mark item)) items
+
+  -- an item of a mark that no item has is not there
+  pub not_there : position_or_len (has_mark (mark item)) items ≡ length items → list_any (bytes_eq item) items ≡ false
+  not_there none = by (list_any (bytes_eq item) items) refl
+    where
+      by : (b : Bool) → list_any (bytes_eq item) items ≡ b → b ≡ false
+      by true is =
+          let n = position_or_len (bytes_eq item) items in
+          let less : n < length items = counted items item is in
+          let same : item ≡ get_or items n [] = (bytes_decides item (get_or items n [])).0 (at_place (bytes_eq item) items less) in
+          absurd (true≢false (sym (ap (has_mark (mark item)) (sym same) ∙ marked item)
+          ∙ earlier (has_mark (mark item)) items n (omega (arith, none, less))))
+      by false is = refl
+
+  -- the first item of its mark is there, at that place
+  module _ (less : position_or_len (has_mark (mark item)) items < length items) (is : is_first items item ≡ true) where
+    same : get_or items (position_or_len (has_mark (mark item)) items) [] ≡ item
+    same = (bytes_decides (get_or items (position_or_len (has_mark (mark item)) items) []) item).0 is
+
+    pub first_there : list_any (bytes_eq item) items ≡ true
+    first_there = list_any_at (bytes_eq item) items (position_or_len (has_mark (mark item)) items) [] less
+        (ap (bytes_eq item) same ∙ itself item)
+
+    pub first_place : position_or_len (bytes_eq item) items ≡ position_or_len (has_mark (mark item)) items
+    first_place = position_or_len_is (bytes_eq item) items (position_or_len (has_mark (mark item)) items) [] (omega (arith, less))
+        (λ k before. other k before (bytes_eq item (get_or items k [])) refl) (λ within. ap (bytes_eq item) same ∙ itself item)
+      where
+        other : (k : ℕ) → k < position_or_len (has_mark (mark item)) items → (b : Bool) → bytes_eq item (get_or items k []) ≡ b → b ≡ false
+        other k before true e = absurd (true≢false (sym (ap (has_mark (mark item)) (sym ((bytes_decides item (get_or items k [])).0 e)) ∙ marked item)
+            ∙ earlier (has_mark (mark item)) items k before))
+        other k before false e = refl
+
+    pub first_index : (kind : HeapKind) → length_of kind (take (position_or_len (has_mark (mark item)) items) items) ≡ index_of (spelled kind) items item
+    first_index kind = ap (λ n. length_of kind (take n items)) (sym first_place)
+
+    pub first_used : with_use items item ≡ items
+    first_used = ap (λ b. if b then items else items ++ item ∷ []) first_there
+
+-- ---- one more item
+
+module _ (kind : HeapKind) (items : List (List ℕ)) (new : List ℕ) where
+  all : List (List ℕ)
+  all = items ++ new ∷ []
+
+  -- the index of each item, with one more
+  indexes_more : list_any (bytes_eq new) items ≡ false → (item : List ℕ)
+      → index_in kind (items ++ new ∷ []) item ≡ cond (bytes_eq new item) (Some (told (length_of kind items))) (index_in kind items item)
+  indexes_more none item = said_more (λ all one. told (index_of (spelled kind) all one)) items new item (told (length_of kind items))
+      (λ there. ap told (index-stable (spelled kind) items (new ∷ []) item there))
+      (ap told (index-new (spelled kind) items new none))
+
+  none_in : (item : List ℕ) → position_or_len (has_mark (mark item)) items ≡ length items → index_in kind items item ≡ None
+  none_in item none = ap (λ b. if b then Some (told (index_of (spelled kind) items item)) else None) (not_there items item none)
+
+  abbrev no_index : Option ℕ
+  no_index = None
+
+  none_always : (b : Bool) → (if b then None else None) ≡ no_index
+  none_always true = refl
+  none_always false = refl
+
+  first_stays : (item : List ℕ) → position_or_len (has_mark (mark item)) items < length items → is_first (items ++ new ∷ []) item ≡ is_first items item
+  first_stays item less =
+      let n = position_or_len (has_mark (mark item)) items in
+      ap (λ i. bytes_eq (get_or (items ++ new ∷ []) i []) item) (place_stays (has_mark (mark item)) items new less)
+      ∙ ap (λ one. bytes_eq one item) (get_or_append_left items (new ∷ []) [] n less)
+
+  -- an item that differs keeps what it has
+  other_stays : (item : List ℕ) → list_any (bytes_eq new) items ≡ false → bytes_eq new item ≡ false
+      → other_index kind (items ++ new ∷ []) item ≡ other_index kind items item
+  other_stays item none differ = by (nat_lt (position_or_len (has_mark (mark item)) items) (length items)) refl
+    where
+      n : ℕ
+      n = position_or_len (has_mark (mark item)) items
+
+      same_index : index_in kind (items ++ new ∷ []) item ≡ index_in kind items item
+      same_index = indexes_more none item ∙ ap (λ b. cond b (Some (told (length_of kind items))) (index_in kind items item)) differ
+
+      by : (b : Bool) → nat_lt (position_or_len (has_mark (mark item)) items) (length items) ≡ b
+          → other_index kind (items ++ new ∷ []) item ≡ other_index kind items item
+      by true less =
+          ap (λ i. if is_first (items ++ new ∷ []) item then None else i) same_index
+          ∙ ap (λ b. if b then None else index_in kind items item)
+          (first_stays item (ltb-true (position_or_len (has_mark (mark item)) items) (length items) less))
+      by false not_less =
+          let past : position_or_len (has_mark (mark item)) items ≡ length items = omega (
+            arith,
+            prefix_len-le-length (λ x. not (has_mark (mark item) x)) items,
+            ltb-false (position_or_len (has_mark (mark item)) items) (length items) not_less,
+          ) in
+          ap (λ i. if is_first (items ++ new ∷ []) item then None else i) (same_index ∙ none_in item past)
+          ∙ none_always (is_first (items ++ new ∷ []) item)
+          ∙ sym (none_always (is_first items item))
+          ∙ ap (λ i. if is_first items item then None else i) (sym (none_in item past))
+
+  -- a new item of a new mark is the first of its mark
+  pub others_first : position_or_len (has_mark (mark new)) items ≡ length items → (item : List ℕ)
+      → other_index kind (items ++ new ∷ []) item ≡ other_index kind items item
+  others_first none item = by (bytes_eq new item) refl
+    where
+      by : (b : Bool) → bytes_eq new item ≡ b → other_index kind (items ++ new ∷ []) item ≡ other_index kind items item
+      by true is = subst (λ one. other_index kind (items ++ new ∷ []) one ≡ other_index kind items one) ((bytes_decides new item).0 is)
+          (ap (λ i. if bytes_eq (get_or (items ++ new ∷ []) i []) new then None else index_in kind (items ++ new ∷ []) new)
+          (place_new (has_mark (mark new)) items new none (marked new))
+          ∙ ap (λ one. if bytes_eq one new then None else index_in kind (items ++ new ∷ []) new) (get_or-append_seam items new [] [])
+          ∙ ap (λ b. if b then None else index_in kind (items ++ new ∷ []) new) (itself new)
+          ∙ sym (none_always (is_first items new))
+          ∙ ap (λ i. if is_first items new then None else i) (sym (none_in new none)))
+      by false differ = other_stays item (not_there items new none) differ
+
+  -- a new item of a mark that another has
+  pub others_more : list_any (bytes_eq new) items ≡ false → position_or_len (has_mark (mark new)) items < length items → is_first items new ≡ false
+      → (item : List ℕ) → other_index kind (items ++ new ∷ []) item ≡ cond (bytes_eq new item) (Some (told (length_of kind items))) (other_index kind items item)
+  others_more none less other item = by (bytes_eq new item) refl
+    where
+      by : (b : Bool) → bytes_eq new item ≡ b
+          → other_index kind (items ++ new ∷ []) item ≡ cond (bytes_eq new item) (Some (told (length_of kind items))) (other_index kind items item)
+      by true is =
+          subst (λ one. other_index kind (items ++ new ∷ []) one ≡ Some (told (length_of kind items))) ((bytes_decides new item).0 is)
+          (ap (λ b. if b then None else index_in kind (items ++ new ∷ []) new) (first_stays new less ∙ other)
+          ∙ indexes_more none new
+          ∙ ap (λ b. cond b (Some (told (length_of kind items))) (index_in kind items new)) (itself new))
+          ∙ ap (λ b. cond b (Some (told (length_of kind items))) (other_index kind items item)) (sym is)
+      by false differ = other_stays item none differ
+          ∙ ap (λ b. cond b (Some (told (length_of kind items))) (other_index kind items item)) (sym differ)
+
+  -- ---- the first of each mark
+
+  pub firsts_more : position_or_len (has_mark (mark new)) items ≡ length items → (number : ℕ)
+      → first_with (items ++ new ∷ []) number ≡ cond (nat_eq (mark new) number) (Some (length items)) (first_with items number)
+  firsts_more none number = by (nat_eq (mark new) number) refl
+    where
+      by : (b : Bool) → nat_eq (mark new) number ≡ b
+          → first_with (items ++ new ∷ []) number ≡ cond (nat_eq (mark new) number) (Some (length items)) (first_with items number)
+      by true is =
+          position_new (has_mark number) items new (ap (λ n. position_or_len (has_mark n) items) (sym (eqb-true (mark new) number is)) ∙ none) is
+          ∙ ap (λ b. cond b (Some (length items)) (first_with items number)) (sym is)
+      by false differ = position_other (has_mark number) items new differ
+          ∙ ap (λ b. cond b (Some (length items)) (first_with items number)) (sym differ)
+
+  pub firsts_stay : position_or_len (has_mark (mark new)) items < length items → (number : ℕ) → first_with (items ++ new ∷ []) number ≡ first_with items number
+  firsts_stay less number = by (nat_eq (mark new) number) refl
+    where
+      by : (b : Bool) → nat_eq (mark new) number ≡ b → first_with (items ++ new ∷ []) number ≡ first_with items number
+      by true is = position_stays (has_mark number) items new
+          (subst (λ n. position_or_len (has_mark n) items < length items) (eqb-true (mark new) number is) less)
+      by false differ = position_other (has_mark number) items new differ
+
+-- numbers are ordered by themselves
+pub number_same : (a b : ℕ) → is_eq (nat_cmp a b) ≡ nat_eq a b
+number_same a b = grind (arith, nat_tests)
+
+-- where some item has a mark
+pub some_found : (p : List ℕ → Bool) (xs : List (List ℕ)) → IsSome (position p xs) → position_or_len p xs < length xs
+some_found p xs is = by (nat_lt (position_or_len p xs) (length xs)) refl is
+  where
+    by : (b : Bool) → nat_lt (position_or_len p xs) (length xs) ≡ b → IsSome (cond b (Some (position_or_len p xs)) None) → position_or_len p xs < length xs
+    by true less some = ltb-true (position_or_len p xs) (length xs) less
+    by false not_less some = absurd (true≢false (sym some))
+
+-- an item without an index, whose mark another one has first, is not there
+pub none_other : (kind : HeapKind) (items : List (List ℕ)) (item : List ℕ) → is_first items item ≡ false → other_index kind items item ≡ None
+    → list_any (bytes_eq item) items ≡ false
+none_other kind items item other none =
+    by (list_any (bytes_eq item) items) refl (sym (ap (λ b. if b then None else index_in kind items item) other) ∙ none)
+  where
+    by : (b : Bool) → list_any (bytes_eq item) items ≡ b → (if b then Some (told (index_of (spelled kind) items item)) else None) ≡ None
+        → list_any (bytes_eq item) items ≡ false
+    by true is e = absurd (cc (e))
+    by false is e = is
+
+-- an item with an index, whose mark another one has first, is there
+pub found_other : (kind : HeapKind) (items : List (List ℕ)) (item : List ℕ) (index : ℕ) → is_first items item ≡ false → other_index kind items item ≡ Some index
+    → (with_use items item ≡ items) × (index ≡ told (index_of (spelled kind) items item))
+found_other kind items item index other is =
+    by (list_any (bytes_eq item) items) refl (sym (ap (λ b. if b then None else index_in kind items item) other) ∙ is)
+  where
+    by : (b : Bool) → list_any (bytes_eq item) items ≡ b → (if b then Some (told (index_of (spelled kind) items item)) else None) ≡ Some index
+        → (with_use items item ≡ items) × (index ≡ told (index_of (spelled kind) items item))
+    by true there e = (ap (λ b. if b then items else items ++ item ∷ []) there, sym (cc (e)))
+    by false none e = absurd (cc (e))
+
+-- what was put in and taken out again
+pub undone : (b : Bool) (index : ℕ) (was : Option ℕ) → (b ≡ true → was ≡ None) → cond b None (cond b (Some index) was) ≡ was
+undone true index was none = sym (none refl)
+undone false index was none = refl
+
+pub new_used : (items : List (List ℕ)) (item : List ℕ) → list_any (bytes_eq item) items ≡ false → items ++ item ∷ [] ≡ with_use items item
+new_used items item none = sym (ap (λ b. if b then items else items ++ item ∷ []) none)
+
+-- an item that is not there has no index
+pub none_there : (kind : HeapKind) (items : List (List ℕ)) (item other : List ℕ) → list_any (bytes_eq item) items ≡ false → bytes_eq item other ≡ true
+    → other_index kind items other ≡ None
+none_there kind items item other none is = subst (λ one. other_index kind items one ≡ None) ((bytes_decides item other).0 is)
+    (by (is_first items item) (ap (λ b. if b then Some (told (index_of (spelled kind) items item)) else None) none))
+  where
+    by : (b : Bool) → index_in kind items item ≡ None → (if b then None else index_in kind items item) ≡ None
+    by true at = refl
+    by false at = at

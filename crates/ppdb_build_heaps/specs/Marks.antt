@@ -1,0 +1,33 @@
+-- What the code keeps to find items: the first item of each mark, and the index of each other item.
+use Rattle.std.specs.Prelude.{◌≡◌, ℕ, ◌+◌, ◌*◌, ◌%◌, Bool, List, [], fold, nat_eq, bytes_eq, get_or, if◌then◌else◌, Option, None}
+use Rattle.std.specs.{List.{position, position_or_len}, BTreeMap.{BTreeMap, get, get_by}, Cmp.Lexicographic.slice_cmp, Ordering.nat_cmp}
+use Rattle.std.specs.{declared.vec.Vec.Vec, declared.alloc.Global.Global}
+use Rattle.ppdb_build_heaps.specs.{declared.heap.HeapKind.HeapKind, Interned.index_in}
+
+-- the mark of an item: a polynomial of its bytes
+abbrev pub mark : List ℕ → ℕ
+mark item = fold (λ mark byte. ((mark * 0x100000001b3) % 0x10000000000000000 + byte) % 0x10000000000000000) 0 item
+
+-- the item has this mark
+abbrev pub has_mark : ℕ → List ℕ → Bool
+has_mark marked item = nat_eq (mark item) marked
+
+-- the number of the first item with a mark, from 0; none of a mark that no item has
+abbrev pub first_with : List (List ℕ) → ℕ → Option ℕ
+first_with items marked = position (has_mark marked) items
+
+-- the item is the first with its mark
+abbrev pub is_first : List (List ℕ) → List ℕ → Bool
+is_first items item = bytes_eq (get_or items (position_or_len (has_mark (mark item)) items) []) item
+
+-- the index of an item whose mark an earlier one has; none of all others
+abbrev pub other_index : HeapKind → List (List ℕ) → List ℕ → Option ℕ
+other_index kind items item = if is_first items item then None else index_in kind items item
+
+-- the map has the first item of each mark, and nothing else
+abbrev pub AreFirsts : List (List ℕ) → BTreeMap ℕ ℕ → Type 0
+AreFirsts items firsts = (marked : ℕ) → get nat_cmp firsts marked ≡ first_with items marked
+
+-- the map has the index of each other item, and nothing else
+abbrev pub AreOthers : HeapKind → List (List ℕ) → BTreeMap (Vec ℕ Global) ℕ → Type 0
+AreOthers kind items others = (item : Vec ℕ Global) → get (λ (x y : Vec ℕ Global). slice_cmp nat_cmp x.items y.items) others item ≡ other_index kind items item.items
