@@ -23,7 +23,6 @@ use ppdb_base::{Bytes, Limit, MAX_ROWS, Memory, Steps};
 use ppdb_build_canon::IdChoice;
 use ppdb_build_draft::{Drafting, drafts_are_canonical};
 use ppdb_build_from_rows::list_limit;
-use ppdb_build_heaps::ItemStore;
 use ppdb_build_layout::Rows;
 use ppdb_build_merged::draft_of_inputs;
 use ppdb_merge_rows::RowInput;
@@ -121,8 +120,7 @@ pub fn write_joined<L: Ledger>(
     ensures again { IfOk result (λ file. IfSome file (λ bytes.
         (again : RawFile) → IsRawOf bytes again → IsSameAgain (joined_inputs (moved_inputs inputs.now)) id again)) }
 {
-    let store = ItemStore::new(alloc);
-    let draft = match draft_of_inputs(alloc, &store, inputs, steps) {
+    let draft = match draft_of_inputs(alloc, inputs, steps) {
         Ok(Some(draft)) => draft,
         Ok(None) => return Ok(None),
         Err(Memory) => return Err(BuildError::Memory),

@@ -19,7 +19,6 @@ use ppdb_base::{Bytes, Limit, Memory, Steps};
 use ppdb_build_canon::IdChoice;
 use ppdb_build_draft::Drafting;
 use ppdb_build_from_rows::{draft_of_file, files_pass_no_early_limit, list_limit};
-use ppdb_build_heaps::ItemStore;
 use ppdb_tables::PdbHead;
 use ppdb_verify::Verified;
 use std::alloc::Global;
@@ -104,8 +103,7 @@ pub fn rebuild<L: Ledger>(
     ensures reread { IfOk result (λ bytes. Says bytes (with_id (value_in (raw_file file.now)) (chosen_id (value_in (raw_file file.now)) id))) }
     ensures again { IfOk result (λ bytes. (again : RawFile) → IsRawOf bytes again → IsSameAgain (value_in (raw_file file.now)) id again) }
 {
-    let store = ItemStore::new(alloc);
-    let draft = match draft_of_file(alloc, &store, file, steps) {
+    let draft = match draft_of_file(alloc, file, steps) {
         Ok(draft) => draft,
         Err(Memory) => return Err(BuildError::Memory),
     };

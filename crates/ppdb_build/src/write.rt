@@ -19,7 +19,6 @@ use crate::parts::draft_of;
 use ppdb_base::{Bytes, Limit};
 use ppdb_build_canon::IdChoice;
 use ppdb_build_draft::{Drafting, drafts_are_canonical};
-use ppdb_build_heaps::ItemStore;
 use ppdb_build_limits::{length_limit, offset_limit, value_has_types};
 use ppdb_tables::PdbHead;
 use ppdb_values::FileValue;
@@ -95,8 +94,7 @@ pub fn write_file(alloc: Global, value: &FileValue, id: IdChoice) -> Result<Byte
         None => {}
     }
     parts_are_writable(value);
-    let store = ItemStore::new(alloc);
-    let draft = match draft_of(alloc, &store, value) {
+    let draft = match draft_of(alloc, value) {
         Ok(draft) => draft,
         Err(error) => return Err(error),
     };

@@ -2,7 +2,7 @@
 use crate::notes::{fill_rows, next_row, note_guid, put_row};
 use custom_info::Range;
 use ppdb_base::{List, Memory};
-use ppdb_build_heaps::{GuidHeap, ItemStore};
+use ppdb_build_heaps::GuidHeap;
 use ppdb_build_items::{BlobHeap, TextHeap};
 use ppdb_build_layout::Rows;
 use ppdb_tables::{
@@ -17,17 +17,17 @@ use type_blobs::{Constant, Modifier};
 
 /// The heaps and the rows of a file, to which its parts are added table by table. After an error a draft is of no use.
 #[derive(Drop)]
-pub struct Drafting<'a> {
+pub struct Drafting {
     alloc: Global,
-    pub(crate) texts: TextHeap<'a>,
+    pub(crate) texts: TextHeap,
     pub(crate) guids: GuidHeap,
-    pub(crate) blobs: BlobHeap<'a>,
+    pub(crate) blobs: BlobHeap,
     rows: Rows,
     /// How many constants the scopes own that have their rows.
     owned: u64,
 }
 
-impl<'a> Model for Drafting<'a> {
+impl Model for Drafting {
     ghost use Rattle.ppdb_build_items.specs.Making.{interned_of};
     ghost use Rattle.ppdb_build_draft.specs.Draft.{Draft};
 
@@ -36,7 +36,7 @@ impl<'a> Model for Drafting<'a> {
     ghost view = { λ d. record { texts = d.texts; guids = d.guids; blobs = interned_of d.blobs; rows = d.rows; owned = d.owned } };
 }
 
-impl<'a> Drafting<'a> {
+impl Drafting {
     ghost use Rattle.std.specs.Prelude.{◌≡◌, ◌≤◌, [], All, OnOk, IfOk, IfErr};
     ghost use Rattle.type_blobs.specs.Types.{IsToken};
     ghost use Rattle.type_blobs.specs.ConstantReading.{shown};
@@ -48,15 +48,15 @@ impl<'a> Drafting<'a> {
     ghost use Rattle.ppdb_build_draft.specs.Draft.{empty_draft, with_document, with_method, with_all_methods, with_variable, with_scope_row};
     ghost use Rattle.ppdb_build_draft.specs.Draft.{with_signature, with_import, with_machine, with_custom};
 
-    /// A draft without parts, whose items the store keeps.
-    pub fn new(alloc: Global, store: &'a ItemStore) -> Result<Drafting<'a>, Memory>
+    /// A draft without parts.
+    pub fn new(alloc: Global) -> Result<Drafting, Memory>
         ensures { IfOk result (λ draft. draft ≡ empty_draft) }
     {
         Ok(Drafting {
             alloc,
-            texts: TextHeap::new(alloc, store)?,
+            texts: TextHeap::new(alloc)?,
             guids: GuidHeap::new(alloc),
-            blobs: BlobHeap::new(alloc, store)?,
+            blobs: BlobHeap::new(alloc)?,
             rows: Rows {
                 documents: List::new(alloc),
                 methods: List::new(alloc),

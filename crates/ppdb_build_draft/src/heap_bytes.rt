@@ -26,7 +26,7 @@ fn put_padding(len: usize, into: &mut Bytes) -> Result<(), Memory>
     }
 }
 
-impl Drafting<'_> {
+impl Drafting {
     ghost use Rattle.std.specs.Prelude.{◌≡◌, ◌+◌, ◌++◌, flat_map, OnOk};
     ghost use Rattle.ppdb_base.specs.Told.{told};
     ghost use Rattle.ppdb_build_heaps.specs.Items.{as_text, as_blob};

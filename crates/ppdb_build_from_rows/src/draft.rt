@@ -15,7 +15,6 @@ use crate::others::{add_customs, add_imports, add_machines};
 use crate::scopes::add_scopes;
 use ppdb_base::{Memory, Steps};
 use ppdb_build_draft::{Drafting, drafts_are_canonical};
-use ppdb_build_heaps::ItemStore;
 use ppdb_tables::METHOD_DEF;
 use ppdb_values::values_have_types;
 use ppdb_values_reading::scopes_own_their_lists;
@@ -107,13 +106,11 @@ fn add_parts<L: Ledger>(
 }
 
 /// The draft of a file's value, made from its rows, of which as many are read as there are: a part at a time, and never the whole value.
-/// The store keeps its items.
-pub fn draft_of_file<'a, L: Ledger>(
+pub fn draft_of_file<L: Ledger>(
     alloc: Global,
-    store: &'a ItemStore,
     file: &Verified<'_>,
     steps: &mut Steps<L>,
-) -> Result<Drafting<'a>, Memory>
+) -> Result<Drafting, Memory>
     ensures draft { IfOk result (λ draft. IsDraftOf (value_of (raw_file file.now)) draft) }
     ensures types { OnOk result (HasTypes (value_of (raw_file file.now))) }
     ensures rows { OnOk result (steps.new ≡ steps.old + row_total (raw_file file.now).tables) }
@@ -123,7 +120,7 @@ pub fn draft_of_file<'a, L: Ledger>(
     values_have_types();
     scopes_own_their_lists();
     id_is_long(file);
-    let mut draft = match Drafting::new(alloc, store) {
+    let mut draft = match Drafting::new(alloc) {
         Ok(draft) => draft,
         Err(error) => return Err(error),
     };

@@ -52,7 +52,7 @@ module _ (p : List ℕ → Bool) (xs : List (List ℕ)) (y : List ℕ) where
   position_stays less =
       ap (λ i. cond (nat_lt i (length (xs ++ y ∷ []))) (Some i) None) (place_stays less)
       ∙ ap (λ b. cond b (Some (position_or_len p xs)) None) (lt-ltb (position_or_len p xs) (length (xs ++ y ∷ [])) (omega (arith, less, one_more))
-          ∙ sym (lt-ltb (position_or_len p xs) (length xs) less))
+      ∙ sym (lt-ltb (position_or_len p xs) (length xs) less))
 
   pub position_new : position_or_len p xs ≡ length xs → p y ≡ true → position p (xs ++ y ∷ []) ≡ Some (length xs)
   position_new none is =

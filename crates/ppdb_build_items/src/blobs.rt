@@ -2,19 +2,19 @@
 use crate::cells::cell_of;
 use cli_ints::spell_unsigned;
 use ppdb_base::{Bytes, Memory};
-use ppdb_build_heaps::{Heap, HeapKind, ItemStore, put_shortest};
+use ppdb_build_heaps::{Heap, HeapKind, put_shortest};
 use std::alloc::Global;
 use std::marker::Model;
 
 /// The blobs that were noted, each kept once, the length of all uses, and a buffer in which the next blob is made.
 #[derive(Drop)]
-pub struct BlobHeap<'a> {
-    heap: Heap<'a>,
+pub struct BlobHeap {
+    heap: Heap,
     total: u64,
     pub(crate) blob: Bytes,
 }
 
-impl<'a> Model for BlobHeap<'a> {
+impl Model for BlobHeap {
     ghost use Rattle.std.specs.Prelude.{◌≡◌};
     ghost use Rattle.ppdb_build_heaps.specs.declared.heap.HeapKind.TheVariants.{Blobs};
     ghost use Rattle.ppdb_build_items.specs.Making.{Making};
@@ -26,7 +26,7 @@ impl<'a> Model for BlobHeap<'a> {
     ghost invariant = { λ b. b.heap.kind ≡ Blobs };
 }
 
-impl<'a> BlobHeap<'a> {
+impl BlobHeap {
     ghost use Rattle.std.specs.Prelude.{◌≡◌, ◌<◌, ◌^◌, [], ◌++◌, flat_map, OnOk, IfOk};
     ghost use Rattle.cli_ints.specs.Shortest.{short_unsigned};
     ghost use Rattle.ppdb_build_heaps.specs.declared.heap.HeapKind.TheVariants.{Blobs};
@@ -38,10 +38,10 @@ impl<'a> BlobHeap<'a> {
     ghost use Rattle.ppdb_build_items.specs.Making.{interned_of, begun, with_piece, made};
 
     /// The empty blob alone, which no use has counted.
-    pub fn new(alloc: Global, store: &'a ItemStore) -> Result<BlobHeap<'a>, Memory>
+    pub fn new(alloc: Global) -> Result<BlobHeap, Memory>
         ensures { IfOk result (λ blobs. interned_of blobs ≡ none_interned) }
     {
-        let mut heap = Heap::new(alloc, store, HeapKind::Blobs);
+        let mut heap = Heap::new(alloc, HeapKind::Blobs);
         heap.use_item(&[])?;
         Ok(BlobHeap {
             heap,

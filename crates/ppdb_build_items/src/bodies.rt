@@ -6,7 +6,7 @@ use ppdb_values::CustomBody;
 use sequence_points::{Point, PointError, points_into};
 use type_blobs::{Constant, Modifier, constant_into};
 
-impl BlobHeap<'_> {
+impl BlobHeap {
     ghost use Rattle.std.specs.Prelude.{◌≡◌, [], All, OnOk, IfOk, IfErr};
     ghost use Rattle.ppdb_build_heaps.specs.Uses.{plain, octets};
     ghost use Rattle.sequence_points.specs.Written.{CanBeWritten, points_blob, large_steps, IsRefused};

@@ -12,7 +12,7 @@ use ppdb_values::ImportValue;
 use type_blobs::{TypeToken, number_of};
 
 /// Puts the number of a type after the blob that is being made.
-fn put_type(blobs: &mut BlobHeap<'_>, target: &TypeToken) -> Result<(), Memory>
+fn put_type(blobs: &mut BlobHeap, target: &TypeToken) -> Result<(), Memory>
     requires { types.IsToken target.now }
     ensures { OnOk result (blobs.new ≡ with_piece blobs.old (number (types.number_of target.now))) }
 {
@@ -20,7 +20,7 @@ fn put_type(blobs: &mut BlobHeap<'_>, target: &TypeToken) -> Result<(), Memory>
 }
 
 /// Puts the kind of an import after it, and a text, which is noted as a blob of its own.
-fn put_named(blobs: &mut BlobHeap<'_>, kind: u32, name: &[u8]) -> Result<(), Memory>
+fn put_named(blobs: &mut BlobHeap, kind: u32, name: &[u8]) -> Result<(), Memory>
     requires { kind < 2 ^ 29 }
     ensures { OnOk result (blobs.new ≡ fold with_piece blobs.old (number kind ∷ index name.now ∷ [])) }
 {
@@ -29,7 +29,7 @@ fn put_named(blobs: &mut BlobHeap<'_>, kind: u32, name: &[u8]) -> Result<(), Mem
 }
 
 /// Puts an assembly and a text after it.
-fn put_assembly(blobs: &mut BlobHeap<'_>, assembly: u32, name: &[u8]) -> Result<(), Memory>
+fn put_assembly(blobs: &mut BlobHeap, assembly: u32, name: &[u8]) -> Result<(), Memory>
     requires { assembly < 2 ^ 29 }
     ensures { OnOk result (blobs.new ≡ fold with_piece blobs.old (number assembly ∷ index name.now ∷ [])) }
 {
@@ -38,7 +38,7 @@ fn put_assembly(blobs: &mut BlobHeap<'_>, assembly: u32, name: &[u8]) -> Result<
 }
 
 /// Puts an import after it; the texts are noted as blobs of their own.
-fn put_import(blobs: &mut BlobHeap<'_>, import: &ImportValue) -> Result<(), Memory>
+fn put_import(blobs: &mut BlobHeap, import: &ImportValue) -> Result<(), Memory>
     requires { HasSpelling import.now }
     ensures { OnOk result (blobs.new ≡ fold with_piece blobs.old (import_pieces import.now)) }
 {
@@ -84,7 +84,7 @@ fn put_import(blobs: &mut BlobHeap<'_>, import: &ImportValue) -> Result<(), Memo
 }
 
 /// Puts all imports after it, in order.
-fn put_imports(blobs: &mut BlobHeap<'_>, imports: &[ImportValue]) -> Result<(), Memory>
+fn put_imports(blobs: &mut BlobHeap, imports: &[ImportValue]) -> Result<(), Memory>
     requires { All HasSpelling imports.now }
     ensures { OnOk result (blobs.new ≡ fold with_piece blobs.old (flat_map import_pieces imports.now)) }
 {
@@ -94,7 +94,7 @@ fn put_imports(blobs: &mut BlobHeap<'_>, imports: &[ImportValue]) -> Result<(), 
     Ok(())
 }
 
-impl BlobHeap<'_> {
+impl BlobHeap {
     ghost use Rattle.std.specs.Prelude.{◌≡◌, All, flat_map, OnOk, IfOk};
     ghost use Rattle.ppdb_build_canon.specs.Uses.{import_pieces};
     ghost use Rattle.ppdb_values_sound_laws.specs.Writing.{HasSpelling};

@@ -50,7 +50,7 @@ fn parts_at<'a>(alloc: Global, name: &'a [u8], separator: u8) -> Result<Vec<&'a 
 }
 
 /// Notes each part, and puts its index after the blob that is being made.
-fn put_parts(blobs: &mut BlobHeap<'_>, parts: &[&[u8]]) -> Result<(), Memory>
+fn put_parts(blobs: &mut BlobHeap, parts: &[&[u8]]) -> Result<(), Memory>
     ensures { OnOk result (blobs.new ≡ fold with_piece blobs.old (map index (map (λ part. part.now) parts.now))) }
 {
     for part in parts {
@@ -59,7 +59,7 @@ fn put_parts(blobs: &mut BlobHeap<'_>, parts: &[&[u8]]) -> Result<(), Memory>
     Ok(())
 }
 
-impl BlobHeap<'_> {
+impl BlobHeap {
     ghost use Rattle.std.specs.Prelude.{◌≡◌, OnOk, IfOk};
     ghost use Rattle.ppdb_build_canon.specs.Uses.{name_pieces};
     ghost use Rattle.ppdb_build_items.specs.Interned.{with_blob, blob_place, cell};

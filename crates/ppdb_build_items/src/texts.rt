@@ -1,18 +1,18 @@
 // The texts of a file.
 use crate::cells::cell_of;
 use ppdb_base::{Bytes, Memory};
-use ppdb_build_heaps::{Heap, HeapKind, ItemStore};
+use ppdb_build_heaps::{Heap, HeapKind};
 use std::alloc::Global;
 use std::marker::Model;
 
 /// The texts that were noted, each kept once, and the length of all uses.
 #[derive(Drop)]
-pub struct TextHeap<'a> {
-    heap: Heap<'a>,
+pub struct TextHeap {
+    heap: Heap,
     total: u64,
 }
 
-impl<'a> Model for TextHeap<'a> {
+impl Model for TextHeap {
     ghost use Rattle.std.specs.Prelude.{◌≡◌};
     ghost use Rattle.ppdb_build_heaps.specs.declared.heap.HeapKind.TheVariants.{Texts};
     ghost use Rattle.ppdb_build_items.specs.Interned.{Annotation};
@@ -24,7 +24,7 @@ impl<'a> Model for TextHeap<'a> {
     ghost invariant = { λ t. t.heap.kind ≡ Texts };
 }
 
-impl<'a> TextHeap<'a> {
+impl TextHeap {
     ghost use Rattle.std.specs.Prelude.{◌≡◌, [], ◌++◌, flat_map, OnOk, IfOk};
     ghost use Rattle.ppdb_build_heaps.specs.declared.heap.HeapKind.TheVariants.{Texts};
     ghost use Rattle.ppdb_base.specs.Told.{told};
@@ -33,10 +33,10 @@ impl<'a> TextHeap<'a> {
     ghost use Rattle.ppdb_build_items.specs.Interned.{none_interned, with_text, text_place, cell};
 
     /// The empty text alone, which no use has counted.
-    pub fn new(alloc: Global, store: &'a ItemStore) -> Result<TextHeap<'a>, Memory>
+    pub fn new(alloc: Global) -> Result<TextHeap, Memory>
         ensures { IfOk result (λ texts. texts ≡ none_interned) }
     {
-        let mut heap = Heap::new(alloc, store, HeapKind::Texts);
+        let mut heap = Heap::new(alloc, HeapKind::Texts);
         heap.use_item(&[])?;
         Ok(TextHeap { heap, total: 0 })
     }

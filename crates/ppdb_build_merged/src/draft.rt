@@ -21,7 +21,6 @@ use crate::scopes::add_scopes;
 use crate::stopped::Stopped;
 use ppdb_base::{Memory, Steps};
 use ppdb_build_draft::Drafting;
-use ppdb_build_heaps::ItemStore;
 use ppdb_merge_parts::joined_parts_are_flat;
 use ppdb_merge_rows::{RowInput, fitting_points_fit, rows_are_images};
 use ppdb_tables::METHOD_DEF;
@@ -144,15 +143,14 @@ fn add_parts<L: Ledger>(
     Ok(())
 }
 
-/// The draft of inputs that are moved by their maps and joined, made from their rows: a part at a time, and never a value of a file. The store
-/// keeps its items. None where a table has more rows than three bytes can name, a method's new size is 0x20000000 or more, or a step from line
+/// The draft of inputs that are moved by their maps and joined, made from their rows: a part at a time, and never a value of a file. None
+/// where a table has more rows than three bytes can name, a method's new size is 0x20000000 or more, or a step from line
 /// to line has no form: the value is needed to say which limit is met, if any.
-pub fn draft_of_inputs<'a, L: Ledger>(
+pub fn draft_of_inputs<L: Ledger>(
     alloc: Global,
-    store: &'a ItemStore,
     inputs: &[RowInput<'_>],
     steps: &mut Steps<L>,
-) -> Result<Option<Drafting<'a>>, Memory>
+) -> Result<Option<Drafting>, Memory>
     requires some { 1 ≤ length inputs.now }
     requires most { length inputs.now ≤ 256 }
     requires fit { InputsFit (moved_inputs inputs.now) }
@@ -160,7 +158,7 @@ pub fn draft_of_inputs<'a, L: Ledger>(
     ensures draft { IfOk result (λ draft. IfSome draft (λ draft. draft ≡ drafted (joined_inputs (moved_inputs inputs.now)))) }
     ensures points { IfOk result (λ draft. IfSome draft (λ draft. Each HasForms (joined_inputs (moved_inputs inputs.now)).methods)) }
 {
-    let mut draft = match Drafting::new(alloc, store) {
+    let mut draft = match Drafting::new(alloc) {
         Ok(draft) => draft,
         Err(error) => return Err(error),
     };

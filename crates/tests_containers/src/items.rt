@@ -1,12 +1,11 @@
 // Heaps that are written.
 use ppdb_base::{Bytes, Memory};
-use ppdb_build_heaps::{BlobPiece, GuidHeap, Heap, HeapKind, ItemStore, use_pieces};
+use ppdb_build_heaps::{BlobPiece, GuidHeap, Heap, HeapKind, use_pieces};
 use std::alloc::Global;
 
 /// The heap of a document's name, which is split at this separator, with a hash after it, as bytes.
 fn heap_of_name(alloc: Global, separator: u8, name: &[u8], hash: &[u8]) -> Result<Bytes, Memory> {
-    let store = ItemStore::new(alloc);
-    let mut heap = Heap::new(alloc, &store, HeapKind::Blobs);
+    let mut heap = Heap::new(alloc, HeapKind::Blobs);
     heap.use_item(&[])?;
     let separators = [separator];
     let mut pieces = Vec::new(alloc);
@@ -64,8 +63,7 @@ fn use_zeros(heap: &mut Heap) -> Result<[u64; 5], Memory> {
 
 /// The same in a heap of its own, and how long that is.
 fn indexes(alloc: Global) -> Result<([u64; 5], u64), Memory> {
-    let store = ItemStore::new(alloc);
-    let mut heap = Heap::new(alloc, &store, HeapKind::Blobs);
+    let mut heap = Heap::new(alloc, HeapKind::Blobs);
     match use_zeros(&mut heap) {
         Ok(indexes) => Ok((indexes, heap.len())),
         Err(error) => Err(error),
@@ -109,8 +107,7 @@ fn use_texts(heap: &mut Heap, bytes: &mut Bytes) -> Result<[u64; 3], Memory> {
 
 #[test]
 fn texts_end_with_a_zero(rt: HostRuntime) {
-    let store = ItemStore::new(rt.alloc());
-    let mut heap = Heap::new(rt.alloc(), &store, HeapKind::Texts);
+    let mut heap = Heap::new(rt.alloc(), HeapKind::Texts);
     let mut bytes = Bytes::new(rt.alloc());
     assert!(rt; use_texts(&mut heap, &mut bytes) == Ok([0, 1, 4]));
     assert!(rt; bytes.as_slice() == b"\x00xy\x00y\x00".as_slice());

@@ -25,10 +25,10 @@ invariant_of-self-then-is_err c =
           c.remove-index.ensures.updates.0 one
           ∙ ap (λ b. cond b None (get (λ (x y : Vec ℕ Global). slice_cmp nat_cmp x.items y.items) c.insert.new.self one)) (is_eq-slice_cmp item one.items)
           ∙ ap (cond (bytes_eq item one.items) None) (
-            c.in_ok-insert.ensures.updates.0 one
-            ∙ ap (λ b. cond b (Some index) (get (λ (x y : Vec ℕ Global). slice_cmp nat_cmp x.items y.items) c.self.inside.others one)) (is_eq-slice_cmp c.args.key.items one.items)
-            ∙ ap (λ key. cond (bytes_eq key one.items) (Some index) (get (λ (x y : Vec ℕ Global). slice_cmp nat_cmp x.items y.items) c.self.inside.others one)) c.requires.key
-            ∙ ap (cond (bytes_eq item one.items) (Some index)) (c.self.invariant.1 one)
+          c.in_ok-insert.ensures.updates.0 one
+          ∙ ap (λ b. cond b (Some index) (get (λ (x y : Vec ℕ Global). slice_cmp nat_cmp x.items y.items) c.self.inside.others one)) (is_eq-slice_cmp c.args.key.items one.items)
+          ∙ ap (λ key. cond (bytes_eq key one.items) (Some index) (get (λ (x y : Vec ℕ Global). slice_cmp nat_cmp x.items y.items) c.self.inside.others one)) c.requires.key
+          ∙ ap (cond (bytes_eq item one.items) (Some index)) (c.self.invariant.1 one)
           )
           ∙ undone (bytes_eq item one.items) index (other_index kind items one.items) (none_there kind items item one.items none)
           ∙ ap (λ (heap : Contents). other_index heap.kind heap.items one.items) (sym stays),
