@@ -4,7 +4,7 @@ use Rattle.std.proofs.Common.{true≢false, Option, Some, None, IsSome, if◌the
 use Rattle.std.proofs.lemmas.Bool.{eq-eqb, eqb-true, ne_eqb, lt-ltb, le-ltb, ltb-true, ltb-false}
 use Rattle.std.proofs.lemmas.Bool.Decides.{nat_tests}
 use Rattle.std.specs.Ordering.{is_eq, nat_cmp}
-use Rattle.std.proofs.lemmas.List.{get_or_append_left, get_or_past}
+use Rattle.std.proofs.lemmas.List.{get_or_append_left}
 use Rattle.std.proofs.lemmas.List.Folds.{position_or_len_push, list_any_at}
 use Rattle.std.proofs.lemmas.List.Sums.{position_or_len_is, prefix_len_passes, prefix_len_stops, prefix_len-le-length}
 use Rattle.std.proofs.Math.Seq.{get_or-append_seam}
@@ -22,9 +22,6 @@ use Rattle.ppdb_build_heaps.proofs.Stays.{counted}
 -- ---- the first place, with one more item
 
 module _ (p : List ℕ → Bool) (xs : List (List ℕ)) (y : List ℕ) where
-  at : ℕ
-  at = position_or_len p xs
-
   most : position_or_len p xs ≤ length xs
   most = prefix_len-le-length (λ x. not (p x)) xs
 
@@ -44,9 +41,6 @@ module _ (p : List ℕ → Bool) (xs : List (List ℕ)) (y : List ℕ) where
   place_none none is = position_or_len_push p xs y
       ∙ ap (λ b. cond b (length xs + cond (p y) 0 1) (position_or_len p xs)) (eq-eqb (position_or_len p xs) (length xs) none)
       ∙ ap (λ b. length xs + cond b 0 1) is
-
-  some_place : (n : ℕ) → n < length xs → position_or_len p xs ≡ n → position p xs ≡ Some n
-  some_place n less is = ap (λ i. cond (nat_lt i (length xs)) (Some i) None) is ∙ ap (λ b. cond b (Some n) None) (lt-ltb n (length xs) less)
 
   pub position_stays : position_or_len p xs < length xs → position p (xs ++ y ∷ []) ≡ position p xs
   position_stays less =
@@ -110,9 +104,6 @@ at_place p xs less = by (p (get_or xs (position_or_len p xs) [])) refl
     by false is = absurd (true≢false (sym (ap not is) ∙ prefix_len_stops (λ x. not (p x)) xs [] less))
 
 module _ (items : List (List ℕ)) (item : List ℕ) where
-  place : ℕ
-  place = position_or_len (has_mark (mark item)) items
-
   -- an item of a mark that no item has is not there
   pub not_there : position_or_len (has_mark (mark item)) items ≡ length items → list_any (bytes_eq item) items ≡ false
   not_there none = by (list_any (bytes_eq item) items) refl
@@ -153,9 +144,6 @@ module _ (items : List (List ℕ)) (item : List ℕ) where
 -- ---- one more item
 
 module _ (kind : HeapKind) (items : List (List ℕ)) (new : List ℕ) where
-  all : List (List ℕ)
-  all = items ++ new ∷ []
-
   -- the index of each item, with one more
   indexes_more : list_any (bytes_eq new) items ≡ false → (item : List ℕ)
       → index_in kind (items ++ new ∷ []) item ≡ cond (bytes_eq new item) (Some (told (length_of kind items))) (index_in kind items item)

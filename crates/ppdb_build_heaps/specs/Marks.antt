@@ -1,6 +1,6 @@
 -- What the code keeps to find items: the first item of each mark, and the index of each other item.
 use Rattle.std.specs.Prelude.{◌≡◌, ℕ, ◌+◌, ◌*◌, ◌%◌, Bool, List, [], fold, nat_eq, bytes_eq, get_or, if◌then◌else◌, Option, None}
-use Rattle.std.specs.{List.{position, position_or_len}, BTreeMap.{BTreeMap, get, get_by}, Cmp.Lexicographic.slice_cmp, Ordering.nat_cmp}
+use Rattle.std.specs.{List.{position, position_or_len}, BTreeMap.{BTreeMap, get}, Cmp.Lexicographic.slice_cmp, Ordering.nat_cmp}
 use Rattle.std.specs.{declared.vec.Vec.Vec, declared.alloc.Global.Global}
 use Rattle.ppdb_build_heaps.specs.{declared.heap.HeapKind.HeapKind, Interned.index_in}
 

@@ -21,7 +21,7 @@ pub struct Heap {
     items: Spelled,
     /// The number of the first item with each mark, from 0.
     firsts: BTreeMap<u64, u64>,
-    /// The index of each other item.
+    /// The index of each item whose mark an earlier item has.
     others: BTreeMap<Vec<u8>, u64>,
 }
 

@@ -1,11 +1,9 @@
-use Rattle.std.proofs.Common.{◌≡◌, false, cond, bytes_eq, Some, None, List, ℕ, [], ◌∷◌, ◌++◌, ap, sym, subst, ◌∙◌}
+use Rattle.std.proofs.Common.{cond, bytes_eq, Some, None, ℕ, [], ◌∷◌, ◌++◌, ap, sym, ◌∙◌}
 use Rattle.std.proofs.lemmas.Map.Text.{is_eq-slice_cmp}
 use Rattle.std.specs.{List.list_any, Prelude.is_some, BTreeMap.get, Cmp.Lexicographic.slice_cmp, Ordering.nat_cmp}
 use Rattle.std.specs.{declared.vec.Vec.Vec, declared.alloc.Global.Global}
 use Rattle.ppdb_base.specs.Told.{told}
 use Rattle.ppdb_build_heaps.specs.Interned.{Contents, length_of}
-use Rattle.ppdb_build_heaps.specs.Items.{with_use, index_of}
-use Rattle.ppdb_build_heaps.specs.Kinds.{spelled}
 use Rattle.ppdb_build_heaps.specs.Marks.{mark, has_mark, first_with, is_first, other_index}
 use Rattle.ppdb_build_heaps.proofs.Interned.{index_new}
 use Rattle.ppdb_build_heaps.proofs.Marks.{others_more, firsts_stay, some_found, undone, none_there, new_used}

@@ -1,4 +1,4 @@
-use Rattle.std.proofs.Common.{◌≡◌, ◌<◌, true, false, cond, length, take, get_or, bytes_eq, nat_eq, Some, None, List, ℕ, [], ◌∷◌, ◌++◌, ap, sym, subst, ◌∙◌, arith}
+use Rattle.std.proofs.Common.{◌≡◌, ◌<◌, true, false, cond, length, take, get_or, bytes_eq, nat_eq, Some, None, [], ◌∷◌, ◌++◌, ap, sym, subst, ◌∙◌, arith}
 use Rattle.std.specs.{List.{list_any, position_or_len}, BTreeMap.{get, is_at, Entry.{map_with_value, entry_map_ref}}, Ordering.nat_cmp}
 use Rattle.ppdb_base.specs.Told.{told}
 use Rattle.ppdb_build_heaps.specs.Interned.{Contents, length_of}

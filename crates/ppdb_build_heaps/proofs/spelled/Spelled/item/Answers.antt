@@ -1,5 +1,4 @@
-use Rattle.std.proofs.Common.{ℕ, List, ◌≤◌, length, get_or, [], ap, sym, subst, ◌∙◌}
-use Rattle.ppdb_build_heaps.specs.Spelled.{item_of}
+use Rattle.std.proofs.Common.{ℕ, List, ◌≤◌, length, get_or, [], sym, subst, ◌∙◌}
 use Rattle.ppdb_build_heaps.proofs.Spellings.{has_part, some_byte, read_item}
 use Rattle.ppdb_build_heaps.proofs.spelled.Spelled.item.Goals as goal
 

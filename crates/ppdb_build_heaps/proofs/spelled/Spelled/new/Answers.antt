@@ -1,5 +1,4 @@
-use Rattle.std.proofs.Common.{[], refl, ap, sym, subst, ◌∙◌}
-use Rattle.ppdb_build_heaps.specs.Spelled.{AreSpelled, items_in, starts_of}
+use Rattle.std.proofs.Common.{ap}
 use Rattle.ppdb_build_heaps.proofs.Spellings.{no_items, none_spelled}
 use Rattle.ppdb_build_heaps.proofs.spelled.Spelled.new.Goals as goal
 

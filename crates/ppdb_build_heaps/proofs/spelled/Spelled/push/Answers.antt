@@ -1,7 +1,5 @@
-use Rattle.std.proofs.Common.{◌≡◌, List, ℕ, [], ◌∷◌, ◌++◌, length, ap, sym, subst, ◌∙◌}
-use Rattle.ppdb_build_heaps.specs.Kinds.{spelled}
+use Rattle.std.proofs.Common.{[], ◌∷◌, ◌++◌, ap, sym, ◌∙◌}
 use Rattle.ppdb_build_heaps.specs.Interned.{Contents}
-use Rattle.ppdb_build_heaps.specs.Spelled.{items_in, AreSpelled}
 use Rattle.ppdb_build_heaps.proofs.Spellings.{on_ok, push_invariant, push_items}
 use Rattle.ppdb_build_heaps.proofs.spelled.Spelled.push.Goals as goal
 
