@@ -87,7 +87,7 @@ fn scope_at(file: &Verified<'_>, row: u32, cells: &ScopeRow, next: Option<ScopeR
     }
 }
 
-/// The scopes of a file, by their rows. Each row is read once, while the scope before it is given: its lists end those of that scope.
+/// The scopes of a file, by their rows. A row is read while the scope before it is given: its lists end those of that scope.
 #[derive(Drop)]
 pub struct ScopeCursor<'a> {
     file: Verified<'a>,
@@ -187,7 +187,7 @@ fn constants_in<L: Ledger>(
     Ok(constants)
 }
 
-/// A scope with its variables and constants, each of whose rows is read once.
+/// A scope with its variables and constants. In all as many rows are read as these have.
 pub fn scope_value<L: Ledger>(
     alloc: Global,
     file: &Verified<'_>,

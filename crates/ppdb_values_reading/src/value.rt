@@ -27,7 +27,7 @@ use ppdb_verify_rows::{count, machine};
 use std::alloc::Global;
 use std::sync::ledger::Ledger;
 
-/// The value of a file: each row of its eight tables is read once.
+/// The value of a file. In all as many rows are read as its eight tables have.
 pub fn value_of<L: Ledger>(
     alloc: Global,
     file: &Verified<'_>,
