@@ -1,6 +1,6 @@
-use Rattle.std.proofs.Common.{cond, bytes_eq, Some, None, ℕ, [], ◌∷◌, ◌++◌, ap, sym, ◌∙◌}
+use Rattle.std.proofs.Common.{cond, bytes_eq, Option, Some, None, ℕ, [], ◌∷◌, ◌++◌, ap, sym, ◌∙◌}
 use Rattle.std.proofs.lemmas.Map.Text.{is_eq-slice_cmp}
-use Rattle.std.specs.{List.list_any, Prelude.is_some, BTreeMap.get, Cmp.Lexicographic.slice_cmp, Ordering.nat_cmp}
+use Rattle.std.specs.{List.list_any, Prelude.is_some, BTreeMap.{BTreeMap, get}, Cmp.Lexicographic.slice_cmp, Ordering.nat_cmp}
 use Rattle.std.specs.{declared.vec.Vec.Vec, declared.alloc.Global.Global}
 use Rattle.ppdb_base.specs.Told.{told}
 use Rattle.ppdb_build_heaps.specs.Interned.{Contents, length_of}
@@ -9,6 +9,9 @@ use Rattle.ppdb_build_heaps.proofs.Interned.{index_new}
 use Rattle.ppdb_build_heaps.proofs.Marks.{others_more, firsts_stay, some_found, undone, none_there, new_used}
 use Rattle.ppdb_build_heaps.proofs.Spellings.{on_ok, on_err}
 use Rattle.ppdb_build_heaps.proofs.heap.Heap.add_other.Goals as goal
+
+abbrev index_at : BTreeMap (Vec ℕ Global) ℕ → Vec ℕ Global → Option ℕ
+index_at others key = get (λ (x y : Vec ℕ Global). slice_cmp nat_cmp x.items y.items) others key
 
 pub invariant_of-self-then-is_err : goal.invariant_of-self-then-is_err
 invariant_of-self-then-is_err c =
@@ -21,11 +24,11 @@ invariant_of-self-then-is_err c =
       λ number. c.self.invariant.0 number ∙ ap (λ (heap : Contents). first_with heap.items number) (sym stays),
       λ one.
           c.remove-index.ensures.updates.0 one
-          ∙ ap (λ b. cond b None (get (λ (x y : Vec ℕ Global). slice_cmp nat_cmp x.items y.items) c.insert.new.self one)) (is_eq-slice_cmp item one.items)
+          ∙ ap (λ b. cond b None (index_at c.insert.new.self one)) (is_eq-slice_cmp item one.items)
           ∙ ap (cond (bytes_eq item one.items) None) (
           c.in_ok-insert.ensures.updates.0 one
-          ∙ ap (λ b. cond b (Some index) (get (λ (x y : Vec ℕ Global). slice_cmp nat_cmp x.items y.items) c.self.inside.others one)) (is_eq-slice_cmp c.args.key.items one.items)
-          ∙ ap (λ key. cond (bytes_eq key one.items) (Some index) (get (λ (x y : Vec ℕ Global). slice_cmp nat_cmp x.items y.items) c.self.inside.others one)) c.requires.key
+          ∙ ap (λ b. cond b (Some index) (index_at c.self.inside.others one)) (is_eq-slice_cmp c.args.key.items one.items)
+          ∙ ap (λ key. cond (bytes_eq key one.items) (Some index) (index_at c.self.inside.others one)) c.requires.key
           ∙ ap (cond (bytes_eq item one.items) (Some index)) (c.self.invariant.1 one)
           )
           ∙ undone (bytes_eq item one.items) index (other_index kind items one.items) (none_there kind items item one.items none)
@@ -49,8 +52,8 @@ invariant_of-self-else-is_err c =
           ∙ ap (λ (heap : Contents). first_with heap.items number) (sym pushed),
       λ one.
           c.in_ok-insert.ensures.updates.0 one
-          ∙ ap (λ b. cond b (Some index) (get (λ (x y : Vec ℕ Global). slice_cmp nat_cmp x.items y.items) c.self.inside.others one)) (is_eq-slice_cmp c.args.key.items one.items)
-          ∙ ap (λ key. cond (bytes_eq key one.items) (Some index) (get (λ (x y : Vec ℕ Global). slice_cmp nat_cmp x.items y.items) c.self.inside.others one)) c.requires.key
+          ∙ ap (λ b. cond b (Some index) (index_at c.self.inside.others one)) (is_eq-slice_cmp c.args.key.items one.items)
+          ∙ ap (λ key. cond (bytes_eq key one.items) (Some index) (index_at c.self.inside.others one)) c.requires.key
           ∙ ap (cond (bytes_eq item one.items) (Some index)) (c.self.invariant.1 one)
           ∙ ap (λ n. cond (bytes_eq item one.items) (Some n) (other_index kind items one.items)) c.len-index.ensures
           ∙ sym (others_more kind items item none less other one.items)

@@ -5,11 +5,13 @@ use Rattle.ppdb_build_heaps.proofs.spelled.Spelled.push.Goals as goal
 
 pub invariant_of-self-else-is_err : goal.invariant_of-self-else-is_err
 invariant_of-self-else-is_err c = push_invariant c.self.inside.kind c.self.inside.bytes c.self.inside.starts c.args.item.now c.put_item.new.into c.push.new.self
-    c.self.invariant (on_ok c.put_item.result (sym c.is_err.ensures.value ∙ c.if-is_err.false) c.put_item.ensures.put) (c.in_ok-push.ensures.ok ∙ ap (λ n. c.self.inside.starts ++ n ∷ []) c.len-start.ensures)
+    c.self.invariant (on_ok c.put_item.result (sym c.is_err.ensures.value ∙ c.if-is_err.false) c.put_item.ensures.put)
+    (c.in_ok-push.ensures.ok ∙ ap (λ n. c.self.inside.starts ++ n ∷ []) c.len-start.ensures)
 
 pub returns-clause-ok : goal.returns-clause-ok
 returns-clause-ok c =
     ap (λ items. record { kind = c.self.inside.kind; items = items })
     (push_items c.self.inside.kind c.self.inside.bytes c.self.inside.starts c.args.item.now c.put_item.new.into c.push.new.self
-    c.self.invariant (on_ok c.put_item.result (sym c.is_err.ensures.value ∙ c.if-is_err.false) c.put_item.ensures.put) (c.in_ok-push.ensures.ok ∙ ap (λ n. c.self.inside.starts ++ n ∷ []) c.len-start.ensures))
+    c.self.invariant (on_ok c.put_item.result (sym c.is_err.ensures.value ∙ c.if-is_err.false) c.put_item.ensures.put)
+    (c.in_ok-push.ensures.ok ∙ ap (λ n. c.self.inside.starts ++ n ∷ []) c.len-start.ensures))
     ∙ ap (λ (heap : Contents). record heap { items = heap.items ++ c.args.item.now ∷ [] }) c.self.view_is
