@@ -1,12 +1,13 @@
 -- What the code keeps to find items: the first item of each mark, and the index of each other item.
-use Rattle.std.specs.Prelude.{◌≡◌, ℕ, ◌+◌, ◌*◌, ◌%◌, Bool, List, [], fold, nat_eq, bytes_eq, get_or, if◌then◌else◌, Option, None}
+use Rattle.std.specs.Prelude.{◌≡◌, ℕ, Bool, List, [], nat_eq, bytes_eq, get_or, if◌then◌else◌, Option, None}
 use Rattle.std.specs.{List.{position, position_or_len}, BTreeMap.{BTreeMap, get}, Cmp.Lexicographic.slice_cmp, Ordering.nat_cmp}
+use Rattle.std.specs.Hash.DefaultHasher.{initial, write, finish}
 use Rattle.std.specs.{declared.vec.Vec.Vec, declared.alloc.Global.Global}
 use Rattle.ppdb_build_heaps.specs.{declared.heap.HeapKind.HeapKind, Interned.index_in}
 
--- the mark of an item: a polynomial of its bytes
+-- the mark of an item: its SipHash-1-3, without a key
 abbrev pub mark : List ℕ → ℕ
-mark item = fold (λ mark byte. ((mark * 0x100000001b3) % 0x10000000000000000 + byte) % 0x10000000000000000) 0 item
+mark item = finish (write initial item)
 
 -- the item has this mark
 abbrev pub has_mark : ℕ → List ℕ → Bool
