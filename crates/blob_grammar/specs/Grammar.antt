@@ -97,7 +97,7 @@ abbrev pub EachFollows : {R : Type 0} → Grammar R → List Field → List Fiel
 EachFollows g before [] after = Unit {0}
 EachFollows g before (f ∷ fs) after = MayFollow g before f (bytes_of fs ++ after) × EachFollows g (before ++ f ∷ []) fs after
 
--- The fields stand at the blob's prefix, each allowed after those before it, and these bytes stand after them: a valid prefix.
+-- The fields stand at the blob's beginning, each allowed after those before it, and these bytes stand after them: a valid prefix.
 pub record AtStart {R : Type 0} (g : Grammar R) (blob : List ℕ) (fields : List Field) (after : List ℕ) : Type 0 where
   pub bytes : blob ≡ bytes_of fields ++ after
   pub each : EachFollows g [] fields after

@@ -15,7 +15,7 @@ placed_from g place at [] = []
 placed_from g place at (f ∷ fs) =
     record { byte = at; before = place.begun; value = f.value } ∷ placed_from g (with_value g place f.value) (at + length f.bytes) fs
 
--- The fields at a blob's prefix.
+-- The fields at a blob's beginning.
 abbrev pub placed_of : {R : Type 0} → Grammar R → List Field → List PlacedField
 placed_of g fields = placed_from g (record { whole = []; begun = [] }) 0 fields
 

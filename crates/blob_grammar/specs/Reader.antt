@@ -48,16 +48,18 @@ abbrev pub placed : {V : Type 0} → ℕ → Result (V × ℕ) IntFault → Resu
 placed at (Ok x) = Ok x
 placed at (Err e) = Err (record { code = code_of e; byte = at })
 
--- the unsigned number at the start of the bytes, and its length, or why none is there
+-- the number of two bytes, of which b is the first, and its length; or that they end too soon
 unfoldable pub two_at : ℕ → List ℕ → Result (ℕ × ℕ) IntFault
 two_at b (c ∷ _) = if nat_lt c 256 then Ok ((b - 0x80) * 256 + c, 2) else Err End
 two_at b _ = Err End
 
+-- the number of four bytes, of which b is the first, and its length; or that they end too soon
 unfoldable pub four_at : ℕ → List ℕ → Result (ℕ × ℕ) IntFault
 four_at b (c ∷ d ∷ e ∷ _) =
     if nat_lt c 256 && (nat_lt d 256 && nat_lt e 256) then Ok ((b - 0xC0) * 2 ^ 24 + c * 2 ^ 16 + d * 256 + e, 4) else Err End
 four_at b _ = Err End
 
+-- the unsigned number at the start of the bytes, and its length, or why none is there
 unfoldable pub unsigned_at : List ℕ → Result (ℕ × ℕ) IntFault
 unsigned_at [] = Err End
 unsigned_at (b ∷ bs) = if nat_lt b 0x80 then Ok (b, 1) else (if nat_lt b 0xC0 then two_at b bs else (if nat_lt b 0xE0 then four_at b bs else Err NoForm))

@@ -3,7 +3,7 @@ use Rattle.std.specs.Prelude.{◌≡◌, ◌≢◌, ℕ, ◌≤◌, List, [], �
 use Rattle.ppdb_base.specs.{declared.code.Code.{Code, TheVariants.{BlobEnd, IntegerForm, ValueRange}}, declared.fault.BlobFault.BlobFault}
 use Rattle.blob_grammar.specs.Grammar.{Form, unsigned, signed, character, Spells, Field, Grammar, cut, bytes_of, AtStart}
 
--- The longest valid prefix: the longest list of fields at the blob's prefix in which each is allowed after those before it.
+-- The longest valid prefix: the longest list of fields at the blob's beginning in which each is allowed after those before it.
 pub record IsLongestPrefix {R : Type 0} (g : Grammar R) (blob : List ℕ) (fields : List Field) (after : List ℕ) : Type 0 where
   pub at_start : AtStart g blob fields after
   pub longest : (others : List Field) (left : List ℕ) → AtStart g blob others left → length others ≤ length fields

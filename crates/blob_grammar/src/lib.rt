@@ -18,7 +18,7 @@ pub use cursor::{BlobCursor, fault_after};
 pub use fault::out_of_range;
 pub use laws::blob_end_law;
 pub use numbers::{byte_field, signed_field, unsigned_field, word_field};
-pub use octets::{fixed_field, rest_field};
+pub use octets::fixed_field;
 pub use places::PlacedIndex;
 
 #[cfg(test)]

@@ -1,5 +1,5 @@
 ghost use Rattle.std.specs.Prelude.{◌≤◌, ◌<◌, ◌^◌, length, IfOk, IfErr};
-ghost use Rattle.blob_grammar.specs.Grammar.{octets, fixed, rest};
+ghost use Rattle.blob_grammar.specs.Grammar.{octets, fixed};
 ghost use Rattle.blob_grammar.specs.Reader.{IsThere, IsMissing};
 
 use crate::fault::fault_at;
@@ -19,18 +19,4 @@ pub fn fixed_field(blob: &[u8], at: usize, len: usize) -> Result<&[u8], BlobFaul
         return Err(fault_at(IntFault::End, at));
     }
     Ok(&left[..len])
-}
-
-/// All bytes from a place of a blob to its end, of which there must be one.
-pub fn rest_field(blob: &[u8], at: usize) -> Result<&[u8], BlobFault>
-    requires within { at ≤ length blob.now }
-    requires short { length blob.now < 2 ^ 32 }
-    ensures found { IfOk result (λ bytes. IsThere rest blob.now at (octets bytes.now) (length bytes.now)) }
-    ensures missing { IfErr result (IsMissing rest blob.now at) }
-{
-    let left = &blob[at..];
-    if left.is_empty() {
-        return Err(fault_at(IntFault::End, at));
-    }
-    Ok(left)
 }

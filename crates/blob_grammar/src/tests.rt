@@ -1,6 +1,4 @@
-use crate::{
-    byte_field, character_field, fixed_field, rest_field, signed_field, unsigned_field, word_field,
-};
+use crate::{byte_field, character_field, fixed_field, signed_field, unsigned_field, word_field};
 use ppdb_base::{BlobFault, Code};
 use std::process::Abort;
 
@@ -26,12 +24,7 @@ fn lends_the_bytes_of_a_field(rt: HostRuntime) {
         fixed_field(blob, 1, 2).expect(&rt, "two bytes"),
         [2, 3].as_slice()
     );
-    assert_eq!(rt;
-        rest_field(blob, 1).expect(&rt, "the rest"),
-        [2, 3, 4].as_slice()
-    );
     assert_eq!(rt; fixed_field(blob, 3, 2).is_err(), true);
-    assert_eq!(rt; rest_field(blob, 4).is_err(), true);
 }
 
 /// The bytes of the character at the start, or none where no well-formed one is there.

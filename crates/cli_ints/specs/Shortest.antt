@@ -9,7 +9,7 @@ in_two_bytes n = (0x80 + n / 256) ∷ (n % 256) ∷ []
 abbrev pub in_four_bytes : ℕ → List ℕ
 in_four_bytes n = (0xC0 + n / 2 ^ 24) ∷ (n / 2 ^ 16 % 256) ∷ (n / 256 % 256) ∷ (n % 256) ∷ []
 
--- An unsigned number in 7, 14 or 29 bits, the fewest that hold it.
+-- An unsigned number in 7, 14 or 29 bits, the fewest that hold it. From 2 ^ 29 on none does, and these bytes spell no number.
 unfoldable pub short_unsigned : ℕ → List ℕ
 short_unsigned n = if nat_lt n (2 ^ 7) then n ∷ [] else (if nat_lt n (2 ^ 14) then in_two_bytes n else in_four_bytes n)
 

@@ -4,7 +4,7 @@ use Rattle.std.specs.List.{AllByRecursion}
 use Rattle.std.specs.List.Sorted.{IsStrictlySortedBy}
 use Rattle.std.proofs.lemmas.List.{length-map}
 use Rattle.ppdb_maps.specs.declared.entries.SlotImage.{SlotImage}
-use Rattle.ppdb_maps.specs.Forms.{SLOTS}
+use Rattle.ppdb_maps.specs.Forms.{MAX_SLOT}
 use Rattle.ppdb_maps.specs.Map.{Map, slots_of}
 use Rattle.ppdb_maps.specs.Readable.{IsReadable}
 use Rattle.map_compose.specs.Composed.{slot_sources}
@@ -22,18 +22,18 @@ unfolding IsStrictlySortedBy
 few most [] up all = omega arith
 few most (k ∷ ks) up all = omega (arith, above_few k most ks all.0 up.0 up.1 all.1)
 
-slots_least : (xs : List SlotImage) → AllByRecursion (λ (x : SlotImage). x.old ≤ SLOTS) xs → AllByRecursion (λ k. k ≤ SLOTS) (map (λ (x : SlotImage). x.old) xs)
+slots_least : (xs : List SlotImage) → AllByRecursion (λ (x : SlotImage). x.old ≤ MAX_SLOT) xs → AllByRecursion (λ k. k ≤ MAX_SLOT) (map (λ (x : SlotImage). x.old) xs)
 slots_least [] all = tt
 slots_least (x ∷ xs) all = (all.0, slots_least xs all.1)
 
 pub few_slots : (f s : Map) (method : ℕ) → IsReadable f → IsReadable s → length (slot_sources f s method) ≤ 65536
 few_slots f s method f_readable s_readable =
-    let most = few SLOTS _ (slot_sources_up f s f_readable s_readable method) (slots_least _ (slot_source_fits f s f_readable s_readable method)) in
+    let most = few MAX_SLOT _ (slot_sources_up f s f_readable s_readable method) (slots_least _ (slot_source_fits f s f_readable s_readable method)) in
     let same = length-map (slot_sources f s method) (λ (x : SlotImage). x.old) in
     omega (arith, most, same)
 
 pub few_slots_of : (m : Map) (method : ℕ) → IsReadable m → length (slots_of m method) ≤ 65536
 few_slots_of m method readable =
-    let most = few SLOTS _ (slots_up m readable method) (slots_least _ (slots_hold m readable method)) in
+    let most = few MAX_SLOT _ (slots_up m readable method) (slots_least _ (slots_hold m readable method)) in
     let same = length-map (slots_of m method) (λ (x : SlotImage). x.old) in
     omega (arith, most, same)

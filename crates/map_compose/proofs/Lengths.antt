@@ -12,7 +12,7 @@ use Rattle.ppdb_maps.specs.declared.entries.NameLine.{NameLine}
 use Rattle.ppdb_base.specs.Escaped.{is_plain, code_of, escaped_byte, escaped}
 use Rattle.ppdb_maps.specs.declared.line.Line.{Line}
 use Rattle.ppdb_maps.specs.declared.line.Line.TheVariants.{Silent, Rows, Row, Cross, Gone, Method, Kept, Dropped, Slots, Slot, Signature, Document, Link, Shares}
-use Rattle.ppdb_maps.specs.Forms.{SLOTS}
+use Rattle.ppdb_maps.specs.Forms.{MAX_SLOT}
 use Rattle.ppdb_maps.specs.Map.{Map, MethodLine, count_of, line_image, slots_of}
 use Rattle.ppdb_maps.specs.Readable.{IsReadable, IsRow, IsCount, IsLineOf, IsSlottedOf, IsSlotOf, IsSignatureOf}
 use Rattle.ppdb_maps.proofs.Numbers.{may_spell_decimal, length_may_spell}
@@ -227,8 +227,8 @@ module _ (m : Map) (readable : IsReadable m) where
   slots_few : (method : ℕ) → IsSlottedOf m method → Few (slots_say m) 65537 method
   slots_few method is = record {
     few =
-        let slots = few SLOTS (map (λ (x : SlotImage). x.old) (slots_of m method)) (slots_up m readable method)
-        (mapped (λ (x : SlotImage). x.old ≤ SLOTS) (λ k. k ≤ SLOTS) (λ (x : SlotImage). x.old) (λ x le. le) (slots_of m method)
+        let slots = few MAX_SLOT (map (λ (x : SlotImage). x.old) (slots_of m method)) (slots_up m readable method)
+        (mapped (λ (x : SlotImage). x.old ≤ MAX_SLOT) (λ k. k ≤ MAX_SLOT) (λ (x : SlotImage). x.old) (λ x le. le) (slots_of m method)
         (slots_hold m readable method)) in
         let same = length-map (slots_of m method) (λ (x : SlotImage). x.old) in
         let also = length-map (slots_of m method) slot_says in

@@ -15,7 +15,7 @@ use Rattle.ppdb_maps.specs.declared.image.RowImage.{RowImage}
 use Rattle.ppdb_maps.specs.declared.image.RowImage.TheVariants.{Row as RowOf, Gone, Missing}
 use Rattle.ppdb_maps.specs.declared.entries.SlotImage.{SlotImage}
 use Rattle.ppdb_maps.specs.declared.entries.SignatureImage.{SignatureImage}
-use Rattle.ppdb_maps.specs.Forms.{AreBytes, Crosses, IsTypeTable, SLOTS}
+use Rattle.ppdb_maps.specs.Forms.{AreBytes, Crosses, IsTypeTable, MAX_SLOT}
 use Rattle.ppdb_maps.specs.Map.{Map, MethodLine, Ascends, count_of, row_line, cross_line, row_within, row_image, method_line, is_dropped, has_slots, slot_line, slot_image}
 use Rattle.ppdb_maps.specs.Map.{offsets_in, rows_of, slots_of, moved_row, signature_line, moved_signature}
 use Rattle.ppdb_maps.specs.Readable.{IsReadable, IsRow, IsCount, IsRowOf, IsCrossOf, IsGoneOf, IsLineOf, IsSlottedOf, IsSlotOf, IsSignatureOf}
@@ -215,21 +215,21 @@ module _ (m : Map) (readable : IsReadable m) where
       of None at = image_or_none 0x11 stored le
       of (Some new) at = lined_signature method new at
 
-  lined_slot : (method old new : ℕ) → slot_line m method old ≡ Some new → new ≤ SLOTS
+  lined_slot : (method old new : ℕ) → slot_line m method old ≡ Some new → new ≤ MAX_SLOT
   lined_slot method old new is = of (find (λ (x : SlotImage). nat_eq x.method method && nat_eq x.old old) m.slots) refl is
     where
       of : (o : Option SlotImage) → find (λ (x : SlotImage). nat_eq x.method method && nat_eq x.old old) m.slots ≡ o
-          → option_map (λ (x : SlotImage). x.new) o ≡ Some new → new ≤ SLOTS
+          → option_map (λ (x : SlotImage). x.new) o ≡ Some new → new ≤ MAX_SLOT
       of None at is = absurd (cc)
-      of (Some x) at is = let e : x.new ≡ new = cc in subst (λ n. n ≤ SLOTS) e
+      of (Some x) at is = let e : x.new ≡ new = cc in subst (λ n. n ≤ MAX_SLOT) e
           (found_holds (IsSlotOf m) (λ (x : SlotImage). nat_eq x.method method && nat_eq x.old old) m.slots x readable.slots at).1
 
-  image_slot : (method old new : ℕ) → old ≤ SLOTS → slot_image m method old ≡ Some new → new ≤ SLOTS
+  image_slot : (method old new : ℕ) → old ≤ MAX_SLOT → slot_image m method old ≡ Some new → new ≤ MAX_SLOT
   image_slot method old new slot is = of (has_slots m method) is
     where
-      of : (b : Bool) → cond b (slot_line m method old) (Some old) ≡ Some new → new ≤ SLOTS
+      of : (b : Bool) → cond b (slot_line m method old) (Some old) ≡ Some new → new ≤ MAX_SLOT
       of true is = lined_slot method old new is
-      of false is = let e : old ≡ new = cc in subst (λ n. n ≤ SLOTS) e slot
+      of false is = let e : old ≡ new = cc in subst (λ n. n ≤ MAX_SLOT) e slot
 
   pub line_fits : (method : ℕ) (line : MethodLine) → method_line m method ≡ Some line → IsLineOf m line
   line_fits method line is = found_holds (IsLineOf m) (λ (l : MethodLine). nat_eq l.method method) m.methods line readable.methods is
@@ -253,8 +253,8 @@ module _ (m : Map) (readable : IsReadable m) where
   rows_hold table = filter_hold (IsRowOf m) (λ (r : RowLine). IsRow r.old × (is_some (count_of m table) ≡ true)) (λ r. nat_eq r.table table)
       (λ r is at. (is.0, subst (λ t. is_some (count_of m t) ≡ true) (eqb-true r.table table at) is.2)) m.rows readable.rows
 
-  pub slots_hold : (method : ℕ) → AllByRecursion (λ (x : SlotImage). x.old ≤ SLOTS) (slots_of m method)
-  slots_hold method = filter_hold (IsSlotOf m) (λ (x : SlotImage). x.old ≤ SLOTS) (λ x. nat_eq x.method method) (λ x is at. is.0) m.slots readable.slots
+  pub slots_hold : (method : ℕ) → AllByRecursion (λ (x : SlotImage). x.old ≤ MAX_SLOT) (slots_of m method)
+  slots_hold method = filter_hold (IsSlotOf m) (λ (x : SlotImage). x.old ≤ MAX_SLOT) (λ x. nat_eq x.method method) (λ x is at. is.0) m.slots readable.slots
 
 -- ---- all offsets
 
@@ -649,10 +649,10 @@ module _ (f s : Map) (f_readable : IsReadable f) (s_readable : IsReadable s) whe
   slotted_fit : (k : ℕ) → IsRow k → has_slot_lines f s k ≡ true → IsSlottedOf (composed f s) k
   slotted_fit k row is = (row, stays k (and_parts (has_image f s k) _ is).0)
 
-  pub slot_source_fits : (k : ℕ) → AllByRecursion (λ (x : SlotImage). x.old ≤ SLOTS) (slot_sources f s k)
+  pub slot_source_fits : (k : ℕ) → AllByRecursion (λ (x : SlotImage). x.old ≤ MAX_SLOT) (slot_sources f s k)
   slot_source_fits k = of (has_slots f k) (row_within f 0x06 k)
     where
-      of : (b : Bool) (o : Option ℕ) → AllByRecursion (λ (x : SlotImage). x.old ≤ SLOTS) (cond b (slots_of f k) (of_image [] (slots_of s) o))
+      of : (b : Bool) (o : Option ℕ) → AllByRecursion (λ (x : SlotImage). x.old ≤ MAX_SLOT) (cond b (slots_of f k) (of_image [] (slots_of s) o))
       of true o = slots_hold f f_readable k
       of false None = tt
       of false (Some image) = slots_hold s s_readable image
@@ -668,16 +668,16 @@ module _ (f s : Map) (f_readable : IsReadable f) (s_readable : IsReadable s) whe
       of false None = none
       of false (Some image) = slots_up s s_readable image
 
-  slot_holds : (k : ℕ) → has k (slotted_methods f s) ≡ true → (line x : SlotImage) → line.old ≤ SLOTS → slot_entry f s k line ≡ Some x
+  slot_holds : (k : ℕ) → has k (slotted_methods f s) ≡ true → (line x : SlotImage) → line.old ≤ MAX_SLOT → slot_entry f s k line ≡ Some x
       → IsSlotOf (composed f s) x
   slot_holds k there line x small is = of (composed_slot f s k line.old) refl is
     where
-      second : (o : Option ℕ) (mid new : ℕ) → mid ≤ SLOTS → of_image None (λ image. slot_image s image mid) o ≡ Some new → new ≤ SLOTS
+      second : (o : Option ℕ) (mid new : ℕ) → mid ≤ MAX_SLOT → of_image None (λ image. slot_image s image mid) o ≡ Some new → new ≤ MAX_SLOT
       second None mid new le is = absurd (cc)
       second (Some image) mid new le is = image_slot s s_readable image mid new le is
 
       first : (o : Option ℕ) (new : ℕ) → slot_image f k line.old ≡ o
-          → option_and_then (λ slot. of_image None (λ image. slot_image s image slot) (row_within f 0x06 k)) o ≡ Some new → new ≤ SLOTS
+          → option_and_then (λ slot. of_image None (λ image. slot_image s image slot) (row_within f 0x06 k)) o ≡ Some new → new ≤ MAX_SLOT
       first None new at is = absurd (cc)
       first (Some mid) new at is = second (row_within f 0x06 k) mid new (image_slot f f_readable k line.old mid small at) is
 
@@ -772,7 +772,7 @@ module _ (f s : Map) (f_readable : IsReadable f) (s_readable : IsReadable s) whe
     slotted = filter_hold IsRow (IsSlottedOf (composed f s)) (has_slot_lines f s) slotted_fit (spoken_of f f.slotted s.slotted)
         (spoken_rows f.slotted s.slotted (slotted_rows f f_readable) (slotted_rows s s_readable));
     slots = flat_hold (λ k. has k (slotted_methods f s) ≡ true) (IsSlotOf (composed f s)) (slot_entries f s)
-        (λ k there. made_hold (λ (x : SlotImage). x.old ≤ SLOTS) (IsSlotOf (composed f s)) (slot_entry f s k) (slot_holds k there) (slot_sources f s k)
+        (λ k there. made_hold (λ (x : SlotImage). x.old ≤ MAX_SLOT) (IsSlotOf (composed f s)) (slot_entry f s k) (slot_holds k there) (slot_sources f s k)
         (slot_source_fits k))
         (slotted_methods f s) (all_there (slotted_methods f s));
     signatures = made_hold IsRow (IsSignatureOf (composed f s)) (signature_entry f s) signature_holds (spoken_of f (signed f) (signed s))

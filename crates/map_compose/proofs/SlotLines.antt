@@ -14,7 +14,7 @@ use Rattle.std.proofs.lemmas.Fmt.{length-decimal-le}
 use Rattle.std.proofs.lemmas.List.{map-append}
 use Rattle.ppdb_maps.specs.declared.entries.SlotImage.{SlotImage}
 use Rattle.ppdb_maps.specs.declared.line.Line.TheVariants.{Slot}
-use Rattle.ppdb_maps.specs.Forms.{SLOTS}
+use Rattle.ppdb_maps.specs.Forms.{MAX_SLOT}
 use Rattle.ppdb_maps.specs.Map.{Map, row_within, has_slots, slot_line, slot_image, slots_of}
 use Rattle.ppdb_maps.specs.Readable.{IsReadable, IsSlotOf}
 use Rattle.ppdb_maps.proofs.Halving.{found_lent, by_number, if_passes}
@@ -57,7 +57,7 @@ digits_join (x ∷ xs) ys = omega (arith, digits_join xs ys)
 
 -- ---- bounds
 
-few_digits : (xs : List SlotImage) → AllByRecursion (λ (x : SlotImage). (x.old ≤ SLOTS) × (x.new ≤ SLOTS)) xs → slot_digits xs ≤ 20 * length xs
+few_digits : (xs : List SlotImage) → AllByRecursion (λ (x : SlotImage). (x.old ≤ MAX_SLOT) × (x.new ≤ MAX_SLOT)) xs → slot_digits xs ≤ 20 * length xs
 few_digits [] all = omega arith
 few_digits (x ∷ xs) all =
     let a = length-decimal-le 10 x.old (omega arith) (omega (arith, all.0.0)) (omega (arith, all.0.0)) in
@@ -66,7 +66,7 @@ few_digits (x ∷ xs) all =
 
 digits_small : (m : Map) (method : ℕ) → IsReadable m → slot_digits (slots_of m method) ≤ 4294967295
 digits_small m method readable =
-    let digits = few_digits (slots_of m method) (filter_hold (IsSlotOf m) (λ (x : SlotImage). (x.old ≤ SLOTS) × (x.new ≤ SLOTS)) (λ x. nat_eq x.method method)
+    let digits = few_digits (slots_of m method) (filter_hold (IsSlotOf m) (λ (x : SlotImage). (x.old ≤ MAX_SLOT) × (x.new ≤ MAX_SLOT)) (λ x. nat_eq x.method method)
     (λ x is at. (is.0, is.1)) m.slots readable.slots) in
     let few = few_slots_of m method readable in
     omega (arith, digits, few)

@@ -127,8 +127,8 @@ slotted_methods f s = filter (has_slot_lines f s) (spoken_of f f.slotted s.slott
 
 -- ---- local signatures
 
--- of a method that is `image` between the two steps, where the first map's line has this NEW or there is none: the second map moves the NEW of
--- the first on; where the first has no line, that of the second stands
+-- the NEW of a method that is `image` between the two steps, where the first map's line has this NEW or there is none: that of the second map's
+-- line for the image; without one the first's NEW, moved as the second moves rows of StandAloneSig; none where neither has a line
 abbrev pub signature_then : Map → ℕ → Option ℕ → Option ℕ
 signature_then s image (Some new) = Some (moved_signature s image new)
 signature_then s image None = signature_line s image
@@ -153,7 +153,7 @@ named m = map (λ (d : NameLine). d.old) m.documents
 abbrev pub document_entry : Map → Map → List ℕ → NameLine
 document_entry f s name = record { old = name; new = moved_name s (moved_name f name) }
 
--- of each name with a line in one of the maps
+-- the `document` lines of the map of both: one for each name that has a line in one of the two, by the bytes of the name
 abbrev pub document_entries : Map → Map → List NameLine
 document_entries f s = map (document_entry f s) (names_ascending (named f ++ named s))
 

@@ -22,7 +22,7 @@ sizes_then (Some first) (Some second) = Some (first.0, second.1)
 
 -- the map c says of a module what the map s says of what the map f makes of it (docs/FORMAT.md, "Two maps made into one")
 pub record IsComposition (f s c : Map) : Type 0 where
-  -- the rows of a table are those that the second map says, else those of the first
+  -- a table has as many rows as the second map says, else as many as the first says
   pub counts : (table : ℕ) → count_of c table ≡ option_or (count_of s table) (count_of f table)
   -- the image of a row, of whichever table, is what the second map makes of what the first makes of it
   pub rows : (table old : ℕ) → row_image c table old ≡ own_assembly table (image_then s (row_image f table old))

@@ -4,7 +4,7 @@ use Rattle.std.specs.Prelude.{nat_eq, is_some, unwrap_or}
 use Rattle.std.specs.Option.{option_and_then}
 use Rattle.ppdb_base.specs.Offsets.{Kept, RiseFrom, lined, stop_runs}
 use Rattle.ppdb_base.proofs.Moved.{rise_prefix}
-use Rattle.ppdb_maps.specs.Forms.{SLOTS}
+use Rattle.ppdb_maps.specs.Forms.{MAX_SLOT}
 use Rattle.ppdb_maps.specs.Map.{Map, MethodLine, count_of, row_line, cross_line, has_gone_line, row_within, row_image, method_line, is_dropped, has_slots, slot_line}
 use Rattle.ppdb_maps.specs.Map.{slot_image, offsets_in}
 use Rattle.ppdb_maps.specs.Map.{signature_line, document_line}
@@ -88,7 +88,7 @@ module _ (f s c d : Map) (readable : IsReadable c) (also : IsReadable d) (one : 
       step : IsThere method → has_slots c method ≡ has_slots d method
       step (gone is) = (one.without_image method is).1 ∙ sym (other.without_image method is).1
       step (there image follows) = same (has_slots c method) (has_slots d method)
-          (sym (slots_are_told c readable method) ∙ ap is_some (images_alike method image (suc SLOTS) follows) ∙ slots_are_told d also method)
+          (sym (slots_are_told c readable method) ∙ ap is_some (images_alike method image (suc MAX_SLOT) follows) ∙ slots_are_told d also method)
 
   slots_alike : (method old : ℕ) → slot_line c method old ≡ slot_line d method old
   slots_alike method old = slot_line_is c readable method old ∙ step (is_there method) ∙ sym (slot_line_is d also method old)

@@ -8,7 +8,7 @@ use Rattle.ppdb_base.specs.Offsets.{gone, lined}
 use Rattle.ppdb_maps.specs.declared.entries.RowLine.{RowLine}
 use Rattle.ppdb_maps.specs.declared.entries.CrossLine.{CrossLine}
 use Rattle.ppdb_maps.specs.declared.entries.SlotImage.{SlotImage}
-use Rattle.ppdb_maps.specs.Forms.{SLOTS}
+use Rattle.ppdb_maps.specs.Forms.{MAX_SLOT}
 use Rattle.ppdb_maps.specs.Map.{Map, MethodLine, count_of, row_line, cross_line, has_gone_line, told_image, line_image, row_within, row_image, method_line, is_dropped}
 use Rattle.ppdb_maps.specs.Map.{has_slots, slot_line, slot_image}
 use Rattle.ppdb_maps.specs.Map.{offsets_in}
@@ -169,20 +169,20 @@ module _ (m : Map) (readable : IsReadable m) where
           some (has_slots m method) (slot_line m method old) (subst (λ n. IsTrue (has_slots m n)) (eqb-true s.method method parts.0) of.2)
 
   -- no slot is past the last one of maps, so a method has a `slots` line if and only if that one has no image
-  pub slots_are_told : (method : ℕ) → is_some (slot_image m method (suc SLOTS)) ≡ cond (has_slots m method) false true
+  pub slots_are_told : (method : ℕ) → is_some (slot_image m method (suc MAX_SLOT)) ≡ cond (has_slots m method) false true
   slots_are_told method = step (has_slots m method) (find p m.slots) refl
     where
       p : SlotImage → Bool
-      p s = nat_eq s.method method && nat_eq s.old (suc SLOTS)
+      p s = nat_eq s.method method && nat_eq s.old (suc MAX_SLOT)
 
       step : (has : Bool) (o : Option SlotImage) → find p m.slots ≡ o
-          → is_some (cond has (slot_line m method (suc SLOTS)) (Some (suc SLOTS))) ≡ cond has false true
+          → is_some (cond has (slot_line m method (suc MAX_SLOT)) (Some (suc MAX_SLOT))) ≡ cond has false true
       step false o is = refl
       step true None is = ap (λ (o : Option SlotImage). is_some (option_map (λ (s : SlotImage). s.new) o)) is
       step true (Some s) is =
           let of = found_holds (IsSlotOf m) p m.slots s readable.slots is in
-          let parts = and_parts (nat_eq s.method method) (nat_eq s.old (suc SLOTS)) (found_passes p m.slots s is) in
-          let past = eqb-true s.old (suc SLOTS) parts.1 in
+          let parts = and_parts (nat_eq s.method method) (nat_eq s.old (suc MAX_SLOT)) (found_passes p m.slots s is) in
+          let past = eqb-true s.old (suc MAX_SLOT) parts.1 in
           let within = of.0 in
           absurd (omega (arith, past, within))
 

@@ -43,7 +43,7 @@ pub record EdgesCompose (f s : Map) (method image : ℕ) (a : Meaning) : Type 0 
   pub scopes : Each (λ (x : ScopeMeaning). RangeComposes f s method image x.range) a.scopes
   pub slots : Each (λ (x : SlotMeaning). RangeComposes f s method image x.range) a.slots
 
--- where the first map makes an assembly the module's own (row 1 of Assembly, which has one row), that row is its own image by the second
+-- where the first map makes an assembly the module's own (row 1 of Assembly, which has at most one row), that row is its own image by the second
 abbrev pub KeepsOwnAssembly : Map → Map → Type 0
 KeepsOwnAssembly f s = (row : ℕ) → row_image f 0x23 row ≡ Row 0x20 1 → row_image s 0x20 1 ≡ Row 0x20 1
 

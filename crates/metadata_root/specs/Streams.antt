@@ -26,7 +26,7 @@ pub data StreamFaults (file : List ℕ) : Code → Place → Type 0 where
   missing_pdb : (IsListed file Pdb → ⊥) → StreamFaults file StreamMissing (at_byte 2 0)
   missing_tables : (IsListed file Tables → ⊥) → StreamFaults file StreamMissing (at_byte 2 0)
 
--- the rules of both parts
+-- the rules of the root and of its streams, F1 to F8; the streams are judged only where nothing of the root is at fault
 abbrev pub ContainerFaults : List ℕ → Code → Place → Type 0
 ContainerFaults file = Then (RootFaults file) (StreamFaults file)
 
@@ -35,7 +35,7 @@ pub record Stream : Type 0 where
   pub place : ℕ
   pub bytes : List ℕ
 
--- the stream of this kind is that slice of the file
+-- the stream of this kind is the slice of the file that a header of this kind names
 pub record IsStream (file : List ℕ) (kind : StreamKind) (stream : Stream) : Type 0 where
   pub header : ℕ
   pub listed : IsHeaderOf file kind header
@@ -61,7 +61,7 @@ stream_of streams UserStrings = streams.user_strings
 stream_of streams Guids = streams.guids
 stream_of streams Blobs = streams.blobs
 
--- the streams of the file: each that is listed is there, as that slice, and no other
+-- the streams of the file: of each kind that a header lists the slice that the header names, of any other kind none
 abbrev pub AreStreamsOf : List ℕ → Streams → Type 0
 AreStreamsOf file streams = (kind : StreamKind) → MatchOption (stream_of streams kind) (IsListed file kind → ⊥) (IsStream file kind)
 

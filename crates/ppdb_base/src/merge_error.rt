@@ -50,7 +50,7 @@ pub enum MergeError {
         row: u32,
         joined: u32,
     },
-    /// M8: the input's map counts other rows of the table than the first input's.
+    /// M8: by the input's map the table has another number of rows than by the first input's.
     RowsDiffer {
         input: u32,
         table: u8,

@@ -4,7 +4,6 @@ ghost use Rattle.ppdb_values.specs.Rules.{KeepsRules};
 ghost use Rattle.ppdb_values.specs.Types.{HasTypes, IsNarrowRow};
 ghost use Rattle.ppdb_verify.specs.Views.{raw_file};
 ghost use Rattle.ppdb_build_draft.specs.Drafted.{IsDraftOf};
-ghost use Rattle.ppdb_merge_moved.specs.Moved.{moved_counts};
 ghost use Rattle.ppdb_merge_parts.specs.Flat.{InputsFit, joined_inputs};
 ghost use Rattle.ppdb_merge_rows.specs.Inputs.{moved_by, moved_inputs};
 ghost use Rattle.ppdb_build.specs.Joining.{IsHeadOf, IsMovedHead};
@@ -12,22 +11,11 @@ ghost use Rattle.ppdb_build.specs.Joining.{IsHeadOf, IsMovedHead};
 use crate::rebuilding::rows_are_long;
 use ppdb_build_draft::Drafting;
 use ppdb_build_merged::joined_records_are_flat;
-use ppdb_maps::MapText;
+use ppdb_merge_moved::moved_rows;
 use ppdb_merge_parts::joined_parts_are_flat;
 use ppdb_merge_rows::RowInput;
 use ppdb_tables::{METHOD_DEF, PdbHead, VariableRow};
 use ppdb_verify::Verified;
-
-/// The rows of each table of the type system in the output.
-fn moved_rows(rows: &[u32; 64], map: &MapText) -> [u32; 64]
-    ensures { result ≡ moved_counts map.now 0 rows.now }
-{
-    let mut moved = *rows;
-    for table in 0..64u8 {
-        moved[table as usize] = map.output_rows(table, rows[table as usize]);
-    }
-    moved
-}
 
 /// The head of an input, moved.
 fn moved_head(input: &RowInput<'_>) -> PdbHead

@@ -1,5 +1,5 @@
-//! The draft of a verified file, made from its rows: as many are read as there are, and no value of the file is made. The limits of the format
-//! that a valid file says nothing past.
+//! The draft of a verified file, made from its rows: as many are read as there are, and no value of the file is made. It also has the
+//! limits that no valid file passes.
 #![tactic(auto)]
 
 mod constants;

@@ -24,7 +24,7 @@ bits_of tables = sum_by (λ table. 2 ^ table) tables
 abbrev pub counts_of : List ℕ → List ℕ → List ℕ
 counts_of counts tables = flat_map (λ table. little_bytes 4 (slice_index counts table)) tables
 
--- ---- #Pdb: the id, the token of the entry point, and the counts of the type system's tables
+-- ---- #Pdb: the id, the token of the entry point, a bit for each table of the type system that has rows, and the counts of these
 
 unfoldable pub pdb_stream : List ℕ → ℕ → List ℕ → List ℕ
 pdb_stream id entry counts =

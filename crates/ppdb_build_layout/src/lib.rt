@@ -4,7 +4,6 @@
 mod cells;
 mod counts;
 mod laws;
-mod layouts;
 mod numbers;
 mod pdb;
 mod prefix;

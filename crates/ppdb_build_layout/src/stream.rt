@@ -7,15 +7,16 @@ ghost use Rattle.ppdb_base.specs.Told.{told};
 
 use crate::cells::{put_rows, rows_fit};
 use crate::counts::{bits, count, put_counts};
-use crate::layouts;
 use crate::numbers::{padding, put_padding, put_u32, put_u64};
 use crate::rows::{HeapLens, Rows};
 use ppdb_base::{Bytes, Memory};
+use ppdb_tables::layouts;
 use row_layout::Sizes;
 
-/// The first of the debug tables, and how many there are.
+/// The number of the first debug table.
 const FIRST: usize = 0x30;
 
+/// How many debug tables there are.
 const TABLES: usize = 8;
 
 /// The bits of the tables that are sorted.

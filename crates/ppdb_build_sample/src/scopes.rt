@@ -50,7 +50,7 @@ fn outer(alloc: Global, method: u32) -> Result<ScopeValue, Memory>
     })
 }
 
-/// The scope in it.
+/// The scope inside that of the whole method.
 fn inner(alloc: Global, method: u32) -> Result<ScopeValue, Memory>
     ensures { IfOk result (λ scope. scope ≡ sample_scope method (record { start = 4; end = 12 }) 1 (codes "b") (sample_constant method ∷ [])) }
 {

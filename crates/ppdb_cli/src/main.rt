@@ -44,7 +44,7 @@ fn program_words(rt: &HostRuntime) -> Result<Vec<String>, Status> {
     Ok(words)
 }
 
-/// Answers the words on the standard output, and ends with its writing.
+/// Runs the command of the words, or puts the text that the program has for them, and writes out standard output.
 fn answer(rt: &HostRuntime, words: &[String]) -> Status {
     let mut out = StdSink::new(io::writer(rt));
     let mut folder = RealFolder::new(rt);
@@ -61,7 +61,7 @@ fn answer(rt: &HostRuntime, words: &[String]) -> Status {
     }
 }
 
-/// Says on the standard error what the line of a run that ended so does not say: whose words they are, or why a file was not read or
+/// Prints on standard error what the line of the run does not say: a hint for words that are no command, or why a file was not read or
 /// written.
 fn tell_more(rt: &HostRuntime, words: &[String], status: Status, reason: Option<ErrorKind>) {
     let _ = match (status, reason) {

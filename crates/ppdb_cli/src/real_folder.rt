@@ -26,7 +26,7 @@ struct NotRead {
 }
 
 impl NotRead {
-    /// What stands of an error of the system.
+    /// A read that failed for the system's reason.
     fn failed(reason: ErrorKind) -> NotRead
         ensures { result.error ≡ ReadError.Failed }
     {

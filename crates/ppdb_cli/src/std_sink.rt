@@ -1,4 +1,4 @@
-// The standard output, or another writer, in large writes.
+// Standard output, or another writer, in large writes.
 ghost use Rattle.std.specs.Prelude.{◌≡◌, ◌≤◌, ◌+◌, None, length, IfErr, OnErr, OnOk};
 ghost use Rattle.std.specs.Io.KnownBytes.{Appends, Keeps};
 ghost use Rattle.ppdb_cli.specs.Kept.{kept_after};

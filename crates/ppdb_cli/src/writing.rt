@@ -20,7 +20,7 @@ pub fn write_all<W: Write>(writer: &mut W, bytes: &[u8]) -> Result<(), ErrorKind
     Ok(())
 }
 
-/// Writes all bytes, and passes over the reason why it did not.
+/// Writes all bytes, and ignores why a write failed.
 pub fn put_all<W: Write>(writer: &mut W, bytes: &[u8]) -> Result<(), WriteError>
     ensures failed { IfErr result (λ error. error ≡ WriteError.Failed) }
     ensures bytes { OnOk result (Appends (W.contents writer.old) (W.contents writer.new) bytes.now) }

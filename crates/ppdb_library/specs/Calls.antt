@@ -14,7 +14,7 @@ pub record IsCall (words files : List ℕ) (pieces : List PpdbPiece) (told : Lis
 abbrev pub OnCall : (words files : List ℕ) → List PpdbPiece → (List (List ℕ) → Files → Type 0) → Type 0
 OnCall words files pieces P = (told : List (List ℕ)) → IsCall words files pieces told → P told (files_in files pieces)
 
--- the pieces are no call
+-- the words, the files and the pieces are no call
 abbrev pub NoCall : (words files : List ℕ) → List PpdbPiece → Type 0
 NoCall words files pieces = (told : List (List ℕ)) → IsCall words files pieces told → ⊥
 

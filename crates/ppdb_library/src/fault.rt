@@ -14,7 +14,7 @@ pub struct PpdbFault {
     pub byte: u32,
     /// The rule: 1 to 40, for F1 to F40.
     pub code: u8,
-    /// 1 the metadata root, 2 its streams, 3 the stream `#Pdb`, 4 the head of the stream `#~`, 5 the rows of its tables.
+    /// 1 the metadata root, 2 its streams, 3 the stream `#Pdb`, 4 the stream `#~`, 5 the rows of its tables.
     pub part: u8,
     /// The number of the table, 0x30 to 0x37; 0 in the parts 1 to 4.
     pub table: u8,

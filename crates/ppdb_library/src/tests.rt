@@ -1,4 +1,4 @@
-// Each call where it succeeds, and calls that are none. The points are those that stand with the worked file.
+// Each call where it succeeds, and calls that are refused. The points are those of the worked file.
 use crate::fault::PpdbFault;
 use crate::lines::{HIDDEN, LINES, NO_METHOD, PpdbFrame, PpdbLine, ppdb_lines};
 use crate::piece::PpdbPiece;

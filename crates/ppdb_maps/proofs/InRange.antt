@@ -8,7 +8,7 @@ use Rattle.ppdb_base.specs.declared.offsets.Run.{Run}
 use Rattle.ppdb_base.specs.Offsets.{Rise, lined}
 use Rattle.ppdb_maps.specs.Before.{count_in, row_in, cross_in, gone_in, has_image_in, method_in, methods_of, with_run, drop_in, slots_in, slot_in, signature_in, document_in}
 use Rattle.ppdb_maps.specs.Before.{link_in}
-use Rattle.ppdb_maps.specs.Forms.{AreBytes, SLOTS, Values, Tells, silent, told, rows_line, row_line, method_line, run_line, drop_line, slots_line}
+use Rattle.ppdb_maps.specs.Forms.{AreBytes, MAX_SLOT, Values, Tells, silent, told, rows_line, row_line, method_line, run_line, drop_line, slots_line}
 use Rattle.ppdb_maps.specs.Forms.{slot_line, signature_line, document_line, link_line, cross_line, gone_line, shares_line, Crosses}
 use Rattle.ppdb_maps.specs.Map.{MethodLine}
 use Rattle.ppdb_maps.specs.Readable.{IsRow}
@@ -38,7 +38,7 @@ InRange (Method m o n) = IsRow m × (o ≤ MAX_OFFSET) × (n ≤ MAX_OFFSET)
 InRange (Kept run) = 0 < run.length
 InRange (Dropped m) = IsRow m
 InRange (Slots m) = IsRow m
-InRange (Slot m o n) = (o ≤ SLOTS) × (n ≤ SLOTS)
+InRange (Slot m o n) = (o ≤ MAX_SLOT) × (n ≤ MAX_SLOT)
 InRange (Signature m n) = IsRow m × (n ≤ MAX_ROWS)
 InRange (Document d) = AreBytes d.old × AreBytes d.new
 InRange (Link value) = AreBytes value
@@ -80,7 +80,7 @@ pub record Fits (said : List Line) : Type 0 where
   pub methods : (m : ℕ) (line : MethodLine) → method_in said m ≡ Some line → FitsLine said line
   pub drops : (m : ℕ) → drop_in said m ≡ true → IsRow m
   pub slotted : (m : ℕ) → slots_in said m ≡ true → IsRow m × (drop_in said m ≡ false)
-  pub slots : (m o n : ℕ) → slot_in said m o ≡ Some n → (o ≤ SLOTS) × (n ≤ SLOTS) × (slots_in said m ≡ true)
+  pub slots : (m o n : ℕ) → slot_in said m o ≡ Some n → (o ≤ MAX_SLOT) × (n ≤ MAX_SLOT) × (slots_in said m ≡ true)
   pub signatures : (m n : ℕ) → signature_in said m ≡ Some n → IsRow m × (n ≤ MAX_ROWS) × (drop_in said m ≡ false)
   pub documents : (old new : List ℕ) → document_in said old ≡ Some new → AreBytes old × AreBytes new
   pub link : (value : List ℕ) → link_in said ≡ Some value → AreBytes value
@@ -410,8 +410,8 @@ fits_slot before m o n fits range keeps = record {
   slots = λ k j i is. elim (answer_from (nat_eq m k && nat_eq o j) n i (slot_in before k j) is) [
     | inl (hit, same) ↦
         let parts = and_parts (nat_eq m k) (nat_eq o j) hit in (
-          subst (λ x. x ≤ SLOTS) (eqb-true o j parts.1) range.0,
-          subst (λ x. x ≤ SLOTS) same range.1,
+          subst (λ x. x ≤ MAX_SLOT) (eqb-true o j parts.1) range.0,
+          subst (λ x. x ≤ MAX_SLOT) same range.1,
           subst (λ x. slots_in before x ≡ true) (eqb-true m k parts.0) (not_false (slots_in before m) (λ none. keeps Undeclared (slot_alone none))),
         )
     | inr (miss, rest) ↦ fits.slots k j i rest

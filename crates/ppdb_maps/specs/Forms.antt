@@ -79,7 +79,7 @@ abbrev pub IsTypeTable : ℕ → Type 0
 IsTypeTable table = (table ≡ 0x01) ⊎ (table ≡ 0x02) ⊎ (table ≡ 0x1b)
 
 -- A row moves to another of the tables of types, or the row of an assembly that is referred to (AssemblyRef) becomes that of the module's
--- own (Assembly, ECMA-335 II.22.2, which has one row).
+-- own (Assembly, ECMA-335 II.22.2, which has at most one row).
 abbrev pub Crosses : CrossLine → Type 0
 Crosses line =
     (IsTypeTable line.table × IsTypeTable line.to × (line.table ≢ line.to))
@@ -96,8 +96,8 @@ pub record IsEscaped (word bytes : List ℕ) : Type 0 where
   pub within : AreBytes bytes
 
 -- the greatest slot of a local variable
-abbrev pub SLOTS : ℕ
-SLOTS = 65535
+abbrev pub MAX_SLOT : ℕ
+MAX_SLOT = 65535
 
 -- what the values after the first word say, each in its range
 pub data Values : Form → List (List ℕ) → Line → Type 0 where
@@ -111,8 +111,8 @@ pub data Values : Form → List (List ℕ) → Line → Type 0 where
       → IsNumber l 1 MAX_OFFSET run.length → Values OffsetRun (o ∷ n ∷ l ∷ []) (Kept run)
   drop_line : {m : List ℕ} {method : ℕ} → IsNumber m 1 MAX_ROWS method → Values MethodDrop (m ∷ []) (Dropped method)
   slots_line : {m : List ℕ} {method : ℕ} → IsNumber m 1 MAX_ROWS method → Values MethodSlots (m ∷ []) (Slots method)
-  slot_line : {m o n : List ℕ} {method old new : ℕ} → IsNumber m 1 MAX_ROWS method → IsNumber o 0 SLOTS old
-      → IsNumber n 0 SLOTS new → Values SlotMove (m ∷ o ∷ n ∷ []) (Slot method old new)
+  slot_line : {m o n : List ℕ} {method old new : ℕ} → IsNumber m 1 MAX_ROWS method → IsNumber o 0 MAX_SLOT old
+      → IsNumber n 0 MAX_SLOT new → Values SlotMove (m ∷ o ∷ n ∷ []) (Slot method old new)
   signature_line : {m n : List ℕ} {method new : ℕ} → IsNumber m 1 MAX_ROWS method → IsNumber n 0 MAX_ROWS new
       → Values MethodSignature (m ∷ n ∷ []) (Signature method new)
   document_line : {o n : List ℕ} {d : NameLine} → IsEscaped o d.old → IsEscaped n d.new → Values DocumentRename (o ∷ n ∷ []) (Document d)

@@ -165,7 +165,7 @@ abbrev pub leaves_table : ℕ → RowImage → Bool
 leaves_table table (Row other row) = not (nat_eq other table)
 leaves_table table image = false
 
--- the row of the same table that a row becomes, where 0 is no row: 0 of 0, and 0 where there is none
+-- the row of the same table that a row becomes; 0, which is no row, stays 0, and so 0 is the answer for a row that becomes none
 abbrev pub moved_row : Map → ℕ → ℕ → ℕ
 moved_row said table old = cond (nat_eq old 0) 0 (unwrap_or (row_within said table old) 0)
 

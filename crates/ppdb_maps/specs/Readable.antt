@@ -2,7 +2,7 @@
 use Rattle.std.specs.{Prelude.{◌≡◌, ◌≢◌, ℕ, ◌≤◌, false, None, IfSome, IsSome, IsTrue, List}, List.AllByRecursion}
 use Rattle.ppdb_base.specs.Offsets.{Rise, lined}
 use Rattle.ppdb_maps.specs.declared.entries.{Count.Count, RowLine.RowLine, CrossLine.CrossLine, GoneLine.GoneLine, SlotImage.SlotImage, SignatureImage.SignatureImage, NameLine.NameLine}
-use Rattle.ppdb_maps.specs.Forms.{AreBytes, Crosses, SLOTS}
+use Rattle.ppdb_maps.specs.Forms.{AreBytes, Crosses, MAX_SLOT}
 use Rattle.ppdb_maps.specs.{Map.{Map, MethodLine, Ascends, count_of, row_line, cross_line, is_dropped, has_slots}, Text.{IsMapOf, Refused}}
 use Rattle.ppdb_base.specs.declared.limits.TheConstants.{MAX_ROWS, MAX_OFFSET}
 
@@ -41,7 +41,7 @@ IsSlottedOf m method = IsRow method × (is_dropped m method ≡ false)
 
 -- a slot and its image, of a method with slots
 abbrev pub IsSlotOf : Map → SlotImage → Type 0
-IsSlotOf m slot = (slot.old ≤ SLOTS) × (slot.new ≤ SLOTS) × IsTrue (has_slots m slot.method)
+IsSlotOf m slot = (slot.old ≤ MAX_SLOT) × (slot.new ≤ MAX_SLOT) × IsTrue (has_slots m slot.method)
 
 -- a method that is not dropped, and the row of its local signature, 0 for none
 abbrev pub IsSignatureOf : Map → SignatureImage → Type 0

@@ -4,7 +4,7 @@ ghost use Rattle.std.specs.Str.Parse.{AllDigits, digits_value};
 ghost use Rattle.std.specs.Fmt.{decimal};
 ghost use Rattle.ppdb_maps.specs.Spelling.{IsHexDigit, MaySpell};
 ghost use Rattle.ppdb_base.specs.declared.limits.TheConstants.{MAX_ROWS, MAX_OFFSET};
-ghost use Rattle.ppdb_maps.specs.Forms.{IsNumber, IsTable, SLOTS};
+ghost use Rattle.ppdb_maps.specs.Forms.{IsNumber, IsTable, MAX_SLOT};
 
 /// What decimal digits say.
 fn digits(word: &[u8]) -> Option<u64>
@@ -83,8 +83,8 @@ pub fn offset(word: &[u8]) -> Option<u32>
 
 /// A slot, 0 to 65535.
 pub fn slot(word: &[u8]) -> Option<u16>
-    ensures some { IfSome result (IsNumber word.now 0 SLOTS) }
-    ensures none { IfNone result ((n : ℕ) → IsNumber word.now 0 SLOTS n → ⊥) }
+    ensures some { IfSome result (IsNumber word.now 0 MAX_SLOT) }
+    ensures none { IfNone result ((n : ℕ) → IsNumber word.now 0 MAX_SLOT n → ⊥) }
 {
     u16::try_from(number(word, 0, 65_535)?).ok()
 }

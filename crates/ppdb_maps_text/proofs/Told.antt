@@ -6,7 +6,7 @@ use Rattle.std.specs.List.{AllByRecursion}
 use Rattle.std.proofs.lemmas.Bool.{cases_lt, lt-ltb, le-ltb}
 use Rattle.ppdb_base.specs.declared.offsets.Run.{Run}
 use Rattle.ppdb_maps.specs.Words.{IsSilent}
-use Rattle.ppdb_maps.specs.Forms.{name_of, words_in, since, IsNumber, IsTable, SLOTS, Values, Tells, told}
+use Rattle.ppdb_maps.specs.Forms.{name_of, words_in, since, IsNumber, IsTable, MAX_SLOT, Values, Tells, told}
 use Rattle.ppdb_maps.specs.Forms.{rows_line, row_line, method_line, run_line, drop_line, slots_line, slot_line, signature_line, document_line, link_line, AreBytes, IsEscaped}
 use Rattle.ppdb_maps.specs.Forms.{cross_line, gone_line, shares_line, IsTypeTable, Crosses}
 use Rattle.ppdb_maps.specs.declared.line.Form.{Form}
@@ -141,11 +141,11 @@ slots_told version there method from to =
     told_form version MethodSlots (decimal method ∷ []) (Slots method) refl (number_word method (omega (arith, to)), tt) refl (omega (arith, there))
     (slots_line (number method 1 MAX_ROWS from to))
 
-pub slot_told : (version : ℕ) → 3 ≤ version → (method old new : ℕ) → 1 ≤ method → method ≤ MAX_ROWS → old ≤ SLOTS → new ≤ SLOTS → IsTold version (Slot method old new)
+pub slot_told : (version : ℕ) → 3 ≤ version → (method old new : ℕ) → 1 ≤ method → method ≤ MAX_ROWS → old ≤ MAX_SLOT → new ≤ MAX_SLOT → IsTold version (Slot method old new)
 slot_told version there method old new from to old_to new_to =
     told_form version SlotMove (decimal method ∷ decimal old ∷ decimal new ∷ []) (Slot method old new) refl
     (number_word method (omega (arith, to)), (number_word old (omega (arith, old_to)), (number_word new (omega (arith, new_to)), tt))) refl (omega (arith, there))
-    (slot_line (number method 1 MAX_ROWS from to) (number old 0 SLOTS (omega arith) old_to) (number new 0 SLOTS (omega arith) new_to))
+    (slot_line (number method 1 MAX_ROWS from to) (number old 0 MAX_SLOT (omega arith) old_to) (number new 0 MAX_SLOT (omega arith) new_to))
 
 pub signature_told : (version : ℕ) → 4 ≤ version → (method new : ℕ) → 1 ≤ method → method ≤ MAX_ROWS → new ≤ MAX_ROWS → IsTold version (Signature method new)
 signature_told version there method new from to new_to =

@@ -21,7 +21,7 @@ pub record IsValidInput (input : ReadInput) : Type 0 where
 abbrev pub moved_by : ReadInput → MovedBy
 moved_by input = record { value = value_of input.raw; map = input.map }
 
--- each input fits those before it, the first of them those that are there, and all leave these traces
+-- the inputs are added one after the other to those with the traces `there`, none is refused, and together they leave these traces
 abbrev pub AreAdded : List (List ℕ) → List Trace → List ReadInput → List Trace → Type 0
 AreAdded marks there [] traces = traces ≡ there
 AreAdded marks there (input ∷ inputs) traces =

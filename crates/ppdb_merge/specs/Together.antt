@@ -6,11 +6,11 @@ use Rattle.ppdb_merge_names.specs.declared.imaged.Imaged.{Imaged}
 use Rattle.ppdb_merge_joined.specs.Joined.{joined}
 use Rattle.ppdb_merge.specs.{declared.trace.Trace.Trace, Merged.{moved_files, unless}}
 
--- the rows of a table in the output, as the input has it
+-- how many rows a table has in the output, as the input has it
 abbrev pub count_in : Trace → ℕ → ℕ
 count_in t table = slice_index t.moved.rows table
 
--- ---- M8: an input counts other rows of a table of the type system than the first
+-- ---- M8: an input gives a table of the type system another number of rows than the first does
 
 abbrev pub differs : Trace → ℕ → ℕ × Trace → Option MergeError
 differs first table other =

@@ -7,6 +7,7 @@ ghost use Rattle.ppdb_verify.specs.Views.{raw_file};
 use crate::together::Counted;
 use ppdb_base::List;
 use ppdb_maps::MapText;
+use ppdb_merge_moved::moved_rows;
 use ppdb_merge_names::Imaged;
 use ppdb_values_reading::type_rows;
 use ppdb_verify::Verified;
@@ -39,10 +40,5 @@ impl Counted for RowTrace {
 pub(crate) fn output_counts(file: &Verified<'_>, map: &MapText) -> [u32; 64]
     ensures { result ≡ moved_counts map.now 0 (value_of (raw_file file.now)).rows }
 {
-    let rows = type_rows(file);
-    let mut counts = rows;
-    for table in 0..64u8 {
-        counts[table as usize] = map.output_rows(table, rows[table as usize]);
-    }
-    counts
+    moved_rows(&type_rows(file), map)
 }

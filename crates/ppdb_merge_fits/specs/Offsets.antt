@@ -34,11 +34,11 @@ abbrev pub if_past : (ℕ → Bool) → ℕ → ℕ → Option (ℕ × ℕ) → 
 if_past is_past method offset None = []
 if_past is_past method offset (Some sizes) = cond (is_past sizes.0) (OffsetBeyond method offset sizes.0 ∷ []) []
 
--- an offset that is not below it
+-- M4 of an offset that is not below the old size of its method
 abbrev pub offset_beyond : Map → MethodOffset → List MergeError
 offset_beyond m x = if_past (λ size. nat_le size x.offset) x.method x.offset (sizes_of (offsets_in m x.method))
 
--- a range that ends above it
+-- M4 of a range that ends above the old size of its method
 abbrev pub end_beyond : Map → ℕ → Range → List MergeError
 end_beyond m method range = if_past (λ size. nat_lt size range.end) method range.end (sizes_of (offsets_in m method))
 

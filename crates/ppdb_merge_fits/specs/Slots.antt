@@ -1,4 +1,4 @@
--- The slots of variables whose images a map does not report, or reports twice (docs/FORMAT.md, "Fitting").
+-- The slots of variables that have no image by a map, and those of one method that have one image (docs/FORMAT.md, "Fitting").
 use Rattle.ppdb_values.specs.Names.{MergeError, SlotUnmapped, SlotTwice, numbered}
 use Rattle.std.specs.Prelude.{ℕ, ◌||◌, cond, is_some, List, [], ◌∷◌, Option, None, map, filter_map, flat_map, option_map}
 use Rattle.ppdb_maps.specs.Map.{Map, slot_image, is_dropped}

@@ -23,7 +23,7 @@ beside told (x ∷ xs) = beside_from told x xs
 abbrev pub have_one_image : {A : Type 0} → (A → ℕ) → (A → ℕ) → (A → ℕ) → A → A → Bool
 have_one_image group number image a b = nat_eq (group a) (group b) && (nat_eq (image a) (image b) && not (nat_eq (number a) (number b)))
 
--- what is reported of two such items
+-- what is reported of two items, where they are of one group, differ and have one image; else nothing
 abbrev pub if_one_image : {A B : Type 0} → (A → ℕ) → (A → ℕ) → (A → ℕ) → (A → A → B) → A → A → List B
 if_one_image group number image told a b = cond (have_one_image group number image a b) (told a b ∷ []) []
 

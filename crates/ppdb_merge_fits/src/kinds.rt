@@ -180,13 +180,10 @@ impl<'v> Rows<'v> {
 }
 
 /// Whether records of the kind are neither read nor passed on.
-fn is_unknown(kind: Kind) -> bool
+pub fn is_unknown(kind: Kind) -> bool
     ensures { result ≡ is_unknown kind }
 {
-    match kind {
-        Kind::Unknown => true,
-        _ => false,
-    }
+    matches!(kind, Kind::Unknown)
 }
 
 /// Whether some record has an unknown kind.

@@ -11,13 +11,12 @@ ghost use Rattle.ppdb_verify.specs.Views.{raw_file};
 ghost use Rattle.ppdb_merge_items.specs.NamedRows.{leaves_types, live_custom};
 ghost use Rattle.ppdb_merge_fits.specs.Offsets.{step_offsets, handler_offsets, async_offsets, slot_beyond};
 ghost use Rattle.ppdb_merge_fits.specs.Walks.{record_told};
-ghost use Rattle.ppdb_maps.specs.Map.{leaves_table};
 
 use crate::offsets::{AsksOffset, Below, Kept, end_beyond};
 use custom_info::{AsyncCursor, AsyncStep, Slot, SlotCursor};
 use ppdb_base::{MergeError, Steps};
-use ppdb_maps::{MapText, RowImage};
-use ppdb_merge_moved::is_gone_row;
+use ppdb_maps::MapText;
+use ppdb_merge_moved::{is_gone_row, leaves_table};
 use ppdb_tables::{CUSTOM, METHOD_DEF, Parent};
 use ppdb_values_reading::{LentBody, LentCustom, read_custom};
 use ppdb_verify::Verified;
@@ -145,16 +144,6 @@ impl AsksBody for Kept<'_> {
             LentBody::Async(cursor) => first_of_async(self, row, cursor),
             LentBody::Hoisted(_) | LentBody::TypeDocuments(_) | LentBody::Unread(_) => None,
         }
-    }
-}
-
-/// Whether the image is a row of another table.
-fn leaves_table(table: u8, image: RowImage) -> bool
-    ensures { result ≡ leaves_table table image }
-{
-    match image {
-        RowImage::Row { table: to, .. } => to != table,
-        RowImage::Gone | RowImage::Missing => false,
     }
 }
 

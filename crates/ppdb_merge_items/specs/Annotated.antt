@@ -1,5 +1,5 @@
--- What a file says, with each custom record at the item that it is on (Portable PDB v1.0, "CustomDebugInformation Table": Parent):
--- from a value, and the parts of it that are numbered by their places.
+-- What a file says, with each custom record at the item that it is on (Portable PDB v1.0, "CustomDebugInformation Table": Parent).
+-- First what is made of a value, and then what goes back into one, with rows numbered by their places.
 use Rattle.std.specs.Prelude.{map, ℕ, ◌+◌, nat_lt, List, [], ◌∷◌, ◌++◌, length, filter, flat_map}
 use Rattle.ppdb_tables.specs.RawTables.{numbered}
 use Rattle.ppdb_values.specs.{declared.file.FileValue.FileValue, declared.scope.ScopeValue.ScopeValue, declared.custom.CustomValue.CustomValue, declared.annotation.Custom.Custom}

@@ -59,11 +59,12 @@ live_scope m scope = not (is_dropped m scope.method)
 abbrev pub live_machine : Map → MachineRow → Bool
 live_machine m machine = not (is_dropped m machine.move_next || is_dropped m machine.kickoff)
 
--- A constant is removed where one of its modifiers, or the class or value type that it is of, is gone.
+-- the class or value type that a constant is of is gone
 abbrev pub names_gone_class : Map → ConstantBody → Bool
 names_gone_class m (General code target rest) = is_gone_type m target
 names_gone_class m body = false
 
+-- A constant is removed where one of its modifiers, or the class or value type that it is of, is gone.
 abbrev pub goes_constant : Map → ConstantValue → Bool
 goes_constant m constant = list_any (λ (modifier : Modifier). is_gone_type m modifier.target) constant.modifiers || names_gone_class m constant.body
 
@@ -76,7 +77,7 @@ live_import m (AssemblyNamespaceAlias alias assembly namespace) = not (is_gone_r
 live_import m (TargetAlias alias target) = not (is_gone_type m target)
 live_import m import = true
 
--- a record of type definition documents whose parent becomes a row of another table ("Type Definition Document")
+-- a record of type definition documents whose parent becomes a row of another table ("Type Definition Documents")
 abbrev pub leaves_types : Map → CustomValue → Bool
 leaves_types m custom = is_type_documents custom.value && leaves_table custom.parent.table (row_image m custom.parent.table custom.parent.row)
 

@@ -1,4 +1,4 @@
--- When a map fits a file (docs/FORMAT.md, "Fitting"): none of M1, M2, M4, M5 and M10 to M12 holds. No part of this are M6
+-- When a map fits a file (docs/FORMAT.md, "Fitting"): none of M1, M2, M4, M5 and M10 to M12 holds. Not judged here are M6
 -- (unknown kinds), M3, M7, M8 and M13 (which compare inputs) and M9 (an image above the rows of the output).
 use Rattle.ppdb_values.specs.Names.{Kept, old_size, Slot, Empty, Held, AsyncStep}
 use Rattle.std.specs.Prelude.{◌≡◌, ◌≢◌, ℕ, ◌<◌, ◌≤◌, ◌&&◌, ◌||◌, Bool, true, false, nat_eq, IfSome, List, Some, Contains}

@@ -42,7 +42,7 @@ moved_body m method body = body
 
 -- ---- types and imports
 
--- the table and the row of an image; both are 0 where there is none, which no part of a file names that a map fits
+-- the table and the row of an image, both 0 where it is no row; if the map fits the file, each row that a kept part names has a row as its image
 abbrev pub table_in : RowImage → ℕ
 table_in (Row table row) = table
 table_in image = 0

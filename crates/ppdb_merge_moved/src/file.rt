@@ -11,7 +11,7 @@ use ppdb_tables::METHOD_DEF;
 use std::alloc::Global;
 
 /// The rows of each table of the type system in the output.
-fn moved_rows(rows: &[u32; 64], map: &MapText) -> [u32; 64]
+pub fn moved_rows(rows: &[u32; 64], map: &MapText) -> [u32; 64]
     ensures { result ≡ moved_counts map.now 0 rows.now }
 {
     let mut moved = *rows;

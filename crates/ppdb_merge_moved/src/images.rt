@@ -34,7 +34,7 @@ pub(crate) fn is_in_table(table: u8, image: RowImage) -> bool
 }
 
 /// Whether the image is a row of another table.
-pub(crate) fn leaves_table(table: u8, image: RowImage) -> bool
+pub fn leaves_table(table: u8, image: RowImage) -> bool
     ensures { result ≡ leaves_table table image }
 {
     match image {

@@ -16,8 +16,8 @@ mod records;
 mod types;
 
 pub use annotating::annotated_file;
-pub use file::moved_file;
-pub use images::is_gone_row;
+pub use file::{moved_file, moved_rows};
+pub use images::{is_gone_row, leaves_table};
 pub use laws::{
     files_mean, fits_are_of_methods, links_mean, moved_is_sound, moved_names_images,
     named_rows_are_rows, points_mean, scopes_mean, slots_mean,

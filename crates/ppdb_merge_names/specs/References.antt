@@ -114,7 +114,7 @@ abbrev pub is_type_documents : Kind → Bool
 is_type_documents TypeDocuments = true
 is_type_documents kind = false
 
--- a record of type definition documents whose parent becomes a row of another table ("Type Definition Document")
+-- a record of type definition documents whose parent becomes a row of another table ("Type Definition Documents")
 abbrev pub leaves_types : Map → RawTables → CustomRow → Parent → Bool
 leaves_types m raw row parent = is_type_documents (kind_of [] (kind_in raw row)) && leaves_table parent.table (row_image m parent.table parent.row)
 

@@ -15,6 +15,6 @@ pub use constants::moved_constant;
 pub use imports::moved_import_scope;
 pub use inputs::RowInput;
 pub use laws::{fitting_points_fit, methods_have_their_rows, rows_are_images};
-pub use methods::{MovedMethod, moved_method, moved_method_into};
+pub use methods::{MovedMethod, moved_method_into};
 pub use records::{MovedBody, MovedRecord, moved_record};
 pub use scopes::{MovedScope, moved_scope, moved_variable, read_scope};

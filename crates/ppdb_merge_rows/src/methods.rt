@@ -8,17 +8,12 @@ ghost use Rattle.ppdb_values.specs.Rules.{HasRow};
 ghost use Rattle.ppdb_verify.specs.Views.{raw_file};
 ghost use Rattle.ppdb_merge_rows.specs.Methods.{PointsFit, method_after, IsMovedTo, is_long};
 
-use crate::renumbering::DocumentRows;
 use ppdb_base::{Bytes, Memory, Steps};
 use ppdb_maps::{MapText, MethodMap};
-use ppdb_merge_moved::{Moves, Stays};
-use ppdb_values::MethodValue;
-use ppdb_values_reading::{Scratch, method_value};
 use ppdb_verify::Verified;
 use ppdb_verify_rows::{blob, method_debug, point_limits, points_of};
 use sequence_points::PointError;
 use sequence_points_moved::moved_points_into;
-use std::alloc::Global;
 use std::sync::ledger::Ledger;
 
 /// What becomes of a method.
@@ -97,29 +92,4 @@ pub fn moved_method_into<L: Ledger>(
         Err(PointError::Memory) => Err(Memory),
         Err(PointError::Step { .. }) => Ok(MovedMethod::Listed),
     }
-}
-
-/// The method of a row in the joined file, as a value of its own: for one that is listed. None where it has no points, or none that
-/// stays.
-pub fn moved_method<L: Ledger>(
-    alloc: Global,
-    file: &Verified<'_>,
-    map: &MapText,
-    row: u32,
-    documents: &[u32],
-    scratch: &mut Scratch,
-    steps: &mut Steps<L>,
-) -> Result<Option<MethodValue>, Memory>
-    requires there { HasRow (raw_file file.now).tables 0x31 row }
-    ensures moved { IfOk result (λ method. method ≡ method_after (raw_file file.now) map.now documents.now row) }
-    ensures step { steps.new ≡ steps.old + 1 }
-{
-    let Some(method) = method_value(alloc, file, row, scratch, steps)? else {
-        return Ok(None);
-    };
-    let Some(mut method) = method.stay_by(map) else {
-        return Ok(None);
-    };
-    method.move_by(&DocumentRows { rows: documents });
-    Ok(Some(method))
 }

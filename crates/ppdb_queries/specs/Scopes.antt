@@ -36,7 +36,7 @@ abbrev pub NextScope : RawTables → ℕ → ℕ → ℕ → Option (ScopeView �
 NextScope raw x first end None = views_between raw x first end ≡ []
 NextScope raw x first end (Some found) = (views_between raw x first end ≡ found.0 ∷ views_between raw x found.1 end) × (first < found.1) × (found.1 ≤ end)
 
--- the rows that such a search looked at
+-- how many rows a search for the next scope of some rows looked at, by what it found
 abbrev pub rows_passed : ℕ → ℕ → Option (ScopeView × ℕ) → ℕ
 rows_passed first end None = end - first
 rows_passed first end (Some found) = found.1 - first

@@ -10,9 +10,9 @@ use ppdb_maps::{cut_at, is_silent};
 /// An offset of a method.
 #[derive(Clone, Copy, Debug, PartialEq, Eq)]
 pub struct MethodOffset {
-    /// To 16777215.
+    /// The row of MethodDef, at most 16777215.
     pub method: u32,
-    /// To 2147483647.
+    /// The IL offset, at most 2147483647.
     pub offset: u32,
 }
 

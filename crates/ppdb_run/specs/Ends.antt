@@ -72,7 +72,7 @@ pub record IsUnreadOf (task : Task) (files : Option Files) (before after : ℕ) 
   pub next : after < 18446744073709551615 → after ≡ before + read
   pub comes : IfSome files (λ all. ComesToRead task all read)
 
--- this file of an input was to be read, after as many reads as before it: the file, or the map after it
+-- this file of an input was to be read: its file, where no read gave a file before; or its map, after its file was read
 abbrev pub IsInputUnread : Option Files → Input → ℕ → ℕ → List ℕ → Type 0
 IsInputUnread files input before after name =
     ((name ≡ input.file) × (after ≡ before))

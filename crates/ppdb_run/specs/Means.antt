@@ -20,7 +20,7 @@ AreInputsOf (Rebuild input output options) files inputs = (raw : RawFile) × ver
 AreInputsOf (Merge pairs output options) files inputs = (read : List ReadInput) × AllZip (IsReadAs files) pairs read × (inputs ≡ map moved_by read)
 AreInputsOf task files inputs = ⊥
 
--- A debug file that a task writes.
+-- What holds of the bytes of a debug file that a task writes.
 pub record ExactlyMeans (task : Task) (options : Options) (files : Files) (bytes : List ℕ) : Type 0 where
   -- Each input is accepted, and each map's text has a map.
   pub read : (inputs : List MovedBy) × AreInputsOf task files inputs
@@ -33,7 +33,7 @@ pub record ExactlyMeans (task : Task) (options : Options) (files : Files) (bytes
   -- Rebuilding it gives itself.
   pub again : RebuildsToItself options bytes
 
--- The task writes such a file.
+-- The task writes one file, of this name: its bytes mean what the inputs of the task mean, and are rebuilt to themselves.
 abbrev pub WritesExactly : Task → List ℕ → Options → Files → Outcome → Type 0
 WritesExactly task output options files due = (bytes : List ℕ) × (due.writes ≡ Some (output, bytes)) × ExactlyMeans task options files bytes
 

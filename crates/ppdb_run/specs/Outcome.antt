@@ -39,6 +39,7 @@ abbrev pub ◌>>=◌ : {A B : Type 0} → Step A → (A → Step B) → Step B
 abbrev pub gives : {A : Type 0} → Result A Outcome → Step A
 gives told result = result ≡ told
 
+-- the bytes of a file that was read, or the refusal of one that is missing or too long
 abbrev pub input_of : List ℕ → Reading → Result (List ℕ) Outcome
 input_of name Missing = Err (absent name)
 input_of name Longer = Err (too_long name)
@@ -156,7 +157,7 @@ with_inputs files marks traces (input ∷ inputs) = do
   more ← with_input files marks traces input
   with_inputs files marks more inputs
 
--- the number of the input that is not joined, counted from 1: it counts other rows than the first, or an image is above its count
+-- the number of the input that is not joined, counted from 1: it gives a table another number of rows than the first, or an image is above its count
 abbrev pub input_in : MergeError → ℕ
 input_in (RowsDiffer input table first second) = input
 input_in (ImageRange input table row image rows) = input

@@ -47,8 +47,8 @@ pub fn map_of<'a>(alloc: Global, name: &'a str, text: Bytes) -> Result<MapText, 
     }
 }
 
-/// Gives a text up, which is shrunk before. Of the largest block that was freed as one, glibc takes the size up to which it keeps what is
-/// freed later.
+/// Frees a text, shrunk to one byte first: glibc keeps freed memory up to the size of the largest block that was freed at once, so a long
+/// text that is freed whole would keep later memory from going back to the system.
 fn give_up(text: Bytes) {
     let mut bytes = text.into_vec();
     bytes.truncate(1);

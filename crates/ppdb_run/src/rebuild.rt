@@ -1,7 +1,6 @@
 // The command `rebuild`: the canonical file of a file.
 ghost use Rattle.std.specs.Prelude.{◌≡◌, ◌≤◌, ℕ, List, Some, None, IfOk, IfErr, IfSome, if◌then◌else◌};
 ghost use Rattle.ppdb_base.specs.First.{IsAccepted};
-ghost use Rattle.ppdb_merge_fits.specs.Clashes.{is_unknown as neither_read_nor_free};
 ghost use Rattle.ppdb_run.specs.Ends.{RebuildsToItself};
 ghost use Rattle.ppdb_run.specs.Means.{ExactlyMeans};
 ghost use Rattle.ppdb_run.specs.Outcome.{gives, rebuilt, steps_of, unknown_kind, written};
@@ -17,9 +16,10 @@ ghost use Rattle.ppdb_run.specs.MeaningLaws.{SaysButForId};
 use crate::meaning_laws::rebuilt_files_keep_themselves;
 use crate::output::write_output;
 use crate::verified::read_verified;
-use custom_info::{Kind, Marks, kind_of};
+use custom_info::{Marks, kind_of};
 use ppdb_base::{Bytes, Folder, List, MergeError, Steps};
 use ppdb_build::{BuildError, IdChoice};
+use ppdb_merge_fits::is_unknown;
 use ppdb_run_stops::Stop;
 use ppdb_run_words::Options;
 use ppdb_tables::CUSTOM;
@@ -140,11 +140,4 @@ fn unknown<L: Ledger>(
         }
     }
     None
-}
-
-/// Whether a record of the kind is neither read nor passed on.
-fn is_unknown(kind: Kind) -> bool
-    ensures { result ≡ neither_read_nor_free kind }
-{
-    matches!(kind, Kind::Unknown)
 }

@@ -57,7 +57,7 @@ fn put_report<O: Sink>(out: &mut O, methods: u32, report: &SampleReport) -> Resu
     put_told(out, "remapped id", Octets(&report.remapped_id))
 }
 
-/// Puts a line of words and of what stands after them.
+/// Puts a line of words and the item after them.
 fn put_told<O: Sink>(out: &mut O, words: &str, item: Item<'_>) -> Result<(), WriteError>
     ensures { PutsInto O.written O.faults result out.old out.new (text_of (told_line words.now (content_of item.entry))) }
 {

@@ -8,7 +8,7 @@ use Rattle.ppdb_show_lines.specs.Lines.{Content, Field, field, mark, number, tab
 abbrev pub said : String → Content → Field
 said words content = field (codes words) [] content
 
--- the name of a part that has no tables
+-- the name of one of the parts 1 to 4, in which a fault stands at a byte alone
 abbrev pub part_text : ℕ → List ℕ
 part_text part =
     if part == 1 then codes " root"

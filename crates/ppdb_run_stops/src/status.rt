@@ -20,7 +20,7 @@ pub enum Status {
     Absent,
     /// A file was longer than 134217728 bytes.
     TooLong,
-    /// A map had no reading, or did not fit its file.
+    /// A text is not a map, or a file does not fit its map or an earlier input.
     Unfit,
     /// What was to be written passed a limit of the format.
     Limit,
@@ -32,7 +32,7 @@ pub enum Status {
     NoDocument,
     /// Two maps do not fit one another.
     Uncomposed,
-    /// A list has a line that is none of a list's.
+    /// A list has a line that is not allowed in a list.
     Unlisted,
 }
 

@@ -22,9 +22,13 @@ use ppdb_show_lines::{Key, put_text_line};
 pub enum Stop<'a> {
     /// The words are no command's.
     Usage,
+    /// A read of this file failed.
     ReadFault(&'a str),
+    /// A write of this file failed.
     WriteFault(&'a str),
+    /// There is no file of this name.
     Absent(&'a str),
+    /// The file of this name is longer than 134217728 bytes.
     TooLong(&'a str),
     /// The file has this first fault.
     Refused(&'a str, Fault),
@@ -52,7 +56,7 @@ pub enum Stop<'a> {
         first: u32,
         second: u32,
     },
-    /// The list's text: its first line that a list cannot have.
+    /// A list whose text has a line that no list has: the first such line.
     Unlisted {
         name: &'a str,
         line: u32,
@@ -82,6 +86,7 @@ impl From<WriteError> for Stop<'_> {
 }
 
 impl Stop<'_> {
+    /// The status of a run that stops so.
     pub fn status(self) -> Status
         ensures { result ≡ status_of (cause_of self.entry) }
     {

@@ -220,7 +220,7 @@ fn put_document_conflict<O: Sink>(
     put_text_line(out, "unfit", &[file, row, joined])
 }
 
-/// Puts M8: the input counts other rows than the first one.
+/// Puts M8: the input gives the table another number of rows than the first one.
 fn put_rows_differ<O: Sink>(
     out: &mut O,
     file: &str,

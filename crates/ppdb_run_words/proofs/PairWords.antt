@@ -1,7 +1,7 @@
 -- Words that name files and maps, two by two, and options after them.
 use Rattle.std.proofs.Common.{ℕ, zero, suc, ◌≡◌, ◌≤◌, ◌<◌, ◌+◌, ◌-◌, ◌⊎◌, List, [], ◌∷◌, ◌++◌, length, take, drop, get_or, String, string_bytes, inl}
 use Rattle.std.proofs.Common.{inr, Bool, true, false, cond, refl, sym, ◌∙◌, ap, subst, arith}
-use Rattle.std.specs.Prelude.{◌&&◌, ◌==◌, IsTrue, OnErr, Result, Ok, Err, codes, take_while}
+use Rattle.std.specs.Prelude.{◌&&◌, ◌==◌, IsTrue, codes, take_while}
 use Rattle.std.specs.declared.alloc.Global.{Global}
 use Rattle.std.proofs.lemmas.Bool.{eqb-true}
 use Rattle.std.proofs.lemmas.List.{take_all}
@@ -396,11 +396,6 @@ options_pairs args first rest prefix back given options is split files h same =
 pub merge_counts : (inputs : List Input) (output : List ℕ) (options : Options) (words : List (List ℕ)) → Words (Merge inputs output options) words
     → (1 ≤ length inputs) × (length inputs ≤ 256)
 merge_counts inputs output options words h = (h.some, h.most)
-
--- what holds in any case holds of words that are refused
-pub on_err : {T E P : Type 0} (result : Result T E) → P → OnErr result P
-on_err (Ok x) p = tt
-on_err (Err e) p = p
 
 -- the words of a merge, by its parts
 pub merge_spelled : (args : List (List ℕ)) (first output : List ℕ) (rest : List (List ℕ)) (prefix back given : List (String Global))

@@ -39,7 +39,7 @@ marks_in (word ∷ []) = []
 marks_in (word ∷ next ∷ words) =
     if bytes_eq word (codes "--free") then map swap_fields (option_to_list (parsed next)) ++ marks_in words else marks_in (next ∷ words)
 
--- options without where their words lie in memory
+-- options regardless of where their words lie in memory
 abbrev pub options_of : Given → Options
 options_of given = record { keep_id = given.keep_id; marks = marks_in (texts given.words.now) }
 
@@ -49,17 +49,17 @@ pairs_of [] = []
 pairs_of (file ∷ []) = []
 pairs_of (file ∷ map_file ∷ words) = record { file = file; map_file = map_file } ∷ pairs_of words
 
--- the first two words are not both words that name files
+-- there are fewer than two words, or the first two are not both words that name files
 abbrev pub NoPair : List (List ℕ) → Type 0
 NoPair [] = Unit {0}
 NoPair (file ∷ []) = Unit {0}
 NoPair (file ∷ map_file ∷ words) = (is_file_word file && is_file_word map_file) ≡ false
 
--- an input without where its words lie in memory
+-- an input regardless of where its words lie in memory
 abbrev pub input_of : Pair → Input
 input_of given = record { file = given.file.now; map_file = given.map_file.now }
 
--- inputs without where their words lie in memory
+-- inputs regardless of where their words lie in memory
 abbrev pub inputs_of : Inputs → List Input
 inputs_of (inputs.One input) = input_of input ∷ []
 inputs_of (inputs.Pairs words) = pairs_of (texts words.now)
@@ -68,7 +68,7 @@ inputs_of (inputs.Pairs words) = pairs_of (texts words.now)
 abbrev pub file_of : List Input → ℕ → List ℕ
 file_of inputs n = unwrap_or (option_map (λ (input : Input). input.file) (row_at inputs n)) []
 
--- what a command asks for, without where its words lie in memory
+-- what a command asks for, regardless of where its words lie in memory
 abbrev pub asked_task : Asked → Task
 asked_task (asked.Ask question file) = Ask (question_of question) file.now
 asked_task (asked.Lookup file list json) = Lookup file.now list.now json
@@ -77,7 +77,7 @@ asked_task (asked.Compose first second output) = Compose first.now second.now ou
 asked_task (asked.Merge inputs output options) = Merge (inputs_of inputs) output.now (options_of options)
 asked_task (asked.Sample n) = Sample n
 
--- a command without where its words lie in memory
+-- a command regardless of where its words lie in memory
 abbrev pub task_of : Command → Task
 task_of (commands.Id file json) = Ask (Id json) file.now
 task_of (commands.Verify file) = Ask Verify file.now

@@ -23,7 +23,7 @@ pub enum Command<'a> {
         file: &'a str,
         json: bool,
     },
-    /// What belongs to an offset of a method, to 16777215 and to 2147483647.
+    /// What belongs to an IL offset of a method. The method is at most 16777215, the offset at most 2147483647.
     Query {
         file: &'a str,
         method: u32,
@@ -35,7 +35,7 @@ pub enum Command<'a> {
         file: &'a str,
         json: bool,
     },
-    /// The places at which a debugger may stop for a line of a document, to 536870911.
+    /// The places at which a debugger may stop for a line of a document. The line is at most 536870911.
     Breaks {
         file: &'a str,
         document: &'a str,
@@ -73,7 +73,7 @@ pub enum Command<'a> {
         pairs: &'a [String],
         options: Options<'a>,
     },
-    /// The lengths of the sample of `n` methods, to 100000, as it is and after it has moved.
+    /// The lengths of the sample of `n` methods, at most 100000, before and after it is moved.
     Sample {
         n: u32,
     },

@@ -79,7 +79,7 @@ hoisted_line local = line_with "hoisted" (bare "slot" (number local.slot) ∷ ba
 
 -- ---- the method ("#Pdb stream": EntryPoint, "StateMachineMethod Table")
 
--- its key is its word, as in the line of a state machine
+-- a line `kickoff K` or `move N`: its first word is also the key of the number, as in the line of a state machine
 abbrev pub method_link_line : List ℕ → ℕ → Line
 method_link_line word method = record { word = word; fields = field (codes " ") word (number method) ∷ [] }
 

@@ -11,7 +11,7 @@ pub data Content : Type 0 where
   number : ℕ → Content
   -- the number of a table, in two hexadecimal digits
   table : ℕ → Content
-  -- a token, in eight
+  -- a token, in eight hexadecimal digits
   token : ℕ → Content
   -- a GUID in its hyphenated form, and a dash for none
   guid : Option (List ℕ) → Content

@@ -16,7 +16,7 @@ referenced stream = number_at stream 24 8
 abbrev pub pdb_fields : List ℕ → List ℕ
 pdb_fields stream = 20 ∷ 4 ∷ 8 ∷ count_fields (referenced stream)
 
--- the rows of a table
+-- how many rows a table has, by its row count
 abbrev pub pdb_rows : List ℕ → ℕ → ℕ
 pdb_rows stream table = rows_in stream 32 (referenced stream) table
 

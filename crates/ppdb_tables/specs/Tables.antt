@@ -20,7 +20,7 @@ valid stream = number_at stream 8 8
 abbrev pub table_fields : List ℕ → List ℕ
 table_fields stream = 4 ∷ 1 ∷ 1 ∷ 1 ∷ 1 ∷ 8 ∷ 8 ∷ count_fields (valid stream)
 
--- the rows of a table
+-- how many rows a table has, by its row count
 abbrev pub table_rows : List ℕ → ℕ → ℕ
 table_rows stream table = rows_in stream 24 (valid stream) table
 
@@ -65,7 +65,7 @@ TablesFaults head stream = Then (TableFieldFaults (slice_index head.rows 6) stre
 abbrev pub table_place : Sizes → List ℕ → ℕ → ℕ
 table_place sizes stream number = rows_start stream + sum (row_fields sizes (filter (λ table. nat_lt table.0 number) debug_tables))
 
--- the rows of a table
+-- the rows of a table, in order, each as its cells
 abbrev pub rows_at : {X : Type 0} → (List ℕ → List ℕ → X) → Sizes → List ℕ → ℕ → List Column → List X
 rows_at row_of sizes stream number columns =
     let widths = widths_of sizes columns in

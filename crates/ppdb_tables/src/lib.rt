@@ -5,7 +5,7 @@ mod bounds;
 mod counts;
 mod head;
 mod header;
-mod layouts;
+pub mod layouts;
 mod numbers;
 mod parent;
 mod reading;

@@ -7,7 +7,6 @@ pub mod Links
 pub mod Meaning
 pub mod Names
 pub mod Ordered
-pub mod Order
 pub mod Owners
 pub mod Parts
 pub mod Ranges

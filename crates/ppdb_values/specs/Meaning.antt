@@ -21,7 +21,7 @@ pub record ScopeMeaning : Type 0 where
   pub constants : List (Annotation ConstantValue)
   pub imports : List (Annotation (List ImportValue))
 
--- A slot of a hoisted local: the record's position among those of the method and the slot's in the record, both from 0.
+-- A slot of a hoisted local: its record's position among the hoisted records of the method, and its own position in that record, both from 0.
 pub record SlotMeaning : Type 0 where
   pub position : ℕ
   pub slot : ℕ
@@ -42,7 +42,7 @@ point_meaning value m p = record { offset = p.offset; span = p.span; document = 
 abbrev pub without_parent : CustomValue → Custom
 without_parent custom = record { kind = custom.kind; value = custom.value }
 
--- the custom records on a row, apart from it
+-- the custom records on a row, each without the row that it is on
 abbrev pub annotated_on : FileValue → ℕ → ℕ → List Custom
 annotated_on value table row = map without_parent (customs_on value table row)
 

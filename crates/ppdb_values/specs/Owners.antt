@@ -3,7 +3,7 @@ use Rattle.std.specs.Prelude.{◌≡◌, ℕ, suc, ◌+◌, ◌-◌, ◌<◌, �
 use Rattle.ppdb_tables.specs.{declared.rows.{ScopeRow.ScopeRow, VariableRow.VariableRow, ConstantRow.ConstantRow}, RawTables.{numbered, row_at}, Owners.Owns}
 use Rattle.ppdb_values.specs.{Value.{owner_of, owned_by}, Rules.KeepsLists}
 
--- The owner that the value of a file goes by is that scope.
+-- The owner by which the value of a file goes (owner_of) is the scope whose list holds the item (Owns).
 pub record OwnersAreLast : Type 0 where
   pub is_last : (list : ScopeRow → ℕ) (scopes : List ScopeRow) (owner item : ℕ) → owner_of list scopes item ≡ Some owner → Owns list scopes owner item
   pub is_found : (list : ScopeRow → ℕ) (scopes : List ScopeRow) (owner item : ℕ) → Owns list scopes owner item → owner_of list scopes item ≡ Some owner

@@ -110,7 +110,7 @@ small_value = record {
   customs = [];
 }
 
--- what it says of method 1 at offset 3
+-- what the file of one method says of method 1 at offset 3
 abbrev pub small_meaning : Meaning
 small_meaning = record {
   point = Some (record { offset = 3; span = Hidden; document = Some small_document; signature = 0 });
@@ -130,6 +130,6 @@ small_meaning = record {
   slots = [];
 }
 
--- what it says of method 1
+-- what the file of one method says of method 1
 abbrev pub small_links : Links
 small_links = record { kickoff = None; move_next = None; is_entry = true; customs = [] }

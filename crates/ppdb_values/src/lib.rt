@@ -5,17 +5,13 @@
 #![tactic(auto)]
 
 mod annotation;
-mod copied;
 mod custom;
 mod file;
 mod import;
 mod laws;
-mod same;
 mod scope;
-mod written;
 
 pub use annotation::{Annotation, Custom};
-pub use copied::{Copied, copied_all};
 pub use custom::{CustomBody, CustomValue};
 pub use file::{DocumentValue, FileValue, MethodValue};
 pub use import::{ImportScopeValue, ImportValue};
@@ -24,6 +20,4 @@ pub use laws::{
     values_are_read, values_are_rows, values_have_types, worked_file_keeps_rules, worked_meaning,
     worked_values,
 };
-pub use same::{Same, compare_names, same_all};
 pub use scope::{ConstantBody, ConstantValue, ScopeValue, VariableValue};
-pub use written::import_numbers;

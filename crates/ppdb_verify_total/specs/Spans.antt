@@ -10,7 +10,7 @@ pub data SpanFaults (raw : RawTables) : Code → Place → Type 0 where
       → MAX_SPAN < sum_by (λ (x : HeapUse). x.len) (take k (heap_uses raw)) + r.len
       → SpanFaults raw SpanTotal r.at
 
--- the sum after these references more, or the first that passes the limit
+-- the sum with the lengths of these references added, or the fault of the first that passes the limit
 unfoldable pub spanned : ℕ → List HeapUse → Result ℕ Fault
 spanned total [] = Ok total
 spanned total (r ∷ rs) = if nat_lt MAX_SPAN (total + r.len) then Err (record { code = SpanTotal; place = r.at }) else spanned (total + r.len) rs

@@ -1,4 +1,4 @@
-//! How many bytes the texts and blobs of a Portable PDB file have in all, and where there are too many.
+//! How many bytes the texts and blobs of a Portable PDB file have in total, and which of them is the first past the limit.
 #![tactic(auto)]
 
 mod inside;

@@ -8,8 +8,8 @@ abbrev pub first_offset : ℕ → List Point → ℕ
 first_offset end [] = end
 first_offset end (p ∷ ps) = p.offset
 
--- the points that have a kept offset at or after them and before the next point, of the last one before the old size; each stands at the
--- image of the first such offset
+-- the points that have a kept offset at or after them and before the next point, or, for the last point, before the old size;
+-- each stands at the image of the first such offset
 abbrev pub moved_points : Offsets → List Point → List Point
 moved_points offsets [] = []
 moved_points offsets (p ∷ ps) =

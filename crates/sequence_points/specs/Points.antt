@@ -46,7 +46,7 @@ pub record PointsReading (column : ℕ) (limits : PointLimits) (blob : List ℕ)
   pub signature_is : signature_of entries ≡ Some signature
   pub points_are : points ≡ points_after [] entries
 
--- Every one of the points has this document, and there is one.
+-- Every one of the points has this document, and there is at least one.
 abbrev pub HasDocument : List Point → ℕ → Type 0
 HasDocument points row = (points ≢ []) × All (λ p. p.document ≡ row) points
 

@@ -1,5 +1,5 @@
--- The ranges of a point's numbers (Portable PDB v1.0, "Sequence Points Blob"), each as a statement and, but for documents, as the test of
--- the grammar, which asks for a row that is there.
+-- The ranges of a point's numbers (Portable PDB v1.0, "Sequence Points Blob"), each as a statement and as the test of the grammar. Documents
+-- have no test here: the grammar asks for a row that is there.
 use Rattle.std.specs.Prelude.{◌≢◌, ℕ, ◌<◌, ◌≤◌, ℤ, pos, negsuc, Bool, false, not, ◌&&◌, nat_lt, ◌==◌}
 
 -- the first number that is no offset and no line, and that no compressed number says (ECMA-335 II.23.2)

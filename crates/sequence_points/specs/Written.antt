@@ -8,21 +8,21 @@ use Rattle.sequence_points.specs.{declared.writer.PointError.{PointError, TheVar
 
 -- ---- what can be written
 
--- An end line above the start line, or the same line and an end column above the start column.
+-- Hidden; or lines and columns in their ranges, with an end line above the start line, or the same line and an end column above the start column.
 abbrev pub IsSpan : Span → Type 0
 IsSpan Hidden = Unit {0}
 IsSpan (Lines start_line start_column end_line end_column) =
     IsLine start_line × IsColumn start_column × IsLine end_line × IsColumn end_column
     × ((start_line < end_line) ⊎ ((start_line ≡ end_line) × (start_column < end_column)))
 
--- Points of a blob: there is one, their offsets rise, and each number but the document lies in its range.
+-- Points of a blob: there is at least one, their offsets rise, and each number but the document lies in its range.
 pub record AreInRange (points : List Point) : Type 0 where
   pub some : points ≢ []
   pub rise : AllPairs (λ p q. p.offset < q.offset) points
   pub offsets : All (λ p. IsOffset p.offset) points
   pub spans : All (λ p. IsSpan p.span) points
 
--- Points that can be written: there is one, their offsets rise, and each number lies in its range.
+-- Points that can be written: there is at least one, their offsets rise, and each number lies in its range.
 pub record CanBeWritten (signature : ℕ) (points : List Point) : Type 0 where
   pub some : points ≢ []
   pub rise : AllPairs (λ p q. p.offset < q.offset) points

@@ -10,8 +10,8 @@ use sequence_points::{Point, PointError, points_into, single_document};
 use std::alloc::Global;
 use std::marker::Model;
 
-/// The first number that is no offset of a blob.
-const OFFSET_LIMIT: u32 = 0x2000_0000;
+/// The first number that no offset of a sequence points blob is.
+const BLOB_OFFSET_LIMIT: u32 = 0x2000_0000;
 
 /// How points are kept.
 #[derive(Drop)]
@@ -48,7 +48,7 @@ impl Model for PackedPoints {
 fn have_offsets(points: &[Point]) -> bool
     ensures { IsTrue result ↔ All (λ p. IsOffset p.offset) points.now }
 {
-    points.iter().all(|point| point.offset < OFFSET_LIMIT)
+    points.iter().all(|point| point.offset < BLOB_OFFSET_LIMIT)
 }
 
 /// The blob of points; None where no blob says them. What `scratch` holds is given up.

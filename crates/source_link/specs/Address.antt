@@ -13,7 +13,7 @@ matches name pair =
     cond (is_pattern pair.key) (starts_with nat_eq (lower name) (lower (fixed_part pair.key)))
     (bytes_eq (lower name) (lower pair.key))
 
--- the longer key without its star comes first, then one without a star, then the lesser one
+-- the key that is longer, a star at its end not counted, comes first; of equally long ones one without a star; of these the lesser by its bytes
 abbrev pub key_cmp : List ℕ → List ℕ → Ordering
 key_cmp a b =
     ordering_then (nat_cmp (length (fixed_part b)) (length (fixed_part a)))

@@ -1,4 +1,4 @@
-//! Rows over several crates: blobs that are read, refused and written.
+//! Tests over several crates: blobs that are read, refused and written.
 #![tactic(auto)]
 
 #[cfg(test)]

@@ -1,4 +1,4 @@
-//! Rows over several crates: commands over files in memory, and what they come to.
+//! Tests over several crates: commands over files in memory, and what they come to.
 #![tactic(auto)]
 
 #[cfg(test)]

@@ -14,7 +14,7 @@ fn ended(rt: &HostRuntime, words: &[&str], text: &str, call: u32) -> Result<u8, 
     if text.as_bytes().starts_with(out.as_slice()) {
         Ok(status)
     } else {
-        Err(Fail::from("no front"))
+        Err(Fail::from("not a prefix"))
     }
 }
 

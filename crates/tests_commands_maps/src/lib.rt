@@ -1,4 +1,4 @@
-//! Rows over several crates: files that maps move and join, and maps that are made into one.
+//! Tests over several crates: files that maps move and join, and maps that are made into one.
 #![tactic(auto)]
 
 #[cfg(test)]

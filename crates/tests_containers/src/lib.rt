@@ -1,4 +1,4 @@
-//! Rows over several crates: the parts of a file (its root, its streams, its tables and its heaps), read and laid out.
+//! Tests over several crates: the parts of a file (its root, its streams, its tables and its heaps), read and laid out.
 #![tactic(auto)]
 
 #[cfg(test)]

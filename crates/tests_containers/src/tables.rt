@@ -131,7 +131,7 @@ fn rows_of<L: Ledger>(
     ))
 }
 
-/// The same, with a counter of its own.
+/// A row of each table, read over a counter of its own.
 fn first_rows(
     rt: &HostRuntime,
     tables: &Tables<'_>,

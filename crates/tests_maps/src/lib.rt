@@ -1,4 +1,4 @@
-//! Rows over several crates: maps that are read, spelled and made into one, and points that they move.
+//! Tests over several crates: maps that are read, spelled and made into one, and points that they move.
 #![tactic(auto)]
 
 #[cfg(test)]

@@ -1,4 +1,4 @@
-//! Rows over several crates: files whose maps fit or do not fit, and files that are merged.
+//! Tests over several crates: files whose maps fit or do not fit, and files that are merged.
 #![tactic(auto)]
 
 #[cfg(test)]

@@ -1,4 +1,4 @@
-//! Rows over several crates: what is asked of a verified file, and the texts that answer.
+//! Tests over several crates: what is asked of a verified file, and the texts that answer.
 #![tactic(auto)]
 
 #[cfg(test)]

@@ -132,7 +132,7 @@ pub fn first_other_over<R: Runner>(
     }
 }
 
-/// The same over a folder that is there.
+/// Runs the commands of these words in turn over this folder, and says which one does not end so and print this, by its number.
 pub fn first_other_words<R: Runner, F: Folder>(
     runner: &R,
     rt: &HostRuntime,

@@ -1,4 +1,4 @@
-//! Rows over several crates: values that are sound or not, what is read of files as a value, and what values are written as.
+//! Tests over several crates: values that are sound or not, what is read of files as a value, and what values are written as.
 #![tactic(auto)]
 
 #[cfg(test)]

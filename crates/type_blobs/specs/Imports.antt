@@ -117,6 +117,6 @@ names_text _ = false
 abbrev pub text_index : ImportField → List PlacedIndex
 text_index field = if names_text field.part then record { byte = field.byte; index = field.number } ∷ [] else []
 
--- The indexes of the texts among them, each with the byte at which it stands.
+-- The indexes of texts that the longest valid prefix of some imports names, each with the byte at which it stands.
 unfoldable pub import_indexes : TypeLimits → (ℕ → Option (List ℕ)) → List ℕ → List PlacedIndex
 import_indexes limits heap blob = flat_map text_index (import_fields limits heap blob)

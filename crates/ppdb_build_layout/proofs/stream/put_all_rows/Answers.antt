@@ -7,7 +7,8 @@ use Rattle.ppdb_tables.specs.Layouts.{machine_columns, custom_columns}
 use Rattle.ppdb_build_layout.specs.Bytes.{rows_bytes, all_rows, document_cells, method_cells, scope_cells, variable_cells, constant_cells, import_cells}
 use Rattle.ppdb_build_layout.specs.Bytes.{machine_cells, custom_cells}
 use Rattle.std.proofs.Common.{flat_map}
-use Rattle.ppdb_build_layout.proofs.Begins.{begins-more, on_err}
+use Rattle.ppdb_base.proofs.Written.{on_err}
+use Rattle.ppdb_build_layout.proofs.Begins.{begins-more}
 use Rattle.ppdb_build_layout.proofs.stream.put_all_rows.Goals as goal
 
 -- the rows of a table after the bytes before them
