@@ -96,7 +96,7 @@ impl<'a> BreakCursor<'a> {
             if let Some(found) = next_now(&mut self.current) {
                 return Some(found);
             }
-            self.file.keeps();
+            let _ = self.file.keeps();
             if self.done == count(&self.file, METHOD_DEBUG) {
                 return None;
             }

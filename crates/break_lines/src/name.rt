@@ -53,7 +53,7 @@ pub fn document_named<L: Ledger>(
     ensures later { steps.old ≤ steps.new }
     ensures cost { steps.new ≤ steps.old + count_of (raw_file file.now).tables 0x30 }
 {
-    file.keeps();
+    let _ = file.keeps();
     'rows: for row in 1..count(file, DOCUMENT) + 1 {
         let cells = document(file, row, steps);
         if has_name(ppdb_verify_rows::name(file, row, &cells), name) {

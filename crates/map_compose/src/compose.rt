@@ -29,8 +29,8 @@ fn counted_map(alloc: Global, first: &MapText, second: &MapText) -> Result<Count
     requires other { NamesFit MAX_FILE_BYTES second.now }
     ensures { IfOk result (λ text. Counts text (map_text (composed first.now second.now))) }
 {
-    first.keeps();
-    second.keeps();
+    let _ = first.keeps();
+    let _ = second.keeps();
     let mut gathered = Gathered::of(alloc, second)?;
     let mut text = Counted::new(alloc);
     let version = version_by_both(first, second);
@@ -60,8 +60,8 @@ pub fn compose_maps(alloc: Global, first: &MapText, second: &MapText) -> Result<
     ensures short { IfOk result (λ text. length text ≤ MAX_FILE_BYTES) }
     ensures refused { IfErr result (RefusesFor first.now second.now) }
 {
-    first.keeps();
-    second.keeps();
+    let _ = first.keeps();
+    let _ = second.keeps();
     if let Some(found) = first_differing(first, second) {
         return Err(ComposeError::SizesDiffer {
             method: found.method,

@@ -33,8 +33,8 @@ fn next_name<'a>(first: &'a MapText, second: &'a MapText, passed: &mut Passed) -
     ensures { MatchOption result (names_left first.now second.now passed.old ≡ [])
         (λ name. names_left first.now second.now passed.old ≡ name.now ∷ names_left first.now second.now passed.new) }
 {
-    first.keeps();
-    second.keeps();
+    let _ = first.keeps();
+    let _ = second.keeps();
     let own = name_at(first, passed.own);
     let other = name_at(second, passed.other);
     match (own, other) {

@@ -82,7 +82,7 @@ impl JoinedRuns {
     pub fn of(alloc: Global, map: &MapText) -> Result<JoinedRuns, Memory>
         ensures { IfOk result (λ joined. AreJoinedOf joined map.now) }
     {
-        map.keeps();
+        let _ = map.keeps();
         let mut runs = Vec::new(alloc);
         let mut lines = Vec::new(alloc);
         let mut index = 0;

@@ -72,8 +72,8 @@ fn put_line(
     requires agree { SizesAgree first.now second.now }
     ensures { OnOk result (PutsLines text.old text.new (line_of_both first.now second.now method)) }
 {
-    first.keeps();
-    second.keeps();
+    let _ = first.keeps();
+    let _ = second.keeps();
     let Some(image) = image_of(first, second, method) else {
         return Ok(());
     };
@@ -122,7 +122,7 @@ pub fn put_part(
     ensures gathered { OnOk result (IsGatheredOf gathered.new second.now) }
     ensures puts { OnOk result (PutsLines text.old text.new (flat_map (part_says part first.now second.now) (all_numbers part first.now second.now))) }
 {
-    second.keeps();
+    let _ = second.keeps();
     let mut passed = Passed { own: 0, other: 0 };
     'methods: while let Some(method) = part.next(first, second, &mut passed) {
         gathered.sum_up(part, second, text)?;

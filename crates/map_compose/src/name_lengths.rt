@@ -37,7 +37,7 @@ fn line_of(map: &MapText, name: &[u8], lines: u32) -> Option<u32>
     requires { lines ≡ length map.now.documents }
     ensures { MatchOption result (document_line map.now name.now ≡ None) (λ index. slice_get (named map.now) index ≡ Some name.now) }
 {
-    map.keeps();
+    let _ = map.keeps();
     let mut low = 0;
     let mut high = lines;
     'halves: while low < high {
@@ -84,7 +84,7 @@ impl NameLengths {
         ensures length { result ≡ length_of (moved_name map.now name.now) }
         ensures few { result ≤ 536870912 }
     {
-        map.keeps();
+        let _ = map.keeps();
         match line_of(map, name, self.lengths.len() as u32) {
             Some(line) => self.lengths[line as usize],
             None => spelled_length(name),

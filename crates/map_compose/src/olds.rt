@@ -66,7 +66,7 @@ pub fn next_old(lines: &MapText, table: u8, passed: &mut PassedLines) -> Option<
     ensures { MatchOption result (olds_left lines.now table passed.old ≡ [])
         (λ old. olds_left lines.now table passed.old ≡ old ∷ olds_left lines.now table passed.new) }
 {
-    lines.keeps();
+    let _ = lines.keeps();
     let row = row_old(lines, table, passed.rows);
     let crossed = cross_old(lines, table, passed.crossed);
     let gone = gone_old(lines, table, passed.gone);

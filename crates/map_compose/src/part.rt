@@ -59,8 +59,8 @@ impl Part {
         ensures { MatchOption result (numbers_left self first.now second.now passed.old ≡ [])
             (λ method. numbers_left self first.now second.now passed.old ≡ method ∷ numbers_left self first.now second.now passed.new) }
     {
-        first.keeps();
-        second.keeps();
+        let _ = first.keeps();
+        let _ = second.keeps();
         let own = self.number(first, passed.own);
         let other = self.other(first, second, passed.other);
         match (own, other) {

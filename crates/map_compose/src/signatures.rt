@@ -36,8 +36,8 @@ fn names_by_both(first: &MapText, second: &MapText) -> bool
 fn signed_by_both(first: &MapText, second: &MapText) -> bool
     ensures { result ≡ has_items (composed first.now second.now).signatures }
 {
-    first.keeps();
-    second.keeps();
+    let _ = first.keeps();
+    let _ = second.keeps();
     if first.signature_line(0).is_none() && second.signature_line(0).is_none() {
         return false;
     }
@@ -82,8 +82,8 @@ pub fn put_signatures(
     ensures puts { OnOk result (PutsLines text.old text.new (flat_map (part_says Signatures first.now second.now)
         (all_numbers Signatures first.now second.now))) }
 {
-    first.keeps();
-    second.keeps();
+    let _ = first.keeps();
+    let _ = second.keeps();
     if version == 3 {
         return Ok(());
     }

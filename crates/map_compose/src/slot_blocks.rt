@@ -26,7 +26,7 @@ pub struct SlotBlocks {
 fn block_of(map: &MapText, method: u32) -> SlotBlock
     ensures { result ≡ block_in map.now method }
 {
-    map.keeps();
+    let _ = map.keeps();
     let mut slots = 0;
     let mut digits = 0;
     'slots: while let Some((old, new)) = map.slot_line(method, slots) {
@@ -45,7 +45,7 @@ fn push_blocks(map: &MapText, blocks: &mut Vec<SlotBlock>) -> Result<(), Memory>
     requires { blocks.now.items ≡ [] }
     ensures { OnOk result (blocks.new.items ≡ mapped (block_in map.now) map.now.slotted) }
 {
-    map.keeps();
+    let _ = map.keeps();
     let mut index = 0;
     'methods: while let Some(method) = map.slots_line(index) {
         blocks.push(block_of(map, method))?;

@@ -58,8 +58,8 @@ fn put_images(
     requires { followed first.now second.now method ≡ Some image }
     ensures { OnOk result (PutsLines text.old text.new (slot_images first.now second.now method)) }
 {
-    first.keeps();
-    second.keeps();
+    let _ = first.keeps();
+    let _ = second.keeps();
     let mut index = 0;
     'slots: while let Some(old) = source_slot(first, second, method, image, index) {
         put_image(first, second, method, image, old, text)?;
@@ -82,7 +82,7 @@ fn put_block(
     requires blocks { AreBlocksOf blocks.now second.now }
     ensures { OnOk result (PutsLines text.old text.new (slot_images first.now second.now method)) }
 {
-    second.keeps();
+    let _ = second.keeps();
     if first.has_slots(method) {
         return put_images(first, second, method, image, text);
     }

@@ -21,7 +21,7 @@ use ppdb_verify::Verified;
 fn moved_head(input: &RowInput<'_>) -> PdbHead
     ensures { IsMovedHead (moved_by input.now) result }
 {
-    input.file.keeps();
+    let _ = input.file.keeps();
     let head = input.file.head();
     rows_are_long(head);
     PdbHead {
@@ -52,7 +52,7 @@ fn files_keep_rules(inputs: &[RowInput<'_>])
     ensures { All (λ input. KeepsRules (raw_file input.file)) inputs.now }
 {
     for input in inputs {
-        input.file.keeps();
+        let _ = input.file.keeps();
     }
 }
 

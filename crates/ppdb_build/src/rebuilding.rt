@@ -39,7 +39,7 @@ fn is_drafted(file: &Verified<'_>, head: &PdbHead, draft: &Drafting)
     requires early { early_limit_of (value_in (raw_file file.now)) ≡ None }
     ensures { IsDraftedFrom (value_in (raw_file file.now)) head.now draft.now }
 {
-    file.keeps();
+    let _ = file.keeps();
     files_pass_no_early_limit();
     file.head();
     rows_are_long(head);
@@ -50,7 +50,7 @@ fn early_limit_in(file: &Verified<'_>, draft: &Drafting) -> Option<Limit>
     requires { IsDraftOf (value_in (raw_file file.now)) draft.now }
     ensures { result ≡ early_limit_of (value_in (raw_file file.now)) }
 {
-    file.keeps();
+    let _ = file.keeps();
     files_pass_no_early_limit();
     list_limit(draft)
 }

@@ -2,7 +2,7 @@
 use Rattle.std.proofs.Common.{◌≡◌, refl, ap, ◌∙◌, None, Some, [], ◌∷◌, pos}
 use Rattle.cli_ints.specs.Shortest.{short_unsigned, short_signed}
 use Rattle.ppdb_build_heaps.specs.Items.{first_uses}
-use Rattle.tests_files.specs.declared.TheConstants.{EMPTY, SMALL, PROGRAM}
+use Rattle.ppdb_values.specs.WorkedBytes.{stored_empty, stored_small, stored_program}
 use Rattle.ppdb_build_layout.specs.Worked.{WorkedFilesAreLaidOut}
 use Rattle.ppdb_build_layout.specs.Bytes.{file_bytes, prefix_bytes, pdb_stream, tables_stream, all_rows}
 use Rattle.ppdb_values.specs.WorkedSmall.{zeros, empty_file, empty_value, small_file, small_value}
@@ -27,7 +27,7 @@ pub program_is : canonical program_value (zeros 20) ≡ program_file
 unfolding canonical_tables first_uses blobs_after short_unsigned short_signed
 program_is = refl
 
-pub bytes_are : WorkedFilesAreLaidOut → (canon empty_value Keep ≡ EMPTY) × (canon small_value Keep ≡ SMALL) × (canon program_value Keep ≡ PROGRAM)
+pub bytes_are : WorkedFilesAreLaidOut → (canon empty_value Keep ≡ stored_empty) × (canon small_value Keep ≡ stored_small) × (canon program_value Keep ≡ stored_program)
 bytes_are laid = (ap file_bytes empty_is ∙ laid.empty, ap file_bytes small_is ∙ laid.small, ap file_bytes program_is ∙ laid.program)
 
 pub small_limit : first_limit small_value ≡ None

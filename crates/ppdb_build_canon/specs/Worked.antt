@@ -1,7 +1,7 @@
 -- Three worked files and their values, and values that are too large to be written.
 use Rattle.ppdb_values.specs.Names.{Point, Lines, PointOffset, LineStep}
 use Rattle.std.specs.Prelude.{◌≡◌, ℕ, List, [], ◌∷◌, None, Some, pos}
-use Rattle.tests_files.specs.declared.TheConstants.{EMPTY, SMALL, PROGRAM}
+use Rattle.ppdb_values.specs.WorkedBytes.{stored_empty, stored_small, stored_program}
 use Rattle.ppdb_values.specs.{declared.file.FileValue.FileValue, WorkedSmall.{zeros, empty_value, small_value, empty_file, small_file}, WorkedProgram.{program_value, program_file}}
 use Rattle.ppdb_build_canon.specs.{declared.choice.IdChoice.TheVariants.Keep, Canon.canon, Canonical.canonical, Limits.first_limit}
 
@@ -18,9 +18,9 @@ pub record WorkedFiles : Type 0 where
   pub small : canonical small_value (zeros 20) ≡ small_file
   pub program : canonical program_value (zeros 20) ≡ program_file
   -- byte for byte
-  pub empty_bytes : canon empty_value Keep ≡ EMPTY
-  pub small_bytes : canon small_value Keep ≡ SMALL
-  pub program_bytes : canon program_value Keep ≡ PROGRAM
+  pub empty_bytes : canon empty_value Keep ≡ stored_empty
+  pub small_bytes : canon small_value Keep ≡ stored_small
+  pub program_bytes : canon program_value Keep ≡ stored_program
   -- these two meet no limit
   pub small_limit : first_limit small_value ≡ None
   pub program_limit : first_limit program_value ≡ None

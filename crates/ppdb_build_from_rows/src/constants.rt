@@ -28,7 +28,7 @@ fn add_constant<L: Ledger>(
     ensures added { OnOk result (draft.new ≡ fold with_constant draft.old (option_to_list (row_at (constants_of (raw_file file.now).tables) row))) }
     ensures step { OnOk result (steps.new ≡ steps.old + 1) }
 {
-    file.keeps();
+    let _ = file.keeps();
     let lent = read_constant(file, row, modifiers, steps)?;
     draft.constant(lent.name, modifiers.as_slice(), &lent.body)?;
     Ok(())
@@ -44,7 +44,7 @@ pub(crate) fn add_constants<L: Ledger>(
     ensures added { OnOk result (draft.new ≡ fold with_constant draft.old (constants_of (raw_file file.now).tables)) }
     ensures cost { OnOk result (steps.new ≡ steps.old + length (raw_file file.now).tables.constants) }
 {
-    file.keeps();
+    let _ = file.keeps();
     let mut modifiers = List::new(alloc);
     let count = count(file, LOCAL_CONSTANT);
     let mut row = 1;

@@ -42,7 +42,7 @@ pub(crate) fn add_documents<L: Ledger>(
     ensures added { OnOk result (draft.new ≡ fold with_document draft.old (value_of (raw_file file.now)).documents) }
     ensures cost { OnOk result (steps.new ≡ steps.old + length (raw_file file.now).tables.documents) }
 {
-    file.keeps();
+    let _ = file.keeps();
     let mut name = Bytes::new(alloc);
     let count = count(file, DOCUMENT);
     let mut row = 1;

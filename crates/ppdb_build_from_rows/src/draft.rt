@@ -34,7 +34,7 @@ fn add_documents_and_methods<L: Ledger>(
         (value_of (raw_file file.now)).methods) (slice_index (value_of (raw_file file.now)).rows 0x06)) }
     ensures cost { OnOk result (steps.new ≡ steps.old + (length (raw_file file.now).tables.documents + length (raw_file file.now).tables.methods)) }
 {
-    file.keeps();
+    let _ = file.keeps();
     add_documents(alloc, file, draft, steps)?;
     add_methods(alloc, file, draft, steps)?;
     draft.end_methods(count(file, METHOD_DEF))?;
@@ -54,7 +54,7 @@ fn add_lists<L: Ledger>(
     ensures cost { OnOk result (steps.new ≡ steps.old
         + (length (raw_file file.now).tables.scopes + length (raw_file file.now).tables.variables + length (raw_file file.now).tables.constants)) }
 {
-    file.keeps();
+    let _ = file.keeps();
     scopes_own_their_lists();
     add_scopes(file, draft, steps)?;
     add_constants(alloc, file, draft, steps)?;
@@ -98,7 +98,7 @@ fn add_parts<L: Ledger>(
     ensures narrow { OnOk result (All (λ scope. All IsNarrow scope.variables) (value_of (raw_file file.now)).scopes) }
     ensures rows { OnOk result (steps.new ≡ steps.old + row_total (raw_file file.now).tables) }
 {
-    file.keeps();
+    let _ = file.keeps();
     add_documents_and_methods(alloc, file, draft, steps)?;
     add_lists(alloc, file, draft, steps)?;
     add_others(alloc, file, draft, steps)?;
@@ -115,7 +115,7 @@ pub fn draft_of_file<L: Ledger>(
     ensures types { OnOk result (HasTypes (value_of (raw_file file.now))) }
     ensures rows { OnOk result (steps.new ≡ steps.old + row_total (raw_file file.now).tables) }
 {
-    file.keeps();
+    let _ = file.keeps();
     drafts_are_canonical();
     values_have_types();
     scopes_own_their_lists();

@@ -28,7 +28,7 @@ fn add_method<L: Ledger>(
     ensures added { OnOk result (draft.new ≡ fold with_method draft.old (option_to_list (method_at (value_of (raw_file file.now)) row))) }
     ensures step { OnOk result (steps.new ≡ steps.old + 1) }
 {
-    file.keeps();
+    let _ = file.keeps();
     let Some(signature) = read_method(file, row, points, steps)? else {
         return Ok(());
     };
@@ -49,7 +49,7 @@ pub(crate) fn add_methods<L: Ledger>(
     ensures added { OnOk result (draft.new ≡ fold with_method draft.old (value_of (raw_file file.now)).methods) }
     ensures cost { OnOk result (steps.new ≡ steps.old + length (raw_file file.now).tables.methods) }
 {
-    file.keeps();
+    let _ = file.keeps();
     let mut points = List::new(alloc);
     let count = count(file, METHOD_DEBUG);
     let mut row = 1;

@@ -28,7 +28,7 @@ fn add_import<L: Ledger>(
     ensures added { OnOk result (draft.new ≡ fold with_import draft.old (option_to_list (row_at (value_of (raw_file file.now)).imports row))) }
     ensures step { OnOk result (steps.new ≡ steps.old + 1) }
 {
-    file.keeps();
+    let _ = file.keeps();
     sound_parts_can_be_written();
     let scope = import_scope_value(alloc, file, row, steps)?;
     draft.import(scope.parent, scope.imports.as_slice())?;
@@ -45,7 +45,7 @@ pub(crate) fn add_imports<L: Ledger>(
     ensures added { OnOk result (draft.new ≡ fold with_import draft.old (value_of (raw_file file.now)).imports) }
     ensures cost { OnOk result (steps.new ≡ steps.old + length (raw_file file.now).tables.imports) }
 {
-    file.keeps();
+    let _ = file.keeps();
     let count = count(file, IMPORT_SCOPE);
     let mut row = 1;
     'rows: while row <= count {
@@ -80,7 +80,7 @@ pub(crate) fn add_machines<L: Ledger>(
     ensures added { OnOk result (draft.new ≡ fold with_machine draft.old (value_of (raw_file file.now)).machines) }
     ensures cost { OnOk result (steps.new ≡ steps.old + length (raw_file file.now).tables.machines) }
 {
-    file.keeps();
+    let _ = file.keeps();
     let count = count(file, STATE_MACHINE);
     let mut row = 1;
     'rows: while row <= count {
@@ -103,7 +103,7 @@ fn add_custom<L: Ledger>(
     ensures added { OnOk result (draft.new ≡ fold with_custom draft.old (option_to_list (row_at (value_of (raw_file file.now)).customs row))) }
     ensures step { OnOk result (steps.new ≡ steps.old + 1) }
 {
-    file.keeps();
+    let _ = file.keeps();
     sound_parts_can_be_written();
     let custom = custom_value(alloc, file, row, scratch, steps)?;
     draft.custom(custom.parent, custom.kind, &custom.value)?;
@@ -120,7 +120,7 @@ pub(crate) fn add_customs<L: Ledger>(
     ensures added { OnOk result (draft.new ≡ fold with_custom draft.old (value_of (raw_file file.now)).customs) }
     ensures cost { OnOk result (steps.new ≡ steps.old + length (raw_file file.now).tables.customs) }
 {
-    file.keeps();
+    let _ = file.keeps();
     let mut scratch = Scratch::new(alloc);
     let count = count(file, CUSTOM);
     let mut row = 1;

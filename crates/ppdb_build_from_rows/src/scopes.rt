@@ -44,7 +44,7 @@ fn add_variables<L: Ledger>(
     ensures narrow { OnOk result (All IsNarrow (items_in list (variables_of (raw_file file.now).tables))) }
     ensures cost { OnOk result (steps.new ≡ steps.old + rows_in list) }
 {
-    file.keeps();
+    let _ = file.keeps();
     let mut row = list.first;
     'rows: while row < list.end {
         add_variable(file, row, draft, steps)?;
@@ -81,7 +81,7 @@ pub(crate) fn add_scopes<L: Ledger>(
     ensures narrow { OnOk result (All (λ scope. All IsNarrow scope.variables) (value_of (raw_file file.now)).scopes) }
     ensures cost { OnOk result (steps.new ≡ steps.old + (length (raw_file file.now).tables.scopes + length (raw_file file.now).tables.variables)) }
 {
-    file.keeps();
+    let _ = file.keeps();
     scopes_own_their_lists();
     let mut cursor = ScopeCursor::new(file, steps);
     'scopes: while let Some(scope) = cursor.next(steps) {

@@ -53,7 +53,7 @@ pub(crate) fn count_left<L: Ledger>(
     if !input.map.has_leaving() {
         return Ok(list.end - list.first);
     }
-    input.file.keeps();
+    let _ = input.file.keeps();
     let mut count = 0;
     let mut row = list.first;
     'rows: while row < list.end {
@@ -97,7 +97,7 @@ fn add_list<L: Ledger>(
     requires taken { Each IsTaken (constants_left input.now list) }
     ensures { OnOk result (draft.new ≡ fold with_constant draft.old (constants_left input.now list)) }
 {
-    input.file.keeps();
+    let _ = input.file.keeps();
     let mut row = list.first;
     'rows: while row < list.end {
         add_constant(input, row, draft, modifiers, steps)?;
@@ -120,7 +120,7 @@ fn add_row<L: Ledger>(
 {
     let input = placed.input;
     rows_are_images();
-    input.file.keeps();
+    let _ = input.file.keeps();
     if !has_row(&input.file, LOCAL_SCOPE, row) {
         return Ok(());
     }

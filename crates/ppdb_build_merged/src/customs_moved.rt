@@ -78,7 +78,7 @@ fn add_record<L: Ledger>(
     ensures made { OnOk result (AreMade placed.now rows.new) }
     ensures records { OnOk result (records.new ≡ records.old ++ option_to_list (record_at placed.now number one.now row)) }
 {
-    one.input.file.keeps();
+    let _ = one.input.file.keeps();
     let mut custom = read_record(alloc, one, row, steps)?;
     match parent_image(alloc, placed, number, one, &custom, rows, steps)? {
         Some(parent) => {
@@ -108,7 +108,7 @@ fn records_of_input<L: Ledger>(
     ensures records { IfOk result (λ records. records
         ≡ filter_map (record_image (inputs_of placed.now) (numbered_by number one.now)) (value_of (raw_of one.now)).customs) }
 {
-    one.input.file.keeps();
+    let _ = one.input.file.keeps();
     let count = count(&one.input.file, CUSTOM);
     let mut records = List::new(alloc);
     let mut row = 1;

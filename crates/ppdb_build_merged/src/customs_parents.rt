@@ -60,7 +60,7 @@ fn import_row(placed: &[Placed<'_, '_>], number: u32, one: &Placed<'_, '_>, row:
     requires there { HasRow (value_of (raw_of one.now)) 0x35 row }
     ensures { row_of (origins_in (inputs_of placed.now) 0x35) (number, row) ≡ Some result }
 {
-    one.input.file.keeps();
+    let _ = one.input.file.keeps();
     import_scopes_follow();
     one.before + row
 }

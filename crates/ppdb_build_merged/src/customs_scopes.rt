@@ -35,7 +35,7 @@ fn scope_stays<L: Ledger>(one: &Placed<'_, '_>, row: u32, steps: &mut Steps<L>) 
 {
     let input = one.input;
     rows_are_images();
-    input.file.keeps();
+    let _ = input.file.keeps();
     if !has_row(&input.file, LOCAL_SCOPE, row) {
         return false;
     }
@@ -149,7 +149,7 @@ fn put_list<L: Ledger>(
     requires { IsWithin (count_of owned (raw_of one.now).tables) list }
     ensures { OnOk result (keys.new.items ≡ keys.old.items ++ list_keys owned number one.now list) }
 {
-    one.input.file.keeps();
+    let _ = one.input.file.keeps();
     let mut row = list.first;
     'rows: while row < list.end {
         put_item(number, one, owned, row, keys, modifiers, steps)?;
@@ -181,7 +181,7 @@ fn put_scope<L: Ledger>(
     ensures { OnOk result (map origin_in keys.new.items ≡ map origin_in keys.old.items ++ left_of owned number one.now row) }
 {
     scopes_own_their_lists();
-    one.input.file.keeps();
+    let _ = one.input.file.keeps();
     if !has_row(&one.input.file, LOCAL_SCOPE, row) {
         return Ok(());
     }

@@ -77,7 +77,7 @@ fn add_input<L: Ledger>(
     ensures rows { IfOk result (λ rows. (start : draft_value) (before : List DocumentValue) → AreNamed start before names.old draft.old
         → rows ≡ map (λ (document : DocumentValue). row_named (firsts [] (before ++ documents_in input.now)) document.name) (documents_in input.now)) }
 {
-    input.file.keeps();
+    let _ = input.file.keeps();
     let mut rows = List::new(alloc);
     let count = count(&input.file, DOCUMENT);
     let mut row = 1;
@@ -107,7 +107,7 @@ pub(crate) fn add_documents<'r, 'a, L: Ledger>(
     let mut placed = List::new(alloc);
     let mut before = 0;
     for input in inputs {
-        input.file.keeps();
+        let _ = input.file.keeps();
         let documents = add_input(alloc, input, &mut names, draft, &mut name, steps)?;
         placed.push(Placed {
             input,

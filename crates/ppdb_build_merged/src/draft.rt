@@ -36,7 +36,7 @@ fn method_count(inputs: &[RowInput<'_>]) -> u32
 {
     joined_parts_are_flat();
     let first = &inputs[0];
-    first.file.keeps();
+    let _ = first.file.keeps();
     first
         .map
         .output_rows(METHOD_DEF, count(&first.file, METHOD_DEF))

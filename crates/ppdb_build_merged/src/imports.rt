@@ -48,7 +48,7 @@ fn add_input<L: Ledger>(
     ensures { OnOk result (draft.new ≡ fold with_import draft.old (imports_of placed.now)) }
 {
     let file = &placed.input.file;
-    file.keeps();
+    let _ = file.keeps();
     let count = count(file, IMPORT_SCOPE);
     let mut row = 1;
     'rows: while row <= count {

@@ -30,7 +30,7 @@ fn rows_of(file: &Verified<'_>, table: Table) -> u32
     ensures rows { result ≡ rows_in (raw_file file.now).tables table }
     ensures few { result ≤ 16777215 }
 {
-    file.keeps();
+    let _ = file.keeps();
     match table {
         Table::Methods => count(file, METHOD_DEBUG),
         Table::Scopes => count(file, LOCAL_SCOPE),
@@ -44,7 +44,7 @@ fn method_of<L: Ledger>(file: &Verified<'_>, table: Table, row: u32, steps: &mut
     requires last { row ≤ rows_in (raw_file file.now).tables table }
     ensures { result ≡ method_in (raw_file file.now).tables table row }
 {
-    file.keeps();
+    let _ = file.keeps();
     match table {
         Table::Methods => row,
         Table::Scopes => scope(file, row, steps).method,

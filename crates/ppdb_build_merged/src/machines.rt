@@ -23,7 +23,7 @@ fn add_row<L: Ledger>(
     ensures { OnOk result (draft.new ≡ fold with_machine draft.old (option_to_list (machine_in placed.now row))) }
 {
     let input = placed.input;
-    input.file.keeps();
+    let _ = input.file.keeps();
     if !has_row(&input.file, STATE_MACHINE, row) {
         return Ok(());
     }

@@ -32,7 +32,7 @@ fn add_row<L: Ledger>(
     ensures forms { OnOk result (Each HasForms (option_to_list (method_after (raw_of placed.now) placed.now.input.now.map placed.now.documents row))) }
 {
     let file = &placed.input.file;
-    file.keeps();
+    let _ = file.keeps();
     methods_have_their_rows();
     if !has_row(file, METHOD_DEBUG, row) {
         return Ok(());

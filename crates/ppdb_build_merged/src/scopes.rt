@@ -52,7 +52,7 @@ fn add_variables<L: Ledger>(
     requires { IsWithin (length (raw_file input.now.file).tables.variables) list }
     ensures { OnOk result (draft.new ≡ fold with_variable draft.old (items_in list (variables_after (raw_file input.now.file).tables input.now.map method))) }
 {
-    input.file.keeps();
+    let _ = input.file.keeps();
     let mut row = list.first;
     'rows: while row < list.end {
         add_variable(input, method, row, draft, steps)?;
@@ -93,7 +93,7 @@ fn add_row<L: Ledger>(
 {
     let input = placed.input;
     rows_are_images();
-    input.file.keeps();
+    let _ = input.file.keeps();
     if !has_row(&input.file, LOCAL_SCOPE, row) {
         return Ok(());
     }

@@ -5,7 +5,7 @@ use crate::piece::PpdbPiece;
 use crate::run::ppdb_run;
 use crate::verify::ppdb_verify;
 use ppdb_base::CounterPermit;
-use tests_files::SMALL;
+use worked_files::SMALL;
 
 #[test]
 fn files_are_verified(rt: HostRuntime) {

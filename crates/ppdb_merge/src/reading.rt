@@ -39,8 +39,8 @@ pub(crate) fn read_input<L: Ledger>(
     ensures sound { IfOk result (λ trace. SoundTraces (traces.now ++ trace ∷ [])) }
     ensures refused { IfErr result (λ e. (e ≡ merge_errors.Memory) ⊎ (refusal_of marks.now traces.now map.now (raw_file file.now) ≡ Some e)) }
 {
-    file.keeps();
-    map.keeps();
+    let _ = file.keeps();
+    let _ = map.keeps();
     soundness_is_annotated();
     references_are_named();
     nothing_clashes();

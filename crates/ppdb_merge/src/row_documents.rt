@@ -62,7 +62,7 @@ pub(crate) fn add_rows<L: Ledger>(
     ensures { OnOk result ((all : List document_value) → HoldsDocuments (firsts [] all) documents.old
         → HoldsDocuments (firsts [] (all ++ map (moved_document input.now.map) (value_of (raw_file input.now.file)).documents)) documents.new) }
 {
-    input.file.keeps();
+    let _ = input.file.keeps();
     let count = count(&input.file, DOCUMENT);
     let mut scratch = Scratch::new(documents.alloc);
     let mut row = 1;
@@ -83,7 +83,7 @@ pub(crate) fn first_conflict_in<L: Ledger>(
     ensures { IfOk result (λ told. (all : List document_value) → HoldsDocuments all documents.now
         → told ≡ slice_get (filter_map (moved_conflict map.now all) (numbered (value_of (raw_file file.now)).documents)) 0) }
 {
-    file.keeps();
+    let _ = file.keeps();
     let count = count(file, DOCUMENT);
     let mut scratch = Scratch::new(documents.alloc);
     let mut row = 1;

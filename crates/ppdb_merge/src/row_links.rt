@@ -88,7 +88,7 @@ pub(crate) fn add_links<L: Ledger>(
 ) -> Result<(), Memory>
     ensures { OnOk result (links.new ≡ links.old ++ filter_map (link_after input.now.map) (value_of (raw_file input.now.file)).customs) }
 {
-    input.file.keeps();
+    let _ = input.file.keeps();
     let count = count(&input.file, CUSTOM);
     let mut scratch = Scratch::new(alloc);
     let mut row = 1;
@@ -112,7 +112,7 @@ fn is_link_in<L: Ledger>(alloc: Global, file: &Verified<'_>, row: u32, steps: &m
 fn first_link_in<L: Ledger>(alloc: Global, file: &Verified<'_>, steps: &mut Steps<L>) -> Option<u32>
     ensures { result ≡ slice_get (filter_map link_row (numbered (value_of (raw_file file.now)).customs)) 0 }
 {
-    file.keeps();
+    let _ = file.keeps();
     let count = count(file, CUSTOM);
     let mut row = 1;
     'rows: while row <= count {

@@ -61,8 +61,8 @@ fn judged_beside<L: Ledger>(
     ensures refused { IfErr result (λ e. (e ≡ merge_errors.Memory)
         ⊎ (refusal_of marks.now (traces_in inputs.now) map.now (raw_file file.now) ≡ Some e)) }
 {
-    file.keeps();
-    map.keeps();
+    let _ = file.keeps();
+    let _ = map.keeps();
     values_are_sound();
     soundness_is_annotated();
     references_are_named();

@@ -59,7 +59,7 @@ fn first_name_twice<L: Ledger>(
 ) -> Result<Option<MergeError>, Memory>
     ensures { IfOk result (λ told. told ≡ slice_get (documents_twice map.now (value_of (raw_file file.now)).documents) 0) }
 {
-    file.keeps();
+    let _ = file.keeps();
     let count = count(file, DOCUMENT);
     let mut names = Names::new(alloc);
     let mut text = Bytes::new(alloc);
@@ -86,7 +86,7 @@ pub(crate) fn first_document_twice<L: Ledger>(
 ) -> Result<Option<MergeError>, Memory>
     ensures { IfOk result (λ told. told ≡ slice_get (documents_twice map.now (value_of (raw_file file.now)).documents) 0) }
 {
-    file.keeps();
+    let _ = file.keeps();
     if map.document_line(0).is_none() {
         return Ok(None);
     }

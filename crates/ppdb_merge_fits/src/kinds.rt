@@ -190,7 +190,7 @@ pub fn is_unknown(kind: Kind) -> bool
 fn any_unknown<L: Ledger>(file: &Verified<'_>, marks: &Marks, steps: &mut Steps<L>) -> bool
     ensures { result ≡ has_unknown marks.now (value_in (raw_file file.now)).customs }
 {
-    file.keeps();
+    let _ = file.keeps();
     let count = count(file, CUSTOM);
     let mut row: u32 = 0;
     'rows: while row < count {
@@ -247,7 +247,7 @@ pub(crate) fn first_unknown<L: Ledger>(
 ) -> Result<Option<MergeError>, Memory>
     ensures { IfOk result (λ told. told ≡ slice_get (unknown_kinds marks.now map.now (value_in (raw_file file.now))) 0) }
 {
-    file.keeps();
+    let _ = file.keeps();
     if !any_unknown(file, marks, steps) {
         return Ok(None);
     }

@@ -86,7 +86,7 @@ fn keeps_all(map: &MapText, method: u32) -> bool
 fn is_kept(map: &MapText, method: u32, offset: u32) -> bool
     ensures { result ≡ is_kept map.now method offset }
 {
-    map.keeps();
+    let _ = map.keeps();
     if offset == u32::MAX {
         return keeps_all(map, method);
     }

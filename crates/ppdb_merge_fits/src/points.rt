@@ -62,7 +62,7 @@ pub(crate) fn first_point_beyond<L: Ledger>(
 ) -> Option<MergeError>
     ensures { result ≡ slice_get (flat_map (points_beyond map.now) (value_of (raw_file file.now)).methods) 0 }
 {
-    file.keeps();
+    let _ = file.keeps();
     values_are_rows();
     let count = count(file, METHOD_DEBUG);
     let mut row: u32 = 0;
@@ -86,7 +86,7 @@ fn range_beyond<L: Ledger>(
     ensures { (cells : ScopeRow) → row_at (raw_file file.now).tables.scopes row ≡ Some cells
         → result ≡ slice_get (end_beyond map.now cells.method (range_of cells)) 0 }
 {
-    file.keeps();
+    let _ = file.keeps();
     let cells = scope(file, row, steps);
     let range = Range {
         start: cells.start,
@@ -103,7 +103,7 @@ pub(crate) fn first_range_beyond<L: Ledger>(
 ) -> Option<MergeError>
     ensures { result ≡ slice_get (flat_map (scope_beyond map.now) (value_of (raw_file file.now)).scopes) 0 }
 {
-    file.keeps();
+    let _ = file.keeps();
     let count = count(file, LOCAL_SCOPE);
     let mut row: u32 = 0;
     'rows: while row < count {

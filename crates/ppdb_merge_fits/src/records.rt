@@ -200,7 +200,7 @@ pub(crate) fn first_of_records<Q: AsksBody, L: Ledger>(
 ) -> Option<MergeError>
     ensures { result ≡ slice_get (flat_map (record_told map.now (Q.tells_body question.now)) (value_of (raw_file file.now)).customs) 0 }
 {
-    file.keeps();
+    let _ = file.keeps();
     let count = count(file, CUSTOM);
     let mut row: u32 = 0;
     'rows: while row < count {

@@ -68,7 +68,7 @@ fn given_signatures<L: Ledger>(
 ) -> Result<Vec<Imaged>, Memory>
     ensures { IfOk result (λ all. all.items ≡ given_signatures map.now (value_of (raw_file file.now))) }
 {
-    file.keeps();
+    let _ = file.keeps();
     values_are_rows();
     let mut all = Vec::new(alloc);
     if map.signature_line(0).is_none() {

@@ -27,7 +27,7 @@ fn add_slots<L: Ledger>(
     requires { HasLists (raw_file file.now).tables scope.now }
     ensures { OnOk result (slots.new ≡ slots.old ++ scope_slots (scope_with (raw_file file.now).tables scope.now)) }
 {
-    file.keeps();
+    let _ = file.keeps();
     let mut row = scope.variables.first;
     'rows: while row < scope.variables.end {
         let cells = variable(file, row, steps);
@@ -48,7 +48,7 @@ fn variable_slots<L: Ledger>(
 ) -> Result<List<MethodSlot>, Memory>
     ensures { IfOk result (λ slots. slots ≡ variable_slots (value_of (raw_file file.now))) }
 {
-    file.keeps();
+    let _ = file.keeps();
     scopes_own_their_lists();
     let mut slots = List::new(alloc);
     let mut scopes = ScopeCursor::new(file, steps);
@@ -147,7 +147,7 @@ pub(crate) fn first_of_slots<L: Ledger>(
     ensures { IfOk result (λ told. told ≡ slice_get (slots_unmapped map.now (value_of (raw_file file.now))
         ++ slots_twice map.now (variable_slots (value_of (raw_file file.now)))) 0) }
 {
-    file.keeps();
+    let _ = file.keeps();
     if map.slots_line(0).is_none() {
         return Ok(None);
     }

@@ -22,8 +22,7 @@ pub use laws::{
     files_mean, fits_are_of_methods, links_mean, moved_is_sound, moved_names_images,
     named_rows_are_rows, points_mean, scopes_mean, slots_mean,
 };
-pub use methods::move_points;
-pub use moves::{InMethod, Lives, Moves, Stays, keep_live, move_all, moved_all};
+pub use moves::{InMethod, Lives, Moves, Stays, move_all, moved_all};
 pub use named::is_link;
 pub use offsets::moved_offset;
 pub use records::custom_stays;

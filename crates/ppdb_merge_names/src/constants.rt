@@ -79,7 +79,7 @@ fn add_list<L: Ledger>(
     requires { IsWithin (length (raw_file file.now).tables.constants) list }
     ensures { Goes imager.old (of_list imager.old.map (raw_file file.now).tables list) imager.new result }
 {
-    file.keeps();
+    let _ = file.keeps();
     let limits = type_limits(file);
     let mut row = list.first;
     'rows: while row < list.end {
@@ -114,7 +114,7 @@ pub(crate) fn add_constants<L: Ledger>(
 ) -> Result<(), ReferenceError>
     ensures { Goes imager.old (flat_map (of_constant imager.old.map (raw_file file.now).tables) (numbered (raw_file file.now).tables.constants)) imager.new result }
 {
-    file.keeps();
+    let _ = file.keeps();
     lists_are_owned();
     scopes_own_their_lists();
     let mut scopes = ScopeCursor::new(file, steps);

@@ -26,7 +26,7 @@ fn add_table<L: Ledger>(
 ) -> Result<(), ReferenceError>
     ensures { Goes imager.old (of_table imager.old.map (raw_file file.now).tables table) imager.new result }
 {
-    file.keeps();
+    let _ = file.keeps();
     let count = count(file, table_number(table));
     let mut row = 1;
     'rows: while row <= count {
@@ -91,7 +91,7 @@ pub fn images<L: Ledger>(
     ensures images { IfOk result (AreImagesOf map.now (references first map.now (raw_file file.now))) }
     ensures unmapped { IfErr result (IsRefusedBy map.now (references first map.now (raw_file file.now))) }
 {
-    map.keeps();
+    let _ = map.keeps();
     let mut imager = Imager::new(alloc, map);
     add_file(alloc, file, first, &mut imager, steps)?;
     Ok(imager.into_images())

@@ -263,7 +263,7 @@ fn add_custom(
     requires { row_at (raw_file file.now).tables.customs row ≡ Some cells.now }
     ensures { Goes imager.old (of_custom imager.old.map (raw_file file.now).tables (row, cells.now)) imager.new result }
 {
-    file.keeps();
+    let _ = file.keeps();
     let Some(parent) = parent_of(cells.parent) else {
         unreachable!()
     };

@@ -29,7 +29,7 @@ pub fn moved_import_scope<L: Ledger>(
     ensures scope { IfOk result (λ scope. row_at (imports_after (raw_file file.now) map.now before) row ≡ Some scope) }
     ensures step { steps.new ≡ steps.old + 1 }
 {
-    file.keeps();
+    let _ = file.keeps();
     let mut scope = import_scope_value(alloc, file, row, steps)?;
     scope.move_by(map);
     scope.parent = shifted(before, scope.parent);

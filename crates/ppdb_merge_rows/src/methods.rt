@@ -58,8 +58,8 @@ pub fn moved_method_into<L: Ledger>(
     ensures unchanged { OnErr result (into.new ≡ into.old) }
     ensures step { steps.new ≡ steps.old + 1 }
 {
-    file.keeps();
-    map.keeps();
+    let _ = file.keeps();
+    let _ = map.keeps();
     let cells = method_debug(file, row, steps);
     let Some(points) = points_of(file, row, &cells) else {
         return Ok(MovedMethod::Gone);

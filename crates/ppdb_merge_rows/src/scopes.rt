@@ -39,7 +39,7 @@ pub fn read_scope<L: Ledger>(file: &Verified<'_>, row: u32, steps: &mut Steps<L>
     ensures import { result.import ≤ 16777215 }
     ensures cost { steps.new ≤ steps.old + 2 }
 {
-    file.keeps();
+    let _ = file.keeps();
     scopes_own_their_lists();
     let cells = scope(file, row, steps);
     let (variables_end, constants_end) = list_ends(file, row, steps);

@@ -170,7 +170,7 @@ impl<'a> HoistedCursor<'a> {
             if self.first == self.end {
                 return None;
             }
-            self.file.keeps();
+            let _ = self.file.keeps();
             self.current = record_slots(&self.file, self.first, self.offset, steps);
             self.first += 1;
         }

@@ -56,7 +56,7 @@ impl<'a> ImportChain<'a> {
             return None;
         }
         let row = self.row;
-        self.file.keeps();
+        let _ = self.file.keeps();
         let scope = import(&self.file, row, steps);
         self.row = scope.parent;
         Some(ImportLink {

@@ -60,7 +60,7 @@ fn machine_with<L: Ledger>(
     ensures later { steps.old ≤ steps.new }
     ensures cost { steps.new ≤ steps.old + digits (length (raw_of (tables_of file.now)).machines) }
 {
-    file.keeps();
+    let _ = file.keeps();
     let mut first = 1;
     let mut end = count(file, STATE_MACHINE) + 1;
     'halves: while first < end {
@@ -96,7 +96,7 @@ pub fn kickoff_of<L: Ledger>(
     ensures cost { steps.new ≤ steps.old + digits (length (raw_of (tables_of file.now)).machines) }
 {
     judge_method(file, method)?;
-    file.keeps();
+    let _ = file.keeps();
     match machine_with(file, Column::MoveNext, method, steps) {
         Some(machine) => Ok(Some(machine.kickoff)),
         None => Ok(None),
@@ -120,7 +120,7 @@ pub fn move_next_of<L: Ledger>(
     ensures cost { steps.new ≤ steps.old + length (raw_of (tables_of file.now)).machines }
 {
     judge_method(file, method)?;
-    file.keeps();
+    let _ = file.keeps();
     for row in 1..count(file, STATE_MACHINE) + 1 {
         let machine = machine(file, row, steps);
         if machine.kickoff == method {
@@ -160,7 +160,7 @@ fn read_order<L: Ledger>(
     ensures later { steps.old ≤ steps.new }
     ensures cost { steps.new ≤ steps.old + length (raw_of (tables_of file.now)).machines }
 {
-    file.keeps();
+    let _ = file.keeps();
     let mut found = None;
     let mut rises = true;
     let mut last = 0;

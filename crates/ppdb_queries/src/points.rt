@@ -60,7 +60,7 @@ pub fn point_at<'a, L: Ledger>(
     ensures cost { steps.new ≤ steps.old + 2 }
 {
     judge_method(file, method)?;
-    file.keeps();
+    let _ = file.keeps();
     if count(file, METHOD_DEBUG) < method {
         return Ok(None);
     }

@@ -32,12 +32,12 @@ impl<'f, 'a> KeyedRows for ByMethod<'f, 'a> {
     ghost keys = { λ table. map (λ scope. scope.method) (raw_of (tables_of table.file.now)).scopes };
 
     fn rows(&self) -> u32 {
-        self.file.keeps();
+        let _ = self.file.keeps();
         count(self.file, LOCAL_SCOPE)
     }
 
     fn key<L: Ledger>(&self, row: u32, steps: &mut Steps<L>) -> u32 {
-        self.file.keeps();
+        let _ = self.file.keeps();
         scope(self.file, row, steps).method
     }
 }
@@ -52,12 +52,12 @@ impl<'f, 'a> KeyedRows for ByParent<'f, 'a> {
     ghost keys = { λ table. map (λ custom. custom.parent) (raw_of (tables_of table.file.now)).customs };
 
     fn rows(&self) -> u32 {
-        self.file.keeps();
+        let _ = self.file.keeps();
         count(self.file, CUSTOM)
     }
 
     fn key<L: Ledger>(&self, row: u32, steps: &mut Steps<L>) -> u32 {
-        self.file.keeps();
+        let _ = self.file.keeps();
         custom(self.file, row, steps).parent
     }
 }
@@ -79,7 +79,7 @@ pub fn scope_run<L: Ledger>(
     ensures cost { steps.new ≤ steps.old + 2 * digits (length (raw_of (tables_of file.now)).scopes) }
 {
     judge_method(file, method)?;
-    file.keeps();
+    let _ = file.keeps();
     let scopes = ByMethod { file };
     let run = rows_with(&scopes, method, steps);
     Ok(run)
@@ -92,7 +92,7 @@ fn customs_of_code<L: Ledger>(file: &Verified<'_>, coded: u32, steps: &mut Steps
     ensures later { steps.old ≤ steps.new }
     ensures cost { steps.new ≤ steps.old + 2 * digits (length (raw_of (tables_of file.now)).customs) }
 {
-    file.keeps();
+    let _ = file.keeps();
     rows_with(&ByParent { file }, coded, steps)
 }
 
@@ -105,7 +105,7 @@ pub fn customs_of<L: Ledger>(file: &Verified<'_>, parent: Parent, steps: &mut St
     ensures later { steps.old ≤ steps.new }
     ensures cost { steps.new ≤ steps.old + 2 * digits (length (raw_of (tables_of file.now)).customs) }
 {
-    file.keeps();
+    let _ = file.keeps();
     codes_are_parents();
     let coded = coded_parent(parent).unwrap();
     customs_of_code(file, coded, steps)

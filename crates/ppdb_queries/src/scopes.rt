@@ -98,7 +98,7 @@ fn next_scope<L: Ledger>(
     ensures later { steps.old ≤ steps.new }
     ensures cost { steps.new ≤ steps.old + 2 * rows_passed first end result }
 {
-    file.keeps();
+    let _ = file.keeps();
     let mut row = first;
     'rows: while row < end {
         let scope = scope(file, row, steps);

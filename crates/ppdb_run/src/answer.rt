@@ -113,7 +113,7 @@ fn put_id<O: Sink>(printer: Printer<'_>, out: &mut O, file: &Verified<'_>) -> Re
     ensures { PutsInto O.written O.faults result out.old out.new
         (lines_as printer.entry.form (id_line (raw_file file.now).id ∷ entry_line (raw_file file.now).entry ∷ [])) }
 {
-    file.keeps();
+    let _ = file.keeps();
     let head = file.head();
     put_id_line(printer, out, &head.id)?;
     put_entry_line(printer, out, head.entry)

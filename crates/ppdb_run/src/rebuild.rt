@@ -131,7 +131,7 @@ fn unknown<L: Ledger>(
 ) -> Option<MergeError>
     ensures { result ≡ unknown_kind marks.now (value_of (raw_file file.now)) }
 {
-    file.keeps();
+    let _ = file.keeps();
     for row in 1..count(file, CUSTOM) + 1 {
         let cells = custom(file, row, steps);
         let kind = guid_of_kind(file, row, &cells);

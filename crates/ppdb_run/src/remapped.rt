@@ -58,12 +58,12 @@ fn moved<L: Ledger>(
     requires says { value_of (raw_file file.now) ≡ sample methods }
     ensures { IfOk result (λ merger. HoldsSample methods merger.traces) }
 {
-    file.keeps();
+    let _ = file.keeps();
     samples_fit();
     references_are_named();
     fitting_maps_do_not_clash();
     let map = sample_map(alloc, methods)?;
-    map.keeps();
+    let _ = map.keeps();
     let mut merger = Merger::new(alloc, Marks::new(alloc));
     match merger.add(file, &map, steps) {
         Ok(()) => Ok(merger),

@@ -69,7 +69,7 @@ pub fn answer_breaks<'a, O: Sink, L: Ledger>(
     ensures later { O.faults out.old ≤ O.faults out.new }
     ensures bound { IsWithinBound (Breaks document.now line false) (raw_file file.now) steps.old steps.new }
 {
-    file.keeps();
+    let _ = file.keeps();
     let Some(row) = document_named(file, document.as_bytes(), steps) else {
         return Err(Stop::NoDocument(document));
     };

@@ -67,7 +67,7 @@ fn put_answer<L: Ledger>(
     ensures ok { OnOk result (Adds printer.entry.form text.old text.new (query_lines (raw_file file.now) method offset)) }
     ensures cost { steps.new + 2 ≤ steps.old + query_rows (raw_of (tables_of file.now)) method offset }
 {
-    file.keeps();
+    let _ = file.keeps();
     put_point(printer, text, file, found, steps)?;
     put_scopes(
         printer,

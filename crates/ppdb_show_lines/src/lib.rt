@@ -19,6 +19,6 @@ pub use form::{Form, Printer};
 pub use head::{put_entry_line, put_id_line};
 pub use key::Key;
 pub use line::{Item, Part};
-pub use pieces::{put_numbered, put_numbered64, put_pair, put_signed, put_tabled};
+pub use pieces::{put_numbered, put_numbered64, put_signed, put_tabled};
 pub use text::put_text_line;
 pub use uses::put_use;

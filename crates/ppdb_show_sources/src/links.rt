@@ -117,7 +117,7 @@ pub fn put_links<O: Sink, L: Ledger>(
     ensures later { steps.old ≤ steps.new }
     ensures cost { steps.new ≤ steps.old + count_of (raw_file file.now).tables 0x30 }
 {
-    file.keeps();
+    let _ = file.keeps();
     let mut address: Bytes = List::new(printer.alloc);
     'rows: for row in 1..count(file, DOCUMENT) + 1 {
         put_link(printer, file, links, row, &mut address, out, steps)?;

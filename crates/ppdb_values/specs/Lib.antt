@@ -17,6 +17,7 @@ pub mod Rules
 pub mod Types
 pub mod Value
 pub mod Worked
+pub mod WorkedBytes
 pub mod WorkedProgram
 pub mod WorkedSmall
 pub mod WrittenImports

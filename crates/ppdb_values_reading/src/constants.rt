@@ -38,7 +38,7 @@ pub fn read_constant<'a, L: Ledger>(
     ensures refused { OnErr result (modifiers.new ≡ []) }
     ensures step { steps.new ≡ steps.old + 1 }
 {
-    file.keeps();
+    let _ = file.keeps();
     constants_are_read();
     let cells = constant(file, row, steps);
     let mut cursor = ConstantCursor::new(blob(file, cells.signature), type_limits(file));

@@ -50,7 +50,7 @@ fn documents_of<'a>(file: &Verified<'a>, row: u32, cells: &CustomRow) -> RowCurs
     ensures body { body_shown (LentBody.TypeDocuments result) ≡ (custom_of (raw_file file.now).tables cells.now).value }
     ensures whole { result.fault ≡ None }
 {
-    file.keeps();
+    let _ = file.keeps();
     values_are_read();
     RowCursor::new(blob(file, cells.value), count(file, DOCUMENT))
 }
@@ -81,7 +81,7 @@ pub fn read_custom<'a, L: Ledger>(
     ensures whole { HasNoFault result.body }
     ensures step { steps.new ≡ steps.old + 1 }
 {
-    file.keeps();
+    let _ = file.keeps();
     let cells = custom(file, row, steps);
     let Some(parent) = parent_of(cells.parent) else {
         unreachable!()

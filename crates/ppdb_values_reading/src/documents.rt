@@ -38,7 +38,7 @@ pub fn read_document<'a, L: Ledger>(
     ensures refused { OnErr result (name.new ≡ []) }
     ensures step { steps.new ≡ steps.old + 1 }
 {
-    file.keeps();
+    let _ = file.keeps();
     let cells = document(file, row, steps);
     name.clear();
     match name_into(blob(file, cells.name), blobs(file), name) {

@@ -16,13 +16,13 @@ mod scratch;
 mod value;
 mod variables;
 
-pub use constants::{LentConstant, constant_value, read_constant};
+pub use constants::{LentConstant, read_constant};
 pub use customs::{LentBody, LentCustom, custom_value, read_custom};
 pub use documents::{LentDocument, document_value, read_document};
 pub use imports::{LentImports, import_scope_value, read_import_scope};
 pub use laws::scopes_own_their_lists;
-pub use methods::{method_value, read_method};
+pub use methods::read_method;
 pub use scopes::{ListRange, Scope, ScopeCursor, scope_value};
 pub use scratch::Scratch;
 pub use value::{type_rows, value_of};
-pub use variables::{LentVariable, read_variable, variable_value};
+pub use variables::{LentVariable, read_variable};

@@ -47,7 +47,7 @@ fn cells_at<L: Ledger>(file: &Verified<'_>, row: u32, steps: &mut Steps<L>) -> O
     ensures cells { row_at (raw_file file.now).tables.scopes row ≡ result }
     ensures cost { steps.new + (length (raw_file file.now).tables.scopes - row) ≡ steps.old + (length (raw_file file.now).tables.scopes + 1 - row) }
 {
-    file.keeps();
+    let _ = file.keeps();
     if row <= count(file, LOCAL_SCOPE) {
         Some(scope(file, row, steps))
     } else {
@@ -61,7 +61,7 @@ fn scope_at(file: &Verified<'_>, row: u32, cells: &ScopeRow, next: Option<ScopeR
     requires next { row_at (raw_file file.now).tables.scopes (row + 1) ≡ next }
     ensures { result ≡ scope_in (raw_file file.now).tables (row, cells.now) }
 {
-    file.keeps();
+    let _ = file.keeps();
     let (variables_end, constants_end) = match next {
         Some(next) => (next.variables, next.constants),
         None => (
@@ -134,7 +134,7 @@ impl<'a> ScopeCursor<'a> {
         let Some(cells) = self.cells else {
             return None;
         };
-        self.file.keeps();
+        let _ = self.file.keeps();
         let row = self.row;
         let next = cells_at(&self.file, row + 1, steps);
         let scope = scope_at(&self.file, row, &cells, next);
@@ -155,7 +155,7 @@ fn variables_in<L: Ledger>(
     ensures variables { IfOk result (λ variables. variables ≡ items_in list (variables_of (raw_file file.now).tables)) }
     ensures cost { OnOk result (steps.new ≡ steps.old + rows_in list) }
 {
-    file.keeps();
+    let _ = file.keeps();
     let mut variables = List::with_capacity(alloc, (list.end - list.first) as usize)?;
     let mut row = list.first;
     'rows: while row < list.end {
@@ -177,7 +177,7 @@ fn constants_in<L: Ledger>(
     ensures constants { IfOk result (λ constants. constants ≡ items_in list (constants_of (raw_file file.now).tables)) }
     ensures cost { OnOk result (steps.new ≡ steps.old + rows_in list) }
 {
-    file.keeps();
+    let _ = file.keeps();
     let mut constants = List::with_capacity(alloc, (list.end - list.first) as usize)?;
     let mut row = list.first;
     'rows: while row < list.end {

@@ -37,7 +37,7 @@ pub fn value_of<L: Ledger>(
     ensures sound { IfOk result IsSound }
     ensures rows { OnOk result (steps.new ≡ steps.old + row_total (raw_file file.now).tables) }
 {
-    file.keeps();
+    let _ = file.keeps();
     let mut scratch = Scratch::new(alloc);
     Ok(FileValue {
         id: file.head().id,
@@ -56,7 +56,7 @@ pub fn value_of<L: Ledger>(
 pub fn type_rows(file: &Verified<'_>) -> [u32; 64]
     ensures { result ≡ type_system_rows (raw_file file.now).tables.counts }
 {
-    file.keeps();
+    let _ = file.keeps();
     let mut rows = [0; 64];
     'tables: for table in 0..TYPE_TABLES {
         rows[table as usize] = count(file, table);
@@ -74,7 +74,7 @@ fn documents<L: Ledger>(
     ensures documents { IfOk result (λ documents. documents ≡ (value_in (raw_file file.now)).documents) }
     ensures cost { OnOk result (steps.new ≡ steps.old + length (raw_file file.now).tables.documents) }
 {
-    file.keeps();
+    let _ = file.keeps();
     let count = count(file, DOCUMENT);
     let mut documents = List::with_capacity(alloc, count as usize)?;
     let mut row = 1;
@@ -95,7 +95,7 @@ fn methods<L: Ledger>(
     ensures methods { IfOk result (λ methods. methods ≡ (value_in (raw_file file.now)).methods) }
     ensures cost { OnOk result (steps.new ≡ steps.old + length (raw_file file.now).tables.methods) }
 {
-    file.keeps();
+    let _ = file.keeps();
     values_are_rows();
     let count = count(file, METHOD_DEBUG);
     let mut methods = List::new(alloc);
@@ -119,7 +119,7 @@ fn scopes<L: Ledger>(
     ensures scopes { IfOk result (λ scopes. scopes ≡ (value_in (raw_file file.now)).scopes) }
     ensures cost { OnOk result (steps.new ≡ steps.old + scope_total (raw_file file.now).tables) }
 {
-    file.keeps();
+    let _ = file.keeps();
     scopes_own_their_lists();
     let mut scopes = List::with_capacity(alloc, count(file, LOCAL_SCOPE) as usize)?;
     let mut cursor = ScopeCursor::new(file, steps);
@@ -138,7 +138,7 @@ fn imports<L: Ledger>(
     ensures imports { IfOk result (λ imports. imports ≡ (value_in (raw_file file.now)).imports) }
     ensures cost { OnOk result (steps.new ≡ steps.old + length (raw_file file.now).tables.imports) }
 {
-    file.keeps();
+    let _ = file.keeps();
     let count = count(file, IMPORT_SCOPE);
     let mut imports = List::with_capacity(alloc, count as usize)?;
     let mut row = 1;
@@ -158,7 +158,7 @@ fn machines<L: Ledger>(
     ensures machines { IfOk result (λ machines. machines ≡ (value_in (raw_file file.now)).machines) }
     ensures cost { OnOk result (steps.new ≡ steps.old + length (raw_file file.now).tables.machines) }
 {
-    file.keeps();
+    let _ = file.keeps();
     let count = count(file, STATE_MACHINE);
     let mut machines = List::with_capacity(alloc, count as usize)?;
     let mut row = 1;
@@ -179,7 +179,7 @@ fn customs<L: Ledger>(
     ensures customs { IfOk result (λ customs. customs ≡ (value_in (raw_file file.now)).customs) }
     ensures cost { OnOk result (steps.new ≡ steps.old + length (raw_file file.now).tables.customs) }
 {
-    file.keeps();
+    let _ = file.keeps();
     let count = count(file, CUSTOM);
     let mut customs = List::with_capacity(alloc, count as usize)?;
     let mut row = 1;

@@ -28,7 +28,7 @@ fn judge_up_to<L: Ledger>(
     ensures ok { OnOk result (IsJudgedTo (RowFaults (raw_of tables.now)) (numbers over.now.code over.now.place)) }
     ensures err { IfErr result (FaultIs (IsFirst (RowFaults (raw_of tables.now)))) }
 {
-    tables.shape();
+    let _ = tables.shape();
     judge_rows_to(alloc, tables, over.place.table, over.place.row, steps)?;
     Ok(())
 }

@@ -51,7 +51,7 @@ impl<'a> Verified<'a> {
         ensures cursors { CursorsNeverFault (raw_of (tables_of self.now)) }
         ensures sound { IsSound (value_of (raw_file self.now)) }
     {
-        self.tables.shape();
+        let _ = self.tables.shape();
         accepted_files_keep_rules();
         cursors_never_fault();
         values_are_sound();

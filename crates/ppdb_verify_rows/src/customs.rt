@@ -19,7 +19,7 @@ pub fn guid_of_kind(file: &Verified<'_>, row: u32, cells: &CustomRow) -> [u8; 16
     requires { row_at (raw_file file.now).tables.customs row ≡ Some cells.now }
     ensures { result ≡ kind_in (raw_file file.now).tables cells.now }
 {
-    file.keeps();
+    let _ = file.keeps();
     guid(file, cells.kind).unwrap()
 }
 
@@ -38,7 +38,7 @@ pub fn slots_of<'a>(file: &Verified<'a>, row: u32, cells: &CustomRow) -> SlotCur
     ensures slots { result ≡ slots_in (raw_file file.now).tables cells.now }
     ensures few { length result.items < 2 ^ 32 }
 {
-    file.keeps();
+    let _ = file.keeps();
     SlotCursor::new(blob(file, cells.value))
 }
 
@@ -48,7 +48,7 @@ pub fn stepping_of<'a>(file: &Verified<'a>, row: u32, cells: &CustomRow) -> Asyn
     requires kind { IsOfKind (raw_file file.now).tables cells.now Kind.Async }
     ensures { SteppingIs (raw_file file.now).tables cells.now result }
 {
-    file.keeps();
+    let _ = file.keeps();
     values_are_read();
     match AsyncCursor::new(blob(file, cells.value), count(file, METHOD_DEF)) {
         Ok(cursor) => cursor,

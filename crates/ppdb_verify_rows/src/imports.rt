@@ -22,6 +22,6 @@ pub fn imports_of<'a>(file: &Verified<'a>, row: u32, import: &ImportRow) -> Impo
     requires { row_at (raw_file file.now).tables.imports row ≡ Some import.now }
     ensures { result ≡ imports_in (raw_file file.now).tables import.now }
 {
-    file.keeps();
+    let _ = file.keeps();
     ImportCursor::new(blob(file, import.imports), blobs(file), type_limits(file))
 }

@@ -17,7 +17,7 @@ pub fn name<'a>(file: &Verified<'a>, row: u32, document: &DocumentRow) -> NameCu
     requires { row_at (raw_file file.now).tables.documents row ≡ Some document.now }
     ensures { IsNameOf (raw_file file.now).tables document.now result }
 {
-    file.keeps();
+    let _ = file.keeps();
     match NameCursor::new(blob(file, document.name), blobs(file)) {
         Ok(cursor) => cursor,
         Err(_) => unreachable!(),
@@ -34,7 +34,7 @@ pub fn joined_name(
     requires { row_at (raw_file file.now).tables.documents row ≡ Some document.now }
     ensures { IfOk result (λ name. name ≡ (document_of (raw_file file.now).tables document.now).name) }
 {
-    file.keeps();
+    let _ = file.keeps();
     let mut name = List::new(alloc);
     match name_into(blob(file, document.name), blobs(file), &mut name) {
         Ok(()) => Ok(name),

@@ -26,7 +26,7 @@ pub fn points_of<'a>(
     requires { row_at (raw_file file.now).tables.methods method ≡ Some row.now }
     ensures { PointsAre (raw_file file.now) method result }
 {
-    file.keeps();
+    let _ = file.keeps();
     read_points_can_be_written();
     let content = blob(file, row.points);
     if content.is_empty() {

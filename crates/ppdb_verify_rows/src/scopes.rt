@@ -19,7 +19,7 @@ pub fn list_ends<L: Ledger>(file: &Verified<'_>, row: u32, steps: &mut Steps<L>)
     ensures later { steps.old ≤ steps.new }
     ensures cost { steps.new ≤ steps.old + 1 }
 {
-    file.keeps();
+    let _ = file.keeps();
     if row < count(file, LOCAL_SCOPE) {
         let next = scope(file, row + 1, steps);
         (next.variables, next.constants)

@@ -48,7 +48,7 @@ pub(crate) fn row_count(tables: &Tables<'_>, table: u8) -> u32
     ensures few { result < 2 ^ 24 }
     ensures all { HasShape (raw_of tables.now) }
 {
-    tables.shape();
+    let _ = tables.shape();
     tables.rows(table)
 }
 

@@ -135,7 +135,7 @@ pub(crate) fn judge_constants<L: Ledger>(
 {
     let mut names = Texts::new(alloc);
     let mut owner = 0;
-    tables.shape();
+    let _ = tables.shape();
     for row in 1..last + 1 {
         let constant = tables.constant(row, steps);
         owner = judge_constant(tables, row, &constant, owner, &mut names, steps)?;

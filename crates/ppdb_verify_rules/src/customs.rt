@@ -38,7 +38,7 @@ fn is_below_earlier<L: Ledger>(
     requires judged { ToCell (raw_of tables.now) 0x37 row 0 }
     ensures { IsTrue result ↔ HasEarlier (λ _ (e : CustomRow). custom.now.parent < e.parent) (raw_of tables.now).customs row }
 {
-    tables.shape();
+    let _ = tables.shape();
     1 < row && custom.parent < tables.custom(row - 1, steps).parent
 }
 
@@ -170,7 +170,7 @@ pub(crate) fn judge_customs<L: Ledger>(
     ensures ok { OnOk result (ToRow (raw_of tables.now) 0x37 (last + 1)) }
     ensures err { IfErr result (IsFirstOf (raw_of tables.now)) }
 {
-    tables.shape();
+    let _ = tables.shape();
     for row in 1..last + 1 {
         let custom = tables.custom(row, steps);
         judge_custom(alloc, tables, row, &custom, steps)?;

@@ -165,7 +165,7 @@ pub(crate) fn judge_documents<L: Ledger>(
     ensures ok { OnOk result (ToRow (raw_of tables.now) 0x30 (last + 1)) }
     ensures err { IfErr result (FaultIs (IsFirstOf (raw_of tables.now))) }
 {
-    tables.shape();
+    let _ = tables.shape();
     if last == 0 {
         return Ok(());
     }

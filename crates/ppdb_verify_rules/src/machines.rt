@@ -27,7 +27,7 @@ fn is_out_of_order<L: Ledger>(
     requires judged { ToCell (raw_of tables.now) 0x36 row 0 }
     ensures { IsTrue result ↔ HasEarlier (λ _ (e : MachineRow). machine.now.move_next ≤ e.move_next) (raw_of tables.now).machines row }
 {
-    tables.shape();
+    let _ = tables.shape();
     1 < row && machine.move_next <= tables.machine(row - 1, steps).move_next
 }
 
@@ -109,7 +109,7 @@ pub(crate) fn judge_machines<L: Ledger>(
     ensures err { IfErr result (FaultIs (IsFirstOf (raw_of tables.now))) }
 {
     let mut seen: Vec<u32> = Vec::new(alloc);
-    tables.shape();
+    let _ = tables.shape();
     for row in 1..last + 1 {
         let machine = tables.machine(row, steps);
         judge_machine(tables, row, &machine, &mut seen, steps)?;

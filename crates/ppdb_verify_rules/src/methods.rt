@@ -67,7 +67,7 @@ pub(crate) fn judge_methods<L: Ledger>(
     ensures ok { OnOk result (ToRow (raw_of tables.now) 0x31 (last + 1)) }
     ensures err { IfErr result (IsFirstOf (raw_of tables.now)) }
 {
-    tables.shape();
+    let _ = tables.shape();
     for row in 1..last + 1 {
         let method = tables.method_debug(row, steps);
         judge_method(tables, row, &method)?;

@@ -46,7 +46,7 @@ fn is_below_earlier<L: Ledger>(
     requires judged { ToCell (raw_of tables.now) 0x32 row 0 }
     ensures { IsTrue result ↔ HasEarlier (λ _ (e : ScopeRow). IsAbove e scope.now) (raw_of tables.now).scopes row }
 {
-    tables.shape();
+    let _ = tables.shape();
     1 < row && is_above(&tables.scope(row - 1, steps), scope)
 }
 
@@ -103,7 +103,7 @@ fn is_list_out<L: Ledger>(
     ensures { IsTrue result ↔ IsListOut (list_of list) (count (raw_of tables.now) (table_of list)) (raw_of tables.now).scopes row scope.now }
 {
     let first = list.of(scope);
-    tables.shape();
+    let _ = tables.shape();
     if first < 1 || row_count(tables, list.table()) + 1 < first {
         return true;
     }
@@ -160,7 +160,7 @@ fn go_to<L: Ledger>(
     requires opened { (b : ScopeRow) → row_at (raw_of tables.now).scopes (row - 1) ≡ Some b → AreOpen (raw_of tables.now).scopes row b.method b.start ends.old.items }
     ensures { AreOpen (raw_of tables.now).scopes row scope.now.method scope.now.start ends.new.items }
 {
-    tables.shape();
+    let _ = tables.shape();
     if row == 1 {
         ends.clear();
     } else if tables.scope(row - 1, steps).method != scope.method {
@@ -272,7 +272,7 @@ pub(crate) fn judge_scopes<L: Ledger>(
     ensures err { IfErr result (FaultIs (IsFirstOf (raw_of tables.now))) }
 {
     let mut ends: Vec<u64> = Vec::new(alloc);
-    tables.shape();
+    let _ = tables.shape();
     for row in 1..last + 1 {
         let scope = tables.scope(row, steps);
         judge_scope(tables, row, &scope, &mut ends, steps)?;

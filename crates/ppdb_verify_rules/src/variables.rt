@@ -141,7 +141,7 @@ pub(crate) fn judge_variables<L: Ledger>(
     let mut slots: Vec<u32> = Vec::new(alloc);
     let mut names = Texts::new(alloc);
     let mut owner = 0;
-    tables.shape();
+    let _ = tables.shape();
     for row in 1..last + 1 {
         let variable = tables.variable(row, steps);
         owner = judge_variable(tables, row, &variable, owner, &mut slots, &mut names, steps)?;

@@ -23,7 +23,7 @@ fn add_table<L: Ledger>(
     ensures sum { result ≡ spanned total (of_table (raw_of tables.now) table) }
     ensures within { IfOk result (λ after. after ≤ MAX_SPAN) }
 {
-    tables.shape();
+    let _ = tables.shape();
     let count = tables.rows(number_of(table));
     let mut sum = total;
     for row in 1..count + 1 {

@@ -29,7 +29,7 @@ fn link_between<'a, L: Ledger>(
     ensures later { steps.old ≤ steps.new }
     ensures cost { steps.new ≤ steps.old + (rows.end - rows.first) }
 {
-    file.keeps();
+    let _ = file.keeps();
     'records: for row in rows.first..rows.end {
         let cells = custom(file, row, steps);
         if guid_of_kind(file, row, &cells) == SOURCE_LINK {
@@ -47,7 +47,7 @@ pub fn find_link<'a, L: Ledger>(file: &Verified<'a>, steps: &mut Steps<L>) -> Op
     ensures cost { steps.new ≤ steps.old + 2 * digits (length (raw_file file.now).tables.customs) + length
         (customs_at (raw_file file.now).tables 0x00 1) }
 {
-    file.keeps();
+    let _ = file.keeps();
     if count(file, MODULE) == 0 {
         return None;
     }

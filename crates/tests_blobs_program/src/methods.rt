@@ -32,7 +32,7 @@ pub fn put_methods<L: Ledger, O: Sink>(
         documents: tables.rows(DOCUMENT),
         signatures: tables.rows(STAND_ALONE_SIG),
     };
-    tables.shape();
+    let _ = tables.shape();
     for index in 0..tables.rows(METHOD_DEBUG) {
         let row = index + 1;
         let cells = tables.method_debug(row, steps);

@@ -2,8 +2,8 @@ use crate::program::Program;
 use crate::verifying::verifies;
 use ppdb_base::MemorySink;
 use std::test::Fail;
-use tests_files::SMALL;
 use tests_runs::{folder_of, ran};
+use worked_files::SMALL;
 
 // B cut to fewer bytes than `end`, down to the `end` of the row before.
 const CUT: [(usize, &str); 27] = [

@@ -5,7 +5,7 @@ use ppdb_base::{CounterPermit, Steps};
 use ppdb_verify::verify;
 use std::marker::Brand;
 use std::sync::ledger::{Blank, Ledger};
-use tests_files::SMALL;
+use worked_files::SMALL;
 
 /// Takes a value of a type that is copied by plain assignment, and no other.
 fn is_copied<T: Copy>(_value: &T) {}

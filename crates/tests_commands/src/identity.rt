@@ -1,6 +1,6 @@
 // Worked files, which are canonical but for their zero identities, and the identities that their bytes give them.
 use std::alloc::{AllocError, Global};
-use tests_files::{EMPTY, PROGRAM, SMALL};
+use worked_files::{EMPTY, PROGRAM, SMALL};
 
 /// Files, and the SHA-256 of each as another program reported it, with the marks of a GUID and of a stamp.
 pub const BY_HASH: [(&[u8], &[u8; 20]); 3] = [

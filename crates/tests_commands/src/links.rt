@@ -3,8 +3,8 @@ use crate::program::Program;
 use crate::puts::puts_prefixes;
 use std::alloc::{AllocError, Global};
 use std::test::Fail;
-use tests_files::{PROGRAM, SMALL};
 use tests_runs::{NOTHING, Parts, count_of, file_of, first_other_over};
+use worked_files::{PROGRAM, SMALL};
 
 /// The GUIDs of Source Link and of compilation options, as their bytes stand in a file.
 const KINDS: [u8; 32] = [

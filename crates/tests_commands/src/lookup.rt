@@ -1,8 +1,8 @@
 // The questions of a list, and answers as objects of JSON.
 use crate::program::Program;
 use std::test::Fail;
-use tests_files::{PROGRAM, SMALL};
 use tests_runs::first_other_over;
+use worked_files::{PROGRAM, SMALL};
 
 /// What `lookup` prints of the offset 3 of method 1 of B.
 const AT_3: &str = "\

@@ -2,8 +2,8 @@
 use crate::program::Program;
 use ppdb_base::MemorySink;
 use std::test::Fail;
-use tests_files::SMALL;
 use tests_runs::{folder_of, ran};
+use worked_files::SMALL;
 
 /// The status of a command of the file B whose put of this number fails, where what it puts is a prefix of this text.
 fn ended(rt: &HostRuntime, words: &[&str], text: &str, call: u32) -> Result<u8, Fail> {

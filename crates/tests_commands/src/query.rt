@@ -1,8 +1,8 @@
 // What belongs to an offset of a method.
 use crate::program::Program;
 use std::test::Fail;
-use tests_files::SMALL;
 use tests_runs::first_other_over;
+use worked_files::SMALL;
 
 /// What `query B 1 3` prints.
 const B_AT_3: &str = "\

@@ -2,8 +2,8 @@
 use crate::program::Program;
 use ppdb_base::{MemorySink, SteadyFolder};
 use std::test::Fail;
-use tests_files::SMALL;
 use tests_runs::{first_other, ran};
+use worked_files::SMALL;
 
 /// Commands over a valid file B, and what they come to.
 const OF_A_VALID_FILE: [(&str, u8, &str); 4] = [

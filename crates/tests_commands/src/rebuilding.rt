@@ -4,8 +4,8 @@ use crate::program::Program;
 use ppdb_base::{MemoryFolder, SteadyFolder};
 use std::alloc::Global;
 use std::test::Fail;
-use tests_files::{EMPTY, PROGRAM, SMALL};
 use tests_runs::{ONE_METHOD, Parts, UNKNOWN, ends, file_of, first_other, prints};
+use worked_files::{EMPTY, PROGRAM, SMALL};
 
 /// One document, and a method whose last line is determined by a longer number than it needs.
 const LONG_NUMBER: Parts<'static> = Parts {

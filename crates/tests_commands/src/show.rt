@@ -2,8 +2,8 @@
 use crate::program::Program;
 use crate::puts::puts_prefixes;
 use std::test::Fail;
-use tests_files::{EMPTY, SMALL};
 use tests_runs::first_other_over;
+use worked_files::{EMPTY, SMALL};
 
 /// What `show B` prints.
 const B_AS_TEXT: &str = "\

@@ -1,8 +1,8 @@
 use crate::program::Program;
 use ppdb_base::{MemoryFolder, MemorySink};
 use std::test::Fail;
-use tests_files::{EMPTY, SMALL};
 use tests_runs::{first_other_over, first_other_words, folder_of, ran};
+use worked_files::{EMPTY, SMALL};
 
 /// What `id B` prints.
 const ID_B: &str = "id 0000000000000000000000000000000000000000\nentry 06000001\n";

@@ -9,8 +9,8 @@ use ppdb_build_sample::sample_value;
 use ppdb_tables::Parent;
 use std::alloc::Global;
 use std::test::Fail;
-use tests_files::{EMPTY, PROGRAM};
 use tests_runs::{first_other, value as read};
+use worked_files::{EMPTY, PROGRAM};
 
 /// The file of a sound value.
 fn written(alloc: Global, value: &FileValue, id: IdChoice) -> Result<Bytes, Fail> {

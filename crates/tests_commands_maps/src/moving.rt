@@ -4,8 +4,8 @@ use crate::program::Program;
 use ppdb_base::MemoryFolder;
 use std::alloc::{AllocError, Global};
 use std::test::Fail;
-use tests_files::SMALL;
 use tests_runs::{NOTHING, Parts, count_of, ends, file_of, first_other, first_other_over};
+use worked_files::SMALL;
 
 /// Commands in turn, and what each comes to.
 const MOVED: [(&str, u8, &str); 20] = [

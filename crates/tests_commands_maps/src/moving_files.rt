@@ -2,8 +2,8 @@
 use ppdb_base::{Memory, MemoryFolder};
 use std::alloc::{AllocError, Global};
 use std::test::Fail;
-use tests_files::{EMPTY, PROGRAM, SMALL};
 use tests_runs::{NOTHING, ONE_METHOD, Parts, file_of};
+use worked_files::{EMPTY, PROGRAM, SMALL};
 
 /// The GUID of the records of async steps, as its bytes stand in a file.
 const ASYNC: [u8; 16] = [

@@ -4,7 +4,7 @@ use ppdb_build_layout::{HeapLens, Rows, all_rows_fit, file_len, put_prefix};
 use ppdb_tables::{DocumentRow, MachineRow, MethodDebugRow, ScopeRow, VariableRow};
 use std::alloc::Global;
 use std::process::Abort;
-use tests_files::{EMPTY, SMALL};
+use worked_files::{EMPTY, SMALL};
 
 fn no_rows(alloc: Global) -> Rows {
     Rows {

@@ -6,7 +6,7 @@ use ppdb_base::{Code, Fault, MAX_FILE_BYTES, Place};
 use std::alloc::Global;
 use std::process::Abort;
 use std::test::Fail;
-use tests_files::SMALL;
+use worked_files::SMALL;
 
 fn fault(code: Code, part: u8, byte: u32) -> Fault {
     Fault {

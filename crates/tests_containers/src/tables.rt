@@ -9,7 +9,7 @@ use ppdb_tables::{
 };
 use std::marker::Brand;
 use std::sync::ledger::{Blank, Ledger};
-use tests_files::SMALL;
+use worked_files::SMALL;
 
 /// The small file with some bytes changed.
 fn changed(changes: &[(usize, u8)]) -> [u8; 280] {

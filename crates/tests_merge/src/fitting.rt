@@ -11,8 +11,8 @@ use ppdb_verify::verify;
 use std::marker::Brand;
 use std::sync::ledger::{Blank, Ledger};
 use std::test::Fail;
-use tests_files::{PROGRAM, SMALL};
 use tests_maps::map_of;
+use worked_files::{PROGRAM, SMALL};
 
 fn judged_in<L: Ledger>(
     rt: &HostRuntime,

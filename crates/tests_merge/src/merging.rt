@@ -12,8 +12,8 @@ use std::marker::Brand;
 use std::process::Abort;
 use std::sync::ledger::{Blank, Ledger};
 use std::test::Fail;
-use tests_files::SMALL;
 use tests_maps::map_of;
+use worked_files::SMALL;
 
 /// A file with the lines of its map.
 #[derive(Clone, Copy)]

@@ -16,7 +16,7 @@ use std::alloc::Global;
 use std::marker::Brand;
 use std::sync::ledger::{Blank, Ledger};
 use std::test::Fail;
-use tests_files::{PROGRAM, SMALL};
+use worked_files::{PROGRAM, SMALL};
 
 /// What a file says of an offset of a method: the point, the scopes by row, the import scopes of the first with how many imports
 /// they have, the first slot, and the state machine.

@@ -9,7 +9,7 @@ use ppdb_verify::Verified;
 use std::marker::Brand;
 use std::sync::ledger::{Blank, Ledger};
 use std::test::Fail;
-use tests_files::SMALL;
+use worked_files::SMALL;
 
 /// What a file says of a line of a document: the document, its first three breaks, and whether there are no more.
 #[derive(Clone, Copy)]

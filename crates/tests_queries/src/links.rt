@@ -8,7 +8,7 @@ use std::alloc::Global;
 use std::marker::Brand;
 use std::sync::ledger::{Blank, Ledger};
 use std::test::Fail;
-use tests_files::{PROGRAM, SMALL};
+use worked_files::{PROGRAM, SMALL};
 
 /// Records, names, and the addresses that they have.
 const ADDRESSES: [(&str, &str, Option<&str>); 28] = [

@@ -10,7 +10,7 @@ use ppdb_verify::Verified;
 use std::marker::Brand;
 use std::sync::ledger::{Blank, Ledger};
 use std::test::Fail;
-use tests_files::PROGRAM;
+use worked_files::PROGRAM;
 
 /// The run of the custom records on a row, where it may have some.
 fn run_on<L: Ledger>(

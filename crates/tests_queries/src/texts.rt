@@ -9,7 +9,7 @@ use std::cell::Cell;
 use std::marker::Brand;
 use std::sync::ledger::{Blank, Ledger};
 use std::test::Fail;
-use tests_files::{PROGRAM, SMALL};
+use worked_files::{PROGRAM, SMALL};
 
 /// What a query of a file comes to.
 #[derive(Clone, Copy, PartialEq, Eq)]

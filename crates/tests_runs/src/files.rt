@@ -1,6 +1,6 @@
 // Debug files of a few rows.
 use std::alloc::{AllocError, Global};
-use tests_files::EMPTY;
+use worked_files::EMPTY;
 
 /// What differs from the file without rows in a file without an identity. A bit of a mask is a table by its number.
 #[derive(Clone, Copy)]

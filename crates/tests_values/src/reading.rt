@@ -9,8 +9,8 @@ use ppdb_values::{
 use sequence_points::Point;
 use std::process::Abort;
 use std::test::Fail;
-use tests_files::{EMPTY, PROGRAM, SMALL};
 use tests_runs::value;
+use worked_files::{EMPTY, PROGRAM, SMALL};
 
 /// The file of one method with an outer scope that owns `x`, a scope that owns nothing, and one that owns `y`.
 const THREE_SCOPES: [u8; 296] = [

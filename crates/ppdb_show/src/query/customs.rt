@@ -49,7 +49,7 @@ pub(crate) fn put_customs<L: Ledger>(
     ensures cost { steps.new ≤ steps.old + customs_reads (raw_of (tables_of file.now)) parent.table parent.row }
 {
     let run = customs_of(file, parent, steps);
-    file.keeps();
+    let _ = file.keeps();
     let mut row = run.first;
     'customs: while row < run.end {
         let custom = custom(file, row, steps);

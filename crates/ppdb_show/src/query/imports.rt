@@ -86,7 +86,7 @@ pub(crate) fn put_imports<L: Ledger>(
     ensures later { steps.old ≤ steps.new }
     ensures cost { steps.new ≤ steps.old + items_reads (raw_of (tables_of file.now)) 0x35 (chain_of (λ scope. scope.parent) (raw_of (tables_of file.now)).imports import) }
 {
-    file.keeps();
+    let _ = file.keeps();
     let mut chain = imports_of(file, import);
     'chain: while let Some(link) = chain.next(steps) {
         put_import(printer, text, file, link, steps)?;

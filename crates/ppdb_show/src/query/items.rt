@@ -53,7 +53,7 @@ fn put_variable<L: Ledger>(
     ensures cost { steps.new ≤ steps.old + customs_reads (raw_of (tables_of file.now)) 0x33 row }
 {
     put_variable_line(printer, text, file, variable)?;
-    file.keeps();
+    let _ = file.keeps();
     let parent = Parent {
         table: LOCAL_VARIABLE,
         row,
@@ -77,7 +77,7 @@ pub(crate) fn put_variables<L: Ledger>(
     ensures later { steps.old ≤ steps.new }
     ensures cost { steps.new ≤ steps.old + items_reads (raw_of (tables_of file.now)) 0x33 (rows_in run (raw_of (tables_of file.now)).variables) }
 {
-    file.keeps();
+    let _ = file.keeps();
     let mut row = run.first;
     'variables: while row < run.end {
         let variable = variable(file, row, steps);
@@ -118,7 +118,7 @@ fn put_constant<L: Ledger>(
     ensures cost { steps.new ≤ steps.old + customs_reads (raw_of (tables_of file.now)) 0x34 row }
 {
     put_constant_line(printer, text, file, constant)?;
-    file.keeps();
+    let _ = file.keeps();
     let parent = Parent {
         table: LOCAL_CONSTANT,
         row,
@@ -142,7 +142,7 @@ pub(crate) fn put_constants<L: Ledger>(
     ensures later { steps.old ≤ steps.new }
     ensures cost { steps.new ≤ steps.old + items_reads (raw_of (tables_of file.now)) 0x34 (rows_in run (raw_of (tables_of file.now)).constants) }
 {
-    file.keeps();
+    let _ = file.keeps();
     let mut row = run.first;
     'constants: while row < run.end {
         let constant = constant(file, row, steps);

@@ -109,7 +109,7 @@ fn put_record(
     requires { row_at (raw_of (tables_of file.now)).customs row ≡ Some record.now }
     ensures { OnOk result (Adds printer.entry.form text.old text.new (lines_of_record (raw_of (tables_of file.now)) (row, record.now))) }
 {
-    file.keeps();
+    let _ = file.keeps();
     match kind(printer.alloc, file, row, record) {
         Kind::Async => put_async(printer, text, file, row, record),
         Kind::Hoisted => Ok(()),
@@ -136,7 +136,7 @@ pub(crate) fn put_records<L: Ledger>(
         row: method,
     };
     let run = customs_of(file, parent, steps);
-    file.keeps();
+    let _ = file.keeps();
     let mut row = run.first;
     'records: while row < run.end {
         let record = custom(file, row, steps);

@@ -43,7 +43,7 @@ fn put_scope<L: Ledger>(
         Field(" ", Key::End, Number(scope.range.end)),
     ];
     put_line(printer, text, "scope", &[2, 0, 1], &parts)?;
-    file.keeps();
+    let _ = file.keeps();
     let parent = Parent {
         table: LOCAL_SCOPE,
         row: scope.row,

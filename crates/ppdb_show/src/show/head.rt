@@ -21,7 +21,7 @@ pub(crate) fn put_head<O: Sink>(
 ) -> Result<(), WriteError>
     ensures { PutsInto O.written O.faults result out.old out.new (lines_as printer.entry.form (head_lines (raw_file file.now))) }
 {
-    file.keeps();
+    let _ = file.keeps();
     let head = file.head();
     put_id_line(printer, out, &head.id)?;
     put_entry_line(printer, out, head.entry)?;

@@ -53,7 +53,7 @@ fn points_of<'a>(file: &Verified<'a>, row: u32, method: &MethodDebugRow) -> Poin
     ensures points { result.left.items ≡ points_in (raw_file file.now).tables method.now.document (blob (raw_file file.now).tables method.now.points) }
     ensures signature { signature_in (raw_file file.now).tables method.now.document (blob (raw_file file.now).tables method.now.points) ≡ Some result.signature }
 {
-    file.keeps();
+    let _ = file.keeps();
     match PointCursor::new(
         blob(file, method.points),
         method.document,

@@ -57,7 +57,7 @@ fn end_of_list<L: Ledger>(
     requires { HasRow (raw_of tables.now) 0x32 scope }
     ensures { result ≡ list_end (list_by owned) (raw_of tables.now).scopes scope (items_of (raw_of tables.now) owned) }
 {
-    tables.shape();
+    let _ = tables.shape();
     if scope < tables.rows(LOCAL_SCOPE) {
         return list_of(owned, tables.scope(scope + 1, steps));
     }
@@ -75,7 +75,7 @@ pub(crate) fn put_owned<O: Sink, L: Ledger>(
     ensures { PutsInto O.written O.faults result out.old out.new
         (lines_as printer.entry.form (lines_of_items (raw_file file.now).tables owned)) }
 {
-    file.keeps();
+    let _ = file.keeps();
     let tables = file.tables();
     let scopes = tables.rows(LOCAL_SCOPE);
     let mut item = 1;
@@ -107,7 +107,7 @@ fn put_items<O: Sink, L: Ledger>(
     ensures { PutsInto O.written O.faults result out.old out.new
         (lines_as printer.entry.form (lines_between (raw_file file.now).tables owned items.first items.end)) }
 {
-    file.keeps();
+    let _ = file.keeps();
     let mut item = items.first;
     'items: while item < items.end {
         put_item(printer, owned, file, scope, item, out, steps)?;

@@ -62,7 +62,7 @@ pub(crate) fn put_rows<O: Sink, L: Ledger>(
     ensures { PutsInto O.written O.faults result out.old out.new
         (lines_as printer.entry.form (lines_of_table (raw_file file.now).tables rows)) }
 {
-    file.keeps();
+    let _ = file.keeps();
     let count = count(file, table_of(rows));
     let mut row = 1;
     'rows: while row <= count {
@@ -107,7 +107,7 @@ fn put_scope<O: Sink, L: Ledger>(
     ensures { PutsInto O.written O.faults result out.old out.new
         (lines_as printer.entry.form (lines_of_scope (raw_file file.now).tables row)) }
 {
-    file.keeps();
+    let _ = file.keeps();
     let scope = scope(file, row, steps);
     let parts = [
         Field(" ", Key::Row, Number(row)),
@@ -152,7 +152,7 @@ fn put_custom<O: Sink, L: Ledger>(
     ensures { PutsInto O.written O.faults result out.old out.new
         (lines_as printer.entry.form (lines_of_custom (raw_file file.now).tables row)) }
 {
-    file.keeps();
+    let _ = file.keeps();
     let custom = custom(file, row, steps);
     let Some(parent) = parent_of(custom.parent) else {
         unreachable!()
