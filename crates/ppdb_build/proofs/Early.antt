@@ -24,13 +24,12 @@ use Rattle.ppdb_build_canon.proofs.Counts as known
 use Rattle.ppdb_build_draft.specs.Draft.{Draft}
 use Rattle.ppdb_build_draft.specs.Drafted.{held_document, held_method, held_scope, held_variable, held_constant, held_import, held_custom, held_rows}
 use Rattle.ppdb_build_draft.specs.Drafted.{drafted, IsDraftOf, DraftsAreCanonical}
-use Rattle.ppdb_build_from_rows.specs.Unlimited.{PassesNoEarlyLimit}
 use Rattle.ppdb_merge_items.specs.Each.{Each}
 use Rattle.ppdb_merge_items.proofs.Lists.{Each-weaker}
 use Rattle.ppdb_merge_rows.specs.Methods.{HasForms}
 use Rattle.ppdb_build.specs.Building.{IsDraftedFrom, early_limit_of}
 use Rattle.ppdb_build.specs.Joining.{AreRowsFew, IsHeadOf}
-use Rattle.ppdb_build.proofs.Finished.{lists_early}
+use Rattle.ppdb_build.proofs.Limits.{lists_alone}
 
 -- ---- nothing is answered
 
@@ -56,7 +55,7 @@ not_above most number limit low =
 few : (value : FileValue) (table n m : ℕ) → slice_index (counts value) table ≡ n → m ≡ n → m ≤ 16777215 → too_many_rows value table ≡ None
 few value table n m is same small = not_above 16777215 (slice_index (counts value) table) (TableRows table) (omega (arith, is, same, small))
 
-pub rows_few : (value : FileValue) (draft : Draft) → length value.rows ≡ 64 → IsDraftOf value draft → AreRowsFew draft.rows
+rows_few : (value : FileValue) (draft : Draft) → length value.rows ≡ 64 → IsDraftOf value draft → AreRowsFew draft.rows
     → first_of (filter_map (too_many_rows value) tables) ≡ None
 unfolding canonical_tables
 rows_few value draft entries is are =
@@ -91,19 +90,17 @@ no_offset method forms =
 no_step : (method : MethodValue) → HasForms method → large_step_of method ≡ None
 no_step method forms = ap (λ steps. option_map (λ large. LineStep method.method large.step) (first_of steps)) forms.steps
 
-pub passes : (value : FileValue) (draft : Draft) → length value.rows ≡ 64 → Each HasForms value.methods → IsDraftOf value draft → AreRowsFew draft.rows
-    → PassesNoEarlyLimit value
-passes value draft entries forms is few = record {
-  rows = rows_few value draft entries is few;
-  offsets = none_first large_offset value.methods (Each-weaker HasForms (λ (m : MethodValue). large_offset m ≡ None) no_offset value.methods forms);
-  steps = none_first large_step_of value.methods (Each-weaker HasForms (λ (m : MethodValue). large_step_of m ≡ None) no_step value.methods forms);
-}
+no_offsets : (value : FileValue) → Each HasForms value.methods → first_of (filter_map large_offset value.methods) ≡ None
+no_offsets value forms =
+    none_first large_offset value.methods (Each-weaker HasForms (λ (m : MethodValue). large_offset m ≡ None) no_offset value.methods forms)
 
 -- L2 alone is left
 pub lists_told : (value : FileValue) (draft : Draft) → length value.rows ≡ 64 → Each HasForms value.methods → IsDraftOf value draft → AreRowsFew draft.rows
     → option_or (list_past_end value 0x33 (λ scope. length scope.variables)) (list_past_end value 0x34 (λ scope. length scope.constants))
     ≡ early_limit_of value
-lists_told value draft entries forms is few = sym (lists_early value (passes value draft entries forms is few))
+lists_told value draft entries forms is few =
+    sym (lists_alone _ (list_past_end value 0x33 (λ scope. length scope.variables)) (list_past_end value 0x34 (λ scope. length scope.constants)) _
+    (rows_few value draft entries is few) (no_offsets value forms))
 
 -- ---- the head and the draft
 

@@ -1,7 +1,6 @@
 -- The head and the draft of a value: their limits and their file are those of the value.
 use Rattle.std.proofs.Common.{◌≡◌, ℕ, ◌+◌, List, [], ◌∷◌, ◌++◌, length, take, drop, refl, sym, ap, subst, ◌∙◌, Option, None}
 use Rattle.std.specs.List.{filter_map}
-use Rattle.std.specs.Option.{option_or}
 use Rattle.sequence_points.specs.Written.{first_of}
 use Rattle.ppdb_base.specs.declared.limits.Limit.{Limit}
 use Rattle.ppdb_base.specs.declared.limits.Limit.TheVariants.{FileSize, SpanTotal}
@@ -14,16 +13,15 @@ use Rattle.ppdb_build_canon.specs.Canonical.{canonical, counts}
 use Rattle.ppdb_build_canon.specs.Canon.{canon}
 use Rattle.ppdb_values.specs.Types.{HasTypes}
 use Rattle.ppdb_values_sound_laws.specs.Sound.{IsSound}
-use Rattle.ppdb_build_canon.specs.Limits.{above, first_met, list_past_end, large_step_of, span, first_limit}
+use Rattle.ppdb_build_canon.specs.Limits.{above, first_met, large_step_of, span, first_limit}
 use Rattle.ppdb_build_draft.specs.Draft.{Draft}
 use Rattle.ppdb_build_draft.specs.Drafted.{drafted, IsDraftOf, DraftsAreCanonical}
-use Rattle.ppdb_build_from_rows.specs.Unlimited.{PassesNoEarlyLimit}
 use Rattle.ppdb_build_bytes.specs.Drafts.{debug_counts_of, counts_in, file_from, id_in}
 use Rattle.ppdb_build_bytes.proofs.Counts.{counts_joined}
 use Rattle.ppdb_build_bytes.proofs.Laid.{draft_length}
 use Rattle.ppdb_build.specs.Building.{IsDraftedFrom, early_limit_of}
 use Rattle.ppdb_build.proofs.Counted.{are_few, counts_same}
-use Rattle.ppdb_build.proofs.Limits.{late_first, lists_alone}
+use Rattle.ppdb_build.proofs.Limits.{late_first}
 use Rattle.ppdb_build.proofs.Written.{written_is}
 
 -- the row counts of the type system are the value's
@@ -63,7 +61,7 @@ file_is value head draft choice all is file =
     ∙ ap (λ entry. file_bytes (file_from (id_in choice value.id entry all draft) entry all draft)) is.entry
     ∙ written_is value all draft choice is.types.id (λ id long. ap (λ entry. file_from id entry all draft) (sym is.entry) ∙ file id long)
 
--- ---- the head and the draft of a value, and those of a file
+-- ---- the head and the draft of a value
 
 pub of_value : DraftsAreCanonical → (value : FileValue) (draft : Draft) → IsSound value → HasTypes value → early_limit_of value ≡ None
     → first_of (filter_map large_step_of value.methods) ≡ None → draft ≡ drafted value
@@ -77,25 +75,4 @@ of_value canonical value draft sound types early steps is = record {
   entry = refl;
   rows = refl;
   is_draft = subst (IsDraftOf value) (sym is) (canonical value sound);
-}
-
-pub lists_early : (value : FileValue) → PassesNoEarlyLimit value
-    → early_limit_of value
-    ≡ option_or (list_past_end value 0x33 (λ scope. length scope.variables)) (list_past_end value 0x34 (λ scope. length scope.constants))
-lists_early value passes =
-    lists_alone _ (list_past_end value 0x33 (λ scope. length scope.variables)) (list_past_end value 0x34 (λ scope. length scope.constants)) _ passes.rows
-    passes.offsets
-
-pub of_file : (value : FileValue) (head told : PdbHead) (draft : Draft) → IsSound value → HasTypes value → PassesNoEarlyLimit value
-    → early_limit_of value ≡ None → head ≡ told → told.id ≡ value.id → told.entry ≡ value.entry → take 0x2d head.rows ≡ take 0x2d value.rows
-    → IsDraftOf value draft → IsDraftedFrom value head draft
-of_file value head told draft sound types passes early same id entry rows is = record {
-  sound = sound;
-  types = types;
-  early = early;
-  steps = passes.steps;
-  id = ap (λ (h : PdbHead). h.id) same ∙ id;
-  entry = ap (λ (h : PdbHead). h.entry) same ∙ entry;
-  rows = rows;
-  is_draft = is;
 }

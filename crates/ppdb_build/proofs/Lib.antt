@@ -4,6 +4,8 @@ pub mod Writable
 pub mod Written
 pub mod Finished
 pub mod Told
+pub mod LastLists
 pub mod Early
+pub mod Alone
 pub mod Guids
 pub mod Heads

@@ -8,7 +8,6 @@ ghost use Rattle.ppdb_merge_parts.specs.Flat.{InputsFit, joined_inputs};
 ghost use Rattle.ppdb_merge_rows.specs.Inputs.{moved_by, moved_inputs};
 ghost use Rattle.ppdb_build.specs.Joining.{IsHeadOf, IsMovedHead};
 
-use crate::rebuilding::rows_are_long;
 use ppdb_build_draft::Drafting;
 use ppdb_build_merged::joined_records_are_flat;
 use ppdb_merge_moved::moved_rows;
@@ -16,6 +15,13 @@ use ppdb_merge_parts::joined_parts_are_flat;
 use ppdb_merge_rows::RowInput;
 use ppdb_tables::{METHOD_DEF, PdbHead, VariableRow};
 use ppdb_verify::Verified;
+
+/// A head has 64 row counts.
+fn rows_are_long(head: &PdbHead)
+    ensures { length head.now.rows ≡ 64 }
+{
+    let _rows: &[u32] = &head.rows;
+}
 
 /// The head of an input, moved.
 fn moved_head(input: &RowInput<'_>) -> PdbHead

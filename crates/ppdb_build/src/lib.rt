@@ -5,6 +5,7 @@ mod error;
 mod finish;
 mod joined;
 mod joined_head;
+mod lists;
 mod parts;
 mod rebuilding;
 mod write;

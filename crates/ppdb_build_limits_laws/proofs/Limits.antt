@@ -14,7 +14,7 @@ use Rattle.ppdb_values_sound_laws.proofs.Counts.{constants_counted, variables_co
 use Rattle.ppdb_values_sound_laws.proofs.Listed.{all_at}
 use Rattle.ppdb_tables.specs.Head.{head_in}
 use Rattle.ppdb_verify.specs.Files.{IsRawOf}
-use Rattle.ppdb_build_from_rows.specs.Unlimited.{FilesPassNoEarlyLimit}
+use Rattle.ppdb_build_limits_laws.specs.Unlimited.{FilesPassNoEarlyLimit}
 use Rattle.ppdb_verify_valid_laws.specs.Valid.{ValidFilesAreSound}
 use Rattle.ppdb_verify_valid_laws.proofs.StreamBytes.{IsByte, stream_bytes}
 use Rattle.ppdb_build_limits_laws.specs.Limits.{FilesPassNoListLimit, ValidFilesMeetLateLimits}

@@ -110,7 +110,7 @@ fn records_of_input<L: Ledger>(
 {
     let _ = one.input.file.keeps();
     let count = count(&one.input.file, CUSTOM);
-    let mut records = List::new(alloc);
+    let mut records = List::with_capacity(alloc, count as usize)?;
     let mut row = 1;
     'rows: while row <= count {
         add_record(alloc, placed, number, one, row, rows, &mut records, steps)?;

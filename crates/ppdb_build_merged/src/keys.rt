@@ -78,6 +78,15 @@ fn put_keys<L: Ledger>(
     Ok(())
 }
 
+/// How many rows a table has in all inputs, as room for their keys.
+fn room_for(placed: &[Placed<'_, '_>], table: Table) -> usize {
+    let mut rows: usize = 0;
+    for one in placed {
+        rows = rows.saturating_add(rows_of(&one.input.file, table) as usize);
+    }
+    rows
+}
+
 /// The keys of the rows of a table of all inputs, in the order of the images of their methods, those of one image in the order of the
 /// inputs and of their rows.
 pub(crate) fn keys_of<L: Ledger>(
@@ -89,7 +98,7 @@ pub(crate) fn keys_of<L: Ledger>(
     requires { length placed.now ≤ 256 }
     ensures { IfOk result (λ keys. keys.items ≡ in_order (λ (key : key_value). key.image) (keys_from 0 placed.now table)) }
 {
-    let mut keys = Vec::new(alloc);
+    let mut keys = Vec::with_capacity(alloc, room_for(placed, table))?;
     for (number, one) in placed.iter().enumerate() {
         put_keys(number as u32, one, table, &mut keys, steps)?;
     }

@@ -1,6 +1,7 @@
 // The command `rebuild`: the canonical file of a file.
 ghost use Rattle.std.specs.Prelude.{◌≡◌, ◌≤◌, ℕ, List, Some, None, IfOk, IfErr, IfSome, if◌then◌else◌};
 ghost use Rattle.ppdb_base.specs.First.{IsAccepted};
+ghost use Rattle.ppdb_maps.specs.Map.{no_lines};
 ghost use Rattle.ppdb_run.specs.Ends.{RebuildsToItself};
 ghost use Rattle.ppdb_run.specs.Means.{ExactlyMeans};
 ghost use Rattle.ppdb_run.specs.Outcome.{gives, rebuilt, steps_of, unknown_kind, written};
@@ -18,7 +19,8 @@ use crate::output::write_output;
 use crate::verified::read_verified;
 use custom_info::{Marks, kind_of};
 use ppdb_base::{Bytes, Folder, List, MergeError, Steps};
-use ppdb_build::{BuildError, IdChoice};
+use ppdb_build::{BuildError, IdChoice, RowInput};
+use ppdb_maps::MapText;
 use ppdb_merge_fits::is_unknown;
 use ppdb_run_stops::Stop;
 use ppdb_run_words::Options;
@@ -82,30 +84,35 @@ fn rebuilt_bytes<'a, F: Folder, K: Ledger, L: Ledger>(
         Ok(file) => file,
         Err(stop) => return Err(stop),
     };
-    file_bytes(alloc, input, &file, &marks, options.keep_id, steps)
+    let unmoved = RowInput {
+        file,
+        map: MapText::empty(alloc),
+    };
+    file_bytes(alloc, input, &unmoved, &marks, options.keep_id, steps)
 }
 
-/// The canonical file of a verified file, where each of its custom records is of a kind that is read or passed on.
+/// The canonical file of a verified file that no line moves, where each of its custom records is of a kind that is read or passed on.
 fn file_bytes<'a, L: Ledger>(
     alloc: Global,
     name: &'a str,
-    file: &Verified<'_>,
+    input: &RowInput<'_>,
     marks: &Marks,
     keep_id: bool,
     steps: &mut Steps<L>,
 ) -> Result<Bytes, Stop<'a>>
+    requires { input.now.map ≡ no_lines }
     ensures told { (output : List ℕ) → Gives (written output) result
-        (gives (rebuilt name.now output (record { keep_id = keep_id; marks = marks.now }) (value_of (raw_file file.now)))) }
+        (gives (rebuilt name.now output (record { keep_id = keep_id; marks = marks.now }) (value_of (raw_file input.now.file)))) }
     ensures accepted { IfOk result (λ bytes. IsAccepted (FileFaults bytes)) }
-    ensures says { IfOk result (λ bytes. SaysButForId bytes (value_of (raw_file file.now))) }
+    ensures says { IfOk result (λ bytes. SaysButForId bytes (value_of (raw_file input.now.file))) }
     ensures again { IfOk result (RebuildsToItself (record { keep_id = keep_id; marks = marks.now })) }
     ensures causes { StopsInside result }
 {
-    match unknown(file, marks, steps) {
+    match unknown(&input.file, marks, steps) {
         Some(error) => return Err(Stop::Unfit(name, error)),
         None => {}
     }
-    match ppdb_build::rebuild(alloc, file, choice(keep_id), steps) {
+    match ppdb_build::rebuild(alloc, input, choice(keep_id), steps) {
         Ok(bytes) => Ok(bytes),
         Err(BuildError::Limit(limit)) => Err(Stop::Limit(limit)),
         Err(BuildError::Memory) => Err(Stop::Memory),

@@ -2,8 +2,8 @@ use Rattle.std.proofs.Common.{◌≡◌, ◌-◌, List, length, sym, ap, ◌∙�
 use Rattle.std.specs.Prelude.{Some}
 use Rattle.std.proofs.lemmas.Option.{slice_get_within}
 use Rattle.ppdb_tables.specs.declared.rows.ScopeRow.{ScopeRow}
-use Rattle.ppdb_build_from_rows.proofs.LastLists.{limit_told, none_last, none_told}
-use Rattle.ppdb_build_from_rows.proofs.lists.list_limit.Goals as goal
+use Rattle.ppdb_build.proofs.LastLists.{limit_told, none_last, none_told}
+use Rattle.ppdb_build.proofs.lists.list_limit.Goals as goal
 
 pub returns-in-Some : goal.returns-in-Some
 returns-in-Some c = λ value is.

@@ -6,18 +6,14 @@ use Rattle.sequence_points.specs.Records.{sequence_points}
 use Rattle.sequence_points.specs.Written.{CanBeWritten, large_steps}
 use Rattle.sequence_points.proofs.ReadPoints.{read_points}
 use Rattle.ppdb_tables.specs.declared.rows.MethodDebugRow.{MethodDebugRow}
-use Rattle.ppdb_tables.specs.RawTables.{row_at}
 use Rattle.ppdb_values.specs.declared.file.MethodValue.{MethodValue}
 use Rattle.ppdb_values.specs.Documents.{method_of, method_with, entries_of, points_in, signature_in}
 use Rattle.ppdb_values.specs.Ordered.{EachRow}
-use Rattle.ppdb_values.specs.Parts.{method_at}
 use Rattle.ppdb_values.specs.RawFile.{RawFile, blob, point_limits}
-use Rattle.ppdb_values.specs.Rows.{method_in}
 use Rattle.ppdb_values.specs.Rules.{KeepsRules, IsMethod, IsWhole}
 use Rattle.ppdb_values.specs.Value.{value_of}
-use Rattle.ppdb_values.proofs.Rows.{method_is_row}
 use Rattle.ppdb_values_sound_laws.proofs.Listed.{made}
-use Rattle.ppdb_build_from_rows.proofs.Steps.{no_large_steps}
+use Rattle.ppdb_build_limits_laws.proofs.Steps.{no_large_steps}
 
 -- The points can be written as they are.
 pub record AreWritten (method : MethodValue) : Type 0 where
@@ -63,12 +59,3 @@ module _ (raw : RawFile) (keeps : KeepsRules raw) where
   methods_written row m here =
       let is = made (method_of raw.tables) raw.tables.methods row m here in
       of_row (1 + is.index) is.row m (keeps.methods.each (suc is.index) is.row is.there) is.makes
-
-  by_row : (row : ℕ) (o : Option MethodDebugRow) (method : MethodValue) → row_at raw.tables.methods row ≡ o → method_in raw.tables row o ≡ Some method
-      → AreWritten method
-  by_row row None method there is = cc
-  by_row row (Some cells) method there is = of_row row cells method (keeps.methods.each row cells there) is
-
-  -- those of the method of a row
-  pub method_written : (row : ℕ) (method : MethodValue) → method_at (value_of raw) row ≡ Some method → AreWritten method
-  method_written row method is = by_row row (row_at raw.tables.methods row) method refl (sym (method_is_row raw row) ∙ is)

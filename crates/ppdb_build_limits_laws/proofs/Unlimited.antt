@@ -25,8 +25,8 @@ use Rattle.ppdb_values_sound_laws.proofs.Counts.{rows_sound, documents_counted, 
 use Rattle.ppdb_build_canon.specs.Canonical.{counts, method_rows, method_row_of}
 use Rattle.ppdb_build_canon.specs.Limits.{above, too_many_rows, large_offset, large_step_of, tables}
 use Rattle.ppdb_build_canon.proofs.Counts as known
-use Rattle.ppdb_build_from_rows.specs.Unlimited.{PassesNoEarlyLimit, FilesPassNoEarlyLimit}
-use Rattle.ppdb_build_from_rows.proofs.Points.{AreWritten, methods_written}
+use Rattle.ppdb_build_limits_laws.specs.Unlimited.{PassesNoEarlyLimit, FilesPassNoEarlyLimit}
+use Rattle.ppdb_build_limits_laws.proofs.Points.{AreWritten, methods_written}
 
 -- ---- nothing is answered
 

@@ -22,7 +22,7 @@ fn past_end(table: u8, rows: usize, last: u32) -> Option<Limit>
 }
 
 /// L2, from the rows of a draft: a table has as many rows as a short index can name, and the list of the last scope begins after them.
-pub fn list_limit(draft: &Drafting) -> Option<Limit>
+pub(crate) fn list_limit(draft: &Drafting) -> Option<Limit>
     ensures { (value : FileValue) → IsDraftOf value draft.now
         → result ≡ option_or (list_past_end value 0x33 (λ scope. length scope.variables)) (list_past_end value 0x34 (λ scope. length scope.constants)) }
 {

@@ -1,5 +1,0 @@
-use Rattle.ppdb_build_from_rows.proofs.Unlimited.{files_pass}
-use Rattle.ppdb_build_from_rows.proofs.laws.files_pass_no_early_limit.Goals as goal
-
-pub returns : goal.returns
-returns c = files_pass
