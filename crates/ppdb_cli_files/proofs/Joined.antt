@@ -1,7 +1,7 @@
 -- Calls one after another.
-use Rattle.std.proofs.Common.{◌≡◌, List, [], ◌∷◌, ◌++◌, Option, None, Some, refl, ap, subst, ◌∙◌, sym, append_assoc}
-use Rattle.std.specs.Prelude.{Result, is_ok, option_map}
-use Rattle.ppdb_cli_files.specs.declared.place.{Call.{Call}, Made.{Made}}
+use Rattle.std.proofs.Common.{◌≡◌, List, [], ◌∷◌, ◌++◌, Option, None, Some, refl, ap, subst, ◌∙◌, append_assoc}
+use Rattle.std.specs.Prelude.{option_map}
+use Rattle.ppdb_cli_files.specs.declared.place.{Made.{Made}}
 use Rattle.ppdb_cli_files.specs.Log.{Between}
 
 -- one call

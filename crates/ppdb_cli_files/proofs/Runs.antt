@@ -1,14 +1,14 @@
 -- What may be found during each run of a replacement.
-use Rattle.std.proofs.Common.{ℕ, ◌≡◌, ◌⊎◌, ◌<◌, Bool, true, false, List, [], ◌∷◌, ◌++◌, Option, refl, ap, ◌∙◌, sym, subst, inl, inr, lit<}
-use Rattle.std.specs.Prelude.{All, Any, Contains, Result, Ok, Err, is_ok, option_map}
+use Rattle.std.proofs.Common.{ℕ, ◌≡◌, ◌⊎◌, Bool, true, false, List, [], ◌∷◌, ◌++◌, Option, refl, ap, ◌∙◌, sym, subst, inl, inr, lit<}
+use Rattle.std.specs.Prelude.{All, Contains, Result, Ok, Err, is_ok, option_map}
 use Rattle.ppdb_cli_files.specs.Log.{Between}
 use Rattle.ppdb_cli_files.proofs.Joined.{one, then, weaker}
 use Rattle.std.proofs.lemmas.List.Elements.{All-nil, All-cons, All-tail, All-append, All-push, All-weaker, All-contains_itself}
-use Rattle.ppdb_cli_files.specs.declared.place.{Call.{Call, TheVariants.{Create, Write, Flush, Rename, FlushFolder, Remove, Overwrite}}, Made.{Made}}
+use Rattle.ppdb_cli_files.specs.declared.place.{Call.{TheVariants.{Create, Write, Flush, Rename, FlushFolder, Remove, Overwrite}}, Made.{Made}}
 use Rattle.ppdb_cli_files.specs.declared.replace.ReplaceError.{ReplaceError, TheVariants.{NotMade, NotWritten, NotFlushed}}
 use Rattle.std.specs.declared.io.Error.{Error}
-use Rattle.ppdb_cli_files.specs.Disk.{Found, Nothing, Whole, Torn, Disk, found_at, newest, after_all, after_made, all_found}
-use Rattle.ppdb_cli_files.specs.Replaces.{made, refused, NeverLoses, IsTidy, Replaces, Fills, Puts}
+use Rattle.ppdb_cli_files.specs.Disk.{Found, Whole, Disk, found_at, newest}
+use Rattle.ppdb_cli_files.specs.Replaces.{made, refused, NeverLoses, Replaces, Fills, Puts}
 
 abbrev Fine : List ℕ → Disk → Found → Type 0
 Fine bytes d f = Contains (found_at d) f ⊎ (f ≡ Whole bytes)

@@ -2,7 +2,7 @@
 use Rattle.std.specs.Prelude.{ℕ, Bool, ◌≡◌, ◌⊎◌, false, true, List, [], ◌∷◌, Contains, All, Any, Result, Ok, Err, OnOk, OnErr, IfErr}
 use Rattle.ppdb_cli_files.specs.declared.place.{Call.{Call, TheVariants.{Create, Write, Flush, Rename, Remove}}, Made.{Made}}
 use Rattle.ppdb_cli_files.specs.declared.replace.ReplaceError.{ReplaceError, TheVariants.{NotMade, NotWritten, NotFlushed}}
-use Rattle.ppdb_cli_files.specs.Disk.{Found, Nothing, Whole, Disk, found_at, after_all, all_found}
+use Rattle.ppdb_cli_files.specs.Disk.{Nothing, Whole, Disk, found_at, after_all, all_found}
 
 -- a call that succeeded, and one that failed
 abbrev pub made : Call → Made
