@@ -1,5 +1,6 @@
 // The current folder of the system. No contract knows what it holds.
-ghost use Rattle.std.specs.Prelude.{◌≡◌, ◌≤◌, None, length, OnOk};
+ghost use Rattle.std.specs.Prelude.{◌≡◌, ◌≤◌, None, true, length, OnOk};
+ghost use Rattle.ppdb_base.specs.Causes.{counted_where};
 
 use crate::reading::{NotRead, read_to_end};
 use crate::replace::put_file;
@@ -30,6 +31,8 @@ pub struct RealFolder<'a, R: Files<File = File> + Print + AllocGlobal> {
     write_faults: u64,
     /// Why the last read or write failed, where the system had a reason.
     reason: Option<Reason>,
+    /// The last file that was read and begins as assemblies do.
+    assembly: Option<String>,
 }
 
 impl<'a, R: Files<File = File> + Print + AllocGlobal> RealFolder<'a, R> {
@@ -46,6 +49,27 @@ impl<'a, R: Files<File = File> + Print + AllocGlobal> RealFolder<'a, R> {
             read_faults: 0,
             write_faults: 0,
             reason: None,
+            assembly: None,
+        }
+    }
+
+    /// Whether a file of this name was read, and begins as assemblies do. Only the last such file is known.
+    pub fn is_assembly(&self, name: &str) -> bool {
+        match &self.assembly {
+            Some(assembly) => assembly.as_str() == name,
+            None => false,
+        }
+    }
+
+    /// Notes a file that was read.
+    fn note_read(&mut self, name: &str, bytes: &[u8])
+        ensures reads { self.new.reads ≡ counted_where true self.old.reads }
+        ensures read_faults { self.new.read_faults ≡ self.old.read_faults }
+        ensures write_faults { self.new.write_faults ≡ self.old.write_faults }
+    {
+        self.reads = self.reads.saturating_add(1);
+        if bytes.starts_with(b"MZ") {
+            self.assembly = String::from_str(self.system.alloc(), name).ok();
         }
     }
 
@@ -55,7 +79,7 @@ impl<'a, R: Files<File = File> + Print + AllocGlobal> RealFolder<'a, R> {
     }
 
     /// Notes why a read or a write failed.
-    fn note(&mut self, name: &str, error: Option<io::Error>)
+    fn note_fault(&mut self, name: &str, error: Option<io::Error>)
         ensures reads { self.new.reads ≡ self.old.reads }
         ensures read_faults { self.new.read_faults ≡ self.old.read_faults }
         ensures write_faults { self.new.write_faults ≡ self.old.write_faults }
@@ -81,12 +105,12 @@ impl<R: Files<File = File> + Print + AllocGlobal> Folder for RealFolder<'_, R> {
         into.clear();
         match read_file(self.system, name, max, into) {
             Ok(()) => {
-                self.reads = self.reads.saturating_add(1);
+                self.note_read(name, into.as_slice());
                 Ok(())
             }
             Err(NotRead { error, reason }) => {
                 into.clear();
-                self.note(name, reason);
+                self.note_fault(name, reason);
                 if error != ReadError::Memory {
                     self.read_faults = self.read_faults.saturating_add(1);
                 }
@@ -100,7 +124,7 @@ impl<R: Files<File = File> + Print + AllocGlobal> Folder for RealFolder<'_, R> {
             Ok(()) => Ok(()),
             Err(error) if error.kind() == ErrorKind::OutOfMemory => Err(WriteError::Memory),
             Err(error) => {
-                self.note(name, Some(error));
+                self.note_fault(name, Some(error));
                 self.write_faults = self.write_faults.saturating_add(1);
                 Err(WriteError::Failed)
             }
