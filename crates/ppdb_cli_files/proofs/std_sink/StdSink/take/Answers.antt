@@ -1,7 +1,7 @@
 use Rattle.std.proofs.Common.{◌≡◌, ◌∙◌, ap, ℕ, List, ◌++◌, take, append-nil, Option, None, Some, Result, Ok, Err, OnOk}
 use Rattle.std.specs.Io.KnownBytes.{Appends, Keeps}
-use Rattle.ppdb_cli.specs.Kept.{kept_after}
-use Rattle.ppdb_cli.proofs.std_sink.StdSink.take.Goals as goal
+use Rattle.ppdb_cli_files.specs.Kept.{kept_after}
+use Rattle.ppdb_cli_files.proofs.std_sink.StdSink.take.Goals as goal
 
 -- all that was kept was written, and then bytes past it
 past_kept : (a b c : Option (List ℕ)) (buffer bs : List ℕ) (kept : ℕ) → Keeps a b → kept ≡ 0 → Appends b c bs → Appends a (kept_after c buffer kept) bs

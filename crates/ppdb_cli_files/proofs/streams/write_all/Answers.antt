@@ -3,7 +3,7 @@ use Rattle.std.proofs.Common.{append_assoc, append-nil, take-append-drop, drop_o
 use Rattle.std.proofs.lemmas.List.{take_rest}
 use Rattle.std.specs.Io.KnownBytes.{Appends}
 use Rattle.std.proofs.KnownBytes.{Appends-trans, Appends-nil}
-use Rattle.ppdb_cli.proofs.writing.write_all.Goals as goal
+use Rattle.ppdb_cli_files.proofs.streams.write_all.Goals as goal
 
 moves_prefix : (all done rest : List ℕ) (n : ℕ) → all ≡ done ++ rest → all ≡ (done ++ take n rest) ++ take (length rest - n) (drop n rest)
 moves_prefix all done rest n e =

@@ -1,12 +1,13 @@
 // Standard output, or another writer, in large writes.
 ghost use Rattle.std.specs.Prelude.{◌≡◌, ◌≤◌, ◌+◌, None, length, IfErr, OnErr, OnOk};
 ghost use Rattle.std.specs.Io.KnownBytes.{Appends, Keeps};
-ghost use Rattle.ppdb_cli.specs.Kept.{kept_after};
+ghost use Rattle.ppdb_cli_files.specs.Kept.{kept_after};
 ghost use Rattle.ppdb_base.specs.Causes.{Rose};
 ghost use Rattle.ppdb_base.specs.Written.{Puts};
 
-use crate::writing::put_all;
+use crate::streams::write_all;
 use ppdb_base::{Sink, WriteError};
+use std::io;
 use std::io::Write;
 
 /// How many bytes are kept before they are written.
@@ -20,6 +21,8 @@ pub struct StdSink<W: Write> {
     /// How many bytes of the buffer are still to be written.
     kept: usize,
     faults: u64,
+    /// Why the last failed write failed.
+    reason: Option<io::Error>,
     ghost in_range: { kept ≤ 65536 },
 }
 
@@ -34,7 +37,18 @@ impl<W: Write> StdSink<W> {
             buffer: [0; BUFFER],
             kept: 0,
             faults: 0,
+            reason: None,
         }
+    }
+
+    /// What is kept.
+    pub fn kept(&self) -> &[u8] {
+        &self.buffer[..self.kept]
+    }
+
+    /// Why the last failed write failed.
+    pub fn reason(&self) -> Option<io::Error> {
+        self.reason
     }
 
     /// Writes what is kept.
@@ -71,7 +85,11 @@ impl<W: Write> StdSink<W> {
         ensures failed { IfErr result (λ error. error ≡ WriteError.Failed) }
         ensures bytes { OnOk result (Keeps (kept_after (W.contents self.old.writer) self.old.buffer self.old.kept) (W.contents self.new.writer)) }
     {
-        let written = put_all(&mut self.writer, &self.buffer[..self.kept]);
+        let written = put_all(
+            &mut self.writer,
+            &mut self.reason,
+            &self.buffer[..self.kept],
+        );
         self.kept = 0;
         written
     }
@@ -106,7 +124,25 @@ impl<W: Write> StdSink<W> {
             self.keep(bytes);
             return Ok(());
         }
-        put_all(&mut self.writer, bytes)
+        put_all(&mut self.writer, &mut self.reason, bytes)
+    }
+}
+
+/// Writes all bytes, or notes why it did not.
+fn put_all<W: Write>(
+    writer: &mut W,
+    reason: &mut Option<io::Error>,
+    bytes: &[u8],
+) -> Result<(), WriteError>
+    ensures failed { IfErr result (λ error. error ≡ WriteError.Failed) }
+    ensures bytes { OnOk result (Appends (W.contents writer.old) (W.contents writer.new) bytes.now) }
+{
+    match write_all(writer, bytes) {
+        Ok(()) => Ok(()),
+        Err(error) => {
+            *reason = Some(error);
+            Err(WriteError::Failed)
+        }
     }
 }
 

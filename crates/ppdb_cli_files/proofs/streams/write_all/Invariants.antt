@@ -1,6 +1,6 @@
 use Rattle.std.proofs.Common.{◌≡◌, ℕ, List, ◌++◌, length}
 use Rattle.std.specs.Io.KnownBytes.{Appends}
-use Rattle.ppdb_cli.proofs.writing.write_all.Given as goal
+use Rattle.ppdb_cli_files.proofs.streams.write_all.Given as goal
 
 -- what is gone from `rest` was appended
 abbrev pub invariant-loop-rest : goal.invariant-loop-rest
