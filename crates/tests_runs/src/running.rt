@@ -33,8 +33,19 @@ pub fn ran<R: Runner, F: Folder, O: Sink>(
     for &word in words {
         texts.push(String::from_str(rt.alloc(), word)?)?;
     }
+    Ok(ran_words(runner, rt, &texts, folder, out))
+}
+
+/// Runs the command of these words, and answers the number of its status.
+pub fn ran_words<R: Runner, F: Folder, O: Sink>(
+    runner: &R,
+    rt: &HostRuntime,
+    words: &[String],
+    folder: &mut F,
+    out: &mut O,
+) -> u8 {
     let (checks, steps) = (Blank::new(1), Blank::new(1));
-    Ok(counted::<_, _, _, Brand, Brand>(runner, rt, &texts, folder, out, checks, steps))
+    counted::<_, _, _, Brand, Brand>(runner, rt, words, folder, out, checks, steps)
 }
 
 /// Runs the command of the words over counters of its own.

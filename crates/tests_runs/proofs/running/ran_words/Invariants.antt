@@ -1,4 +1,4 @@
-use Rattle.tests_runs.proofs.running.ran.Given as goal
+use Rattle.tests_runs.proofs.running.ran_words.Given as goal
 
 abbrev pub ghosts-counted-K-Ledger : goal.ghosts-counted-K-Ledger
 ghosts-counted-K-Ledger g a = record { name = a.checks.name; parts = a.checks.parts }
