@@ -5,6 +5,8 @@ from dataclasses import dataclass, field
 from pathlib import Path
 
 HEX_DIGITS = frozenset(b"0123456789abcdef")
+# How `count` lays a number out: all its four bytes, and which of them are put.
+ORDERS = {"le2": ("<I", slice(2)), "le4": ("<I", slice(4)), "be2": (">I", slice(2, 4))}
 # The parts of a debug file that is told by its tables and heaps.
 SECTIONS = ("entry", "refers", "rows", "strings", "guids", "blobs")
 
@@ -87,15 +89,15 @@ def counting(word: str) -> Callable[[int], bytes]:
     """What a field of `count` is for a number."""
     if word == "letters":
         return lambda value: bytes(0x40 | value >> shift & 15 for shift in range(28, -4, -4))
-    if word[:3] not in ("le2", "le4"):
+    if word[:3] not in ORDERS:
         fixed = hex_bytes(word)
         return lambda value: fixed
-    width = int(word[2])
+    layout, places = ORDERS[word[:3]]
     text, _, added = word[3:].partition("+")
     if text and text[0] != "*":
         raise Misspelled("no field")
     times, plus = number(text[1:]) if text else 1, number(added) if "+" in word else 0
-    return lambda value: struct.pack("<I", (value * times + plus) & 0xffffffff)[:width]
+    return lambda value: struct.pack(layout, (value * times + plus) & 0xffffffff)[places]
 
 
 def counted(text: str) -> bytes:

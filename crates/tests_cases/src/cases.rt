@@ -114,6 +114,11 @@ impl Case {
             runs: Vec::new(alloc),
         })
     }
+
+    /// Whether a read, a write or a put fails, which only some folders and sinks can be told.
+    pub fn is_to_fail(&self) -> bool {
+        !self.failing.is_empty() || self.runs.iter().any(|run| matches!(&run.puts, Puts::Fails(_)))
+    }
 }
 
 /// The files of all cases, and the cases.

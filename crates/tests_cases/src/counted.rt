@@ -2,13 +2,21 @@
 use crate::parts::{byte, number};
 use anyhow::{Result, bail};
 
+/// Which bytes of a number are put: the lower two or all four, the lowest first, or the lower two, the lowest last.
+#[derive(Clone, Copy)]
+enum Order {
+    LowTwo,
+    LowFour,
+    HighTwo,
+}
+
 /// What is put for each number.
 #[derive(Clone, Copy)]
 enum Field {
     Byte(u8),
-    /// So many bytes of the number, multiplied and with a number added, the lowest first.
-    Little {
-        bytes: usize,
+    /// The number, multiplied and with a number added.
+    Number {
+        order: Order,
         times: u32,
         plus: u32,
     },
@@ -16,8 +24,8 @@ enum Field {
     Letters,
 }
 
-/// A field of so many bytes, as `*9+1` tells what is multiplied and added.
-fn little(bytes: usize, text: &str) -> Result<Field> {
+/// A number in this order, as `*9+1` tells what is multiplied and added.
+fn number_in(order: Order, text: &str) -> Result<Field> {
     let (text, plus) = match text.split_once('+') {
         Some((text, plus)) => (text, number(plus)?),
         None => (text, 0),
@@ -27,18 +35,21 @@ fn little(bytes: usize, text: &str) -> Result<Field> {
         None if text.is_empty() => 1,
         None => bail!("no field"),
     };
-    Ok(Field::Little { bytes, times, plus })
+    Ok(Field::Number { order, times, plus })
 }
 
 fn field_of(word: &str) -> Result<Field> {
     if word == "letters" {
         return Ok(Field::Letters);
     }
-    if let Some(rest) = word.strip_prefix("le2") {
-        return little(2, rest);
-    }
-    if let Some(rest) = word.strip_prefix("le4") {
-        return little(4, rest);
+    for (name, order) in [
+        ("le2", Order::LowTwo),
+        ("le4", Order::LowFour),
+        ("be2", Order::HighTwo),
+    ] {
+        if let Some(rest) = word.strip_prefix(name) {
+            return number_in(order, rest);
+        }
     }
     Ok(Field::Byte(byte(word.as_bytes())?))
 }
@@ -51,18 +62,21 @@ fn put_letters(bytes: &mut Vec<u8>, number: u32) -> Result<()> {
     Ok(())
 }
 
+fn put_number(bytes: &mut Vec<u8>, order: Order, number: u32) -> Result<()> {
+    let [a, b, c, d] = number.to_le_bytes();
+    match order {
+        Order::LowTwo => bytes.extend_from_slice(&[a, b])?,
+        Order::LowFour => bytes.extend_from_slice(&[a, b, c, d])?,
+        Order::HighTwo => bytes.extend_from_slice(&[b, a])?,
+    }
+    Ok(())
+}
+
 fn put_field(bytes: &mut Vec<u8>, field: Field, number: u32) -> Result<()> {
     match field {
         Field::Byte(byte) => bytes.push(byte)?,
-        Field::Little {
-            bytes: count,
-            times,
-            plus,
-        } => {
-            let number = number.wrapping_mul(times).wrapping_add(plus);
-            for byte in number.to_le_bytes().iter().take(count) {
-                bytes.push(*byte)?;
-            }
+        Field::Number { order, times, plus } => {
+            put_number(bytes, order, number.wrapping_mul(times).wrapping_add(plus))?;
         }
         Field::Letters => put_letters(bytes, number)?,
     }

@@ -2,12 +2,17 @@
 use crate::parts::{byte, number};
 use anyhow::{Result, bail};
 use std::alloc::{AllocError, Global};
-use tests_runs::{Parts, file_of};
+
+/// The metadata root up to the headers of its five streams.
+const ROOT: [u8; 32] = *b"BSJB\x01\0\x01\0\0\0\0\0\x0c\0\0\0PDB v1.0\0\0\0\0\0\0\x05\0";
+
+/// Where the first stream stands.
+const FIRST_STREAM: u32 = 112;
 
 /// The parts of a debug file with no identity so far.
 #[derive(Drop)]
 pub struct DebugFile {
-    pub name: String,
+    name: String,
     entry: u32,
     /// The tables of the type system that have rows, a bit each.
     referenced: u64,
@@ -66,6 +71,11 @@ impl DebugFile {
         })
     }
 
+    /// The name that the file was given.
+    pub fn into_name(self) -> String {
+        self.name
+    }
+
     /// Adds a part that these words tell, with these bytes.
     pub fn put(&mut self, word: &str, rest: &str, bytes: &[u8]) -> Result<()> {
         match word {
@@ -92,21 +102,55 @@ impl DebugFile {
     }
 
     /// The bytes of the file. A heap of which nothing was told has no item but the empty one.
-    pub fn bytes(&mut self, alloc: Global) -> Result<Vec<u8>, AllocError> {
-        self.counts.extend_from_slice(self.rows.as_slice())?;
-        file_of(
-            alloc,
-            Parts {
-                entry: self.entry,
-                referenced: self.referenced,
-                referenced_rows: self.referenced_rows.as_slice(),
-                valid: self.valid,
-                rows: self.counts.as_slice(),
-                texts: or_empty_item(self.texts.as_slice()),
-                guids: self.guids.as_slice(),
-                blobs: or_empty_item(self.blobs.as_slice()),
-            },
-        )
+    pub fn bytes(&self, alloc: Global) -> Result<Vec<u8>, AllocError> {
+        let (texts, blobs) = (or_empty_item(&self.texts), or_empty_item(&self.blobs));
+        let pdb = self.pdb_stream(alloc)?;
+        let tables = self.tables_stream(alloc, texts, blobs)?;
+        let streams: [(&[u8], &[u8]); 5] = [
+            (b"#Pdb\0\0\0\0", &pdb),
+            (b"#~\0\0", &tables),
+            (b"#Strings\0\0\0\0", texts),
+            (b"#GUID\0\0\0", &self.guids),
+            (b"#Blob\0\0\0", blobs),
+        ];
+        let mut file = Vec::from_slice(alloc, &ROOT)?;
+        let mut place = FIRST_STREAM;
+        for (name, stream) in streams {
+            let size = u32::try_from(stream.len()).unwrap_or(u32::MAX);
+            file.extend_from_slice(&place.to_le_bytes())?;
+            file.extend_from_slice(&size.to_le_bytes())?;
+            file.extend_from_slice(name)?;
+            place = place.wrapping_add(size);
+        }
+        for (_, stream) in streams {
+            file.extend_from_slice(stream)?;
+        }
+        Ok(file)
+    }
+
+    fn pdb_stream(&self, alloc: Global) -> Result<Vec<u8>, AllocError> {
+        let mut stream = Vec::from_slice(alloc, &[0; 20])?;
+        stream.extend_from_slice(&self.entry.to_le_bytes())?;
+        stream.extend_from_slice(&self.referenced.to_le_bytes())?;
+        stream.extend_from_slice(&self.referenced_rows)?;
+        Ok(stream)
+    }
+
+    fn tables_stream(
+        &self,
+        alloc: Global,
+        texts: &[u8],
+        blobs: &[u8],
+    ) -> Result<Vec<u8>, AllocError> {
+        // Indexes have four bytes where the heap is large.
+        let text_sizes = if texts.len() < 65536 { 0 } else { 1 };
+        let blob_sizes = if blobs.len() < 65536 { 0 } else { 4 };
+        let mut stream = Vec::from_slice(alloc, &[0, 0, 0, 0, 2, 0, text_sizes | blob_sizes, 1])?;
+        stream.extend_from_slice(&self.valid.to_le_bytes())?;
+        stream.extend_from_slice(&[0; 8])?;
+        stream.extend_from_slice(&self.counts)?;
+        stream.extend_from_slice(&self.rows)?;
+        Ok(stream)
     }
 }
 

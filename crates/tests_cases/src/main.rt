@@ -3,16 +3,23 @@
 #![tactic(auto)]
 
 mod cases;
+mod changed;
+mod command;
+mod comparing;
 mod counted;
 mod debug_file;
+mod forms;
+mod lines;
 mod parts;
-mod program;
 mod reading;
 mod report;
 mod running;
+mod values;
 
 use anyhow::{Context, Result, bail};
 use cases::{CaseFile, NamedBytes};
+use changed::{Tried, try_changed};
+use lines::worked_lines;
 use reading::{read_cases, used_file};
 use report::Report;
 use running::run_case;
@@ -20,6 +27,7 @@ use std::process::ExitCode;
 use std::{env, fs};
 
 fn main(rt: HostRuntime) -> ExitCode {
+    worked_lines();
     match run_files(&rt) {
         Ok(0) => ExitCode::from(0),
         Ok(_) => ExitCode::from(1),
@@ -30,13 +38,18 @@ fn main(rt: HostRuntime) -> ExitCode {
     }
 }
 
-/// Runs the case files that the words after the program's name name, and answers how much differs.
+/// Runs the case files that the words after the program's name name, and, for the word `--changed-bytes`, tries files with changed bytes.
+/// Answers how much differs.
 fn run_files(rt: &HostRuntime) -> Result<usize> {
     let mut args = env::args(rt)?;
     let _program = args.next();
     let (mut runs, mut differences) = (0usize, 0usize);
     for name in args {
         let name = name.as_str();
+        if name == "--changed-bytes" {
+            put_changed(rt)?;
+            continue;
+        }
         let file = read_file(rt, name).context(format_args!("{name}"))?;
         let mut report = Report::new(rt, name);
         run_cases(&mut report, &file)?;
@@ -48,6 +61,13 @@ fn run_files(rt: &HostRuntime) -> Result<usize> {
     }
     println!(rt; "all: {runs} runs, {differences} differences")?;
     Ok(differences)
+}
+
+/// Tries files with changed bytes, and prints how many.
+fn put_changed(rt: &HostRuntime) -> Result<()> {
+    let Tried { verified, rebuilt } = try_changed(rt)?;
+    println!(rt; "changed bytes: {verified} verified, {rebuilt} rebuilt")?;
+    Ok(())
 }
 
 /// Reads a case file, with the files of another that it uses.

@@ -136,12 +136,13 @@ impl<'a> Reader<'a> {
 
     /// Ends the debug file that is told.
     fn close_debug_file(&mut self) -> Result<()> {
-        if let Some(mut file) = self.debug_file.take() {
-            let bytes = file.bytes(self.alloc)?;
-            let name = mem::replace(&mut file.name, String::new(self.alloc));
-            self.put_file(name, bytes)?;
+        match self.debug_file.take() {
+            Some(file) => {
+                let bytes = file.bytes(self.alloc)?;
+                self.put_file(file.into_name(), bytes)
+            }
+            None => Ok(()),
         }
-        Ok(())
     }
 
     /// Ends what the last line begins.
