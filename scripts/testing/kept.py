@@ -1,0 +1,4 @@
+from pathlib import Path
+from result import Result
+def kept(program: Path, result: Result) -> None:
+    pass
