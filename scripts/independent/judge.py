@@ -90,12 +90,12 @@ class Rows:
             yield from self.blob(1, points, lambda blob, _: read_points(blob, document, self.file) if blob else None)
 
     def scopes(self) -> Iterator[Fault]:
-        earlier: list[tuple[int, int, int]] = []
+        greatest = (0, 0, 0)
         ranges: dict[int, list[tuple[int, int]]] = defaultdict(list)
         before = (1, 1)
         for method, imports, *lists, start, length in self.cells(0x32):
             yield from self.named_row(0, 0x06, method)
-            if earlier and max(earlier) > (method, start, -length):
+            if greatest > (method, start, -length):
                 yield self.fault(26, 0)
             yield from self.named_row(1, 0x35, imports, optional=True)
             for column, (table, first) in enumerate(zip((0x33, 0x34), lists), 2):
@@ -106,7 +106,7 @@ class Rows:
                 yield self.fault(28, 4)
             if length == 0 or end >= TIMES:
                 yield self.fault(27, 5)
-            earlier.append((method, start, -length))
+            greatest = max(greatest, (method, start, -length))
             ranges[method].append((start, end))
             before = (lists[0], lists[1])
 
@@ -149,14 +149,16 @@ class Rows:
         yield from self.text(column, index)
 
     def imports(self) -> Iterator[Fault]:
-        parents = [0, *(parent for parent, _ in self.file.rows[0x35])]
+        parents, ending = [0, *(parent for parent, _ in self.file.rows[0x35])], {0}
         for parent, imports in self.cells(0x35):
             yield from self.named_row(0, 0x35, parent, optional=True)
-            at, steps = self.row, 0
-            while 0 < at < len(parents) and steps <= len(parents):
-                at, steps = parents[at], steps + 1
-            if steps > len(parents):
+            at, chain = self.row, list[int]()
+            while at not in ending and at < len(parents) and len(chain) <= len(parents):
+                chain.append(at)
+                at = parents[at]
+            if len(chain) > len(parents):
                 yield self.fault(32, 0)
+            ending.update(chain)
             yield from self.blob(1, imports, lambda blob, named: read_imports(blob, self.file, named))
 
     def machines(self) -> Iterator[Fault]:

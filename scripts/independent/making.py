@@ -8,6 +8,8 @@ from .meaning import Meaning
 from .shown import escaped
 from .values import HOISTED, Value
 
+# The code of a longer method stays as it is: what is put in would pass the last offset.
+LONGEST = 1 << 30
 MOVED_TABLES = (0x01, 0x02, 0x06, 0x11, 0x1B, 0x23)
 
 
@@ -70,6 +72,8 @@ class Maker:
     def code(self, method: int) -> Iterator[str]:
         """The code between some cuts is kept, and other code comes before it; some parts are cut out."""
         size, new, runs = self.size(method), 0, []
+        if size > LONGEST:
+            return
         cuts = sorted({0, size, *(self.rng.randrange(size + 1) for _ in range(self.rng.randrange(6)))})
         for start, end in zip(cuts, cuts[1:]):
             if any(start <= offset < end for offset in self.needed.get(method, ())) or self.rng.random() < 0.7:

@@ -1,8 +1,9 @@
 """What a file says at an offset of a method, of a method as a whole, and of its other rows, with all rows, offsets, slots and names as their
 images by a map (FORMAT, 11 and 12, "What is kept"). So a file before a rewrite, by its map, and the file after it, by the map without
 lines, must say the same. Rows of the tables 30 to 37 have other numbers in the two files, so what they say stands in their place."""
+from bisect import bisect
 from collections import defaultdict
-from collections.abc import Iterator
+from collections.abc import Callable, Iterator
 
 from .blobs import Import, Steps, Type
 from .maps import GONE, UNMOVED, Map
@@ -14,8 +15,11 @@ ITEMS = range(0x30, 0x38)
 
 
 class Meaning:
-    def __init__(self, value: Value, by: Map = UNMOVED) -> None:
-        self.value, self.map = value, by
+    def __init__(self, value: Value, by: Map = UNMOVED, pool: dict[Said, Said] | None = None) -> None:
+        """Two meanings with one pool say equal things by one object, so that they are compared at once."""
+        self.value, self.map, self.pool = value, by, {} if pool is None else pool
+        self.known: dict[tuple[str, int], Said] = {}
+        self.offsets = {row: [point.offset for point in method.points] for row, method in value.methods.items()}
         self.customs: dict[tuple[int, int], list[Custom]] = defaultdict(list)
         for custom in value.customs:
             self.customs[custom.table, custom.parent].append(custom)
@@ -89,25 +93,40 @@ class Meaning:
     # What is said at an offset.
 
     def point(self, method: int, offset: int) -> Said | None:
-        of = self.value.methods.get(method)
-        last = max((point for point in of.points if point.offset <= offset), default=None) if of else None
-        if of is None or last is None:
+        of, number = self.value.methods.get(method), bisect(self.offsets.get(method, ()), offset)
+        if of is None or number == 0:
             return None
+        last = of.points[number - 1]
         return self.map.offset(method, last.offset), self.document(last.document), last.span, self.map.signature(method, of.signature)
 
-    def chain(self, row: int) -> Iterator[Said]:
+    def pooled(self, part: str, row: int, say: Callable[[], Said]) -> Said:
+        """What is said of a row of a part, once."""
+        if (part, row) not in self.known:
+            said = say()
+            self.known[part, row] = self.pool.setdefault(said, said)
+        return self.known[part, row]
+
+    def import_scope(self, row: int) -> Said:
+        return self.pooled("import", row, lambda: (
+            tuple(use for use in map(self.use, self.value.imports[row - 1].imports) if use), self.records(0x35, row)))
+
+    def chain(self, row: int) -> Said:
         """An import scope, its parent, and so on."""
+        rows = []
         while row:
-            imports = self.value.imports[row - 1]
-            yield tuple(use for use in map(self.use, imports.imports) if use), self.records(0x35, row)
-            row = imports.parent
+            rows.append(row)
+            row = self.value.imports[row - 1].parent
+        return tuple(map(self.import_scope, rows))
 
     def scope(self, scope: Scope) -> Said:
+        return self.pooled("scope", scope.row, lambda: self.scope_said(scope))
+
+    def scope_said(self, scope: Scope) -> Said:
         by = self.map
         return (by.range(scope.method, scope.start, scope.end), self.records(0x32, scope.row),
                 tuple((by.slot(scope.method, variable.slot), variable.attributes, variable.name, self.records(0x33, variable.row))
                       for variable in scope.variables),
-                tuple(constant for constant in map(self.constant, scope.constants) if constant), tuple(self.chain(scope.imports)))
+                tuple(constant for constant in map(self.constant, scope.constants) if constant), self.pooled("chain", scope.imports, lambda: self.chain(scope.imports)))
 
     def hoisted(self, method: int, offset: int) -> Said:
         return tuple((slot, self.map.range(method, start, end)) for custom in self.customs.get((6, method), ()) if custom.kind == HOISTED
@@ -136,7 +155,7 @@ class Meaning:
         return tuple((self.document(row), self.records(0x30, row)) for row in range(1, len(self.value.documents) + 1))
 
     def import_scopes(self) -> Said:
-        return tuple((imports.parent, *next(self.chain(row))) for row, imports in enumerate(self.value.imports, 1))
+        return tuple((imports.parent, *self.import_scope(row)) for row, imports in enumerate(self.value.imports, 1))
 
     def counts(self) -> dict[int, int]:
         found = {table: self.map.counts.get(table, self.value.counts.get(table, 0)) for table in {*self.value.counts, *self.map.counts}}
@@ -160,7 +179,8 @@ class Meaning:
 
 def differences(before: Value, by: Map, after: Value) -> Iterator[str]:
     """What the file after says otherwise than the file before, moved by the map. Each kept offset is looked at where something changes."""
-    old, new = Meaning(before, by), Meaning(after)
+    pool: dict[Said, Said] = {}
+    old, new = Meaning(before, by, pool), Meaning(after, pool=pool)
     wanted, found = old.whole(), new.whole()
     yield from (f"{part}: {found[part]!r}, wanted {wanted[part]!r}" for part in wanted if wanted[part] != found[part])
     images = {by.method(method): method for method in old.methods()}

@@ -1,8 +1,11 @@
 """Runs the groups of tests with a program: main.py PROGRAM [GROUP].. (scripts/test)."""
+import os
 import subprocess
 import sys
 import time
 from collections.abc import Callable
+from concurrent.futures import ProcessPoolExecutor
+from itertools import repeat
 from pathlib import Path
 
 ROOT = Path(__file__).resolve().parents[2]
@@ -17,13 +20,10 @@ GROUPS: dict[str, Callable[[Path, Result], None]] = {
     "remap": readers.remap, "kept": kept, "tools": others.tools}
 
 
-def run(name: str, program: Path) -> Result:
+def run(name: str, program: Path) -> tuple[str, Result, float]:
     begun, result = time.monotonic(), Result()
     GROUPS[name](program, result)
-    if result != Result():
-        notes = "".join(f"; {note}" for note in result.notes)
-        print(f"{name}: {result}, {time.monotonic() - begun:.1f} s{notes}", flush=True)
-    return result
+    return name, result, time.monotonic() - begun
 
 
 def main(program: Path, names: list[str]) -> int:
@@ -33,7 +33,12 @@ def main(program: Path, names: list[str]) -> int:
         return 2
     version = subprocess.run([program, "--version"], stdout=subprocess.PIPE, text=True, check=True).stdout.strip()
     print(f"program: {program.relative_to(ROOT) if program.is_relative_to(ROOT) else program}, {version}", flush=True)
-    results = [run(name, program) for name in names or GROUPS]
+    results = []
+    with ProcessPoolExecutor(len(os.sched_getaffinity(0))) as pool:
+        for name, result, seconds in pool.map(run, names or GROUPS, repeat(program)):
+            results.append(result)
+            if result != Result():
+                print("; ".join([f"{name}: {result}, {seconds:.1f} s", *result.notes]), flush=True)
     total = Result(*(sum(getattr(result, count) for result in results) for count in ("passed", "failed", "skipped")))
     if total.passed == 0:
         total.fail("make test", "nothing was tested")
