@@ -126,7 +126,8 @@ class Meaning:
         return (by.range(scope.method, scope.start, scope.end), self.records(0x32, scope.row),
                 tuple((by.slot(scope.method, variable.slot), variable.attributes, variable.name, self.records(0x33, variable.row))
                       for variable in scope.variables),
-                tuple(constant for constant in map(self.constant, scope.constants) if constant), self.pooled("chain", scope.imports, lambda: self.chain(scope.imports)))
+                tuple(constant for constant in map(self.constant, scope.constants) if constant),
+                self.pooled("chain", scope.imports, lambda: self.chain(scope.imports)))
 
     def hoisted(self, method: int, offset: int) -> Said:
         return tuple((slot, self.map.range(method, start, end)) for custom in self.customs.get((6, method), ()) if custom.kind == HOISTED
