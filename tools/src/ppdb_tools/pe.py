@@ -133,8 +133,8 @@ class Image:
     @cached_property
     def streams(self) -> dict[str, Stream]:
         """The streams of the metadata by their names; of two with one name the first."""
-        address, size = self.cli.metadata
-        return streams_of(self.data, self.place(address, 16, "the metadata"), size)
+        address, _ = self.cli.metadata
+        return streams_of(self.data, self.place(address, 16, "the metadata"))
 
     def stream(self, name: str) -> bytes:
         """The bytes of a stream, none if it is not there."""
@@ -216,18 +216,18 @@ def inflated(packed: Data, length: int) -> bytes | None:
     return found if len(found) == length and (reader.eof or not reader.unconsumed_tail) else None
 
 
-def streams_of(data: Data, root: int, size: int | None = None) -> dict[str, Stream]:
-    """The streams of metadata that begins at a byte (II.24.2), also of a Portable PDB, whose root is at byte 0."""
+def streams_of(data: Data, root: int, is_whole: bool = True) -> dict[str, Stream]:
+    """The streams of metadata that begins at a byte (II.24.2), also of a Portable PDB, whose root is at byte 0. Of data that is not whole
+    only the headers must be there."""
     if bytes(data[root:root + 4]) != b"BSJB":
         raise Damaged(f"there is no metadata at byte {root}")
-    end = len(data) if size is None else min(root + size, len(data))
     head = root + 16 + number(data, root + 12, 4, "the length of the version")
     found: dict[str, Stream] = {}
     at = head + 4
     for _ in range(number(data, head + 2, 2, "the number of streams")):
         offset, length = number(data, at, 4, "a stream header"), number(data, at + 4, 4, "a stream header")
         name = piece(data, at + 8, min(33, len(data) - at - 8), "a stream header").partition(b"\0")[0]
-        if len(name) > 32 or root + offset + length > end:
+        if len(name) > 32 or is_whole and root + offset + length > len(data):
             raise Damaged(f"the stream header at byte {at} fits no stream")
         found.setdefault(name.decode("latin-1"), Stream(root + offset, length))
         at += 8 + (len(name) + 4) // 4 * 4

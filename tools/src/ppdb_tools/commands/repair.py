@@ -1,0 +1,11 @@
+"""."""
+DOES = ""
+EXAMPLE = ""
+
+
+def words(parser):
+    pass
+
+
+def run(said):
+    return 0
