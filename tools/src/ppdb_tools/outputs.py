@@ -1,4 +1,5 @@
 """Files that are written: whole or not at all, and never through a link that lies in a folder of somebody else."""
+import errno
 import os
 import shutil
 import stat
@@ -7,6 +8,8 @@ from pathlib import Path
 from ppdb_tools.errors import Status, Stop
 from ppdb_tools.names import shown
 
+# What a file system answers that has no links, or none from there to here.
+LINKLESS = {errno.EXDEV, errno.EPERM, errno.EMLINK, errno.EOPNOTSUPP, errno.ENOSYS}
 FOLDER = os.O_RDONLY | os.O_DIRECTORY | os.O_NOFOLLOW | os.O_CLOEXEC
 
 
@@ -97,6 +100,22 @@ class Tree:
         finally:
             os.close(here)
 
+    def link(self, names: list[str], file: str) -> str:
+        """Lays a hard link to a file at a place where nothing is: `linked`; `taken`, if something is there; `unable`, if the file system
+        has no such link."""
+        here = self.inside(names[:-1])
+        try:
+            os.link(file, names[-1], dst_dir_fd=here)
+            return "linked"
+        except FileExistsError:
+            return "taken"
+        except OSError as wrong:
+            if wrong.errno not in LINKLESS:
+                raise
+            return "unable"
+        finally:
+            os.close(here)
+
     def _add(self, here: int, name: str, data: bytes) -> str:
         part = f".part-{os.getpid()}"
         try:
@@ -106,8 +125,9 @@ class Tree:
             return "written"
         except FileExistsError:
             return "there" if self._is(here, name, data) else "differs"
-        except PermissionError:
-            # A file system without links.
+        except OSError as wrong:
+            if wrong.errno not in LINKLESS:
+                raise
             if self._is_taken(here, name):
                 return "there" if self._is(here, name, data) else "differs"
             os.rename(part, name, src_dir_fd=here, dst_dir_fd=here)

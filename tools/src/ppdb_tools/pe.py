@@ -91,6 +91,9 @@ class Image:
         magic = number(data, self.optional, 2, "the optional header")
         if magic not in (0x10B, 0x20B):
             raise NoAssembly(f"the optional header at byte {self.optional} begins with {magic:04x}")
+        # By these two a symbol server finds an executable.
+        self.stamp = number(data, header + 8, 4, "the time stamp")
+        self.size = number(data, self.optional + 56, 4, "the size of the image")
         # PE32+ has numbers of eight bytes before its data directories.
         self.is_wide = magic == 0x20B
         self.sections = sorted(self._section(self.optional + size + 40 * index) for index in range(count))

@@ -3,6 +3,7 @@ variable PPDB names; in a clone the one that ./ppdb runs; else the one beside th
 import functools
 import os
 import shutil
+import stat
 import subprocess
 import tempfile
 from collections.abc import Iterator, Sequence
@@ -10,8 +11,9 @@ from pathlib import Path
 from typing import IO, NamedTuple
 
 from ppdb_tools.errors import Status, Stop
-from ppdb_tools.inputs import Input
-from ppdb_tools.names import printable
+from ppdb_tools.faults import sentence
+from ppdb_tools.inputs import OPENED, Input, Unreadable
+from ppdb_tools.names import escaped, printable
 
 HERE = Path(__file__).resolve().parent
 # In a clone the package is in tools/src, in an installation in share/ppdb.
@@ -20,7 +22,7 @@ INSTALLED = HERE.parents[2] / "bin/ppdb"
 # The file that is asked about is the standard input, so its name may be any and is read once.
 STANDARD_INPUT = "/dev/stdin"
 # The statuses of `ppdb` (its manual page, EXIT STATUS).
-REFUSED, WORDS, NO_METHOD, NO_LINKS = 1, 2, 10, 11
+REFUSED, READ_FAULT, ABSENT, NO_LINKS = 1, 3, 6, 11
 FIRST_LINE = 1 << 16
 
 
@@ -41,7 +43,7 @@ class Refused(Stop):
 def reason(answer: Answer) -> str:
     """What an answer says, without the name of the file: a fault and its place, or how the run ended."""
     if answer.status == REFUSED and answer.line.startswith("refused "):
-        return f"refused with {fault(answer)}"
+        return ": ".join(filter(None, (f"refused with {fault(answer)}", sentence(fault(answer)))))
     return f"ppdb ended with status {answer.status}" + (f": {printable(answer.line)}" if answer.line else "")
 
 
@@ -76,9 +78,41 @@ def answer(command: str, file: Input) -> Answer:
     """How a command over a file ends, with the first line of what it prints."""
     file.file.seek(0)
     with start([command, STANDARD_INPUT], file.file) as run:
-        line = run.stdout.readline(FIRST_LINE).rstrip(b"\n")
-        while run.stdout.read(FIRST_LINE):
-            pass
+        return first_line(run)
+
+
+def by_name(command: str, name: str) -> Answer:
+    """How a command over the file of a name ends, in its own words. It opens that file itself, unless the name is not UTF-8, which `ppdb`
+    does not take; a pipe or a device is not waited for."""
+    try:
+        mode = os.stat(name).st_mode
+    except (OSError, ValueError):
+        mode = None
+    is_waiting = mode is not None and not (stat.S_ISREG(mode) or stat.S_ISDIR(mode) or name.startswith(OPENED))
+    if is_waiting:
+        return Answer(READ_FAULT, f"read fault {escaped(name)}")
+    if not is_utf_8(name):
+        try:
+            with Input.open(name) as file:
+                status, line = answer(command, file)
+        except Unreadable:
+            return Answer(ABSENT if mode is None else READ_FAULT, f"{'absent' if mode is None else 'read fault'} {escaped(name)}")
+        return Answer(status, line.replace(STANDARD_INPUT, escaped(name), 1))
+    with start([command, f"./{name}" if name.startswith("--") else name], subprocess.DEVNULL) as run:
+        return first_line(run)
+
+
+def is_utf_8(name: str) -> bool:
+    """Whether the bytes of a name are UTF-8."""
+    return not any(0xDC80 <= ord(letter) <= 0xDCFF for letter in name)
+
+
+def first_line(run: subprocess.Popen) -> Answer:
+    """How a run ends, with the first line of what it prints."""
+    line = run.stdout.readline(FIRST_LINE).rstrip(b"\n")
+    while run.stdout.read(FIRST_LINE):
+        pass
+    run.wait()
     return ended(run.returncode, line)
 
 
