@@ -1,5 +1,6 @@
 """What subcommands print: whole lines in one write, columns and colours where a person reads, and progress on standard error."""
 import os
+import re
 import sys
 import time
 from collections.abc import Iterable, Sequence
@@ -8,6 +9,7 @@ from ppdb_tools.errors import Status, Stop
 from ppdb_tools.names import escaped
 
 RED, GREEN, YELLOW, DIM, BOLD = 31, 32, 33, 2, 1
+COLOUR = re.compile("\x1b\\[[0-9]*m")
 # How long work lasts before it says how far it is, and how often it then says so, in seconds.
 PATIENCE, PACE = 0.5, 0.1
 
@@ -81,12 +83,22 @@ def put_table(head: Sequence[str], rows: Iterable[Sequence[str | int]]) -> None:
         lines.write()
         return
     rows = [list(row) for row in rows]
-    widths = [max([len(name), *(len(str(row[at])) for row in rows)]) for at, name in enumerate(head)]
+    widths = [max([len(name), *(width_of(row[at]) for row in rows)]) for at, name in enumerate(head)]
     lines.add(coloured("  ".join(name.ljust(width) for name, width in zip(head, widths)).rstrip(), BOLD))
     for row in rows:
-        cells = (str(cell).rjust(width) if isinstance(cell, int) else str(cell).ljust(width) for cell, width in zip(row, widths))
-        lines.add("  ".join(cells).rstrip())
+        lines.add("  ".join(padded(cell, width) for cell, width in zip(row, widths)).rstrip())
     lines.write()
+
+
+def width_of(cell: str | int) -> int:
+    """How many characters of a cell are seen."""
+    return len(COLOUR.sub("", str(cell)))
+
+
+def padded(cell: str | int, width: int) -> str:
+    """A cell as wide as its column, numbers to the right."""
+    spaces = " " * (width - width_of(cell))
+    return spaces + str(cell) if isinstance(cell, int) else str(cell) + spaces
 
 
 class Progress:
