@@ -33,6 +33,8 @@ PARENTS = [0x06, 0x04, 0x01, 0x02, 0x08, 0x09, 0x0A, 0x00, 0x0E, 0x17, 0x14, 0x1
 IMPORTS = {1: "b", 2: "nb", 3: "n", 4: "bb", 5: "b", 6: "bn", 7: "bb", 8: "bnb", 9: "bn"}
 # The most bytes of a document's name that is put together here.
 LONGEST_NAME = 1 << 20
+# How many bytes of blobs are read in total, and for each byte of the file.
+BLOBS_IN_TOTAL, BLOBS_EACH = 1 << 24, 8
 
 
 class Cell(NamedTuple):
@@ -63,6 +65,7 @@ class DebugFile:
         for name in ("#Pdb", "#~"):
             if name not in self.streams:
                 raise Damaged(f"there is no stream {name}")
+        self.left = BLOBS_EACH * len(data) + BLOBS_IN_TOTAL
         self.counts = [0] * 64
         self.starts: dict[int, int] = {}
         self.rows: dict[int, struct.Struct] = {}
@@ -126,8 +129,14 @@ class DebugFile:
         return Blob(start + index, found[1], found[1] + found[0])
 
     def content(self, index: int) -> bytes | None:
+        """The bytes of a blob, None where it is not there. Blobs may overlap, so all that are read together are limited."""
         found = self.blob(index) if index else Blob(0, 0, 0)
-        return None if found is None else bytes(self.data[found.content:found.end])
+        if found is None:
+            return None
+        self.left -= found.end - found.content
+        if self.left < 0:
+            raise Damaged("its blobs overlap, and together are much longer than the file")
+        return bytes(self.data[found.content:found.end])
 
     def item(self, form: Form, value: int) -> Item:
         """What a cell names: a text, a blob or a GUID, None where it is not there; and of other cells the number."""

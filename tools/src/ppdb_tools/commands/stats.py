@@ -71,8 +71,8 @@ class Shares:
     def read(self) -> None:
         """Counts all blobs."""
         for row, (name, _, digest, _) in enumerate(self.file.cells(0x30), 1):
-            blob, size = self.blob("blobs", BLOBS[0x30, 0], name)
-            self.documents[row] += size + self.parts(blob) + self.blob("blobs", BLOBS[0x30, 2], digest)[1]
+            _, size = self.blob("blobs", BLOBS[0x30, 0], name)
+            self.documents[row] += size + (self.parts(name) if size else 0) + self.blob("blobs", BLOBS[0x30, 2], digest)[1]
         for document, points in self.file.cells(0x31):
             blob, size = self.blob("blobs", BLOBS[0x31, 1], points)
             first = document or self.initial(blob)
@@ -84,10 +84,9 @@ class Shares:
                 self.blob("blobs", BLOBS[table, column], cells[column])
         self.customs()
 
-    def parts(self, blob: Blob | None) -> int:
+    def parts(self, name: int) -> int:
         """Counts the parts of a document's name."""
-        content = bytes(self.file.data[blob.content:blob.end]) if blob else b""
-        return sum(self.blob("blobs", "parts of names", index)[1] for index in name_parts(content) if index)
+        return sum(self.blob("blobs", "parts of names", index)[1] for index in name_parts(self.file.content(name) or b"") if index)
 
     def initial(self, blob: Blob | None) -> int:
         """The document in a blob of points whose row names none ("Sequence Points Blob")."""
@@ -155,11 +154,11 @@ def run(said: argparse.Namespace) -> int:
         data = file.read()
         try:
             read = DebugFile(data)
+            shares = Shares(read)
+            shares.read()
+            found = ordered(list(shares.all(len(data), names_of(file, read))), said.sort)
         except Damaged as damaged:
             raise Stop(f"{shown(pair.place)}: not read as far as its rows: {damaged}") from damaged
-        shares = Shares(read)
-        shares.read()
-        found = ordered(list(shares.all(len(data), names_of(file, read))), said.sort)
     if said.json:
         out = Out()
         for it in found:
