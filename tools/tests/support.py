@@ -101,7 +101,7 @@ class Doc(NamedTuple):
 
 
 def debug_file(documents: Sequence[Doc], pdb_id: bytes = bytes(20), link: bytes | None = None, local: bytes = b"x") -> bytes:
-    """A debug file with a method for each document: a point at 0 on line 3, in a scope with a local and a constant."""
+    """A debug file with a method for each document: points on the lines 5 to 7, in a scope with a local and a constant."""
     import uuid
     pdb, texts, blobs = pdbfile.Pdb(), pdbfile.Heap(), pdbfile.Heap()
     pdb.id = pdb_id

@@ -142,8 +142,12 @@ class Summary:
         """Finishes the last method, and gives each method the imports of its scopes, which `show` prints after them."""
         if self.points:
             self.points.finish()
+        before = None
         for method, scope in zip(self.scopes[1:], self.scope_imports[1:]):
-            self.methods[method].add("imports", self.imports.get(scope, b""))
+            # Scopes of a method that import the same count once, so that one scope more is no other import.
+            if (method, scope) != before:
+                self.methods[method].add("imports", self.imports.get(scope, b""))
+            before = method, scope
 
     TAKES = {b"id": id, b"document": document, b"method": method, b"point": point, b"scope": scope, b"variable": variable,
              b"constant": constant, b"import": import_scope, b"use": use, b"machine": machine, b"custom": custom}

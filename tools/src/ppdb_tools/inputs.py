@@ -57,7 +57,10 @@ class Input:
     def read(self, most: int = LONGEST) -> bytes:
         """All bytes of the file, no more than `most`."""
         self.file.seek(0)
-        data = self.file.read(most + 1)
+        try:
+            data = self.file.read(most + 1) or b""
+        except OSError as wrong:
+            raise Unreadable(self.name, wrong.strerror or str(wrong)) from wrong
         if len(data) > most:
             raise Unreadable(self.name, f"it has more than {most} bytes")
         return data
@@ -143,7 +146,8 @@ def read_below(file: Path, folder: Path, longest: int = LONGEST) -> bytes | None
         if os.fstat(found.fileno()).st_size > longest:
             return None
         try:
-            data = found.read(longest + 1)
+            # A file of the system that has nothing to say at once gives None.
+            data = found.read(longest + 1) or b""
         except OSError:
             return None
     return data if len(data) <= longest else None

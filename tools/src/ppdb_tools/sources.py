@@ -161,7 +161,10 @@ class Folders:
         if file is None or best is None:
             return None
         with file:
-            data = file.read(self.longest + 1)
+            try:
+                data = file.read(self.longest + 1) or b""
+            except OSError:
+                return None
         # The file may have changed since it was compared.
         return Source(f"found as {best[0].end}", data, state_of(document, data)) if len(data) <= self.longest else None
 

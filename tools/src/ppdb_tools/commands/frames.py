@@ -20,7 +20,7 @@ from ppdb_tools.places import LAST_METHOD, LAST_OFFSET, Lines, Place
 
 DOES = "print the source lines of METHOD OFFSET frames"
 EXAMPLE = "echo '0x06000027 0x9' | ppdb-tools frames app.pdb"
-QUESTION = re.compile(r"(?:0x06([0-9a-fA-F]{6})|(\d{1,8})) (?:0x([0-9a-fA-F]{1,8})|(\d{1,10}))")
+QUESTION = re.compile(r"(?:0x06([0-9a-fA-F]{6})|([0-9]{1,8})) (?:0x([0-9a-fA-F]{1,8})|([0-9]{1,10}))")
 
 
 def words(parser: argparse.ArgumentParser) -> None:

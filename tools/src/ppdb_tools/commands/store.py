@@ -17,7 +17,7 @@ from pathlib import Path
 
 from ppdb_tools import program
 from ppdb_tools.errors import Damaged, Status, Stop
-from ppdb_tools.inputs import Input
+from ppdb_tools.inputs import Input, Unreadable
 from ppdb_tools.names import escaped
 from ppdb_tools.output import Progress, put_line
 from ppdb_tools.outputs import Tree
@@ -42,9 +42,9 @@ def words(parser: argparse.ArgumentParser) -> None:
 def keys(name: str) -> tuple[str, str]:
     """The two spellings of a file's key: in lower case, and as servers that know case are asked."""
     try:
-        with open(name, "rb") as file:
-            is_image = Path(name).is_file() and file.read(2) == b"MZ"
-    except (OSError, ValueError):
+        with Input.open(name) as file:
+            is_image = file.start(2) == b"MZ"
+    except Unreadable:
         is_image = False
     return image_keys(name) if is_image else debug_keys(name)
 
