@@ -1,17 +1,15 @@
 """The command itself: help, wrong words, names, the installation, and what it costs."""
+import argparse
 import os
-import resource
+import re
 import shutil
 import subprocess
 import sys
-import tempfile
-import time
 import unittest
 from pathlib import Path
 
-import pdbfile
 from made import assembly, code_view
-from support import ASYNC, COMMAND, ROOT, TINY, Doc, InFolder, command, debug_file, embedded_source, run
+from support import ASYNC, COMMAND, ROOT, TINY, Doc, InFolder, command, debug_file, embedded_source, pdbfile, run
 
 from ppdb_tools import main
 from ppdb_tools.names import escaped, printable, text_of, unescaped
@@ -39,6 +37,30 @@ class Words(unittest.TestCase):
             self.assertIn("example:\n  ", said)
             self.assertIn(f"ppdb-tools {name}", said)
             self.assertEqual(said, run("help", name).text)
+
+    def test_the_manual_page_and_completions_have_all_words(self) -> None:
+        """Each subcommand and each of its options, but for `--copy`, which is what `store` does anyway."""
+        page = (ROOT / "tools/man/ppdb-tools.1").read_text().replace("\\-", "-")
+        shells = [(ROOT / "tools/completions" / name).read_text() for name in ("ppdb-tools.bash", "_ppdb-tools", "ppdb-tools.fish")]
+        for name in main.SUBCOMMANDS:
+            self.assertIn(f".B {name}\n", page)
+            for shell in shells:
+                self.assertRegex(shell, rf"\b{name}\b")
+            options = [word for action in main.parser_of(name)._actions if not isinstance(action, argparse._HelpAction)
+                       for word in action.option_strings if word != "--copy"]
+            synopsis = "".join(line for line in page.splitlines(True) if line.startswith(f"ppdb-tools {name} "))
+            for option in options:
+                self.assertIn(option, synopsis)
+                self.assertTrue(all(option in shell for shell in shells[:2]) and f" -l {option[2:]} " in shells[2], option)
+            self.assertLessEqual(set(re.findall(r"--[a-z][a-z-]*", synopsis)), set(options))
+
+    def test_completions_are_read(self) -> None:
+        said = 'cd /; . "$0"; COMP_WORDS=(ppdb-tools "$1" "$2"); COMP_CWORD=2; _ppdb_tools; echo "${COMPREPLY[@]}"'
+        ended = subprocess.run(["bash", "-c", said, ROOT / "tools/completions/ppdb-tools.bash", "check", "--fo"], capture_output=True, text=True, check=True)
+        self.assertEqual(ended.stdout, "--format-only --format\n")
+        for shell, name in (("zsh", "_ppdb-tools"), ("fish", "ppdb-tools.fish")):
+            if shutil.which(shell):
+                subprocess.run([shell, "-n", ROOT / "tools/completions" / name], check=True)
 
     def test_wrong_words(self) -> None:
         self.assertEqual(run("none").status, 2)

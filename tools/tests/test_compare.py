@@ -4,9 +4,8 @@ import subprocess
 import os
 import unittest
 
-import pdbfile
 from made import Type, assembly, code_view
-from support import ASYNC, HOSTILE, ROOT, THROW, TINY, Doc, InFolder, debug_file, run
+from support import ASYNC, HOSTILE, ROOT, THROW, TINY, Doc, InFolder, debug_file, pdbfile, run
 
 from ppdb_tools.commands.stats import KINDS
 

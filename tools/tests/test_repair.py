@@ -2,8 +2,7 @@
 import time
 import unittest
 
-import pdbfile
-from support import ASYNC, HOSTILE, ROOT, THROW, Doc, InFolder, debug_file, run
+from support import ASYNC, HOSTILE, ROOT, THROW, Doc, InFolder, debug_file, pdbfile, run
 
 from ppdb_tools.cells import DebugFile
 from ppdb_tools.commands.repair import blob_references

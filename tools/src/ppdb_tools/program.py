@@ -59,7 +59,7 @@ def program() -> str:
     if named:
         return named
     if FINDER.exists():
-        found = subprocess.run([FINDER], stdout=subprocess.PIPE, text=True, check=False)
+        found = subprocess.run([FINDER, "--quiet"], stdout=subprocess.PIPE, text=True, check=False)
         if found.returncode:
             raise Stop("there is no program of this clone: ./ppdb says why", Status.WORDS)
         return found.stdout.strip()

@@ -43,7 +43,9 @@ class Frame(NamedTuple):
 
 def frame_of(text: str) -> Frame | None:
     """The frame of a line, None if it has no offset in a module that it names."""
-    return mono_frame(text) or dotnet_frame(text)
+    if "] in <" in text:
+        return mono_frame(text) or dotnet_frame(text)
+    return dotnet_frame(text) if "oken 0x" in text else None
 
 
 def mono_frame(text: str) -> Frame | None:
@@ -80,7 +82,6 @@ def dotnet_frame(text: str) -> Frame | None:
 
 def no_offset(text: str) -> str | None:
     """Why a line that looks like a frame has no place in a debug file, None if it does not look like one."""
-    for pattern, why in NO_OFFSET:
-        if pattern.search(text):
-            return why
-    return None
+    if ")" not in text:
+        return None
+    return next((why for pattern, why in NO_OFFSET if pattern.search(text)), None)
