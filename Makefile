@@ -22,14 +22,16 @@ zshdir ?= $(datadir)/zsh/site-functions
 fishdir ?= $(datadir)/fish/vendor_completions.d
 DESTDIR ?=
 
+# ppdb-tools: make install-tools copies it alone.
+.DEFAULT_GOAL = all
+include tools/install.mk
+
 # What is installed below docdir as it lies here, so that the links of the documents lead to it.
 documents = README.md CHANGELOG.md CONTRIBUTING.md SECURITY.md NOTICE LICENSE $(wildcard docs/*.md docs/pictures/*.png) docs/lines.schema.json \
   docs/verify-debug-files.yml
 samples = examples/async_iter.cs examples/async_iter.pdb examples/embed_link.pdb $(wildcard examples/library/* examples/weaver/*.cs examples/weaver/tests/*.cs)
-tools = $(addprefix scripts/,stacktrace stack-maps extract-embedded page verify-each symbol-store repair)
 # What make test has run when the checks of make check are run.
 tested = $(addprefix scripts/checks/,check-cases check-readme)
-modules = $(addprefix scripts/shared/,assemblies.py signatures.py symbols.py sources.py command.py cells.py)
 
 .PHONY: all quick lib test check install uninstall release packages clean help
 
@@ -51,28 +53,24 @@ check:
 	@scripts/test
 	@set -e; for script in $(filter-out $(tested),$(wildcard scripts/checks/check-*)); do "$$script"; done
 
-install:
+install: install-tools install-old-names
 	install -d "$(DESTDIR)$(bindir)" "$(DESTDIR)$(mandir)/man1" "$(DESTDIR)$(datadir)/ppdb"
 	install -d "$(DESTDIR)$(bashdir)" "$(DESTDIR)$(zshdir)" "$(DESTDIR)$(fishdir)"
 	program="$(program)"; program=$${program:-$$(scripts/making/program)} && install -m 755 "$$program" "$(DESTDIR)$(bindir)/ppdb"
 	install -m 644 man/ppdb.1 "$(DESTDIR)$(mandir)/man1/ppdb.1"
 	for file in $(documents) $(samples); do install -D -m 644 "$$file" "$(DESTDIR)$(docdir)/$$file"; done
-	install -m 755 $(tools) "$(DESTDIR)$(docdir)/examples"
-	install -D -m 644 -t "$(DESTDIR)$(docdir)/examples/shared" $(modules)
-	install -m 644 share/ppdb/page.html "$(DESTDIR)$(datadir)/ppdb"
 	install -m 644 completions/ppdb.bash "$(DESTDIR)$(bashdir)/ppdb"
 	install -m 644 completions/_ppdb "$(DESTDIR)$(zshdir)/_ppdb"
 	install -m 644 completions/ppdb.fish "$(DESTDIR)$(fishdir)/ppdb.fish"
 	if scripts/making/library is-built; then scripts/making/library install "$(DESTDIR)" "$(prefix)" "$(libdir)" "$(includedir)"; \
 	  else echo "install: the library is left out, since make lib has not built it"; fi
 
-uninstall:
-	rm -f "$(DESTDIR)$(bindir)/ppdb" "$(DESTDIR)$(mandir)/man1/ppdb.1" "$(DESTDIR)$(datadir)/ppdb/page.html"
+uninstall: uninstall-tools
+	rm -f "$(DESTDIR)$(bindir)/ppdb" "$(DESTDIR)$(mandir)/man1/ppdb.1"
 	rm -f "$(DESTDIR)$(bashdir)/ppdb" "$(DESTDIR)$(zshdir)/_ppdb" "$(DESTDIR)$(fishdir)/ppdb.fish"
 	rm -f $(foreach file,$(documents) $(samples),"$(DESTDIR)$(docdir)/$(file)")
-	rm -f $(foreach file,$(notdir $(tools)) $(addprefix shared/,$(notdir $(modules))),"$(DESTDIR)$(docdir)/examples/$(file)")
 	scripts/making/library uninstall "$(DESTDIR)" "$(prefix)" "$(libdir)" "$(includedir)"
-	rmdir $(foreach folder,examples/shared examples/library examples/weaver/tests examples/weaver examples docs/pictures docs,"$(DESTDIR)$(docdir)/$(folder)") \
+	rmdir $(foreach folder,examples/library examples/weaver/tests examples/weaver examples docs/pictures docs,"$(DESTDIR)$(docdir)/$(folder)") \
 	  "$(DESTDIR)$(docdir)" "$(DESTDIR)$(datadir)/ppdb" 2>/dev/null || true
 
 release:

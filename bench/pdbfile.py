@@ -5,8 +5,8 @@ import sys
 import uuid
 from pathlib import Path
 
-sys.path.insert(0, str(Path(__file__).resolve().parent.parent / "scripts/shared"))
-from cells import COLUMNS as CELLS, PARENTS
+sys.path[:0] = [str(Path(__file__).resolve().parent.parent / folder) for folder in ("scripts/shared", "tools/src")]
+from ppdb_tools.cells import COLUMNS as CELLS, PARENTS
 
 # The columns of the tables 30 to 37.
 COLUMNS = {table: [form for _, form in columns] for table, columns in CELLS.items()}

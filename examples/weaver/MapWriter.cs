@@ -76,7 +76,7 @@ public sealed class MapWriter
         foreach (int table in new[] { TypeRef, TypeSpec }) Number(table, Types(module, table));
         foreach (var type in module.GetTypes()) Remember(type);
         if (DebugDirectory.Has(module, DebugDirectory.Embedded))
-            warnings.Add("The debug file is in the module: extract it (scripts/extract-embedded). The new debug file will be beside the new module.");
+            warnings.Add("The debug file is in the module: extract it (ppdb-tools extract). The new debug file will be beside the new module.");
     }
 
     // A module may be open for writing.

@@ -3,7 +3,7 @@
 // writes the module OUT and the maps of the two debug files, OUT.1.map and OUT.2.map, from which ppdb makes the debug file of OUT:
 //     ppdb merge OUT.pdb PROGRAM.pdb OUT.1.map LIBRARY.pdb OUT.2.map --keep-id
 // --rename gives a document of the library another name, --link all documents one Source Link record.
-// `mono Merge.exe --names PROGRAM LIBRARY` prints the names of rows for `scripts/stack-maps --names`.
+// `mono Merge.exe --names PROGRAM LIBRARY` prints the names of rows for `ppdb-tools stack-maps --names`.
 // It moves types and all that is in them. It leaves out what is of a library and not of a type of it: resources, forwarded types,
 // attributes of the assembly, the initializer of the module. Names of types in texts and in arguments of attributes stay as they are.
 using System;

@@ -2,7 +2,12 @@
 v1.0, "Metadata Tables"; ECMA-335 II.24.2). Nothing here is proved, and the program does not use it."""
 import struct
 import uuid
-from typing import Iterator, NamedTuple
+from collections.abc import Iterator
+from typing import NamedTuple
+
+from ppdb_tools.errors import Damaged
+from ppdb_tools.numbers import compressed, number
+from ppdb_tools.pe import Stream, streams_of
 
 # A column is a number of 2 or 4 bytes; the index of a text, blob or GUID; a row of a table; or the coded parent.
 Form = int | str | tuple[str, int]
@@ -26,12 +31,10 @@ PARENTS = [0x06, 0x04, 0x01, 0x02, 0x08, 0x09, 0x0A, 0x00, 0x0E, 0x17, 0x14, 0x1
            0x2C, 0x2B, 0x30, 0x32, 0x33, 0x34, 0x35]
 # The fields of imports by their kinds: `b` the index of a blob, `n` another number ("Imports Blob").
 IMPORTS = {1: "b", 2: "nb", 3: "n", 4: "bb", 5: "b", 6: "bn", 7: "bb", 8: "bnb", 9: "bn"}
-# The most bytes that `ppdb` reads of a file.
-LONGEST = 134217728
-
-
-class Damaged(Exception):
-    """The file cannot be read as far as its rows."""
+# The most bytes of a document's name that is put together here.
+LONGEST_NAME = 1 << 20
+# How many bytes of blobs are read in total, and for each byte of the file.
+BLOBS_IN_TOTAL, BLOBS_EACH = 1 << 24, 8
 
 
 class Cell(NamedTuple):
@@ -50,22 +53,6 @@ class Blob(NamedTuple):
     end: int
 
 
-def number(data: bytes | bytearray, at: int, size: int) -> int:
-    if at + size > len(data):
-        raise Damaged(f"the file ends before byte {at + size}")
-    return int.from_bytes(data[at:at + size], "little")
-
-
-def unsigned(data: bytes | bytearray, at: int, end: int) -> tuple[int, int] | None:
-    """A compressed number and where it ends (ECMA-335 II.23.2), None where it does not end in time."""
-    if at >= end or data[at] >= 0xE0:
-        return None
-    size = 1 if data[at] < 0x80 else 2 if data[at] < 0xC0 else 4
-    if at + size > end:
-        return None
-    return int.from_bytes(data[at:at + size], "big") & {1: 0x7F, 2: 0x3FFF, 4: 0x1FFFFFFF}[size], at + size
-
-
 class DebugFile:
     """A file: its streams, row counts, and where each table begins."""
 
@@ -73,50 +60,39 @@ class DebugFile:
         self.data = data
         if data[:4] != b"BSJB":
             raise Damaged("the file does not begin with BSJB")
-        self.streams = self.read_streams()
+        self.streams = streams_of(data, 0)
+        self.headers_end = headers_end(data)
+        for name in ("#Pdb", "#~"):
+            if name not in self.streams:
+                raise Damaged(f"there is no stream {name}")
+        self.left = BLOBS_EACH * len(data) + BLOBS_IN_TOTAL
         self.counts = [0] * 64
         self.starts: dict[int, int] = {}
         self.rows: dict[int, struct.Struct] = {}
         self.read_tables()
 
-    def read_streams(self) -> dict[str, tuple[int, int]]:
-        flags = 16 + number(self.data, 12, 4)
-        streams, at = {}, flags + 4
-        for _ in range(number(self.data, flags + 2, 2)):
-            offset, size = number(self.data, at, 4), number(self.data, at + 4, 4)
-            end = self.data.find(b"\0", at + 8, at + 41)
-            if end < 0 or offset + size > len(self.data):
-                raise Damaged(f"the stream header at byte {at} fits no stream")
-            streams[self.data[at + 8:end].decode("latin-1")] = (offset, offset + size)
-            at = end + 1 + (at - end - 1) % 4
-        self.headers_end = at
-        for name in ("#Pdb", "#~"):
-            if name not in streams:
-                raise Damaged(f"there is no stream {name}")
-        return streams
-
     def read_counts(self, at: int, bits: int) -> int:
         """Reads a count for each bit, and says where they end."""
         for table in range(64):
             if bits >> table & 1:
-                self.counts[table] = number(self.data, at, 4)
+                self.counts[table] = number(self.data, at, 4, "a row count")
                 at += 4
         return at
 
     def read_tables(self) -> None:
-        head, body = self.streams["#Pdb"][0], self.streams["#~"][0]
-        self.read_counts(head + 32, number(self.data, head + 24, 8) & (1 << 0x2D) - 1)
-        there = number(self.data, body + 8, 8)
+        head, body = self.streams["#Pdb"].start, self.streams["#~"].start
+        self.read_counts(head + 32, number(self.data, head + 24, 8, "the list of tables") & (1 << 0x2D) - 1)
+        there = number(self.data, body + 8, 8, "the list of tables")
         if there & ~sum(1 << table for table in COLUMNS):
             raise Damaged("the stream #~ has other tables than 30 to 37")
         at = self.read_counts(body + 24, there)
-        heaps = number(self.data, body + 6, 1)
+        heaps = number(self.data, body + 6, 1, "the sizes of heaps")
         wide = {"text": heaps & 1, "guid": heaps & 2, "blob": heaps & 4, "parent": any(self.counts[table] >= 2048 for table in PARENTS)}
         for table, columns in COLUMNS.items():
             self.starts[table] = at
             self.rows[table] = struct.Struct("<" + "".join(self.letter(form, wide) for _, form in columns))
             at += self.counts[table] * self.rows[table].size
-        if at > self.streams["#~"][1]:
+        if at > body + self.streams["#~"].size:
             raise Damaged("the rows pass the end of the stream #~")
 
     def letter(self, form: Form, wide: dict[str, bool | int]) -> str:
@@ -129,7 +105,7 @@ class DebugFile:
     def cells(self, table: int) -> Iterator[tuple[int, ...]]:
         """The rows of a table, as the numbers of their cells."""
         start, form = self.starts[table], self.rows[table]
-        return form.iter_unpack(self.data[start:start + self.counts[table] * form.size])
+        return form.iter_unpack(memoryview(self.data)[start:start + self.counts[table] * form.size])
 
     def row(self, table: int, row: int) -> tuple[int, ...]:
         return self.rows[table].unpack_from(self.data, self.starts[table] + (row - 1) * self.rows[table].size)
@@ -139,46 +115,71 @@ class DebugFile:
         form = self.rows[cell.table]
         return self.starts[cell.table] + (cell.row - 1) * form.size + struct.calcsize(form.format[:1 + cell.column])
 
+    def heap(self, name: str) -> tuple[int, int]:
+        """Where a stream begins and ends."""
+        start, size = self.streams.get(name, Stream(0, 0))
+        return start, start + size
+
     def blob(self, index: int) -> Blob | None:
         """The blob of an index that is not 0, None where it is not there."""
-        start, end = self.streams.get("#Blob", (0, 0))
-        found = unsigned(self.data, start + index, end)
+        start, end = self.heap("#Blob")
+        found = compressed(self.data, start + index, end)
         if found is None or found[1] + found[0] > end:
             return None
         return Blob(start + index, found[1], found[1] + found[0])
 
     def content(self, index: int) -> bytes | None:
+        """The bytes of a blob, None where it is not there. Blobs may overlap, so all that are read together are limited."""
         found = self.blob(index) if index else Blob(0, 0, 0)
-        return None if found is None else bytes(self.data[found.content:found.end])
+        if found is None:
+            return None
+        self.left -= found.end - found.content
+        if self.left < 0:
+            raise Damaged("its blobs overlap, and together are much longer than the file")
+        return bytes(self.data[found.content:found.end])
 
     def item(self, form: Form, value: int) -> Item:
         """What a cell names: a text, a blob or a GUID, None where it is not there; and of other cells the number."""
         if form == "blob":
             return self.content(value)
         if form == "text":
-            start, end = self.streams.get("#Strings", (0, 0))
+            start, end = self.heap("#Strings")
             stop = self.data.find(b"\0", start + value, end)
             return b"" if value == 0 else bytes(self.data[start + value:stop]) if stop >= 0 else None
         if form == "guid":
-            start, end = self.streams.get("#GUID", (0, 0))
+            start, end = self.heap("#GUID")
             return bytes(self.data[start + 16 * value - 16:start + 16 * value]) if 0 < value <= (end - start) // 16 else None
         return value
 
+    def length(self, blob: bytes) -> int:
+        """How many bytes a document's name has in the file, without its own blob."""
+        return sum(found.end - found.length for index in name_parts(blob) if index and (found := self.blob(index)))
+
     def name(self, blob: bytes) -> bytes | None:
-        """A document's name, its parts joined; None where it cannot be read, or has more bytes than a file."""
+        """A document's name, its parts joined; None where it cannot be read, or is longer than any name."""
         parts, length = [], 0
         for index in name_parts(blob):
             part = self.content(index)
             length += len(part or b"") + 4
-            if part is None or length > LONGEST:
+            if part is None or length > LONGEST_NAME:
                 return None
             parts.append(part)
         return separator(blob).strip(b"\0").join(parts) if parts else None
 
 
+def headers_end(data: bytes | bytearray) -> int:
+    """Where the stream headers end."""
+    head = 16 + number(data, 12, 4, "the length of the version")
+    at = head + 4
+    for _ in range(number(data, head + 2, 2, "the number of streams")):
+        end = data.find(b"\0", at + 8, at + 41)
+        at = end + 1 + (at - end - 1) % 4
+    return at
+
+
 def numbers(data: bytes, at: int) -> Iterator[int]:
     """The compressed numbers of a blob from one byte on, as far as they can be read."""
-    while found := unsigned(data, at, len(data)):
+    while found := compressed(data, at):
         yield found[0]
         at = found[1]
 

@@ -1,6 +1,10 @@
 """The types of a method's parameters, from its signature (ECMA-335 II.23.2), written as Mono writes them in a stack trace."""
 import re
-from typing import Callable, NamedTuple
+from collections.abc import Callable
+from typing import NamedTuple
+
+from ppdb_tools.errors import Damaged
+from ppdb_tools.numbers import compressed
 
 # Types that are a code alone (II.23.1.16).
 NAMED = {0x01: "System.Void", 0x02: "System.Boolean", 0x03: "System.Char", 0x04: "System.SByte", 0x05: "System.Byte", 0x06: "System.Int16",
@@ -12,6 +16,8 @@ SUFFIXES = {0x0F: "*", 0x10: "&", 0x1D: "[]"}
 VALUE_TYPE, CLASS, OF_TYPE, ARRAY, INSTANCE, FUNCTION, OF_METHOD = 0x11, 0x12, 0x13, 0x14, 0x15, 0x1B, 0x1E
 MODIFIERS = (0x1F, 0x20)
 GENERIC = 0x10
+# A signature may name one long name many times, and types in one another; no compiler writes so much.
+LONGEST, DEEPEST = 1 << 16, 64
 
 
 class Names(NamedTuple):
@@ -26,19 +32,21 @@ class Signature:
 
     def __init__(self, data: bytes, names: Names) -> None:
         self.data, self.at, self.names = data, 0, names
+        self.left, self.depth = LONGEST, 0
 
     def byte(self) -> int:
+        if self.at >= len(self.data):
+            raise Damaged("a signature is cut off")
         self.at += 1
         return self.data[self.at - 1]
 
     def number(self) -> int:
         """A compressed number (II.23.2)."""
-        first = self.byte()
-        if first < 0x80:
-            return first
-        if first < 0xC0:
-            return (first & 0x3F) << 8 | self.byte()
-        return (first & 0x1F) << 24 | self.byte() << 16 | self.byte() << 8 | self.byte()
+        found = compressed(self.data, self.at)
+        if found is None:
+            raise Damaged("a signature has no number where one must be")
+        self.at = found[1]
+        return found[0]
 
     def parameters(self) -> list[str]:
         """The types of the parameters. One that is an instance of a generic type is that type alone: Mono prints it with the names of
@@ -46,23 +54,39 @@ class Signature:
         if self.byte() & GENERIC:
             self.number()
         count = self.number()
+        if count > len(self.data):
+            raise Damaged("a signature has more parameters than bytes")
         self.type()
         return [self.parameter() for _ in range(count)]
 
     def parameter(self) -> str:
         self.pass_modifiers()
-        is_generic = self.data[self.at] == INSTANCE
+        is_generic = self.data[self.at:self.at + 1] == bytes([INSTANCE])
         name = self.type()
         return name.partition("[")[0] + "[" if is_generic else name
 
     def pass_modifiers(self) -> None:
-        while self.data[self.at] in MODIFIERS:
+        while self.at < len(self.data) and self.data[self.at] in MODIFIERS:
             self.at += 1
             self.number()
 
+    def counted(self, name: str) -> str:
+        """A name, as long as the signature is not longer than any that a compiler writes."""
+        self.left -= len(name) + 1
+        if self.left < 0:
+            raise Damaged(f"a signature has more than {LONGEST} characters")
+        return name
+
     def type(self) -> str:
+        self.depth += 1
+        if self.depth > DEEPEST:
+            raise Damaged(f"a signature has more than {DEEPEST} types in one another")
         self.pass_modifiers()
-        code = self.byte()
+        found = self.counted(self.of_code(self.byte()))
+        self.depth -= 1
+        return found
+
+    def of_code(self, code: int) -> str:
         if code in NAMED:
             return NAMED[code]
         if code in SUFFIXES:
@@ -70,8 +94,14 @@ class Signature:
         if code in (VALUE_TYPE, CLASS):
             return self.names.of(self.number())
         if code in (OF_TYPE, OF_METHOD):
-            return (self.names.of_type if code == OF_TYPE else self.names.of_method)[self.number()]
+            return self.generic(self.names.of_type if code == OF_TYPE else self.names.of_method)
         return self.compound(code)
+
+    def generic(self, names: list[str]) -> str:
+        index = self.number()
+        if index >= len(names):
+            raise Damaged(f"a signature names the generic parameter {index} of {len(names)}")
+        return names[index]
 
     def compound(self, code: int) -> str:
         if code == ARRAY:
@@ -79,16 +109,20 @@ class Signature:
         if code == INSTANCE:
             self.byte()
             name, count = self.names.of(self.number()), self.number()
+            if count > len(self.data):
+                raise Damaged("a signature has more arguments than bytes")
             return f"{name}[{','.join(self.type() for _ in range(count))}]"
         if code == FUNCTION:
             return f"({','.join(self.parameters())})"
-        raise ValueError(f"{code:02x} is no type of a signature")
+        raise Damaged(f"{code:02x} is no type of a signature")
 
     def shape(self) -> str:
         """The rank of an array. Its sizes and lower bounds are not printed."""
         rank = self.number()
+        if rank > 32:
+            raise Damaged(f"an array has the rank {rank}")
         for _ in range(2):
-            for _ in range(self.number()):
+            for _ in range(min(self.number(), len(self.data))):
                 self.number()
         return f"[{',' * (rank - 1)}]"
 

@@ -1,0 +1,1 @@
+"""The subcommands, one module each: DOES says in a line what it does, EXAMPLE shows a call, words() adds its words, run() does it."""
