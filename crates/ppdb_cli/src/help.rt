@@ -345,7 +345,7 @@ impl<'a> Hint<'a> {
             [command, option, _] if command.as_str() == "show" && option.as_str() == "--json" =>
                 Hint::JsonFirst,
             [word, topic] if word.as_str() == "help" => Hint::NoHelp(topic.as_str()),
-            [word, _, _, ..] if matches!(word.as_str(), "id" | "verify" | "show" | "links") => {
+            [word, _, _, ..] if takes_one_file(word) && !words.iter().any(is_option) => {
                 Hint::OneFile(word.as_str())
             }
             [word, ..] => match (Topic::named(word), word.as_str()) {
@@ -355,6 +355,15 @@ impl<'a> Hint<'a> {
             },
         }
     }
+}
+
+/// Whether a command takes one file and nothing else.
+fn takes_one_file(word: &String) -> bool {
+    matches!(word.as_str(), "id" | "verify" | "show" | "links")
+}
+
+fn is_option(word: &String) -> bool {
+    word.as_str().starts_with("--")
 }
 
 impl fmt::Display for Hint<'_> {

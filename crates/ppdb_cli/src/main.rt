@@ -94,8 +94,12 @@ fn tell_more(
             Some(refusal) => rt.eprintln(refusal),
             None => Ok(()),
         },
-        Status::ReadFault | Status::WriteFault => match folder.reason() {
-            Some(reason) => rt.eprintln(Failure(reason)),
+        Status::ReadFault => match folder.reason() {
+            Some(reason) => rt.eprintln(Failure::Read(reason)),
+            None => Ok(()),
+        },
+        Status::WriteFault => match folder.reason() {
+            Some(reason) => rt.eprintln(Failure::Write(reason)),
             None => Ok(()),
         },
         Status::Absent if words.iter().any(|word| word.as_str() == "-") => {

@@ -51,17 +51,23 @@ impl fmt::Display for Refusal<'_> {
 
 /// Why a file was not read or not written.
 #[derive(Clone, Copy)]
-pub struct Failure<'a>(pub &'a Reason);
+pub enum Failure<'a> {
+    Read(&'a Reason),
+    Write(&'a Reason),
+}
 
 impl fmt::Display for Failure<'_> {
     fn fmt<W: fmt::Write>(&self, f: &mut fmt::Formatter<W>) -> fmt::Result {
-        let Failure(reason) = *self;
+        let (reason, is_read) = match *self {
+            Failure::Read(reason) => (reason, true),
+            Failure::Write(reason) => (reason, false),
+        };
         let error = reason.error;
         match &reason.name {
             Some(name) => write!(f, "ppdb: {}: {error}", Name(name.as_str()))?,
             None => write!(f, "ppdb: {error}")?,
         }
-        if error.kind() == ErrorKind::IsADirectory {
+        if is_read && error.kind() == ErrorKind::IsADirectory {
             write!(f, "; all files of a folder: ppdb-tools check FOLDER")?;
         }
         Ok(())
