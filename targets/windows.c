@@ -77,13 +77,14 @@ static const wchar_t *long_name(const wchar_t *name, wchar_t *room)
     return wmemcpy(path - 4, L"\\\\?\\", 4);
 }
 
-/* The names that Linux has for the standard streams. */
+/* The names that Linux has for the standard streams. One that is closed is absent. */
 static HANDLE stream_named(const char *path)
 {
     int is_input = !strcmp(path, "/dev/stdin"), is_output = !strcmp(path, "/dev/stdout");
     HANDLE copy = INVALID_HANDLE_VALUE, own = GetCurrentProcess();
-    if (is_input || is_output)
-        DuplicateHandle(own, GetStdHandle(is_input ? STD_INPUT_HANDLE : STD_OUTPUT_HANDLE), own, &copy, 0, FALSE, DUPLICATE_SAME_ACCESS);
+    HANDLE stream = is_input || is_output ? GetStdHandle(is_input ? STD_INPUT_HANDLE : STD_OUTPUT_HANDLE) : INVALID_HANDLE_VALUE;
+    if (stream != INVALID_HANDLE_VALUE && GetFileType(stream) != FILE_TYPE_UNKNOWN)
+        DuplicateHandle(own, stream, own, &copy, 0, FALSE, DUPLICATE_SAME_ACCESS);
     return copy;
 }
 

@@ -18,10 +18,11 @@ DAMAGED, DAMAGED_MAPS = 34, 6
 SIZE = 1000000
 QUERIES = ((1, 0), (1, 7), (2, 1), (3, 40), (5, 0), (39, 1), (0, 0), (99999, 3))
 BAD_WORDS = (
-    [], ["verify"], ["show"], ["nothing", "F"], ["verify", "F", "F"], ["show", "F", "--xml"], ["query", "F", "1"], ["query", "F", "x", "1"], ["query", "F", "01", "1"],
-    ["query", "F", "16777216", "1"], ["query", "F", "1", "2147483648"], ["breaks", "F", "d"], ["rebuild", "F"], ["rebuild", "F", "out", "--free", "x"], ["merge", "out"],
-    ["verify", "absent"], ["show", "absent", "--json"], ["rebuild", "absent", "out"], ["remap", "F", "absent", "out"], ["lookup", "F", "absent"], ["sample", "x"],
-    ["id", "na\u00efve \u30d5\u30a1\u30a4\u30eb.pdb"], ["verify", "--json"], ["compose", "F", "F", "out"], ["breaks", "F", "\u6587\u66f8.cs", "1"],
+    [], ["verify"], ["show"], ["nothing", "F"], ["verify", "F", "F"], ["show", "F", "--xml"], ["query", "F", "1"], ["query", "F", "x", "1"],
+    ["query", "F", "01", "1"], ["query", "F", "16777216", "1"], ["query", "F", "1", "2147483648"], ["breaks", "F", "d"], ["rebuild", "F"],
+    ["rebuild", "F", "out", "--free", "x"], ["merge", "out"], ["verify", "absent"], ["show", "absent", "--json"], ["rebuild", "absent", "out"],
+    ["remap", "F", "absent", "out"], ["lookup", "F", "absent"], ["sample", "x"], ["id", "na\u00efve \u30d5\u30a1\u30a4\u30eb.pdb"], ["verify", "--json"],
+    ["compose", "F", "F", "out"], ["breaks", "F", "\u6587\u66f8.cs", "1"],
 )
 
 
@@ -46,18 +47,19 @@ def odd_runs() -> list[Odd]:
     """Folders, devices, names of all kinds, and standard streams that are closed, full or read."""
     data = (ROOT / "corpus/async_iter.pdb").read_bytes()
     file, far = {"F": data}, "/".join(name * 100 for name in "abc")
+    other, written, short = "na\u00efve \u30d5\u30a1\u30a4\u30eb \U0001f41e.pdb", "v\u00fdstup \u51fa\u529b", "\u30d5"
     return [
         Odd(("verify", "sub"), file), Odd(("rebuild", "F", "sub"), file), Odd(("rebuild", "F", "nowhere/out"), file), Odd(("verify", "nowhere/F"), file),
-        Odd(("verify", "F/x"), file), Odd(("verify", "F/"), file), Odd(("rebuild", "F", "F/x"), file), Odd(("verify", "sub/../F"), file), Odd(("verify", "./F"), file),
+        Odd(("verify", "F/x"), file), Odd(("verify", "F/"), file), Odd(("rebuild", "F", "F/x"), file), Odd(("verify", "sub/../F"), file),
+        Odd(("verify", "./F"), file), Odd(("verify", ""), file), Odd(("verify", 'a"b c\\'), file),
         Odd(("verify", "DEVICE"), file), Odd(("show", "DEVICE"), file), Odd(("rebuild", "F", "DEVICE"), file), Odd(("rebuild", "DEVICE", "out"), file),
         Odd(("show", "F"), file, ">&-"), Odd(("show", "F"), file, ">/dev/full"), Odd(("verify", "F"), file, ">/dev/full"), Odd(("help",), file, ">/dev/full"),
         Odd(("rebuild", "F", "out"), file, ">&-", "out"), Odd(("show", "F"), file, "| head -c 9"), Odd(("verify", "/dev/stdin"), file, "<F"),
         Odd(("show", "/dev/stdin", "--json"), file, "<F"), Odd(("verify", "/dev/stdin"), file, "<&-"), Odd(("rebuild", "F", "/dev/stdout"), file),
         Odd(("verify", far), {far: data}), Odd(("rebuild", far, far), {far: data}, "", far), Odd(("verify", far + "/absent"), {far: data}),
-        Odd(("verify", "na\u00efve \u30d5\u30a1\u30a4\u30eb \U0001f41e.pdb"), {"na\u00efve \u30d5\u30a1\u30a4\u30eb \U0001f41e.pdb": data}),
-        Odd(("rebuild", "F", "v\u00fdstup \u51fa\u529b"), file, "", "v\u00fdstup \u51fa\u529b"), Odd(("show", "\u30d5"), {"\u30d5": data[:99]}),
-        Odd(("--version",), file), Odd(("help",), file), Odd(("help", "remap"), file), Odd(("-h",), file), Odd(("verify", "--help"), file), Odd(("help", "nothing"), file),
-        Odd(("verify", 'a"b c\\'), file), Odd(("verify", ""), file),
+        Odd(("verify", other), {other: data}), Odd(("rebuild", "F", written), file, "", written), Odd(("show", short), {short: data[:99]}),
+        Odd(("--version",), file), Odd(("help",), file), Odd(("help", "remap"), file), Odd(("-h",), file), Odd(("verify", "--help"), file),
+        Odd(("help", "nothing"), file),
     ]
 
 
@@ -161,7 +163,8 @@ def packed(runs: list[Run]) -> bytes:
     asked = []
     for run in runs:
         words = b"".join(word.encode() + b"\0" for word in run.words)
-        names = [struct.pack("<I", len(name.encode())) + name.encode() + struct.pack("<I", blobs.setdefault(data, len(blobs))) for name, data in run.files.items()]
+        numbers = [(name.encode(), blobs.setdefault(data, len(blobs))) for name, data in run.files.items()]
+        names = [struct.pack("<I", len(name)) + name + struct.pack("<I", number) for name, number in numbers]
         asked.append(struct.pack("<I", len(words)) + words + struct.pack("<I", len(names)) + b"".join(names))
     files = [struct.pack("<I", len(data)) + data for data in blobs]
     return b"".join([struct.pack("<I", len(files)), *files, struct.pack("<I", len(asked)), *asked])

@@ -36,7 +36,7 @@ LINUX_ARM64 = Machine("aarch64-unknown-linux-gnu",
 WINDOWS_X64 = Machine("x86_64-w64-windows-gnu", "e-m:w-p270:32:32-p271:32:32-p272:64:64-i64:64-i128:128-f80:128-n8:16:32:64-S128", ("-march=x86-64",),
                       ("-fPIC", "-fPIE", "-ffunction-sections", "-fdata-sections"), ("main", "open", "close", "read", "write"))
 WASM = Machine("wasm64-unknown-unknown", "e-m:e-p:64:64-p10:8:8-p20:8:8-i64:64-i128:128-n32:64-S128",
-               ("-mcpu=lime1", "-mllvm", "-expand-div-rem-bits=64"), ("-fPIC", "-fPIE"))
+               ("-mcpu=lime1", "-mllvm", "-expand-div-rem-bits=64"), ("-fPIC", "-fPIE"), ("main",))
 MACOS_ARM64 = Machine("arm64-apple-macosx11.0.0", "e-m:o-p270:32:32-p271:32:32-p272:64:64-i64:64-i128:128-n32:64-S128-Fn32", (), (), ("main", "open"))
 MACOS_X64 = Machine("x86_64-apple-macosx11.0.0", "e-m:o-p270:32:32-p271:32:32-p272:64:64-i64:64-i128:128-f80:128-n8:16:32:64-S128",
                     ("-march=x86-64",), (), ("main", "open"))
