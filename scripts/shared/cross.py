@@ -13,7 +13,8 @@ TARGETS = ROOT / "targets"
 # What a module for Linux on x86-64 says of its machine alone: how a stack is probed, and for which processor a function is.
 OF_THE_MACHINE = re.compile(r' "(?:probe-stack|stack-probe-size|target-cpu)"="[^"]*"')
 # What the program calls of the system, and its `main`, where targets/ has them under names of its own.
-RENAMED = re.compile(r"@(main|open|close|read|write)\(")
+RENAMED = re.compile(r"@(\w+)\(")
+FILES = ("open", "close", "read", "write", "fsync", "ftruncate", "fchmod", "fchown", "rename", "unlink", "unlinkat", "statx", "readlink", "getpid")
 
 
 @dataclass(frozen=True)
@@ -34,12 +35,12 @@ LINUX_X64 = Machine("x86_64-unknown-linux-gnu", "", ("-march=x86-64",))
 LINUX_ARM64 = Machine("aarch64-unknown-linux-gnu",
                       "e-m:e-p270:32:32-p271:32:32-p272:64:64-i8:8:32-i16:16:32-i64:64-i128:128-n32:64-S128-Fn32", ("-march=armv8-a",))
 WINDOWS_X64 = Machine("x86_64-w64-windows-gnu", "e-m:w-p270:32:32-p271:32:32-p272:64:64-i64:64-i128:128-f80:128-n8:16:32:64-S128", ("-march=x86-64",),
-                      ("-fPIC", "-fPIE", "-ffunction-sections", "-fdata-sections"), ("main", "open", "close", "read", "write"))
+                      ("-fPIC", "-fPIE", "-ffunction-sections", "-fdata-sections"), ("main", *FILES))
 WASM = Machine("wasm64-unknown-unknown", "e-m:e-p:64:64-p10:8:8-p20:8:8-i64:64-i128:128-n32:64-S128",
                ("-mcpu=lime1", "-mllvm", "-expand-div-rem-bits=64"), ("-fPIC", "-fPIE"), ("main",))
-MACOS_ARM64 = Machine("arm64-apple-macosx11.0.0", "e-m:o-p270:32:32-p271:32:32-p272:64:64-i64:64-i128:128-n32:64-S128-Fn32", (), (), ("main", "open"))
+MACOS_ARM64 = Machine("arm64-apple-macosx11.0.0", "e-m:o-p270:32:32-p271:32:32-p272:64:64-i64:64-i128:128-n32:64-S128-Fn32", (), (), ("main", "open", "statx"))
 MACOS_X64 = Machine("x86_64-apple-macosx11.0.0", "e-m:o-p270:32:32-p271:32:32-p272:64:64-i64:64-i128:128-f80:128-n8:16:32:64-S128",
-                    ("-march=x86-64",), (), ("main", "open"))
+                    ("-march=x86-64",), (), ("main", "open", "statx"))
 
 
 class Failed(Exception):
