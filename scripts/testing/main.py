@@ -5,7 +5,6 @@ import sys
 import time
 from collections.abc import Callable
 from concurrent.futures import ProcessPoolExecutor
-from itertools import repeat
 from pathlib import Path
 
 ROOT = Path(__file__).resolve().parents[2]
@@ -20,10 +19,10 @@ GROUPS: dict[str, Callable[[Path, Result], None]] = {
     "remap": readers.remap, "kept": kept, "tools": others.tools}
 
 
-def run(name: str, program: Path) -> tuple[str, Result, float]:
+def run(name: str, program: Path) -> tuple[Result, float]:
     begun, result = time.monotonic(), Result()
     GROUPS[name](program, result)
-    return name, result, time.monotonic() - begun
+    return result, time.monotonic() - begun
 
 
 def main(program: Path, names: list[str]) -> int:
@@ -35,7 +34,10 @@ def main(program: Path, names: list[str]) -> int:
     print(f"program: {program.relative_to(ROOT) if program.is_relative_to(ROOT) else program}, {version}", flush=True)
     results = []
     with ProcessPoolExecutor(len(os.sched_getaffinity(0))) as pool:
-        for name, result, seconds in pool.map(run, names or GROUPS, repeat(program)):
+        # The longest group begins first.
+        begun = {name: pool.submit(run, name, program) for name in sorted(names or GROUPS, key=lambda name: name != "tools")}
+        for name in names or GROUPS:
+            result, seconds = begun[name].result()
             results.append(result)
             if result != Result():
                 print("; ".join([f"{name}: {result}, {seconds:.1f} s", *result.notes]), flush=True)

@@ -34,12 +34,11 @@ def examples(program: Path, result: Result) -> None:
 
 
 def tools(program: Path, result: Result) -> None:
-    """The tests of tools/, each of which is a test of unittest."""
+    """The tests of tools/, by unittest."""
     if not (ROOT / "tools/tests").is_dir():
         return
-    paths = os.pathsep.join(str(ROOT / "tools" / name) for name in ("src", "."))
-    ended = subprocess.run([sys.executable, "-B", "-m", "unittest", "discover", "-s", "tests", "-t", "."], cwd=ROOT / "tools", text=True,
-                           stderr=subprocess.PIPE, check=False, env={**os.environ, "PYTHONPATH": paths, "PPDB": str(program)})
+    ended = subprocess.run([sys.executable, "-B", "-m", "unittest", "discover", "-s", "tools/tests"], cwd=ROOT, text=True, check=False,
+                           stderr=subprocess.PIPE, stdout=subprocess.DEVNULL, env={**os.environ, "PPDB": str(program)})
     ran = re.search(r"^Ran (\d+) test", ended.stderr, re.M)
     counts = {word: int(count) for word, count in re.findall(r"(failures|errors|skipped)=(\d+)", ended.stderr.splitlines()[-1] if ran else "")}
     failed = counts.get("failures", 0) + counts.get("errors", 0)
