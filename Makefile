@@ -1,10 +1,12 @@
-# make              proves and builds the program if it is not built for these sources
+# make              proves and builds the program if it is not built for these sources; without the toolchain it says what is there
+# make test         tests the program that ./ppdb runs, in a minute; it requires python3 and no toolchain
 # make quick        runs the program and all tests unproved, in 30 to 50 minutes
 # make lib          makes libppdb in build/library: an archive, a shared object and the header
-# make check        runs the checks of the built program and of the repository (scripts/checks/check-*), as .ci/run does after the proofs
+# make check        runs make test and the checks of the program and of the repository (scripts/checks/check-*), as .ci/run does after the proofs
 # make install      copies the program, the library if make lib has built it, the manual page, completions, documents and scripts below prefix, by default /usr/local
 # make uninstall    removes what make install copied
-# make release      makes the files of a release in release/: the program, a tar file, a Debian package and their sums
+# make release      makes the files of a release in release/ that require the toolchain: the program, its sum and that of the sources
+# make packages     makes the tar file and the Debian package of the release in build/packages; it requires no toolchain
 # make clean        removes build/ and the built programs; what is proved is kept
 # make help         prints these lines
 PREFIX ?= /usr/local
@@ -28,8 +30,10 @@ include tools/install.mk
 documents = README.md CHANGELOG.md CONTRIBUTING.md SECURITY.md NOTICE LICENSE $(wildcard docs/*.md docs/pictures/*.png) docs/lines.schema.json \
   docs/verify-debug-files.yml
 samples = examples/async_iter.cs examples/async_iter.pdb examples/embed_link.pdb $(wildcard examples/library/* examples/weaver/*.cs examples/weaver/tests/*.cs)
+# What make test has run when the checks of make check are run.
+tested = $(addprefix scripts/checks/,check-cases check-readme)
 
-.PHONY: all quick lib check install uninstall release clean help
+.PHONY: all quick lib test check install uninstall release packages clean help
 
 all:
 	@scripts/making/build
@@ -40,8 +44,14 @@ quick:
 lib:
 	@scripts/making/library
 
-check: all
-	@set -e; for script in scripts/checks/check-*; do "$$script"; done
+test:
+	@scripts/test
+
+# With the toolchain the program is built first; without it the checks take the released one.
+check:
+	@! command -v rt >/dev/null || scripts/making/build
+	@scripts/test
+	@set -e; for script in $(filter-out $(tested),$(wildcard scripts/checks/check-*)); do "$$script"; done
 
 install: install-tools install-old-names
 	install -d "$(DESTDIR)$(bindir)" "$(DESTDIR)$(mandir)/man1" "$(DESTDIR)$(datadir)/ppdb"
@@ -63,8 +73,11 @@ uninstall: uninstall-tools
 	rmdir $(foreach folder,examples/library examples/weaver/tests examples/weaver examples docs/pictures docs,"$(DESTDIR)$(docdir)/$(folder)") \
 	  "$(DESTDIR)$(docdir)" "$(DESTDIR)$(datadir)/ppdb" 2>/dev/null || true
 
-release: all
+release:
 	scripts/making/release
+
+packages:
+	scripts/making/packages
 
 clean:
 	rm -rf build crates/ppdb_cli/out/ppdb_cli crates/tests_blobs_program/out/tests_blobs_program

@@ -8,7 +8,7 @@ _ppdb() {
   COMPREPLY=()
   case $COMP_CWORD:$command in
     1:*) COMPREPLY=($(compgen -W "$commands"$'\nhelp\n--help\n--version' -- "$current")) ;;
-    2:help) COMPREPLY=($(compgen -W "$commands" -- "$current")) ;;
+    2:help) COMPREPLY=($(compgen -W "$commands"$'\n'"$(printf '%s\n' F{1..40} M{1..13} L{1..6})" -- "$current")) ;;
     2:id | 2:verify | 2:show | 2:query | 2:lookup | 2:links | 2:breaks | 2:rebuild | 2:remap)
       compopt -o filenames 2>/dev/null
       COMPREPLY=($(compgen -f -X '!*.pdb' -- "$current") $(compgen -d -- "$current"))

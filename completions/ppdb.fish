@@ -22,6 +22,9 @@ complete -c ppdb -n __fish_use_subcommand -a help -d 'more about a command'
 complete -c ppdb -n __fish_use_subcommand -l help -d 'the commands and the exit statuses'
 complete -c ppdb -n __fish_use_subcommand -l version -d 'the version'
 complete -c ppdb -n '__fish_seen_subcommand_from help; and __ppdb_is_first_word' -a "$commands"
+complete -c ppdb -n '__fish_seen_subcommand_from help; and __ppdb_is_first_word' -a 'F'(seq 40) -d 'what a fault means'
+complete -c ppdb -n '__fish_seen_subcommand_from help; and __ppdb_is_first_word' -a 'M'(seq 13) -d 'how a map does not fit'
+complete -c ppdb -n '__fish_seen_subcommand_from help; and __ppdb_is_first_word' -a 'L'(seq 6) -d 'a limit of the format'
 complete -c ppdb -n '__fish_seen_subcommand_from id verify show query lookup; and __ppdb_is_first_word' -k -a '(__fish_complete_suffix .pdb)'
 complete -c ppdb -n '__fish_seen_subcommand_from links breaks rebuild remap; and __ppdb_is_first_word' -k -a '(__fish_complete_suffix .pdb)'
 complete -c ppdb -n '__fish_seen_subcommand_from lookup rebuild remap merge compose; and not __ppdb_is_first_word' -F

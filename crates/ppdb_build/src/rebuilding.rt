@@ -38,7 +38,6 @@ fn value_bytes<L: Ledger>(
     ensures reread { IfOk result (λ bytes. Says bytes (with_id (value_in (raw_file file.now)) (chosen_id (value_in (raw_file file.now)) id))) }
     ensures again { IfOk result (λ bytes. (again : RawFile) → IsRawOf bytes again → IsSameAgain (value_in (raw_file file.now)) id again) }
 {
-    let _ = file.keeps();
     let value = match value_of(alloc, file, steps) {
         Ok(value) => value,
         Err(Memory) => return Err(BuildError::Memory),

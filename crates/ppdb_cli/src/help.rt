@@ -1,4 +1,5 @@
 // What the program says of itself: its help, its version, and a hint where the words are no command.
+use crate::codes::code_text;
 use std::fmt;
 
 /// The version of the program, of its manual page and of its packages.
@@ -19,6 +20,7 @@ ppdb merge OUT IN MAP ..       writes the debug file of up to 256 modules that b
 ppdb compose FIRST SECOND OUT  writes one map for two rewritings, one after the other
 ppdb sample N                  prints the lengths of a generated file of N methods
 ppdb help COMMAND              prints more about a command; so does COMMAND --help
+ppdb help CODE                 prints what a code of F, M or L means, for example F39
 ppdb --help                    prints this text; so do -h and help
 ppdb --version                 prints the version; so does -V
 
@@ -45,7 +47,10 @@ Exit status, and the line that is printed with it:
 13  the second map is not for the result of the first: sizes differ method METHOD SIZE SIZE
 14  a line of a list is not METHOD OFFSET: list LIST line LINE
 
-The manual page explains every code of F, M and L and what to do about it. FORMAT.md, installed as
+OUT is replaced by a new file when that is whole and on the disk: if a run fails or is ended, OUT is
+as before. Only where the folder takes no new file, or OUT is a device or a pipe, it is written in
+place. Standard error says why a file was refused, not read or not written.
+The manual page explains every code of F, M and L too. FORMAT.md, installed as
 share/doc/ppdb/docs/FORMAT.md, defines map texts (section 5) and how files fit a map, move and join
 (10 to 12).
 ";
@@ -124,7 +129,7 @@ const REBUILD: &str = "ppdb rebuild IN OUT [--keep-id] [--free GUID]..
 
 Verifies IN, then writes to OUT the canonical file with the same contents: the same rows in the same
 order, each heap item once, each number in its shortest form. Files with equal contents become equal
-bytes. Prints nothing. IN is read before OUT is written, so both may be the same file.
+bytes. Prints nothing. OUT may be IN: if the run fails, it is as before (ppdb help).
 --keep-id     keeps the identity of IN; without it the identity is made from the new bytes
 --free GUID   copies records of this unknown kind unchanged; without it they give status 8
 ";
@@ -133,8 +138,8 @@ const REMAP: &str = "ppdb remap IN MAP OUT [--keep-id] [--free GUID]..
 
 Verifies IN, the debug file of a module before it was rewritten, and moves it as MAP says: where
 rows, IL offsets and local slots went. Writes the canonical file to OUT: for each offset that is
-kept, OUT says at the new offset what IN says at the old one. Prints nothing. IN and MAP are read
-before OUT is written, so OUT may be one of them.
+kept, OUT says at the new offset what IN says at the old one. Prints nothing. OUT may be IN
+or MAP: if the run fails, it is as before (ppdb help).
 --keep-id     keeps the identity of IN; without it the identity is made from the new bytes
 --free GUID   copies records of this unknown kind unchanged; without it they give status 8
 
@@ -184,8 +189,8 @@ const MERGE: &str = "ppdb merge OUT IN MAP [IN MAP].. [--keep-id] [--free GUID].
 Verifies each IN, moves it by its MAP as `remap` does, joins all of them and writes the canonical
 file to OUT. There are 1 to 256 inputs, and no two of them may have the same method of the new
 module. Documents with the same name become one; the entry point is that of the first IN. Prints
-nothing. All inputs are read before OUT is written, so OUT may be one of them. Each map has a rows
-line, with the row count of the new module, and a row line for each row, of every table that the
+nothing. OUT may be one of the inputs: if the run fails, it is as before (ppdb help). Each map has a
+rows line, with the row count of the new module, and a row line for each row, of every table that the
 merger changed, at least 01, 02, 06, 11, 1b and 23; the rows lines are the same in all maps:
     ppdbmap 4
     rows 06 10
@@ -209,8 +214,8 @@ const COMPOSE: &str = "ppdb compose FIRST SECOND OUT
 
 Writes to OUT one map of two rewritings: SECOND is the map of a tool that rewrote the result of
 FIRST. For an offset that both maps keep, one step by OUT and the two steps say the same. `remap`
-may report M1 for OUT where it accepts the two steps. OUT is canonical. Prints nothing. Both maps
-are read before OUT is written, so OUT may be one of them.
+may report M1 for OUT where it accepts the two steps. OUT is canonical. Prints nothing. OUT may
+be one of them: if the run fails, it is as before (ppdb help).
 A method must have the same size after FIRST and before SECOND. Otherwise SECOND was made for
 another body: the line is `sizes differ method M A B` for the first such method, and the status is
 13. A text that is not a map is reported by its first invalid line and the rule that it breaks, with
@@ -228,10 +233,12 @@ second. It reads and writes no file. Use it to check another program that writes
     remapped id bffe13bb4dd86b4ba11e593671b42ea9eacb05b2
 ";
 
-const ABOUT_HELP: &str = "ppdb help [COMMAND]
+const ABOUT_HELP: &str = "ppdb help [COMMAND or CODE]
 
-Prints the commands and the exit statuses, or more about one command. `ppdb --help` and `ppdb -h`
-print the first text, `ppdb COMMAND --help` and `ppdb COMMAND -h` the second.
+Prints the commands and the exit statuses, or more about one command, or what a code means that the
+program printed: F1 to F40 of a fault, M1 to M13 of a file that does not fit its map, L1 to L6 of a
+limit. `ppdb --help` and `ppdb -h` print the first text, `ppdb COMMAND --help` and `ppdb COMMAND -h`
+the second.
 ";
 
 /// A command, of which the program can say more.
@@ -322,6 +329,10 @@ pub enum Hint<'a> {
     JsonFirst,
     /// The word is an option that is given alone.
     Alone(&'a str),
+    /// The command takes one file, and there are several; its name.
+    OneFile(&'a str),
+    /// `help` has neither a command nor a code of this name.
+    NoHelp(&'a str),
     /// The command has other words; its name, and what it is.
     Form(&'a str, Topic),
 }
@@ -333,7 +344,10 @@ impl<'a> Hint<'a> {
             [] => Hint::Empty,
             [command, option, _] if command.as_str() == "show" && option.as_str() == "--json" =>
                 Hint::JsonFirst,
-            [word, command] if word.as_str() == "help" => Hint::Unknown(command.as_str()),
+            [word, topic] if word.as_str() == "help" => Hint::NoHelp(topic.as_str()),
+            [word, _, _, ..] if takes_one_file(word) && !words.iter().any(is_option) => {
+                Hint::OneFile(word.as_str())
+            }
             [word, ..] => match (Topic::named(word), word.as_str()) {
                 (Some(topic), name) => Hint::Form(name, topic),
                 (None, name @ ("--help" | "-h" | "--version" | "-V")) => Hint::Alone(name),
@@ -341,6 +355,15 @@ impl<'a> Hint<'a> {
             },
         }
     }
+}
+
+/// Whether a command takes one file and nothing else.
+fn takes_one_file(word: &String) -> bool {
+    matches!(word.as_str(), "id" | "verify" | "show" | "links")
+}
+
+fn is_option(word: &String) -> bool {
+    word.as_str().starts_with("--")
 }
 
 impl fmt::Display for Hint<'_> {
@@ -359,6 +382,14 @@ impl fmt::Display for Hint<'_> {
                 f,
                 "ppdb: {word} takes no other words; more: ppdb help help"
             ),
+            Hint::OneFile(name) => write!(
+                f,
+                "ppdb: {name} takes one file; many files, or all of a folder: ppdb-tools check FILE ..; more: ppdb help {name}"
+            ),
+            Hint::NoHelp(word) => write!(
+                f,
+                "ppdb: no command or code is named {word:?}; ppdb --help lists the commands"
+            ),
             Hint::Form(name, topic) => {
                 let form = topic.form();
                 let note = topic.note();
@@ -376,7 +407,10 @@ pub fn own_text(words: &[String]) -> Option<&'static str> {
             "--version" | "-V" => Some(VERSION),
             _ => None,
         },
-        [word, command] if word.as_str() == "help" => Topic::named(command).map(Topic::text),
+        [word, topic] if word.as_str() == "help" => match Topic::named(topic) {
+            Some(topic) => Some(topic.text()),
+            None => code_text(topic),
+        },
         [command, word] if word.as_str() == "--help" || word.as_str() == "-h" => {
             Topic::named(command).map(Topic::text)
         }

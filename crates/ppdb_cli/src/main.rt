@@ -3,21 +3,20 @@
 
 ghost use Rattle.std.specs.Prelude.{◌≡◌, ◌<◌};
 
+mod codes;
 mod help;
-mod real_folder;
-mod std_sink;
-mod writing;
+mod reasons;
 
 use help::Hint;
 use ppdb_base::{CounterPermit, Folder, Sink, Steps};
+use ppdb_cli_files::{RealFolder, StdSink};
 use ppdb_run::{Status, read_words, run};
-use real_folder::RealFolder;
+use reasons::{Failure, Refusal};
 use std::io::ErrorKind;
 use std::marker::Brand;
 use std::process::ExitCode;
 use std::sync::ledger::{Blank, Ledger};
-use std::{env, io};
-use std_sink::StdSink;
+use std::{env, io, process};
 
 fn main(rt: HostRuntime) -> ExitCode {
     let status = match program_words(&rt) {
@@ -47,26 +46,65 @@ fn program_words(rt: &HostRuntime) -> Result<Vec<String>, Status> {
 /// Runs the command of the words, or puts the text that the program has for them, and writes out standard output.
 fn answer(rt: &HostRuntime, words: &[String]) -> Status {
     let mut out = StdSink::new(io::writer(rt));
-    let mut folder = RealFolder::new(rt);
+    let mut folder = RealFolder::new(rt, process::id(rt.process()));
     let status = match asked_text(words) {
         Some(text) => put_text(&mut out, text),
         None => run_outside(rt, words, &mut folder, &mut out),
     };
+    let refusal = refusal_line(rt, status, out.kept());
     match out.flush() {
-        Err(_) if status != Status::Memory => Status::WriteFault,
+        Err(_) if status != Status::Memory => {
+            tell_unwritten(rt, out.reason());
+            Status::WriteFault
+        }
         _ => {
-            tell_more(rt, words, status, folder.reason());
+            tell_more(rt, words, status, &folder, refusal.as_ref());
             status
         }
     }
 }
 
-/// Prints on standard error what the line of the run does not say: a hint for words that are no command, or why a file was not read or
-/// written.
-fn tell_more(rt: &HostRuntime, words: &[String], status: Status, reason: Option<ErrorKind>) {
-    let _ = match (status, reason) {
-        (Status::Usage, _) => rt.eprintln(Hint::of(words)),
-        (Status::ReadFault | Status::WriteFault, Some(reason)) => eprintln!(rt; "ppdb: {reason}"),
+/// The line of a file that breaks a rule, where the run ended with it and there is memory for it.
+fn refusal_line(rt: &HostRuntime, status: Status, put: &[u8]) -> Option<String> {
+    if status != Status::Refused {
+        return None;
+    }
+    String::from_str(rt.alloc(), str::from_utf8(put).ok()?).ok()
+}
+
+/// Prints on standard error why standard output was not written.
+fn tell_unwritten(rt: &HostRuntime, reason: Option<io::Error>) {
+    if let Some(error) = reason {
+        let _ = eprintln!(rt; "ppdb: standard output: {error}");
+    }
+}
+
+/// Prints on standard error what the line of the run does not say: a hint for words that are no command, what a code means, or why a
+/// file was not read or written.
+fn tell_more(
+    rt: &HostRuntime,
+    words: &[String],
+    status: Status,
+    folder: &RealFolder<'_, HostRuntime>,
+    refusal: Option<&String>,
+) {
+    let _ = match status {
+        Status::Usage => rt.eprintln(Hint::of(words)),
+        Status::Refused => match refusal.and_then(|line| Refusal::of(line.as_str(), folder)) {
+            Some(refusal) => rt.eprintln(refusal),
+            None => Ok(()),
+        },
+        Status::ReadFault => match folder.reason() {
+            Some(reason) => rt.eprintln(Failure::Read(reason)),
+            None => Ok(()),
+        },
+        Status::WriteFault => match folder.reason() {
+            Some(reason) => rt.eprintln(Failure::Write(reason)),
+            None => Ok(()),
+        },
+        Status::Absent if words.iter().any(|word| word.as_str() == "-") => {
+            rt.eprintln("ppdb: - is read as the name of a file; standard input is /dev/stdin")
+        }
         _ => Ok(()),
     };
 }

@@ -6,6 +6,8 @@ mod at_offsets;
 #[cfg(test)]
 mod breaks;
 #[cfg(test)]
+mod copies;
+#[cfg(test)]
 mod files;
 #[cfg(test)]
 mod links;

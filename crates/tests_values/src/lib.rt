@@ -14,4 +14,6 @@ mod samples;
 #[cfg(test)]
 mod soundness;
 #[cfg(test)]
+mod values;
+#[cfg(test)]
 mod worked;

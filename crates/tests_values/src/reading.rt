@@ -1,4 +1,5 @@
 // What is read of worked files, and of two whose scopes own nothing.
+use crate::values::value;
 use crate::worked::{PROGRAM_SLOTS, PROGRAM_STEPS, program_points, small_points};
 use custom_info::Range;
 use ppdb_tables::{MachineRow, Parent};
@@ -9,7 +10,6 @@ use ppdb_values::{
 use sequence_points::Point;
 use std::process::Abort;
 use std::test::Fail;
-use tests_runs::value;
 use worked_files::{EMPTY, PROGRAM, SMALL};
 
 /// The file of one method with an outer scope that owns `x`, a scope that owns nothing, and one that owns `y`.

@@ -9,12 +9,12 @@ use Rattle.ppdb_build.specs.Building.{IsLimitOf}
 use Rattle.ppdb_build.proofs.Alone.{alone_fits, alone_same, alone_sound}
 use Rattle.ppdb_build.proofs.rebuilding.rebuild.Goals as goal
 
-pub write_joined-written-requires-clause-fit : goal.write_joined-written-requires-clause-fit
-write_joined-written-requires-clause-fit g c =
+pub write_joined-requires-clause-fit : goal.write_joined-requires-clause-fit
+write_joined-requires-clause-fit g c =
     alone_fits c.sound_files_stay.ensures c.args.input.now c.requires c.keeps.ensures.sound c.from_ref.result.now c.from_ref.ensures.value
 
-pub write_joined-written-requires-clause-sound : goal.write_joined-written-requires-clause-sound
-write_joined-written-requires-clause-sound g c =
+pub write_joined-requires-clause-sound : goal.write_joined-requires-clause-sound
+write_joined-requires-clause-sound g c =
     alone_sound c.sound_files_stay.ensures c.args.input.now c.requires c.keeps.ensures.sound c.from_ref.result.now c.from_ref.ensures.value
 
 pub returns-in-Err-clause-limit : goal.returns-in-Err-clause-limit

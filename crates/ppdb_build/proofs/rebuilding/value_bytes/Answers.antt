@@ -1,0 +1,16 @@
+use Rattle.ppdb_build.proofs.rebuilding.value_bytes.Goals as goal
+
+pub returns-clause-written : goal.returns-clause-written
+returns-clause-written g c = rw c.in-Ok.ensures.value at c.write_file.ensures.written
+
+pub returns-clause-within : goal.returns-clause-within
+returns-clause-within g c = rw c.in-Ok.ensures.value at c.write_file.ensures.within
+
+pub returns-clause-limit : goal.returns-clause-limit
+returns-clause-limit g c = rw c.in-Ok.ensures.value at c.write_file.ensures.limit
+
+pub returns-clause-reread : goal.returns-clause-reread
+returns-clause-reread g c = rw c.in-Ok.ensures.value at c.write_file.ensures.reread
+
+pub returns-clause-again : goal.returns-clause-again
+returns-clause-again g c = rw c.in-Ok.ensures.value at c.write_file.ensures.again

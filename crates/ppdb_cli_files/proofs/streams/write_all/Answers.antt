@@ -1,0 +1,28 @@
+use Rattle.std.proofs.Common.{◌≡◌, refl, ℕ, ◌-◌, List, [], ◌++◌, rules, length, take, drop, sym, ap, ◌∙◌, subst}
+use Rattle.std.proofs.Common.{append_assoc, append-nil, take-append-drop, drop_of_length-le}
+use Rattle.std.proofs.lemmas.List.{take_rest}
+use Rattle.std.specs.Io.KnownBytes.{Appends}
+use Rattle.std.proofs.KnownBytes.{Appends-trans, Appends-nil}
+use Rattle.ppdb_cli_files.proofs.streams.write_all.Goals as goal
+
+moves_prefix : (all done rest : List ℕ) (n : ℕ) → all ≡ done ++ rest → all ≡ (done ++ take n rest) ++ take (length rest - n) (drop n rest)
+moves_prefix all done rest n e =
+    e ∙ ap (λ l. done ++ l) (sym (take-append-drop n rest)) ∙ sym (append_assoc done (take n rest) (drop n rest))
+    ∙ ap (λ l. (done ++ take n rest) ++ l) (sym (take_rest rest n))
+
+pub loop-rest-init : goal.loop-rest-init
+loop-rest-init g c = ([], refl, Appends-nil _)
+
+pub loop-rest-preserved : goal.loop-rest-preserved
+loop-rest-preserved g c =
+    let (done, split, appended) = c.loop-rest.invariant in
+    let rest = c.loop-rest.rest.now in
+    let n = c.in-Ok.count in
+    (done ++ take n rest, moves_prefix _ done rest n split, Appends-trans _ _ _ _ _ appended c.in-Ok.ensures.bytes)
+
+pub returns : goal.returns
+returns g c =
+    let (done, split, appended) = c.loop-rest.invariant in
+    let rest = c.loop-rest.rest.now in
+    let empty : rest ≡ [] = drop_of_length-le rest {i = 0} (search rules) in
+    record { bytes = subst (Appends _ _) (sym (split ∙ ap (λ l. done ++ l) empty ∙ append-nil done)) appended }

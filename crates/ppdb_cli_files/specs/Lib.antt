@@ -1,0 +1,5 @@
+pub mod Log
+pub mod Disk
+pub mod Replaces
+pub mod Kept
+pub mod Target
