@@ -97,6 +97,48 @@ class Words(unittest.TestCase):
             self.assertIn("example:", subprocess.run([script, "--help"], capture_output=True, text=True, check=True).stdout)
 
 
+class Terminals(InFolder):
+    def on_terminal(self, *words: object, **more: str) -> str:
+        """What a person sees: standard output and standard error are a terminal."""
+        import pty
+        ours, theirs = pty.openpty()
+        env = {name: value for name, value in os.environ.items() if name != "NO_COLOR"} | {"TERM": "xterm"} | more
+        with subprocess.Popen([COMMAND, *map(str, words)], stdin=subprocess.DEVNULL, stdout=theirs, stderr=theirs, env=env) as run:
+            os.close(theirs)
+            found = b""
+            try:
+                while data := os.read(ours, 1 << 16):
+                    found += data
+            except OSError:
+                # The other side of a terminal is closed.
+                pass
+            run.wait()
+        os.close(ours)
+        return found.decode()
+
+    def test_columns_and_colours(self) -> None:
+        self.assertTrue(self.on_terminal("stats", TINY).startswith("\x1b[1mgroup     name"))
+        self.assertTrue(self.on_terminal("stats", TINY, NO_COLOR="1").startswith("group     name"))
+        self.assertNotIn("\t", self.on_terminal("stats", TINY))
+        self.assertIn("\x1b[31m-\x1b[0m", self.on_terminal("sources", TINY))
+        self.assertIn("\x1b[31mno-source", self.on_terminal("check", TINY))
+        self.assertNotIn("\x1b", self.on_terminal("check", TINY, TERM="dumb"))
+
+    def test_names_control_no_terminal(self) -> None:
+        from support import HOSTILE
+        place = self.file("h.pdb", debug_file([Doc(HOSTILE)]))
+        for words in (("stats", place), ("sources", place), ("check", place), ("diff", place, TINY)):
+            seen = re.sub("\x1b\\[[0-9]*m", "", self.on_terminal(*words, NO_COLOR="1"))
+            self.assertTrue(all(line.expandtabs().isprintable() for line in seen.split("\r\n")), words)
+
+    def test_progress_of_long_work(self) -> None:
+        slow = self.file("slow", b"#!/bin/sh\nsleep 0.1\necho accepted\n")
+        slow.chmod(0o755)
+        seen = self.on_terminal("check", "--format", "lines", *[TINY] * 12, PPDB=str(slow))
+        self.assertRegex(seen, r"\r\x1b\[K\d+ of 12 files ")
+        self.assertEqual(command("check", "--format", "lines", *[TINY] * 12, env={**os.environ, "PPDB": str(slow)}).err, "")
+
+
 class Installed(InFolder):
     def test_the_package_and_the_command_are_on_the_path(self) -> None:
         """Nothing that is needed lies below share/doc, which some systems leave out."""

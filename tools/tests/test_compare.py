@@ -52,8 +52,8 @@ class Diff(InFolder):
         after = self.file("b.pdb", of_methods((points(3, 5, 6), b"x"), (points(11, 12), b"y"), (points(21), b"w")))
         self.assertEqual(self.differences(before, after), (1, [["method", "changed", "1", "points"], ["method", "moved", "2", "+1 lines"],
                                                               ["method", "changed", "3", "locals, -z, +w"]]))
-        self.assertEqual(self.differences("--ignore-moved", before, self.file("c.pdb", of_methods((points(4, 5, 6), b"x"), (points(10, 11), b"y"), (points(20), b"z")))),
-                         (0, []))
+        moved = self.file("c.pdb", of_methods((points(4, 5, 6), b"x"), (points(10, 11), b"y"), (points(20), b"z")))
+        self.assertEqual(self.differences("--ignore-moved", before, moved), (0, []))
         ended = run("diff", "--json", before, after)
         self.assertEqual([json.loads(line)["how"] for line in ended.text.splitlines()], ["changed", "moved", "changed"])
 

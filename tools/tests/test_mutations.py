@@ -13,7 +13,8 @@ from support import ASYNC, HOSTILE, ROOT, THROW, Doc, InFolder, debug_file, run
 ROUNDS = int(os.environ.get("PPDB_TOOLS_LONG") or 12)
 IDENTITY = bytes(range(20))
 # What is put into inputs beside random bytes: ends of ranges, names that control a terminal, bytes that are not UTF-8.
-PIECES = (b"\0", b"\xff", b"\xff\xff\xff\xff", b"\x7f\xff\xff\xff", b"\n", b"\r\n", b"\x1b[31m", "\u202e".encode(), b"\xc0\x80", b"MPDB", b"RSDS", b"../", b"\t")
+PIECES = (b"\0", b"\xff", b"\xff\xff\xff\xff", b"\x7f\xff\xff\xff", b"\n", b"\r\n", b"\x1b[31m", "\u202e".encode(), b"\xc0\x80", b"MPDB",
+          b"RSDS", b"../", b"\t")
 
 
 def mutated(data: bytes, choose: random.Random) -> bytes:
@@ -54,7 +55,8 @@ class Mutations(InFolder):
             work(number, mutated(data, random.Random(1000 * seed + number)))
 
     def app(self) -> bytes:
-        types = [Type(b"", b"<Module>", []), Type(b"Shop", b"Order", [(b"Div", b"\0\1\1\x08"), (b"Div", b"\x20\1\1\x1d\x0e")]), Type(b"", b"In", [(b"M", b"\0\0\1")], 2)]
+        order = Type(b"Shop", b"Order", [(b"Div", b"\0\1\1\x08"), (b"Div", b"\x20\1\1\x1d\x0e")])
+        types = [Type(b"", b"<Module>", []), order, Type(b"", b"In", [(b"M", b"\0\0\1")], 2)]
         data = debug_file([Doc(b"/a.cs", bytes(32), bytes(4) + b"text"), Doc(b"/b.cs"), Doc(b"/c.cs")], IDENTITY)
         return assembly([code_view(IDENTITY), embedded(data)], types)
 
@@ -92,7 +94,8 @@ class Mutations(InFolder):
 
     def test_traces(self) -> None:
         self.file("App.pdb", debug_file([Doc(HOSTILE)], IDENTITY))
-        trace = (THROW / "trace").read_bytes() + b"   at A.M() in C:\\x\\App.dll:token 0x6000001+0x0 <00010203-0405-0607-0809-0a0b0c0d0e0f>\n  at A.M () <0x1 + 0x2> in <0>:0 \n"
+        trace = (THROW / "trace").read_bytes() + b"  at A.M () <0x1 + 0x2> in <0>:0 \n" \
+            b"   at A.M() in C:\\x\\App.dll:token 0x6000001+0x0 <00010203-0405-0607-0809-0a0b0c0d0e0f>\n"
 
         def work(seed: int, data: bytes) -> None:
             for folder in (THROW, self.folder):
@@ -120,7 +123,15 @@ class Mutations(InFolder):
             names = ["app.pdb", key, "app.pdb"][:choose.randrange(1, 4)]
             odd = store.joinpath(*names)
             odd.parent.mkdir(parents=True)
-            [lambda: odd.write_bytes(b"x"), lambda: odd.symlink_to(choose.choice(["/", "..", "none", str(odd)])), lambda: os.mkfifo(odd), odd.mkdir][choose.randrange(4)]()
+            kind = choose.randrange(4)
+            if kind == 0:
+                odd.write_bytes(b"x")
+            elif kind == 1:
+                odd.symlink_to(choose.choice(["/", "..", "none", str(odd)]))
+            elif kind == 2:
+                os.mkfifo(odd)
+            else:
+                odd.mkdir()
             self.tried(number, "store", store, place)
             self.tried(number, "stacktrace", store, stdin=b"   at A.M() in App.dll:token 0x6000001+0x0\n", raw=True)
             self.tried(number, "check", store)

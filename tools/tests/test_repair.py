@@ -83,10 +83,10 @@ class StackMaps(InFolder):
         self.assertIn("document /_/a.cs /input2/_/a.cs\n", second)
 
     def test_many_renamed_documents_are_linear(self) -> None:
-        files = [debug_file([Doc(b"/%d.cs" % number, bytes(31) + digit) for number in range(3000)]) for digit in (b"a", b"b")]
+        files = [debug_file([Doc(b"/%d.cs" % number, bytes(31) + digit) for number in range(8000)]) for digit in (b"a", b"b")]
         start = time.process_time()
         self.maps(*(self.file(f"{number}.pdb", data) for number, data in enumerate(files)), "--rename")
-        self.assertLess(time.process_time() - start, 2)
+        self.assertLess(time.process_time() - start, 3)
 
     def test_a_small_file_that_counts_many_rows(self) -> None:
         pdb = pdbfile.Pdb()

@@ -79,7 +79,8 @@ class Page(InPages):
 
     def test_names_that_are_no_paths(self) -> None:
         self.file("a.cs", NEW)
-        for name in (b"/" + b"x" * 300 + b"/a.cs", b"/a.cs/" + b"x" * 300, b"/" + b"d/" * 3000 + b"a.cs", b"/a\0b/a.cs", b"", b"\\\\?\\", HOSTILE, b"\xff/a.cs"):
+        for name in (b"/" + b"x" * 300 + b"/a.cs", b"/a.cs/" + b"x" * 300, b"/" + b"d/" * 3000 + b"a.cs", b"/a\0b/a.cs", b"", b"\\\\?\\", HOSTILE,
+                     b"\xff/a.cs"):
             place = self.file("H.pdb", debug_file([Doc(name, sha(NEW))]))
             self.page(place, "--source", self.folder)
             run("sources", place, "--source", self.folder)
@@ -131,7 +132,8 @@ class Page(InPages):
 class Sources(InFolder):
     def test_a_list(self) -> None:
         link = json.dumps({"documents": {"/src/*": "https://example.org/*"}}).encode()
-        place = self.file("S.pdb", debug_file([Doc(b"/src/a.cs", sha(NEW)), Doc(b"/gen/b.cs", sha(NEW)), Doc(b"/gen/c.cs", sha(NEW), bytes(4) + NEW)], link=link))
+        documents = [Doc(b"/src/a.cs", sha(NEW)), Doc(b"/gen/b.cs", sha(NEW)), Doc(b"/gen/c.cs", sha(NEW), bytes(4) + NEW)]
+        place = self.file("S.pdb", debug_file(documents, link=link))
         ended = run("sources", place)
         self.assertEqual(ended.rows, [["1", "url", "-", "/src/a.cs", "https://example.org/a.cs"], ["2", "none", "-", "/gen/b.cs", "-"],
                                       ["3", "embedded", "agrees", "/gen/c.cs", "-"]])

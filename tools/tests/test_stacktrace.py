@@ -33,6 +33,7 @@ class Traces(unittest.TestCase):
     def test_frames_without_an_offset_say_why(self) -> None:
         self.assertIn("machine code", no_offset("  at A.M () <0x40d0b0 + 0x00013> in <0>:0 "))
         self.assertIn("module", no_offset("  at A.M () [0x00001] in <filename unknown>:0 "))
+        self.assertIn("no file", no_offset("   at A.M() in RefEmit_InMemoryManifestModule:token 0x6000001+0x0"))
         self.assertIsNone(no_offset("System.Exception: text"))
 
     def test_long_lines_are_linear(self) -> None:

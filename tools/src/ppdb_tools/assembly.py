@@ -81,7 +81,8 @@ class Assembly:
 
     def type_name(self, row: int) -> str:
         """The name of a type as C# writes it: types and their generic parameters, with dots between them."""
-        names, before = [], 0
+        names: list[str] = []
+        before = 0
         for at in self.outside_in(row):
             _, name, namespace = self.metadata.row(TYPE_DEF, at)[:3]
             parameters = self.generics.get((TYPE_DEF, at), [])
@@ -115,14 +116,16 @@ class Assembly:
 
     def printed_type(self, table: int, row: int) -> str:
         """The name of a type as Mono prints it: nested types follow a plus. A row of TypeSpec has none."""
-        if table == TYPE_DEF:
-            rows = [self.metadata.row(TYPE_DEF, at)[1:3] for at in self.outside_in(row)]
-        elif table == TYPE_REF:
-            rows = list(self.references(row))[::-1]
-        else:
+        if table not in (TYPE_DEF, TYPE_REF):
             return "?"
+        rows = list(self.references(row))[::-1] if table == TYPE_REF else [self.definition(at) for at in self.outside_in(row)]
         namespace = self.metadata.text(rows[0][1])
         return self.counted((f"{namespace}." if namespace else "") + "+".join(self.metadata.text(name) for name, _ in rows))
+
+    def definition(self, row: int) -> tuple[int, int]:
+        """The name and the namespace of a type."""
+        _, name, namespace = self.metadata.row(TYPE_DEF, row)[:3]
+        return name, namespace
 
     def references(self, row: int) -> Iterator[tuple[int, int]]:
         """The name and the namespace of a type of another assembly, and of those that it is in."""

@@ -147,10 +147,10 @@ class Lines:
             at = bisect_right(points.offsets, offset) - 1
             if at < 0:
                 self.why[place] = "no point is at or before the offset"
-            elif points.lines[at] is None:
+            elif (found := points.lines[at]) is None:
                 self.why[place] = "the code belongs to no line"
             else:
-                start, name, line, column = points.lines[at]
+                start, name, line, column = found
                 self.found[place] = Line(self.document(name), line, column, Place(points.method, start))
 
 

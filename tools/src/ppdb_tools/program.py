@@ -66,7 +66,7 @@ def program() -> str:
     return str(INSTALLED) if INSTALLED.is_file() else shutil.which("ppdb") or "ppdb"
 
 
-def start(words: Sequence[str], stdin: IO[bytes] | int) -> subprocess.Popen:
+def start(words: Sequence[str], stdin: IO[bytes] | int) -> subprocess.Popen[bytes]:
     """Starts the program."""
     try:
         return subprocess.Popen([program(), *words], stdin=stdin, stdout=subprocess.PIPE, stderr=subprocess.DEVNULL)
@@ -107,10 +107,16 @@ def is_utf_8(name: str) -> bool:
     return not any(0xDC80 <= ord(letter) <= 0xDCFF for letter in name)
 
 
-def first_line(run: subprocess.Popen) -> Answer:
+def printed(run: subprocess.Popen[bytes]) -> IO[bytes]:
+    """What a run prints."""
+    assert run.stdout is not None
+    return run.stdout
+
+
+def first_line(run: subprocess.Popen[bytes]) -> Answer:
     """How a run ends, with the first line of what it prints."""
-    line = run.stdout.readline(FIRST_LINE).rstrip(b"\n")
-    while run.stdout.read(FIRST_LINE):
+    line = printed(run).readline(FIRST_LINE).rstrip(b"\n")
+    while printed(run).read(FIRST_LINE):
         pass
     run.wait()
     return ended(run.returncode, line)
@@ -123,7 +129,7 @@ def lines(file: Input, command: str, *words: str, may_be: Sequence[int] = (), mo
     size, held = 0, None
     with start([command, STANDARD_INPUT, *words], file.file) as run:
         try:
-            for line in run.stdout:
+            for line in printed(run):
                 size += len(line)
                 if most is not None and size > most:
                     raise Flooded
@@ -162,4 +168,4 @@ def looked_up(file: Input, places: str, most: int | None = None) -> Iterator[byt
 def version() -> str:
     """What `ppdb --version` prints."""
     with start(["--version"], subprocess.DEVNULL) as run:
-        return run.stdout.read(FIRST_LINE).decode("ascii", "backslashreplace").strip()
+        return printed(run).read(FIRST_LINE).decode("ascii", "backslashreplace").strip()

@@ -83,7 +83,7 @@ class Sarif(Text):
 
     def report(self, report: Report) -> None:
         for it in report.findings:
-            place = {"physicalLocation": {"artifactLocation": {"uri": quote(os.fsencode(report.name), safe="/")}}}
+            place: dict[str, object] = {"physicalLocation": {"artifactLocation": {"uri": quote(os.fsencode(report.name), safe="/")}}}
             if it.document or it.place:
                 place["logicalLocations"] = [{"fullyQualifiedName": it.document or it.place}]
             put(("\n" if self.is_first else ",\n") + json.dumps({"ruleId": it.rule, "level": "error", "message": {"text": line_of(it)}, "locations": [place]}))

@@ -67,10 +67,10 @@ class Symbols:
     def module(self, identity: str) -> tuple[Path, Assembly]:
         """The assembly whose module has the identity."""
         while identity not in self.modules and self.unread:
-            file = self.unread.pop()
-            assembly = self.assembly(file)
+            left = self.unread.pop()
+            assembly = self.assembly(left)
             if assembly:
-                self.modules[assembly.identity] = file
+                self.modules[assembly.identity] = left
         file = self.modules.get(identity)
         assembly = self.assembly(file) if file else None
         if not file or not assembly:

@@ -15,6 +15,7 @@ IDENTITY = re.compile(r"[^\w]{0,8}\b([0-9a-f]{8})-?([0-9a-f]{4})-?([0-9a-f]{4})-
 NO_OFFSET = (
     (re.compile(r"\) <0x[0-9a-f]{1,16} \+ 0x[0-9a-f]{1,16}>", re.I), "it has an offset in machine code only"),
     (re.compile(r"\) \[0x[0-9a-f]{1,8}\] in <filename unknown>:0", re.I), "it does not name its module"),
+    (re.compile(r":token 0x[0-9a-f]{1,8}\+0x[0-9a-f]{1,8}", re.I), "its module is no file"),
     (re.compile(r"\) \+ 0x[0-9a-f]{1,16}$|\) \+\d{1,9}$", re.I), "it has an offset in machine code only"),
 )
 METHOD_TABLE = 0x06

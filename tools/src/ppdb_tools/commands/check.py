@@ -30,7 +30,8 @@ from ppdb_tools.targets import Target, Targets
 DOES = "check the debug files of a build, and that their sources can be found"
 EXAMPLE = "ppdb-tools check bin/Release --source . --format annotations"
 MOST_JOBS = 64
-Item, Result = TypeVar("Item"), TypeVar("Result")
+Item = TypeVar("Item")
+Result = TypeVar("Result")
 
 
 def words(parser: argparse.ArgumentParser) -> None:

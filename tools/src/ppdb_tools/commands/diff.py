@@ -70,11 +70,11 @@ def assembly_of(pair: Pair, named: str | None, pdb_id: bytes) -> Assembly | None
     here = Path(pair.place)
     for data in [pair.image.data] if pair.image else (read_below(here.with_suffix(end), here.parent) for end in (".dll", ".exe")):
         try:
-            assembly = Assembly(data) if data is not None else None
+            found = Assembly(data) if data is not None else None
+            if found and pdb_id in found.debug_ids:
+                return found
         except Damaged:
             continue
-        if assembly and pdb_id in assembly.debug_ids:
-            return assembly
     return None
 
 

@@ -160,11 +160,11 @@ def put_filled(form: str, title: str, blocks: dict[str, bytes]) -> None:
 def page_block(page: dict[str, object], sources: Iterator[tuple[int, dict[str, object]]]) -> bytes:
     """What the page knows beside the lines: JSON with its keys ascending, one source at a time."""
     packer, is_first = Packed(), True
-    for key, value in sorted({**page, "sources": None}.items()):
+    for key in sorted([*page, "sources"]):
         packer.add(("{" if is_first else ",") + json.dumps(key) + ":")
         is_first = False
         if key != "sources":
-            packer.add(compact(value))
+            packer.add(compact(page[key]))
             continue
         packer.add("{")
         for number, (row, source) in enumerate(sources):

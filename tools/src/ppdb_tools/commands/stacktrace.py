@@ -132,8 +132,8 @@ class Trace:
 
     def with_line(self, text: str) -> str:
         """A line of the trace; a frame has its line, if that was found."""
-        file, place = self.places.get(text, (None, None))
-        line = self.lines[file].get(place) if file else None
+        found = self.places.get(text)
+        line = self.lines[found[0]].get(found[1]) if found else None
         frame = frame_of(text) if line else None
         return frame.with_line(printable(line.document), line.line) if frame and line else text
 

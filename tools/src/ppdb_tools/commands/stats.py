@@ -8,7 +8,7 @@ import argparse
 import json
 import uuid
 from collections import Counter
-from collections.abc import Iterator
+from collections.abc import Callable, Iterator
 from typing import NamedTuple
 
 from ppdb_tools import program
@@ -44,7 +44,7 @@ class Share(NamedTuple):
     """What a part of the file has: its group, its name, how many there are, and their bytes."""
     group: str
     name: str
-    count: int
+    number: int
     size: int
 
 
@@ -144,8 +144,12 @@ def names_of(file: Input, read: DebugFile) -> dict[int, str]:
 def ordered(shares: list[Share], by: str | None) -> list[Share]:
     """The lines in their order: the groups stay apart."""
     groups = {group: place for place, group in enumerate(dict.fromkeys(share.group for share in shares))}
-    keys = {"bytes": lambda it: (-it.size, it.name), "count": lambda it: (-it.count, it.name), "name": lambda it: it.name}
-    return sorted(shares, key=lambda it: (groups[it.group], keys[by](it))) if by else shares
+    keys: dict[str, Callable[[Share], tuple[int | str, ...]]] = {
+        "bytes": lambda it: (-it.size, it.name), "count": lambda it: (-it.number, it.name), "name": lambda it: (it.name,)}
+    if by is None:
+        return shares
+    key = keys[by]
+    return sorted(shares, key=lambda it: (groups[it.group], *key(it)))
 
 
 def run(said: argparse.Namespace) -> int:
@@ -162,8 +166,8 @@ def run(said: argparse.Namespace) -> int:
     if said.json:
         out = Out()
         for it in found:
-            out.add(json.dumps({"group": it.group, "name": it.name, "count": it.count, "bytes": it.size}, sort_keys=True))
+            out.add(json.dumps({"group": it.group, "name": it.name, "count": it.number, "bytes": it.size}, sort_keys=True))
         out.write()
     else:
-        put_table(HEAD, ((it.group, printable(text_of(it.name)) if is_terminal() else it.name, it.count, it.size) for it in found))
+        put_table(HEAD, ((it.group, printable(text_of(it.name)) if is_terminal() else it.name, it.number, it.size) for it in found))
     return Status.DONE
