@@ -6,6 +6,7 @@
 # make install      copies the program, the library if make lib has built it, the manual page, completions, documents and scripts below prefix, by default /usr/local
 # make uninstall    removes what make install copied
 # make release      makes the files of a release in release/ that require the toolchain: the program, its sum and that of the sources
+# make targets      makes the programs and libraries for other systems in build/targets (targets/README.md)
 # make packages     makes the tar file and the Debian package of the release in build/packages; it requires no toolchain
 # make clean        removes build/ and the built programs; what is proved is kept
 # make help         prints these lines
@@ -33,7 +34,7 @@ samples = examples/async_iter.cs examples/async_iter.pdb examples/embed_link.pdb
 # What make test has run when the checks of make check are run.
 tested = $(addprefix scripts/checks/,check-cases check-readme)
 
-.PHONY: all quick lib test check install uninstall release packages clean help
+.PHONY: all quick lib test check install uninstall release targets packages clean help
 
 all:
 	@scripts/making/build
@@ -78,6 +79,9 @@ release:
 
 packages:
 	scripts/making/packages
+
+targets:
+	scripts/making/targets
 
 clean:
 	rm -rf build crates/ppdb_cli/out/ppdb_cli crates/tests_blobs_program/out/tests_blobs_program

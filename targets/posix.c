@@ -80,7 +80,6 @@ int statx(int folder, const char *path, int flags, unsigned mask, void *found)
 
 int main(int count, char **words)
 {
-    word_count = count;
-    all_words = words;
+    keep_words(count, words);
     return ppdb_main();
 }

@@ -15,7 +15,7 @@ enum { PATH_UNITS = 32768, LONG_PREFIX = 8, SHORT_ENOUGH = 240, PATH_BYTES = 819
 /* Linux's numbers of errors, flags, and kinds of files. */
 enum {
     IS_ABSENT = 2, IS_IO = 5, IS_BAD_DESCRIPTOR = 9, IS_NO_MEMORY = 12, IS_DENIED = 13, IS_THERE = 17, IS_OTHER_DISK = 18, IS_NO_FOLDER = 20,
-    IS_FOLDER = 21, IS_INVALID = 22, IS_TOO_MANY = 24, IS_FULL = 28, IS_READ_ONLY = 30, IS_NO_READER = 32, IS_TOO_LONG = 36
+    IS_FOLDER = 21, IS_INVALID = 22, IS_TOO_MANY = 24, IS_FULL = 28, IS_READ_ONLY = 30, IS_NO_READER = 32, IS_TOO_LONG = 36, IS_LACKING = 38
 };
 enum { FOR_WRITING = 1, FOR_BOTH = 2, MAY_MAKE = 0100, MUST_MAKE = 0200, CUTS = 01000, APPENDS = 02000 };
 enum { NO_FOLLOW = 0x100, A_PIPE = 010666, A_DEVICE = 020666, A_FOLDER = 040777, A_FILE = 0100666, A_LINK = 0120777 };
@@ -233,6 +233,8 @@ int ppdb_fsync(int descriptor)
     return is_folder(handle) || GetFileType(handle) != FILE_TYPE_DISK ? failed(IS_INVALID) : failed_here();
 }
 
+int ppdb_fdatasync(int descriptor) { return ppdb_fsync(descriptor); }
+
 int ppdb_ftruncate(int descriptor, long long length)
 {
     FILE_END_OF_FILE_INFO end = {.EndOfFile.QuadPart = length};
@@ -242,6 +244,9 @@ int ppdb_ftruncate(int descriptor, long long length)
 /* ppdb_rename keeps who may do what with a file. */
 int ppdb_fchmod(int descriptor, unsigned mode) { (void)descriptor, (void)mode; return 0; }
 int ppdb_fchown(int descriptor, unsigned owner, unsigned group) { (void)descriptor, (void)owner, (void)group; return 0; }
+/* ppdb locks no file. */
+int ppdb_flock(int descriptor, int how) { (void)descriptor, (void)how; return failed(IS_LACKING); }
+
 int ppdb_getpid(void) { return (int)GetCurrentProcessId(); }
 
 /* The name to which the links of a name lead, or the name. */
@@ -349,11 +354,11 @@ static char *in_utf8(const wchar_t *word)
 
 int wmain(int count, wchar_t **words)
 {
-    all_words = malloc(((size_t)count + 1) * sizeof *all_words);
-    if (!all_words)
+    char **all = malloc(((size_t)count + 1) * sizeof *all);
+    if (!all)
         return 5;
     for (int at = 0; at < count; at++)
-        all_words[at] = in_utf8(words[at]);
-    word_count = count;
+        all[at] = in_utf8(words[at]);
+    keep_words(count, all);
     return ppdb_main();
 }

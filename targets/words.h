@@ -1,5 +1,5 @@
-/* What the proved program asks for beside files, as the toolchain's libos_c.a has it for Linux on x86-64: its arguments, its environment
-   and how the system failed last. windows.c and posix.c have the rest. */
+/* What the proved program asks for beside files, as the toolchain's libos_c.a has it for Linux on x86-64: its arguments and its environment.
+   posix.c and windows.c start the program and keep its arguments in words.c. */
 #ifndef PPDB_WORDS_H
 #define PPDB_WORDS_H
 
@@ -8,28 +8,7 @@ typedef unsigned long long size64;
 /* The program's own `main`, under the name that scripts/making/targets gives it. */
 int ppdb_main(void);
 
-static int word_count;
-static char **all_words;
-
-long long rattle_arg_count(void) { return word_count; }
-
-/* Puts an argument, without its zero byte, into `room` bytes. Returns its length; -1 if there is none, -2 if it is longer. */
-long long rattle_arg(size64 at, unsigned char *to, size64 room)
-{
-    if (at >= (size64)word_count)
-        return -1;
-    const char *word = all_words[at];
-    size64 length = 0;
-    for (; word[length]; length++) {
-        if (length == room)
-            return -2;
-        to[length] = (unsigned char)word[length];
-    }
-    return (long long)length;
-}
-
-/* ppdb reads no variable of the environment, so it gets an empty one. */
-long long rattle_env(const char *name, unsigned char *to, size64 room) { (void)name, (void)to, (void)room; return -1; }
-long long rattle_env_at(size64 at, unsigned char *to, size64 room) { (void)at, (void)to, (void)room; return -1; }
+/* Keeps the arguments, the program's name first, in UTF-8. */
+void keep_words(int count, char **words);
 
 #endif

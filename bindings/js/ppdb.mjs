@@ -1,5 +1,5 @@
 // ppdb in JavaScript: the library's functions over bytes, by the module ppdb.wasm. For node and browsers; it needs nothing else.
-// docs/LIBRARY.md says what each call promises. ppdb.d.ts has the types.
+// docs/LIBRARY.md says what each call promises. ppdb.d.mts has the types.
 
 /** What a call returns beside its answer: the exit status of the program. */
 export const Status = Object.freeze({

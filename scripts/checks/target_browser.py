@@ -1,4 +1,5 @@
-"""The part of scripts/checks/check-targets that runs in a browser: a page in Chromium, without a window, that sends its answers back."""
+"""A page in Chromium, without a window, that runs a script over files and sends its answer back: for scripts/checks/check-targets and
+bench/targets."""
 from __future__ import annotations
 
 import subprocess
@@ -7,29 +8,30 @@ from pathlib import Path
 from threading import Event, Thread
 
 ROOT = Path(__file__).resolve().parents[2]
-PATIENCE = 600
-PAGE = b"""<!doctype html><meta charset="utf-8"><script type="module">
-const send = (path, body) => fetch(path, { method: "POST", body });
-try {
-  const { answers } = await import("/scripts/checks/target_calls.mjs");
-  const runs = new Uint8Array(await (await fetch("/runs")).arrayBuffer());
-  const parts = [];
-  for await (const part of answers("/module", runs)) parts.push(part);
-  await send("/answers", new Blob(parts));
-} catch (error) { await send("/failed", String(error)); }
+PATIENCE = 900
+PAGE = """<!doctype html><meta charset="utf-8"><script type="module">
+const send = (path, body) => fetch(path, {{ method: "POST", body }});
+async function answer() {{
+{script}
+}}
+answer().then((body) => send("/answer", body), (error) => send("/failed", String(error)));
 </script>"""
+ANSWERS = """const { answers } = await import("/scripts/checks/target_calls.mjs");
+const parts = [];
+for await (const part of answers("/module", new Uint8Array(await (await fetch("/runs")).arrayBuffer()))) parts.push(part);
+return new Blob(parts);"""
 KINDS = {".mjs": "text/javascript", ".wasm": "application/wasm"}
 
 
-def chromium(module: Path, runs: Path, work: Path) -> bytes:
-    """What the page answers, in the form of target_calls."""
+def served(script: str, files: dict[str, Path], work: Path) -> bytes:
+    """What the script returns in a page that finds the files under their addresses, and the modules of this repository."""
     answered, said = Event(), {}
 
     class Handler(BaseHTTPRequestHandler):
         def do_GET(self) -> None:
-            special = {"/": PAGE, "/runs": runs.read_bytes(), "/module": module.read_bytes()}
-            file = ROOT / self.path.lstrip("/")
-            body = special.get(self.path) or (file.read_bytes() if file.suffix == ".mjs" and file.is_file() else None)
+            file = files.get(self.path) or ROOT / self.path.lstrip("/")
+            body = file.read_bytes() if self.path in files or (file.suffix == ".mjs" and file.is_file()) else None
+            body = PAGE.format(script=script).encode() if self.path == "/" else body
             self.send_response(404 if body is None else 200)
             self.send_header("Content-Type", "text/html" if self.path == "/" else KINDS.get(file.suffix, "application/octet-stream"))
             self.end_headers()
@@ -55,6 +57,11 @@ def chromium(module: Path, runs: Path, work: Path) -> bytes:
         browser.terminate()
         browser.wait()
         server.shutdown()
-    if "/answers" not in said:
-        print(f"check-targets: Chromium: {said['/failed'].decode(errors='replace')}")
-    return said.get("/answers", b"")
+    if "/answer" not in said:
+        print(f"Chromium: {said['/failed'].decode(errors='replace')}")
+    return said.get("/answer", b"")
+
+
+def chromium(module: Path, runs: Path, work: Path) -> bytes:
+    """The answer to each run, in the form of target_calls."""
+    return served(ANSWERS, {"/module": module, "/runs": runs}, work)

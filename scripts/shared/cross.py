@@ -14,7 +14,8 @@ TARGETS = ROOT / "targets"
 OF_THE_MACHINE = re.compile(r' "(?:probe-stack|stack-probe-size|target-cpu)"="[^"]*"')
 # What the program calls of the system, and its `main`, where targets/ has them under names of its own.
 RENAMED = re.compile(r"@(\w+)\(")
-FILES = ("open", "close", "read", "write", "fsync", "ftruncate", "fchmod", "fchown", "rename", "unlink", "unlinkat", "statx", "readlink", "getpid")
+FILES = ("open", "close", "read", "write", "fsync", "fdatasync", "flock", "ftruncate", "fchmod", "fchown", "rename", "unlink", "unlinkat", "statx",
+         "readlink", "getpid")
 
 
 @dataclass(frozen=True)

@@ -23,10 +23,15 @@ def by_script(result: Result, *words: str | Path, **more: str) -> None:
     result.notes += [line.split(": ", 1)[-1] for line in lines[:-1] if ": skipped" in line]
 
 
+def is_older(program: Path) -> bool:
+    """Whether this is the released program, and the sources are newer."""
+    of_sources, released, _ = subprocess.run([ROOT / "scripts/making/look"], stdout=subprocess.PIPE, text=True, check=True).stdout.split()
+    return program == (ROOT / "release/ppdb").resolve() and of_sources != released
+
+
 def cases(program: Path, result: Result) -> None:
-    script = ROOT / "scripts/checks/check-cases"
-    if script.exists():
-        by_script(result, script, program)
+    """A program of these sources is asked all cases, also those of the version that it is about to have."""
+    by_script(result, ROOT / "scripts/checks/check-cases", *(() if is_older(program) else ("--version", "999.0")), program)
 
 
 def examples(program: Path, result: Result) -> None:

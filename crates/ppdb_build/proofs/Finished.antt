@@ -1,5 +1,5 @@
 -- The head and the draft of a value: their limits and their file are those of the value.
-use Rattle.std.proofs.Common.{◌≡◌, ℕ, ◌+◌, List, [], ◌∷◌, ◌++◌, length, take, drop, refl, sym, ap, subst, ◌∙◌, Option, None}
+use Rattle.std.proofs.Common.{◌≡◌, ℕ, ◌+◌, List, [], ◌∷◌, ◌++◌, length, drop, refl, sym, ap, subst, ◌∙◌, Option, None}
 use Rattle.std.specs.List.{filter_map}
 use Rattle.sequence_points.specs.Written.{first_of}
 use Rattle.ppdb_base.specs.declared.limits.Limit.{Limit}

@@ -1,5 +1,5 @@
 -- The points of a method of a file that keeps the rules can be written, and none of their steps from line to line is large.
-use Rattle.std.proofs.Common.{◌≡◌, ℕ, suc, ◌+◌, ◌⊎◌, List, [], ◌∷◌, Option, Some, None, refl, sym, subst, ◌∙◌, arith, inl, inr}
+use Rattle.std.proofs.Common.{◌≡◌, ℕ, suc, ◌+◌, ◌⊎◌, List, [], ◌∷◌, Option, Some, None, refl, subst, arith, inl, inr}
 use Rattle.std.specs.Option.{option_map}
 use Rattle.sequence_points.specs.Points.{PointsReading}
 use Rattle.sequence_points.specs.Records.{sequence_points}

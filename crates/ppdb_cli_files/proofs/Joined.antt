@@ -10,7 +10,8 @@ one None new m h = h
 one (Some before) new m h = (m ∷ [], h, refl)
 
 -- calls, and more calls after them
-pub then : (old mid new : Option (List Made)) (P Q R : List Made → Type 0) → Between old mid P → Between mid new Q → ((xs ys : List Made) → P xs → Q ys → R (xs ++ ys)) → Between old new R
+pub then : (old mid new : Option (List Made)) (P Q R : List Made → Type 0) → Between old mid P → Between mid new Q
+    → ((xs ys : List Made) → P xs → Q ys → R (xs ++ ys)) → Between old new R
 then None mid new P Q R h k f = subst (λ o. Between o new Q) h k
 then (Some before) mid new P Q R (xs, is, p) k f =
     let (ys, ended, q) = subst (λ o. Between o new Q) is k in

@@ -1,5 +1,4 @@
 // The calls that replace a file.
-ghost use Rattle.std.specs.Prelude.{◌≡◌};
 ghost use Rattle.ppdb_cli_files.specs.Log.{Between};
 ghost use Rattle.ppdb_cli_files.specs.Replaces.{Replaces, Fills, Puts};
 

@@ -1,17 +1,7 @@
-//! Tests over several crates: blobs that are read, refused and written.
+//! Tests over several crates: imports that are written, and the rows that blobs name.
 #![tactic(auto)]
 
-#[cfg(test)]
-mod constants;
-#[cfg(test)]
-mod customs;
 #[cfg(test)]
 mod imports;
 #[cfg(test)]
 mod named_rows;
-#[cfg(test)]
-mod points;
-#[cfg(test)]
-mod records;
-#[cfg(test)]
-mod types;

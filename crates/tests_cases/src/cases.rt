@@ -117,7 +117,11 @@ impl Case {
 
     /// Whether a read, a write or a put fails, which only some folders and sinks can be told.
     pub fn is_to_fail(&self) -> bool {
-        !self.failing.is_empty() || self.runs.iter().any(|run| matches!(&run.puts, Puts::Fails(_)))
+        !self.failing.is_empty()
+            || self
+                .runs
+                .iter()
+                .any(|run| matches!(&run.puts, Puts::Fails(_)))
     }
 }
 

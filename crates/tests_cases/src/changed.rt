@@ -58,9 +58,12 @@ fn is_rebuilt_or_refused(rt: &HostRuntime, folder: &mut SteadyFolder) -> Result<
     let (judged, told) = asked(rt, "verify B", folder)?;
     if judged != 0 {
         let (ended, said) = asked(rt, "rebuild B O", folder)?;
-        return Ok(ended == judged && said.as_slice() == told.as_slice() && folder.get("O").is_none());
+        return Ok(
+            ended == judged && said.as_slice() == told.as_slice() && folder.get("O").is_none(),
+        );
     }
-    let first = is_done(rt, "rebuild B O", folder, b"")? && is_done(rt, "verify O", folder, b"accepted\n")?;
+    let first = is_done(rt, "rebuild B O", folder, b"")?
+        && is_done(rt, "verify O", folder, b"accepted\n")?;
     let again = is_done(rt, "rebuild O A", folder, b"")?;
     Ok(first && again && folder.get("O") == folder.get("A"))
 }

@@ -15,11 +15,7 @@ enum Order {
 enum Field {
     Byte(u8),
     /// The number, multiplied and with a number added.
-    Number {
-        order: Order,
-        times: u32,
-        plus: u32,
-    },
+    Number { order: Order, times: u32, plus: u32 },
     /// Eight letters, one for each four bits of the number, the highest first.
     Letters,
 }

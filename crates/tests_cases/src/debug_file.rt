@@ -86,7 +86,8 @@ impl DebugFile {
             "refers" => {
                 let (table, count) = table_and_count(rest)?;
                 self.referenced = with_table(self.referenced, table)?;
-                self.referenced_rows.extend_from_slice(&count.to_le_bytes())?;
+                self.referenced_rows
+                    .extend_from_slice(&count.to_le_bytes())?;
             }
             "rows" => {
                 let (table, count) = table_and_count(rest)?;

@@ -151,7 +151,8 @@ impl<'a> Reader<'a> {
         match self.head.take() {
             Some(head) => {
                 let line = head.line;
-                self.close_head(head, bytes).context(format_args!("line {line}"))
+                self.close_head(head, bytes)
+                    .context(format_args!("line {line}"))
             }
             None if bytes.is_empty() => Ok(()),
             None => bail!("bytes of nothing"),
@@ -183,7 +184,11 @@ impl<'a> Reader<'a> {
             }
             _ => return self.close_of_run(word, text, bytes),
         }
-        if bytes.is_empty() { Ok(()) } else { bail!("bytes of a line that has none") }
+        if bytes.is_empty() {
+            Ok(())
+        } else {
+            bail!("bytes of a line that has none")
+        }
     }
 
     fn last_case(&mut self) -> Result<&mut Case> {
@@ -285,7 +290,9 @@ pub fn read_cases(alloc: Global, text: &str, shared: &[NamedBytes]) -> Result<Ca
     let mut reader = Reader::new(alloc, shared);
     for (number, line) in text.lines().enumerate() {
         let number = number.saturating_add(1);
-        reader.put_line(number, line).context(format_args!("line {number}"))?;
+        reader
+            .put_line(number, line)
+            .context(format_args!("line {number}"))?;
     }
     reader.finish()
 }

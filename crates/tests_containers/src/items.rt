@@ -1,53 +1,7 @@
 // Heaps that are written.
 use ppdb_base::{Bytes, Memory};
-use ppdb_build_heaps::{BlobPiece, GuidHeap, Heap, HeapKind, use_pieces};
+use ppdb_build_heaps::{GuidHeap, Heap, HeapKind};
 use std::alloc::Global;
-
-/// The heap of a document's name, which is split at this separator, with a hash after it, as bytes.
-fn heap_of_name(alloc: Global, separator: u8, name: &[u8], hash: &[u8]) -> Result<Bytes, Memory> {
-    let mut heap = Heap::new(alloc, HeapKind::Blobs);
-    heap.use_item(&[])?;
-    let separators = [separator];
-    let mut pieces = Vec::new(alloc);
-    pieces.push(BlobPiece::Octets(&separators))?;
-    if separator == 0 {
-        pieces.push(BlobPiece::Index(name))?;
-    } else {
-        for part in name.split(|b| *b == separator) {
-            pieces.push(BlobPiece::Index(part))?;
-        }
-    }
-    let mut draft = Bytes::new(alloc);
-    use_pieces(&mut heap, pieces.as_slice(), &mut draft)?;
-    heap.use_item(hash)?;
-    let mut bytes = Bytes::new(alloc);
-    heap.put(&mut bytes)?;
-    Ok(bytes)
-}
-
-#[test]
-fn a_name_stands_after_its_parts(rt: HostRuntime) {
-    let rows = [
-        (0, b"".as_slice(), b"\x00\x02\x00\x00".as_slice()),
-        (b'/', b"/", b"\x00\x03/\x00\x00"),
-        (b'/', b"/a/b", b"\x00\x01a\x01b\x04/\x00\x01\x03"),
-        (b'\\', b"a\\b", b"\x00\x01a\x01b\x03\\\x01\x03"),
-        (b'/', b"a/b\\c", b"\x00\x01a\x03b\\c\x03/\x01\x03"),
-        (b'/', b"a/a", b"\x00\x01a\x03/\x01\x01"),
-        (0, b"abc", b"\x00\x03abc\x02\x00\x01"),
-    ];
-    for (separator, name, expected) in rows {
-        let bytes = heap_of_name(rt.alloc(), separator, name, &[]);
-        assert!(rt; bytes.is_ok_and(|bytes| bytes.as_slice() == expected));
-    }
-}
-
-#[test]
-fn a_hash_that_equals_a_part_is_one_item(rt: HostRuntime) {
-    let bytes = heap_of_name(rt.alloc(), b'/', b"a/b", b"b");
-    let expected = b"\x00\x01a\x01b\x03/\x01\x03".as_slice();
-    assert!(rt; bytes.is_ok_and(|bytes| bytes.as_slice() == expected));
-}
 
 /// The indexes of blobs of so many zeros, one after another after the empty one.
 fn use_zeros(heap: &mut Heap) -> Result<[u64; 5], Memory> {

@@ -1,4 +1,4 @@
-//! Tests over several crates: the parts of a file (its root, its streams, its tables and its heaps), read and laid out.
+//! Tests over several crates: the streams of a file, and its heaps, read and written.
 #![tactic(auto)]
 
 #[cfg(test)]
@@ -6,8 +6,4 @@ mod heaps;
 #[cfg(test)]
 mod items;
 #[cfg(test)]
-mod layout;
-#[cfg(test)]
 mod root;
-#[cfg(test)]
-mod tables;

@@ -1,8 +1,6 @@
-//! Tests over several crates: maps that are read, spelled and made into one, and points that they move.
+//! Tests over several crates: what maps say that are read, how they are spelled and counted, and points that they move.
 #![tactic(auto)]
 
-#[cfg(test)]
-mod composing;
 #[cfg(test)]
 mod counting;
 mod maps;

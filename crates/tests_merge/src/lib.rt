@@ -1,9 +1,5 @@
-//! Tests over several crates: files whose maps fit or do not fit, and files that are merged.
+//! Tests over several crates: files that are merged as values.
 #![tactic(auto)]
 
-#[cfg(test)]
-mod files;
-#[cfg(test)]
-mod fitting;
 #[cfg(test)]
 mod merging;

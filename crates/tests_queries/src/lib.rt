@@ -1,8 +1,6 @@
-//! Tests over several crates: what is asked of a verified file, and the texts that answer.
+//! Tests over several crates: what is asked of a verified file, and a copy of it.
 #![tactic(auto)]
 
-#[cfg(test)]
-mod at_offsets;
 #[cfg(test)]
 mod breaks;
 #[cfg(test)]
@@ -10,10 +8,6 @@ mod copies;
 #[cfg(test)]
 mod files;
 #[cfg(test)]
-mod links;
-#[cfg(test)]
 mod on_rows;
 #[cfg(test)]
 mod opening;
-#[cfg(test)]
-mod texts;

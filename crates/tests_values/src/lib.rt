@@ -1,4 +1,4 @@
-//! Tests over several crates: values that are sound or not, what is read of files as a value, and what values are written as.
+//! Tests over several crates: values that are sound or not, and what values are written as.
 #![tactic(auto)]
 
 #[cfg(test)]
@@ -6,14 +6,8 @@ mod limits;
 #[cfg(test)]
 mod parts;
 #[cfg(test)]
-mod reading;
-#[cfg(test)]
-mod records;
-#[cfg(test)]
 mod samples;
 #[cfg(test)]
 mod soundness;
-#[cfg(test)]
-mod values;
 #[cfg(test)]
 mod worked;

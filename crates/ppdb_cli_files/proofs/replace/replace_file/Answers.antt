@@ -10,10 +10,17 @@ returns-in-Err g c = weaker _ _ _ _ (one _ _ (refused Create) c.in-Err.ensures)
     (λ xs h. subst (Replaces _ _) (sym h) (run_not_made c.args.bytes.now c.in-Err.error))
 
 pub returns-in-Err-fill : goal.returns-in-Err-fill
-returns-in-Err-fill g c = not_written_between _ _ _ _ c.args.bytes.now c.in-Err-fill.error c.in-Err-fill.error _ c.in_default.ensures c.in-Err-fill.ensures c.remove.ensures
+returns-in-Err-fill g c =
+    let e = c.in-Err-fill.error in
+    not_written_between _ _ _ _ c.args.bytes.now e e _ c.in_default.ensures c.in-Err-fill.ensures c.remove.ensures
 
 pub returns-in-Ok : goal.returns-in-Ok
-returns-in-Ok g c = named_between _ _ _ _ c.args.bytes.now true _ c.in_default.ensures c.in_default-fill.ensures c.in-Ok.ensures (run_done c.args.bytes.now)
+returns-in-Ok g c =
+    let bytes = c.args.bytes.now in
+    named_between _ _ _ _ bytes true _ c.in_default.ensures c.in_default-fill.ensures c.in-Ok.ensures (run_done bytes)
 
 pub returns-in-Err-flush_folder : goal.returns-in-Err-flush_folder
-returns-in-Err-flush_folder g c = named_between _ _ _ _ c.args.bytes.now false _ c.in_default.ensures c.in_default-fill.ensures c.in-Err-flush_folder.ensures (run_not_flushed c.args.bytes.now c.in-Err-flush_folder.error)
+returns-in-Err-flush_folder g c =
+    let bytes = c.args.bytes.now in
+    let e = c.in-Err-flush_folder.error in
+    named_between _ _ _ _ bytes false _ c.in_default.ensures c.in_default-fill.ensures c.in-Err-flush_folder.ensures (run_not_flushed bytes e)
