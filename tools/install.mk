@@ -11,7 +11,7 @@ install-tools:
 	install -d "$(DESTDIR)$(bindir)" "$(DESTDIR)$(mandir)/man1" "$(DESTDIR)$(bashdir)" "$(DESTDIR)$(zshdir)" "$(DESTDIR)$(fishdir)"
 	install -D -m 644 -t "$(DESTDIR)$(tooldir)" $(package)
 	install -D -m 644 -t "$(DESTDIR)$(tooldir)/commands" $(subcommands)
-	install -m 644 share/ppdb/page.html "$(DESTDIR)$(datadir)/ppdb"
+	install -m 644 tools/src/ppdb_tools/page.html "$(DESTDIR)$(datadir)/ppdb"
 	install -m 755 tools/ppdb-tools "$(DESTDIR)$(bindir)/ppdb-tools"
 	install -m 644 tools/man/ppdb-tools.1 "$(DESTDIR)$(mandir)/man1/ppdb-tools.1"
 	install -m 644 tools/completions/ppdb-tools.bash "$(DESTDIR)$(bashdir)/ppdb-tools"

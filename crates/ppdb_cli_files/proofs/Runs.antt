@@ -3,7 +3,7 @@ use Rattle.std.proofs.Common.{ℕ, ◌≡◌, ◌⊎◌, ◌<◌, Bool, true, fa
 use Rattle.std.specs.Prelude.{All, Any, Contains, Result, Ok, Err, is_ok, option_map}
 use Rattle.std.proofs.lemmas.List.Elements.{All-nil, All-cons, All-tail, All-append, All-push, All-weaker, All-contains_itself}
 use Rattle.std.specs.declared.io.Error.{Error}
-use Rattle.ppdb_cli_files.specs.declared.place.{Call.{Call, TheVariants.{Create, Write, Flush, Rename, FlushFolder, Remove, Overwrite}}, Made.{Made}}
+use Rattle.ppdb_cli_files.specs.declared.place.{Call.TheVariants.{Create, Write, Flush, Rename, FlushFolder, Remove, Overwrite}, Made.{Made}}
 use Rattle.ppdb_cli_files.specs.declared.replace.ReplaceError.{ReplaceError, TheVariants.{NotMade, NotWritten, NotFlushed}}
 use Rattle.ppdb_cli_files.specs.Log.{Between}
 use Rattle.ppdb_cli_files.specs.Disk.{Found, Whole, Disk, found_at, newest}
