@@ -16,7 +16,7 @@ sys.dont_write_bytecode = True
 sys.path[:0] = [str(ROOT / "tools/src"), str(ROOT / "bench"), str(Path(__file__).resolve().parent)]
 if not os.environ.get("PPDB"):
     # The program is looked for once, not for each test.
-    os.environ["PPDB"] = subprocess.run([ROOT / "scripts/making/program"], stdout=subprocess.PIPE, text=True, check=True).stdout.strip()
+    os.environ["PPDB"] = subprocess.run([ROOT / "scripts/making/program", "--quiet"], stdout=subprocess.PIPE, text=True, check=True).stdout.strip()
 
 import pdbfile  # noqa: E402
 from ppdb_tools import main  # noqa: E402

@@ -3,6 +3,7 @@ import hashlib
 import json
 import os
 import re
+import shutil
 import unittest
 
 from made import assembly, code_view, embedded
@@ -79,6 +80,12 @@ class Check(InFolder):
                          ["App.dll", "App.pdb", "native.dll", "Library.DLL"])
         self.assertEqual(ended.status, 0)
         self.assertIn("1 links", ended.err)
+        with open(self.file("long/one.exe", b"MZ"), "r+b") as file:
+            file.truncate(200 << 20)
+        self.file("long/App.pdb", pdb)
+        self.assertEqual(run("check", self.folder / "long").status, 0)
+        self.assertEqual(run("check", self.folder / "long/one.exe").status, 3)
+        shutil.rmtree(self.folder / "long")
         (self.folder / "empty").mkdir()
         self.assertEqual(run("check", self.folder / "empty").status, 3)
         self.assertEqual(len(run("check", "--format", "json", self.folder / "bin", self.folder / "bin/App.pdb", self.folder).text.splitlines()), 6)

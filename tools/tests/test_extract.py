@@ -127,6 +127,21 @@ class Images(unittest.TestCase):
         with self.assertRaises(Damaged):
             Assembly(assembly(types=types)).names()
 
+    def test_many_entries_of_one_long_path(self) -> None:
+        start = time.process_time()
+        with self.assertRaises(Damaged):
+            _ = Image(assembly([code_view(OWN, b"x" * 60000)] * 2000)).code_views
+        self.assertLess(time.process_time() - start, 2)
+
+    def test_many_methods_of_one_name_with_long_signatures(self) -> None:
+        types = [Type(b"", b"A", [(b"M", b"\0\x8f\xa0\1" + b"\x08" * 4000)] * 800)]
+        read = Assembly(assembly(types=types))
+        start = time.process_time()
+        with self.assertRaises(Damaged):
+            for kind, method in read.printed["A.M"]:
+                read.parameters(kind, method)
+        self.assertLess(time.process_time() - start, 5)
+
     def test_brackets(self) -> None:
         for name, less in {"A`1[T].M": "A`1.M", "a[b[c]]d": "ad", "a]b[c": "a]b[c", "a[b]c[": "ac[", "": ""}.items():
             self.assertEqual(without_brackets(name), less)

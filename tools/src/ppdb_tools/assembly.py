@@ -13,7 +13,7 @@ from ppdb_tools.signatures import Names, Signature
 # How deep types may be in one another.
 DEEPEST = 64
 # How many characters all names together may have: so many for each byte of the file, and some more.
-SPARE = 1 << 24
+SPARE = 1 << 23
 
 
 class Assembly:
@@ -140,7 +140,9 @@ class Assembly:
     def parameters(self, kind: int, method: int) -> list[str]:
         """The types of the parameters of a method of a type, as Mono prints them."""
         names = Names(functools.cache(self.coded_type), self.generics.get((TYPE_DEF, kind), []), self.generics.get((METHOD_DEF, method), []))
-        return Signature(self.metadata.blob(self.metadata.row(METHOD_DEF, method)[4]), names).parameters()
+        found = Signature(self.metadata.blob(self.metadata.row(METHOD_DEF, method)[4]), names).parameters()
+        self.counted(" ".join(found))
+        return found
 
     def coded_type(self, coded: int) -> str:
         """The name of a type that a signature names (II.23.2.8)."""

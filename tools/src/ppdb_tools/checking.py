@@ -10,7 +10,7 @@ from ppdb_tools.debug_files import identity, neighbours, stored_identity
 from ppdb_tools.described import described, links
 from ppdb_tools.errors import Damaged, NoAssembly
 from ppdb_tools.faults import FAULTS, code_of, sentence
-from ppdb_tools.inputs import Input, Unreadable, opened_below
+from ppdb_tools.inputs import Input, TooLong, Unreadable, opened_below
 from ppdb_tools.names import printable, text_of
 from ppdb_tools.pe import Image
 from ppdb_tools.sources import DAMAGED, DIFFERS, Folders
@@ -62,7 +62,9 @@ class Checker:
                     return self.assembly(file, is_named)
                 return Report(name, self.debug_file(file))
         except Unreadable as unreadable:
-            return Report(name, [Finding(READ, unreadable.reason)])
+            # A program with everything in one file is longer than any assembly that is read.
+            is_left_out = isinstance(unreadable, TooLong) and not is_named and not name.lower().endswith(".pdb")
+            return Report(name, [] if is_left_out else [Finding(READ, unreadable.reason)], is_left_out)
 
     def assembly(self, file: Input, is_named: bool) -> Report:
         """What is found in an assembly, and in its debug file."""

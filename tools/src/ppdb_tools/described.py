@@ -1,6 +1,6 @@
 """What `ppdb show --json` and `ppdb links --json` say of a debug file's documents and sources (docs/lines.schema.json)."""
 import json
-from collections.abc import Callable, Iterable
+from collections.abc import Callable
 from dataclasses import dataclass, field
 from typing import NamedTuple
 
@@ -73,8 +73,3 @@ def links(file: Input) -> Links:
             raise
         return Links({}, "it is not JSON" if refused.answer.line.endswith("json") else "it has not the shape of a Source Link record")
     return Links({row["row"]: row["address"] for row in rows if row["address"] not in (None, r"\-")}, "")
-
-
-def by_row(documents: Iterable[Document]) -> dict[int, Document]:
-    """Documents by their rows."""
-    return {document.row: document for document in documents}

@@ -23,6 +23,10 @@ class Unreadable(Stop):
         self.reason = reason
 
 
+class TooLong(Unreadable):
+    """A file that is longer than any that is read."""
+
+
 class Input:
     """A file, open to be read, and its name as the words have it."""
 
@@ -39,7 +43,7 @@ class Input:
         size = os.fstat(file.fileno()).st_size
         if size > longest:
             file.close()
-            raise Unreadable(name, f"it has {size} bytes, above {longest}")
+            raise TooLong(name, f"it has {size} bytes, above {longest}")
         return cls(name, file)
 
     @classmethod

@@ -13,6 +13,8 @@ from ppdb_tools.numbers import Data, number, piece
 # The most bytes that `ppdb` reads of a file, and so the most that an embedded one may have.
 LONGEST = 134217728
 ENTRY_SIZE = 28
+# Compilers write five entries; each may name the same long path, so there is a limit to them.
+MOST_ENTRIES, LONGEST_PATH = 64, 0x8000
 # The kinds of entries of a debug directory.
 CODE_VIEW, EMBEDDED, CHECKSUM = 2, 17, 19
 # The data directories that .NET uses.
@@ -152,6 +154,8 @@ class Image:
             return []
         if size % ENTRY_SIZE:
             raise Damaged(f"the debug directory has {size} bytes, which are no whole entries of {ENTRY_SIZE}")
+        if size > MOST_ENTRIES * ENTRY_SIZE:
+            raise Damaged(f"the debug directory has {size // ENTRY_SIZE} entries, above {MOST_ENTRIES}")
         first = self.place(address, size, "the debug directory")
         return [self._entry(at) for at in range(first, first + size, ENTRY_SIZE)]
 
@@ -172,8 +176,7 @@ class Image:
         return [found for entry in self.of_kind(CODE_VIEW) if (found := self._code_view(entry))]
 
     def _code_view(self, entry: DebugEntry) -> CodeView | None:
-        # No path is longer than 64 KiB; so many entries over the same bytes cost no more than their own.
-        data = piece(self.data, entry.start, min(entry.size, 0x10000), "a CodeView entry")
+        data = piece(self.data, entry.start, min(entry.size, LONGEST_PATH), "a CodeView entry")
         if data[:4] != b"RSDS" or len(data) < 24:
             return None
         return CodeView(data[4:20], entry.stamp, int.from_bytes(data[20:24], "little"), data[24:].partition(b"\0")[0])
