@@ -30,20 +30,21 @@ class TypeMatcher:
         return self.found
 
     def by_name(self) -> None:
-        """A new type has the name of one old type; of several ones that with the most members in common, and then the first."""
-        rows = grouped(self.new.type_names)
-        claims: dict[int, list[tuple[float, int, int]]] = defaultdict(list)
+        """A new type has the name of one old type; of several ones that with the most members in common, and then the first. A nested type
+        follows the one around it."""
+        claims: dict[int, list[tuple[int, int]]] = defaultdict(list)
+        news = grouped(self.new.type_names)
         for index, old in enumerate(self.olds):
             for name, olds in grouped(old.type_names).items():
-                news = rows.get(name, [])
                 # Names that a module has more than once are those of types in their order.
-                if len(olds) == len(news):
-                    for row, image in zip(olds, news):
-                        claims[image].append((0, index, row))
-        for image, wanted in claims.items():
-            if len(wanted) > 1:
-                wanted = sorted((-likeness(self.olds[index], row, self.new, image), index, row) for _, index, row in wanted)
-            self.take(wanted[0][1], wanted[0][2], image)
+                if len(olds) == len(news.get(name, ())):
+                    for row, image in zip(olds, news[name]):
+                        claims[image].append((index, row))
+        for image in sorted(claims, key=lambda row: self.new.type_names[row].count("/")):
+            wanted = [(index, row) for index, row in claims[image] if self.around(index, row) == self.new.enclosing.get(image, 0)]
+            if wanted:
+                index, row = min(wanted, key=lambda at: -likeness(self.olds[at[0]], at[1], self.new, image)) if len(wanted) > 1 else wanted[0]
+                self.take(index, row, image)
         for index, old in enumerate(self.olds):
             self.share_module(index, old)
 
