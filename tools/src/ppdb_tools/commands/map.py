@@ -30,7 +30,7 @@ EXAMPLE = "ppdb-tools map old/App.dll new/App.dll && ppdb remap old/App.pdb new/
 def words(parser: argparse.ArgumentParser) -> None:
     parser.add_argument("modules", metavar="OLD", nargs="+", help="the modules before, and without --into the one after")
     parser.add_argument("--into", metavar="NEW", help="the module that all OLD became")
-    parser.add_argument("-o", "--output", metavar="MAP", help="write this map, with several OLD MAP.1, MAP.2 and so on; - is the standard output")
+    parser.add_argument("--output", metavar="MAP", help="write this map, with several OLD MAP.1, MAP.2 and so on; - is the standard output")
     parser.add_argument("--explain", metavar="METHOD", help="print both bodies of a method: TYPE::NAME, NAME, or its row in OLD")
 
 
