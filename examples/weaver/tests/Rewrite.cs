@@ -1,6 +1,7 @@
-// `mono Rewrite.exe WAY IN OUT` writes the module OUT, its map OUT.map by MapWriter, and OUT.changed: the old instructions, each by the row
-// of its method and its offset, that are another instruction now (another opcode or operand). `mono Rewrite.exe` lists the ways.
-// What weavers, trimmers, optimisers and obfuscators do, so that other writers of maps can be compared with MapWriter, which knows the objects.
+// What weavers, trimmers, optimisers and obfuscators do, so that other writers of maps can be compared with MapWriter, which knows the
+// objects. `mono Rewrite.exe FOLDER IN..` rewrites each module in each way: FOLDER/WAY-IN has the new module in the file `new`, its map in
+// `map`, and in `map.changed` the old instructions, each by the row of its method and its offset, that are another instruction now (another
+// opcode or operand); `offsets` has all old instructions, and `old` names these files for scripts/checks/compare-maps.
 using System;
 using System.Collections.Generic;
 using System.IO;
@@ -48,28 +49,36 @@ static class Rewrite
     static readonly HashSet<Instruction> changed = new HashSet<Instruction>();
     static MethodReference say, sayThis;
 
-    static int Main(string[] words)
+    static void Main(string[] words)
     {
-        if (words.Length < 3)
-        {
-            foreach (var way in ways.Keys) Console.WriteLine(way);
-            return words.Length == 0 ? 0 : 2;
-        }
-        using (var module = ModuleDefinition.ReadModule(words[1]))
+        foreach (var file in words.Skip(1))
+            foreach (var way in ways)
+            {
+                var folder = Path.Combine(words[0], way.Key + "-" + Path.GetFileNameWithoutExtension(file));
+                Directory.CreateDirectory(folder);
+                Write(file, folder, way.Value);
+            }
+    }
+
+    static void Write(string file, string folder, Action<ModuleDefinition> change)
+    {
+        string now = Path.Combine(folder, "new"), offsets = Path.Combine(folder, "offsets"), written = Path.Combine(folder, "map");
+        changed.Clear();
+        using (var module = ModuleDefinition.ReadModule(file))
         {
             var map = MapWriter.Start(module);
             var places = Methods(module).SelectMany(method => method.Body.Instructions.Select(i => new { i, method.MetadataToken.RID, i.Offset })).ToList();
             var before = places.ToDictionary(place => place.i, place => Meaning(place.i));
+            File.WriteAllLines(offsets, places.Select(place => place.RID + " " + place.Offset));
             AddSayers(module);
-            ways[words[0]](module);
-            foreach (var place in places)
-                if (before[place.i] != Meaning(place.i)) changed.Add(place.i);
+            change(module);
+            foreach (var place in places) if (before[place.i] != Meaning(place.i)) changed.Add(place.i);
+            File.WriteAllLines(written + ".changed", places.Where(place => changed.Contains(place.i)).Select(place => place.RID + " " + place.Offset));
             map.Keep(module);
-            module.Write(words[2], map.WriterParameters());
-            map.Save(words[2], words[2] + ".map");
-            File.WriteAllLines(words[2] + ".changed", places.Where(place => changed.Contains(place.i)).Select(place => place.RID + " " + place.Offset));
+            module.Write(now, map.WriterParameters());
+            map.Save(now, written);
         }
-        return 0;
+        File.WriteAllText(Path.Combine(folder, "old"), file + " " + offsets + " " + written + "\n");
     }
 
     // What an instruction does, whatever its form: the same text before and after if nothing but names and the form changed.

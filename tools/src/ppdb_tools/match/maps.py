@@ -101,12 +101,12 @@ class Mapper:
         left = set(self.members.left_new())
         if not left:
             return
-        rows = []
+        rows: dict[int, bool] = {}
         for row, image in enumerate(each.methods):
             if image:
                 old, new = prepared(self.old_names[key], row), prepared(self.new_names, image)
                 if old and new and old.keys != new.keys and is_little_left(old, new, left):
-                    rows.append(row)
+                    rows[row] = len(compare(old, new).pairs) == len(old)
         find_homes(self.members, key, rows)
 
     def add_rows(self, key: int, found: Result) -> None:

@@ -173,14 +173,14 @@ def mark_unsure(matcher: MemberMatcher, key: int) -> None:
                 each.unsure[row] = f"has the same code as {len(news)} new method{'s' * (len(news) > 1)}"
 
 
-def find_homes(matcher: MemberMatcher, key: int, rows: list[int]) -> None:
+def find_homes(matcher: MemberMatcher, key: int, rows: dict[int, bool]) -> None:
     """The new methods that have the code of old ones whose own name has other code now: it went to a method, the only one with this code,
-    or one that the old one calls."""
+    or one that the old one calls. Of each of these old methods `rows` says whether all of its code is in its own new body too."""
     if not rows or not matcher.left_new():
         return
     each = matcher.inputs[key]
     new, old = matcher.neutral_namers(each, key)
-    first, second = by_code(codes(old, rows)), by_code(codes(new, matcher.left_new()))
+    first, second = by_code(codes(old, list(rows))), by_code(codes(new, matcher.left_new()))
     for code, olds in first.items():
         for row in olds:
             called = called_methods(prepared(new, each.methods[row]))
@@ -189,10 +189,9 @@ def find_homes(matcher: MemberMatcher, key: int, rows: list[int]) -> None:
                 or len(olds) == len(second[code]) == 1 and is_distinctive(old, row))]
             if len(homes) == 1:
                 # So short a body is also what a tool adds.
-                is_short = len(prepared(old, row) or ()) < SHORTEST
-                each.homes[row] = 0 if is_short else homes[0]
-                if is_short:
-                    each.unsure[row] = "is as short as a new method that it calls"
+                each.homes[row] = 0 if rows[row] else homes[0]
+                if rows[row]:
+                    each.unsure[row] = "may be itself, or a new method that it calls"
                 else:
                     matcher.taken_methods.add(homes[0])
 
