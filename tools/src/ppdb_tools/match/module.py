@@ -145,8 +145,8 @@ class Module:
         if row not in self.known:
             self.known.add(row)
             self.spent += len(found.code) + 24 * len(found.clauses)
-            if self.spent > MOST_SHARING * len(self.metadata.image.data):
-                raise Damaged("the bodies of many methods overlap")
+        if self.spent > MOST_SHARING * len(self.metadata.image.data):
+            raise Damaged("the bodies of many methods overlap")
         return found
 
     def string(self, token: int) -> bytes:
