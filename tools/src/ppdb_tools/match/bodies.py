@@ -133,14 +133,17 @@ class Prepared:
                 stack = list(saved[at])
             elif not falls:
                 stack = []
-            pops, pushes = self.effect(at, len(stack))
+            pops, pushes = POPS[operation], PUSHES[operation]
+            if pops < 0 or pushes < 0:
+                pops, pushes = self.effect(at, len(stack))
             for index in range(min(pops, len(stack))):
                 source = stack.pop()
                 if index == 0:
                     producer[at] = source
                 if source >= 0 and consumer[source] < 0:
                     consumer[source], place[source] = at, pops - 1 - index
-            stack += [at] * pushes
+            if pushes:
+                stack += (at,) * pushes
             if at in self.targets:
                 for target in self.targets[at]:
                     if target > at:

@@ -31,6 +31,8 @@ class Result:
     def __init__(self, module: Module) -> None:
         self.module, self.map = module, Map()
         self.findings: list[Finding] = []
+        # The old and the new local signature of each method.
+        self.signatures: dict[int, tuple[int, int]] = {}
         self.counts = Counts()
 
     def find(self, row: int, text: str) -> None:
@@ -66,30 +68,41 @@ class Mapper:
     def result(self, key: int) -> Result:
         """The map of an input."""
         each, found = self.inputs[key], Result(self.inputs[key].module)
-        self.find_homes(key)
         self.add_rows(key, found)
-        homes: dict[int, tuple[int, int] | None] = {}
-        signatures: dict[int, tuple[int, int]] = {}
-        entry = entry_point(each.module)
-        for row in range(1, len(each.methods)):
-            found.counts.methods += 1
-            image = self.home(each, row)
-            old = prepared(self.old_names[key], row)
-            new = prepared(self.new_names, image) if image else None
-            if not image or (has_code(each.module, row) and not self.add_code(found, row, old, new, row == entry)):
-                found.map.drops.add(row)
-                if not image and row in each.unsure:
-                    found.counts.undecided += 1
-                    found.find(row, f"is left out: it {each.unsure[row]}")
-                continue
-            found.counts.matched += 1
-            homes[row] = (tables.METHOD_DEF, image)
-            signatures[row] = (old.body.signature if old else 0, new.body.signature if new else 0)
-        found.map.rows[tables.METHOD_DEF] = homes
-        images, found.map.signatures = signature_images(signatures)
+        found.map.rows[tables.METHOD_DEF] = {}
+        left = set(self.members.left_new())
+        little = {row: whole for row in range(1, len(each.methods)) if (whole := self.add_method(key, found, row, left)) is not None}
+        find_homes(self.members, key, little)
+        for row in little:
+            self.add_method(key, found, row, set())
+        images, found.map.signatures = signature_images(found.signatures)
         found.map.rows[tables.STAND_ALONE_SIG] = images
         found.map.shares = any(is_shared(found.map.rows.get(table, {})) for table in SHARING)
+        found.findings.sort(key=lambda finding: finding.method)
         return found
+
+    def add_method(self, key: int, found: Result, row: int, left: set[int]) -> bool | None:
+        """Adds what became of a method. One whose code may be in one of the new methods `left` is not added: whether all of its code is in
+        its own new body, too, is the answer."""
+        each = self.inputs[key]
+        image = self.home(each, row)
+        old, new = prepared(self.old_names[key], row), prepared(self.new_names, image) if image else None
+        same = compare(old, new) if old and new else None
+        if left and same and old.keys != new.keys and is_little_left(old, new, same, left):
+            return len(same.pairs) == len(old)
+        found.counts.methods += 1
+        if not image:
+            found.map.drops.add(row)
+            if row in each.unsure:
+                found.counts.undecided += 1
+                found.find(row, f"is left out: it {each.unsure[row]}")
+        elif has_code(each.module, row) and not self.add_code(found, row, old, new, same):
+            found.map.drops.add(row)
+        else:
+            found.counts.matched += 1
+            found.map.rows[tables.METHOD_DEF][row] = (tables.METHOD_DEF, image)
+            found.signatures[row] = (old.body.signature if old else 0, new.body.signature if new else 0)
+        return None
 
     @staticmethod
     def home(each: Input, row: int) -> int:
@@ -103,10 +116,11 @@ class Mapper:
             return
         rows: dict[int, bool] = {}
         for row, image in enumerate(each.methods):
-            if image:
-                old, new = prepared(self.old_names[key], row), prepared(self.new_names, image)
-                if old and new and old.keys != new.keys and is_little_left(old, new, left):
-                    rows[row] = len(compare(old, new).pairs) == len(old)
+            old, new = (prepared(self.old_names[key], row), prepared(self.new_names, image)) if image else (None, None)
+            if old and new and old.keys != new.keys:
+                same = compare(old, new)
+                if is_little_left(old, new, same, left):
+                    rows[row] = len(same.pairs) == len(old)
         find_homes(self.members, key, rows)
 
     def add_rows(self, key: int, found: Result) -> None:
@@ -117,20 +131,20 @@ class Mapper:
             if each.module.count(table) or self.new.count(table):
                 found.map.counts[table] = self.new.count(table)
 
-    def add_code(self, found: Result, row: int, old: Prepared | None, new: Prepared | None, is_entry: bool) -> bool:
+    def add_code(self, found: Result, row: int, old: Prepared | None, new: Prepared | None, same: Comparison | None) -> bool:
         """Adds what became of the code of a method; false if nothing of it is left, or if it cannot be read."""
-        if old is None or new is None:
+        if old is None or new is None or same is None:
             found.find(row, "is left out: its code is damaged" if old is None else "is left out: it has no code that can be read any more")
             return False
-        same = compare(old, new)
         found.counts.instructions += len(old)
         found.counts.kept += len(same.pairs)
         found.counts.unsure += len(same.unsure)
         for text in sentences(old, same):
             found.find(row, text)
-        if not same.pairs and not is_entry:
+        # The debug file names the entry point, also without a line of it.
+        if not same.pairs and row != entry_point(found.module):
             return False
-        found.map.code[row] = code_map(old, new, same, self.version)
+        found.map.code[row] = code_map(old, new, same)
         self.add_slots(found, row, old, same)
         return True
 
@@ -148,10 +162,10 @@ class Mapper:
         found.map.slots[row] = slots
 
 
-def is_little_left(old: Prepared, new: Prepared, left: set[int]) -> bool:
+def is_little_left(old: Prepared, new: Prepared, same: Comparison, left: set[int]) -> bool:
     """Whether half of a method's code or more is not in its new body; or some of it is not, or there is little, and the new body calls a
     method that is new."""
-    kept = len(compare(old, new).pairs)
+    kept = len(same.pairs)
     return kept * 2 <= len(old) or (kept < len(old) or kept < SHORTEST) and not left.isdisjoint(called_methods(new))
 
 
@@ -171,7 +185,7 @@ def is_shared(images: dict[int, tuple[int, int] | None]) -> bool:
     return len(there) != len(set(there))
 
 
-def code_map(old: Prepared, new: Prepared, same: Comparison, version: int = NEWEST) -> CodeMap:
+def code_map(old: Prepared, new: Prepared, same: Comparison) -> CodeMap:
     """The runs of pairs; of an instruction whose length changed the common part. New code between them is hidden."""
     starts, places = old.code.offsets, new.code.offsets
     found = CodeMap(starts[-1], places[-1])
