@@ -137,7 +137,7 @@ class Texts5(unittest.TestCase):
         self.assertEqual((with_more.link, with_more.documents), ("x", {"\\-": "/b"}))
 
     def test_what_is_no_map(self) -> None:
-        for wrong in (b"", b"ppdbmap 9", b"ppdbmap 4\nrun 0 0 1", b"ppdbmap 4\nrow 06 1 1", b"ppdbmap 4\nslot 1 0 0", b"ppdbmap 4\nrows x", b"ppdbmap 4\nhello"):
+        for wrong in (b"", b"ppdbmap 9", *(b"ppdbmap 4\n" + line for line in (b"run 0 0 1", b"row 06 1 1", b"slot 1 0 0", b"rows x", b"hello"))):
             with self.assertRaises(Damaged, msg=wrong):
                 read_map(wrong, "m")
 
@@ -155,7 +155,8 @@ class Commands(InFolder):
 
     def test_new_code_and_a_new_method(self) -> None:
         """The whole map, by hand: 10 bytes come before the code, and the method is in row 2."""
-        status, lines, said = self.maps(self.one(Method(b"Run", BODY)), self.one(Method(b"Log", RETURN, VOID_OF_TEXT), Method(b"Run", LOG + call(0x06000001) + BODY)))
+        new = self.one(Method(b"Log", RETURN, VOID_OF_TEXT), Method(b"Run", LOG + call(0x06000001) + BODY))
+        status, lines, said = self.maps(self.one(Method(b"Run", BODY)), new)
         self.assertEqual(lines, ["ppdbmap 4", "rows 00 1", "row 00 1 1", "rows 01 1", "row 01 1 1", "rows 02 2", "row 02 1 1", "row 02 2 2", "rows 06 2",
                                  "row 06 1 2", "rows 0a 1", "rows 20 1", "row 20 1 1", "rows 23 1", "row 23 1 1", "method 1 23 33", "run 0 10 23"])
         self.assertEqual((status, said[-1][1:]), (0, ["kept", "1 of 1 methods, 7 of 7 instructions; not decided: 0 methods, 0 instructions"]))
@@ -186,7 +187,8 @@ class Commands(InFolder):
 
     def test_a_local_that_is_gone_is_said(self) -> None:
         old = constant(7) + STORE_0 + ONE + STORE_1 + LOAD_1 + POP + RETURN
-        status, lines, said = self.maps(self.one(Method(b"Run", old, VOID, LOCALS)), self.one(Method(b"Run", ONE + STORE_0 + LOAD_0 + POP + RETURN, VOID, b"\x07\x01\x0e")))
+        new = ONE + STORE_0 + LOAD_0 + POP + RETURN
+        status, lines, said = self.maps(self.one(Method(b"Run", old, VOID, LOCALS)), self.one(Method(b"Run", new, VOID, b"\x07\x01\x0e")))
         self.assertEqual((status, lines[-4:]), (1, ["slots 1", "slot 1 1 0", "method 1 15 9", "run 6 0 9"]))
         self.assertIn("M10", said[0][2])
 
@@ -254,7 +256,8 @@ class Commands(InFolder):
         self.assertEqual(run("map", program, self.folder / "none").status, 3)
 
     def test_explain(self) -> None:
-        old, new = self.file("o.dll", self.one(Method(b"Run", NOP + ONE + POP + RETURN))), self.file("n.dll", self.one(Method(b"Run", NOP + NOP + DUP + ONE + POP + RETURN)))
+        old = self.file("o.dll", self.one(Method(b"Run", NOP + ONE + POP + RETURN)))
+        new = self.file("n.dll", self.one(Method(b"Run", NOP + NOP + DUP + ONE + POP + RETURN)))
         lines = [line.split() for line in run("map", old, new, "--explain", "Run").text.splitlines()]
         self.assertIn(["1", "ldstr", "'one'", "=", "3", "ldstr", "'one'"], lines)
         self.assertIn(["+", "2", "dup"], lines)
@@ -284,8 +287,8 @@ class Commands(InFolder):
         self.assertEqual(self.checked(["no map"])[0], 3)
 
     def test_a_wrong_slot(self) -> None:
-        code = constant(7) + STORE_0 + LOAD_0 + POP + RETURN
-        _, lines, _ = self.maps(self.one(Method(b"Run", code, VOID, LOCALS)), self.one(Method(b"Run", constant(7) + STORE_1 + LOAD_1 + POP + RETURN, VOID, b"\x07\x02\x0e\x08")))
+        old, new = constant(7) + STORE_0 + LOAD_0 + POP + RETURN, constant(7) + STORE_1 + LOAD_1 + POP + RETURN
+        _, lines, _ = self.maps(self.one(Method(b"Run", old, VOID, LOCALS)), self.one(Method(b"Run", new, VOID, b"\x07\x02\x0e\x08")))
         self.assertEqual(self.checked(lines)[0], 0)
         self.assertEqual(self.checked([line for line in lines if not line.startswith("slot")])[0], 1)
 

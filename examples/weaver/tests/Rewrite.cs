@@ -6,6 +6,7 @@ using System;
 using System.Collections.Generic;
 using System.IO;
 using System.Linq;
+using System.Runtime.CompilerServices;
 using Mono.Cecil;
 using Mono.Cecil.Cil;
 
@@ -91,7 +92,7 @@ static class Rewrite
         if (name.StartsWith("ldloc.") || name.StartsWith("stloc.") || name.StartsWith("ldarg.")) return name.Split('.')[0];
         if (operand is VariableDefinition || operand is ParameterDefinition) return name;
         if (operand is Instruction) return name;
-        return name + " " + (operand == null ? "" : operand is MemberReference ? "#" + System.Runtime.CompilerServices.RuntimeHelpers.GetHashCode(operand) : operand.ToString());
+        return name + " " + (operand is MemberReference ? "#" + RuntimeHelpers.GetHashCode(operand) : operand == null ? "" : operand.ToString());
     }
 
     static int Number(Instruction instruction)
@@ -292,12 +293,13 @@ static class Rewrite
     static void Guard(MethodBody body)
     {
         var module = body.Method.Module;
-        foreach (var parameter in body.Method.Parameters.Where(p => !p.ParameterType.IsValueType && !p.ParameterType.IsByReference && !p.ParameterType.IsGenericParameter
-            && !(p.ParameterType is TypeSpecification)))
+        Func<TypeReference, bool> isClass = type => !type.IsValueType && !type.IsByReference && !type.IsGenericParameter && !(type is TypeSpecification);
+        foreach (var parameter in body.Method.Parameters.Where(parameter => isClass(parameter.ParameterType)))
         {
             var first = body.Instructions[0];
-            Before(body, first, Instruction.Create(OpCodes.Ldarg, parameter), Instruction.Create(OpCodes.Brtrue, first), Instruction.Create(OpCodes.Ldstr, "null"),
-                Instruction.Create(OpCodes.Newobj, module.ImportReference(typeof(Exception).GetConstructor(new[] { typeof(string) }))), Instruction.Create(OpCodes.Throw));
+            var exception = module.ImportReference(typeof(Exception).GetConstructor(new[] { typeof(string) }));
+            Before(body, first, Instruction.Create(OpCodes.Ldarg, parameter), Instruction.Create(OpCodes.Brtrue, first),
+                Instruction.Create(OpCodes.Ldstr, "null"), Instruction.Create(OpCodes.Newobj, exception), Instruction.Create(OpCodes.Throw));
         }
     }
 
@@ -350,8 +352,10 @@ static class Rewrite
     static void AddFinally(MethodBody body, Instruction first, Instruction after)
     {
         var start = Instruction.Create(OpCodes.Ldstr, "out");
-        foreach (var instruction in new[] { start, Instruction.Create(OpCodes.Call, say), Instruction.Create(OpCodes.Endfinally) }) body.Instructions.Add(instruction);
-        body.ExceptionHandlers.Add(new ExceptionHandler(ExceptionHandlerType.Finally) { TryStart = first, TryEnd = start, HandlerStart = start, HandlerEnd = after });
+        var code = new[] { start, Instruction.Create(OpCodes.Call, say), Instruction.Create(OpCodes.Endfinally) };
+        foreach (var instruction in code) body.Instructions.Add(instruction);
+        var handler = new ExceptionHandler(ExceptionHandlerType.Finally) { TryStart = first, TryEnd = start, HandlerStart = start, HandlerEnd = after };
+        body.ExceptionHandlers.Add(handler);
     }
 
     // Calls of a method with one text and no value.
@@ -384,7 +388,8 @@ static class Rewrite
                 if (at.Previous == null || at.Previous.OpCode.FlowControl == FlowControl.Cond_Branch) break;
             }
             var before = block[0].Previous;
-            if (before == null || before.OpCode != OpCodes.Brtrue && before.OpCode != OpCodes.Brfalse || exit.Next == null || before.Operand != exit.Next) continue;
+            bool isBranch = before != null && (before.OpCode == OpCodes.Brtrue || before.OpCode == OpCodes.Brfalse);
+            if (!isBranch || exit.Next == null || before.Operand != exit.Next) continue;
             if (block.Any(at => at.OpCode.FlowControl == FlowControl.Branch)) continue;
             before.OpCode = before.OpCode == OpCodes.Brtrue ? OpCodes.Brfalse : OpCodes.Brtrue;
             before.Operand = block[0];

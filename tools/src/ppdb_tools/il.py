@@ -2,7 +2,7 @@
 a long and a short form are read as one: `ldloc.0`, `ldloc.s 0` and `ldloc 0` as `ldloc` with the operand 0, `br.s` as `br`."""
 import struct
 from enum import IntEnum
-from typing import NamedTuple
+from typing import Any, NamedTuple
 
 from ppdb_tools.errors import Damaged
 from ppdb_tools.numbers import Data, number, piece
@@ -137,7 +137,7 @@ class Code(NamedTuple):
     which it leads, a switch a tuple of them."""
     offsets: list[int]
     operations: list[int]
-    operands: list[int | tuple[int, ...]]
+    operands: list[Any]
 
 
 TINY, FAT, MORE = 2, 3, 8
@@ -181,7 +181,7 @@ def decode(code: bytes) -> Code:
     """The instructions of a body. Damaged says that the code is none: an unknown opcode, or one that ends too early."""
     offsets: list[int] = []
     operations: list[int] = []
-    operands: list[int | tuple[int, ...]] = []
+    operands: list[Any] = []
     at, end = 0, len(code)
     try:
         while at < end:

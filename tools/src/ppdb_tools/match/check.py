@@ -152,7 +152,7 @@ class Checker:
     def slots(self, row: int, old: Prepared, new: Prepared) -> list[str]:
         """The slots with a local of another type, and those that code uses where the kept code uses another one."""
         said = self.map.slots.get(row)
-        images = {slot: slot for slot in range(len(old.locals))} if said is None else said
+        images: dict[int, int | None] = {slot: slot for slot in range(len(old.locals))} if said is None else said
         found = []
         for slot, image in sorted(images.items()):
             if image is not None and slot < len(old.locals) and (image >= len(new.locals) or old.locals[slot] != new.locals[image]):

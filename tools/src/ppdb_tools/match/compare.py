@@ -265,7 +265,8 @@ def unused_slots(old: Prepared, new: Prepared, slots: dict[int, int], left: list
     found = align(olds, news)
     slots.update((slot, place) for slot, place in found.pairs if slot in left)
     free = Counter(news[place] for place in range(len(news)) if place not in set(slots.values()))
-    gone, unsure = [], {}
+    gone: list[int] = []
+    unsure: dict[int, str] = {}
     for slot in left:
         if slot not in slots:
             if free[olds[slot]]:

@@ -26,8 +26,8 @@ def _name(module: Module, table: int, row: int) -> str:
     if table == tables.TYPE_DEF:
         return module.type_names[row]
     if table == tables.TYPE_REF:
-        where, name = module.reference_names[row]
-        return f"[{where}]{name}" if where else name
+        where, whole = module.reference_names[row]
+        return f"[{where}]{whole}" if where else whole
     if table == tables.METHOD_DEF:
         return f"{module.type_names[module.owner[row]]}::{module.method_name(row)}"
     if table == tables.FIELD:

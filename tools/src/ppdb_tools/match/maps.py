@@ -88,7 +88,7 @@ class Mapper:
         image = self.home(each, row)
         old, new = prepared(self.old_names[key], row), prepared(self.new_names, image) if image else None
         same = compare(old, new) if old and new else None
-        if left and same and old.keys != new.keys and is_little_left(old, new, same, left):
+        if left and old and new and same and old.keys != new.keys and is_little_left(old, new, same, left):
             return len(same.pairs) == len(old)
         found.counts.methods += 1
         if not image:
