@@ -99,13 +99,14 @@ def add_opcode(word: str) -> None:
     """Reads a word of OPCODES."""
     digits, name, rest = word.split(":")
     operation, value = split_form(name)
-    letter, pops, pushes, flow = rest
+    letter, pops, pushes, flow = tuple(rest)
     kind = KINDS[letter]
     if value is not None:
         kind = {"ldarg": Kind.ARGUMENT, "ldc.i4": Kind.NUMBER}.get(operation, Kind.LOCAL)
     if operation not in BY_NAME:
         BY_NAME[operation] = len(OPERATIONS)
-        OPERATIONS.append(Operation(operation, kind, *(int(count) if count.isdigit() else -1 for count in (pops, pushes)), flow))
+        taken, given = (int(count) if count.isdigit() else -1 for count in (pops, pushes))
+        OPERATIONS.append(Operation(operation, kind, taken, given, flow))
     form = Form(BY_NAME[operation], int(kind), SIZES[letter], value or 0, letter in "Ii")
     number_of = int(digits, 16)
     (TWO if number_of > 0xFF else ONE)[number_of & 0xFF] = form

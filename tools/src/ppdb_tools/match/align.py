@@ -65,7 +65,7 @@ def unsure_sources(new: Sequence[int], old: Sequence[int], unsure: list[int]) ->
     left = leftmost(new, old) or []
     last = len(old) - 1
     right = [last - at for at in reversed(leftmost(new[::-1], old[::-1]) or [])]
-    wanted = {}
+    wanted: dict[int, list[tuple[int, int]]] = {}
     for at in unsure:
         wanted.setdefault(new[at], []).append((left[at], right[at]))
     return {at for at, key in enumerate(old) if any(low <= at <= high for low, high in wanted.get(key, ()))}
@@ -104,7 +104,8 @@ def length_at(zeros: list[int], at: int, to: int) -> int:
 
 def upper_chain(old: Sequence[int], new: Sequence[int], zeros: list[int]) -> list[tuple[int, int]]:
     """The pairs of each rank whose old item is the first, and whose new item is the last possible."""
-    before, seen = [], {}
+    before: list[tuple[int, int]] = []
+    seen: dict[int, list[int]] = {}
     for to, key in enumerate(new):
         seen.setdefault(key, []).append(to)
     at, to = len(old), len(new)
@@ -122,7 +123,8 @@ def upper_chain(old: Sequence[int], new: Sequence[int], zeros: list[int]) -> lis
 
 def lower_chain(old: Sequence[int], new: Sequence[int], zeros: list[int]) -> list[tuple[int, int]]:
     """The pairs of each rank whose old item is the last, and whose new item is the first possible."""
-    before, seen = [], {}
+    before: list[tuple[int, int]] = []
+    seen: dict[int, list[int]] = {}
     for at, key in enumerate(old):
         seen.setdefault(key, []).append(at)
     at, to = len(old), len(new)

@@ -47,10 +47,10 @@ class Prepared:
             if kind == NONE or kind == BRANCH:
                 key = operation
             elif kind == TOKEN or kind == STRING:
-                key = known.get(operation << 32 | operand)
-                if key is None:
-                    what = self.namer.token(operand) if kind == TOKEN else self.namer.module.string(operand)
-                    key = known[operation << 32 | operand] = numbers[operation, what]
+                place = operation << 32 | operand
+                if place not in known:
+                    known[place] = numbers[operation, self.namer.token(operand) if kind == TOKEN else self.namer.module.string(operand)]
+                key = known[place]
             elif kind == LOCAL:
                 key = numbers[operation, types[operand] if operand < len(types) else -1]
             else:

@@ -232,7 +232,7 @@ def with_slots(old: Prepared, new: Prepared, pairs: list[tuple[int, int]], unsur
     if wrong:
         pairs = [pair for pair in pairs if pair[0] not in wrong]
     left = [slot for slot in range(len(old.locals)) if slot not in slots and slot not in unsure_slots]
-    gone = []
+    gone: list[int] = []
     if left:
         slots, gone, more = unused_slots(old, new, slots, left)
         unsure_slots.update(more)

@@ -34,13 +34,6 @@ class Namer:
         # The keys of instructions with a token or a text, by operation and token.
         self.keys: dict[int, int] = {}
 
-    def forget(self) -> None:
-        """Forgets what depends on the numbers of definitions, which were changed."""
-        for known in (self.specifications, self.signatures, self.tokens, self.locals, self.keys):
-            known.clear()
-        self.__dict__.pop("members", None)
-        self.__dict__.pop("rows_of_types", None)
-
     def blob(self, at: int) -> bytes:
         return self.module.metadata.blob(at)
 

@@ -133,9 +133,10 @@ class Reader:
             self._shape(found)
         elif code == FUNCTION:
             convention = self.byte()
-            count = (self.count() if convention & GENERIC else 0, self.count())
-            found += (convention, *count)
-            for _ in self.counted(count[1] + 1):
+            generics = self.count() if convention & GENERIC else 0
+            parameters = self.count()
+            found += (convention, generics, parameters)
+            for _ in self.counted(parameters + 1):
                 self._type(found, depth)
         else:
             raise Damaged(f"{code:02x} is no type of a signature")

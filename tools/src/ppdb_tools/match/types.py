@@ -128,7 +128,8 @@ def likeness(old: Module, row: int, new: Module, image: int) -> float:
 def reference_images(old: Module, types: Types, new: Module, inputs: dict[str, tuple[Module, Types]]) -> list[tuple[int, int] | None]:
     """For each row of TypeRef the row of TypeRef or TypeDef that the new module has for this type; None if it names it no more. `inputs`
     has the old modules by the names of their assemblies, with the new rows of their types."""
-    by_name, by_place = {}, {}
+    by_name: dict[str, set[str]] = {}
+    by_place: dict[tuple[str, str], tuple[int, int]] = {}
     for row in range(len(new.references) - 1, 0, -1):
         where, name = new.reference_names[row]
         by_place[where, name] = (tables.TYPE_REF, row)
@@ -149,9 +150,9 @@ def defined(where: str, name: str, old: Module, types: Types, new: Module, input
             is_there: bool) -> tuple[int, int] | None:
     """The row of TypeDef of a type that the new module defines itself: one of this module, one of another input, or one of an assembly
     that became part of it, to which it refers no more."""
-    module, images = (old, types) if where == "" else inputs.get(where, (None, []))
-    if module is not None:
-        row = images[module.types_by_name[name]] if name in module.types_by_name else 0
-    else:
+    found = (old, types) if where == "" else inputs.get(where)
+    if found is None:
         row = 0 if is_there else new.types_by_name.get(name, 0)
+    else:
+        row = found[1][found[0].types_by_name[name]] if name in found[0].types_by_name else 0
     return (tables.TYPE_DEF, row) if row else None
