@@ -3,6 +3,7 @@
 tooldir ?= $(datadir)/ppdb/ppdb_tools
 package = $(wildcard tools/src/ppdb_tools/*.py)
 subcommands = $(wildcard tools/src/ppdb_tools/commands/*.py)
+matching = $(wildcard tools/src/ppdb_tools/match/*.py)
 oldnames = stacktrace stack-maps extract-embedded page verify-each symbol-store repair
 
 .PHONY: install-tools uninstall-tools install-old-names
@@ -11,6 +12,7 @@ install-tools:
 	install -d "$(DESTDIR)$(bindir)" "$(DESTDIR)$(mandir)/man1" "$(DESTDIR)$(bashdir)" "$(DESTDIR)$(zshdir)" "$(DESTDIR)$(fishdir)"
 	install -D -m 644 -t "$(DESTDIR)$(tooldir)" $(package)
 	install -D -m 644 -t "$(DESTDIR)$(tooldir)/commands" $(subcommands)
+	install -D -m 644 -t "$(DESTDIR)$(tooldir)/match" $(matching)
 	install -m 644 tools/src/ppdb_tools/page.html "$(DESTDIR)$(datadir)/ppdb"
 	install -m 755 tools/ppdb-tools "$(DESTDIR)$(bindir)/ppdb-tools"
 	install -m 644 tools/man/ppdb-tools.1 "$(DESTDIR)$(mandir)/man1/ppdb-tools.1"
@@ -25,8 +27,8 @@ install-old-names:
 	  chmod 755 "$(DESTDIR)$(docdir)/examples/$$name" || exit 1; done
 
 uninstall-tools:
-	rm -f $(foreach file,$(notdir $(package)) $(addprefix commands/,$(notdir $(subcommands))),"$(DESTDIR)$(tooldir)/$(file)")
+	rm -f $(foreach file,$(notdir $(package)) $(addprefix commands/,$(notdir $(subcommands))) $(addprefix match/,$(notdir $(matching))),"$(DESTDIR)$(tooldir)/$(file)")
 	rm -f "$(DESTDIR)$(datadir)/ppdb/page.html" "$(DESTDIR)$(bindir)/ppdb-tools" "$(DESTDIR)$(mandir)/man1/ppdb-tools.1"
 	rm -f "$(DESTDIR)$(bashdir)/ppdb-tools" "$(DESTDIR)$(zshdir)/_ppdb-tools" "$(DESTDIR)$(fishdir)/ppdb-tools.fish"
 	rm -f $(foreach file,$(oldnames),"$(DESTDIR)$(docdir)/examples/$(file)")
-	rmdir "$(DESTDIR)$(tooldir)/commands" "$(DESTDIR)$(tooldir)" 2>/dev/null || true
+	rmdir "$(DESTDIR)$(tooldir)/commands" "$(DESTDIR)$(tooldir)/match" "$(DESTDIR)$(tooldir)" 2>/dev/null || true

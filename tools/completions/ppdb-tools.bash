@@ -1,7 +1,7 @@
 # bash completion for ppdb-tools; loaded by bash-completion as completions/ppdb-tools
 _ppdb_tools() {
   local now=${COMP_WORDS[COMP_CWORD]} before=${COMP_WORDS[COMP_CWORD - 1]} names options=
-  names="check diff stats sources extract stacktrace frames store page repair stack-maps"
+  names="check diff stats sources extract stacktrace frames store page repair stack-maps map check-map"
   COMPREPLY=()
   if [ "$COMP_CWORD" = 1 ]; then
     mapfile -t COMPREPLY < <(compgen -W "$names help --help --version" -- "$now")
@@ -11,7 +11,7 @@ _ppdb_tools() {
   --format) mapfile -t COMPREPLY < <(compgen -W "text json sarif annotations lines" -- "$now") && return ;;
   --sort) mapfile -t COMPREPLY < <(compgen -W "bytes count name" -- "$now") && return ;;
   --source | --extract) compopt -o dirnames 2>/dev/null && return ;;
-  --jobs) return ;;
+  --jobs | --explain) return ;;
   esac
   case ${COMP_WORDS[1]} in
   help) mapfile -t COMPREPLY < <(compgen -W "$names" -- "$now") && return ;;
@@ -26,6 +26,8 @@ _ppdb_tools() {
   page) options="--map --source --assembly" ;;
   repair) options="--row" ;;
   stack-maps) options="--rename --names" ;;
+  map) options="--into --output --explain" ;;
+  check-map) options="--with" ;;
   esac
   case $now in
   -*) mapfile -t COMPREPLY < <(compgen -W "$options --help" -- "$now") ;;

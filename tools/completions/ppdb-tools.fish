@@ -1,5 +1,5 @@
 # fish completion for ppdb-tools
-set -l names check diff stats sources extract stacktrace frames store page repair stack-maps
+set -l names check diff stats sources extract stacktrace frames store page repair stack-maps map check-map
 function __ppdb_tools_says
     set -l found (commandline -opc)
     test (count $found) -gt 1; and contains -- $found[2] $argv
@@ -15,6 +15,8 @@ complete -c ppdb-tools -n "test (count (commandline -opc)) = 1" -f -a store -d "
 complete -c ppdb-tools -n "test (count (commandline -opc)) = 1" -f -a page -d "make an HTML page of a debug file"
 complete -c ppdb-tools -n "test (count (commandline -opc)) = 1" -f -a repair -d "repair what other tools wrote wrongly"
 complete -c ppdb-tools -n "test (count (commandline -opc)) = 1" -f -a stack-maps -d "write maps for ppdb merge"
+complete -c ppdb-tools -n "test (count (commandline -opc)) = 1" -f -a map -d "write the map of a rewrite"
+complete -c ppdb-tools -n "test (count (commandline -opc)) = 1" -f -a check-map -d "judge a map by the modules"
 complete -c ppdb-tools -n "test (count (commandline -opc)) = 1" -f -a help -d "say more of a subcommand"
 complete -c ppdb-tools -n "__ppdb_tools_says help" -f -a "$names"
 complete -c ppdb-tools -n "__ppdb_tools_says check sources page" -l source -r -a "(__fish_complete_directories)" -d "where sources are"
@@ -39,3 +41,7 @@ complete -c ppdb-tools -n "__ppdb_tools_says page" -l assembly -r -d "the names 
 complete -c ppdb-tools -n "__ppdb_tools_says repair" -l row -x -d "print a row"
 complete -c ppdb-tools -n "__ppdb_tools_says stack-maps" -l rename -d "rename documents that differ"
 complete -c ppdb-tools -n "__ppdb_tools_says stack-maps" -l names -r -d "names of types"
+complete -c ppdb-tools -n "__ppdb_tools_says map" -l into -r -d "the module that all became"
+complete -c ppdb-tools -n "__ppdb_tools_says map" -l output -r -d "where the map goes"
+complete -c ppdb-tools -n "__ppdb_tools_says map" -l explain -x -d "print both bodies of a method"
+complete -c ppdb-tools -n "__ppdb_tools_says check-map" -l with -r -d "another module that became part of it"

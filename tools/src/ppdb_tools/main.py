@@ -12,7 +12,7 @@ from ppdb_tools.errors import Damaged, Status, Stop
 from ppdb_tools.output import warn
 
 # Each subcommand is the module of its name in ppdb_tools.commands, with DOES, EXAMPLE, words(parser) and run(said).
-SUBCOMMANDS = ("check", "diff", "stats", "sources", "extract", "stacktrace", "frames", "store", "page", "repair", "stack-maps")
+SUBCOMMANDS = ("check", "diff", "stats", "sources", "extract", "stacktrace", "frames", "store", "page", "repair", "stack-maps", "map", "check-map")
 STATUSES = """exit status: 0 done and nothing found; 1 done, and something found; 2 the words are wrong, or there is no command ppdb;
 3 an input could not be read; 4 the output could not be written"""
 
