@@ -1,0 +1,1 @@
+export async function startEngine(module) { return null; }

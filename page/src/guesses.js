@@ -1,0 +1,58 @@
+/** Names of methods guessed from their sources, for debug files whose assembly is not at hand. */
+
+/** How many lines above its first statement the declaration of a method is looked for. */
+const ABOVE = 16;
+/** Lines that declare nothing: comments, attributes, braces, directives, clauses. */
+const IDLE = /^(?:\/\/|\/\*|\*|'|#|\[[^\]]*\]\s*$|[{}()\[\];,\s]*$|where\b|try\b|do\b|unsafe\s*$|else\b|:\s*(?:base|this)\b)/;
+const ACCESSOR = /(?:^|[\s{;])(?:(?:public|private|protected|internal|readonly)\s+)*(get|set|init|add|remove)\s*(?:=>|\{|$)/;
+const NO_NAMES = new Set(["if", "for", "foreach", "while", "switch", "using", "lock", "catch", "return", "new", "typeof", "nameof", "await", "when", "fixed",
+  "base", "this", "throw", "get", "set", "add", "remove", "init", "class", "struct", "interface", "record", "namespace"]);
+
+/** The name that a declaration gives, or "". @param {string} text */
+export function declaredName(text) {
+  const lambda = /^(?:[^"=]*[^=!<>]=\s*)?(?:async\s+)?(?:\([^()]*\)|[\w@]+)\s*=>\s*/.exec(text);
+  const operator = /\boperator\s*([^\s(]+)\s*\(/.exec(text);
+  if (operator) return `operator ${operator[1]}`;
+  const call = /([\p{L}_~@][\p{L}\p{N}_]*(?:\s*<[^<>()=]*>)?)\s*\(/u.exec(text.replace(/^(?:\[[^\]]*\]\s*)+/, ""));
+  const isDeclared = call && !NO_NAMES.has(call[1]) && !/[=.]\s*$/.test(text.slice(0, call.index)) && !lambda;
+  if (isDeclared) return `${call[1]}()`;
+  const property = /^(?:[\w<>\[\],.?\s]+\s)?([\p{L}_@][\p{L}\p{N}_]*)\s*(?:\{|=>|$)/u.exec(text);
+  if (property && !NO_NAMES.has(property[1]) && /\s/.test(text.slice(0, property[0].indexOf(property[1]) + 1)) && !lambda) return property[1];
+  const basic = /\b(?:Sub|Function|Property|let|member)\s+(?:\w+\.)?(\w+)/i.exec(text);
+  return basic ? basic[1] : "";
+}
+
+/** The part of a line that belongs to the last declaration in it. */
+const lastPart = text => text.split(/[;}](?=\s)|\{(?=\s*(?:get|set|init|add|remove)\b)/).pop().trim();
+
+/**
+ * The name of the method whose first visible point is at a line and column, as its source has it: that of the nearest line above that
+ * declares something; for an accessor with the name of its property.
+ * @param {(line: number) => string} lineAt lines count from 1 @param {{start_line: number, start_column: number}} point
+ * @returns {{name: string, text: string} | null}
+ */
+export function guess(lineAt, point) {
+  let accessor = "";
+  for (let line = point.start_line; line > 0 && line > point.start_line - ABOVE; line--) {
+    const whole = line === point.start_line ? lineAt(line).slice(0, point.start_column - 1) : lineAt(line), text = whole.trim();
+    if (!text || IDLE.test(text)) continue;
+    const found = accessor ? null : ACCESSOR.exec(text);
+    if (found) {
+      accessor = found[1];
+      const owner = declaredName(text.slice(0, found.index).replace(/\{\s*$/, "").split(/[;}]/).pop().trim());
+      if (owner) return {name: `${owner}.${accessor}`, text};
+      continue;
+    }
+    const part = lastPart(text) || text, name = declaredName(part);
+    if (name) return {name: accessor ? `${name.replace("()", "")}.${accessor}` : name, text: part};
+    if (/\b(?:class|struct|record|interface)\s+\w/.test(part)) return initializer(part, lineAt, point);
+    if (accessor) continue;
+    return {name: "", text: part};
+  }
+  return null;
+}
+/** Of a method whose code is that of fields: the constructor of the type above. */
+function initializer(part, lineAt, point) {
+  const type = /\b(?:class|struct|record|interface)\s+(\w+)/.exec(part)[1];
+  return {name: `${type} constructor`, text: lineAt(point.start_line).trim()};
+}
