@@ -23,6 +23,9 @@ const spanOf = point => !isVisible(point) ? "hidden" : point.start_line === poin
   ? `line ${point.start_line}, columns ${point.start_column} to ${point.end_column}`
   : `line ${point.start_line}:${point.start_column} to ${point.end_line}:${point.end_column}`;
 
+const columnsOf = point => point.start_line === point.end_line ? `columns ${point.start_column}\u2013${point.end_column}`
+  : `up to line ${point.end_line}:${point.end_column}`;
+
 /** What the program prints, once it is asked for. @param {string} side @param {string} command @param {...(string | number)} rest */
 function asPrinted(side, command, ...rest) {
   const words = rest.map(String), box = make("pre", {class: "printed", tabindex: 0}), line = text => make("div", {}, text || " ");
@@ -46,10 +49,10 @@ function sayLine() {
     document.text && asPrinted(side, "breaks", document.text, line));
 }
 function placeLine(side, {method, point, index}, isFirst, line) {
-  const columns = point.start_line === point.end_line ? `${point.start_column}\u2013${point.end_column}` : "", from = point.start_line < line ? "begins above" : columns;
+  const columns = point.start_line === point.end_line && excerptOf(side, point) ? `${point.start_column}\u2013${point.end_column}` : "", from = point.start_line < line ? "begins above" : columns;
   return make("a", {class: "place", href: addressOf(side === "before" ? {m: method.row, o: point.offset} : {...afterPlace(method.row), a: point.offset}),
     title: spanOf(point)}, make("span", {class: "here", title: isFirst ? "a debugger stops here" : ""}, isFirst ? "\u25b6" : ""),
-    make("code", {}, hex(point.offset)), ink(excerptOf(side, point).slice(0, 90) || "\u2026", tintOf(method, index)), make("span", {class: "dim"}, from));
+    make("code", {}, hex(point.offset)), ink(excerptOf(side, point).slice(0, 90) || columnsOf(point), tintOf(method, index)), make("span", {class: "dim"}, from));
 }
 const afterPlace = row => { const it = state.subjects.find(one => one.now?.row === row); return it ? placeOf(it) : {n: row}; };
 function whereItIsBound(found, groups, line) {
@@ -85,9 +88,9 @@ function sayMethod(subject, side, method) {
     make("dl", {class: "facts"}, fact("token", make("code", {}, tokenOf(method.row)), method.row === state[side].entry && make("span", {class: "tag"}, "entry point")),
       raw && !raw.endsWith(`.${name}`) && fact("full name", make("code", {}, raw)),
       fact("locals", method.signature ? ["signature ", make("code", {}, `0x11${method.signature.toString(16).padStart(6, "0")}`)] : "none"),
-      method.kickoff && fact("started by", methodLink(side, method.kickoff)), method.move && fact("continues in", methodLink(side, method.move)),
+      method.kickoff > 0 && fact("started by", methodLink(side, method.kickoff)), method.move > 0 && fact("continues in", methodLink(side, method.move)),
       method.customs.filter(it => it.kind !== ASYNC && it.kind !== HOISTED)
-        .map(it => fact(KINDS[it.kind] ?? it.kind, plural((it.value ?? "").length / 2, "byte"))))];
+        .map(it => fact(KINDS[it.kind] ?? it.kind, plural(it.length, "byte"))))];
 }
 const fact = (name, ...words) => [make("dt", {}, name), make("dd", {}, words)];
 function methodLink(side, row) {
@@ -110,7 +113,7 @@ function sayPoints(side, method) {
   const isSpread = method.points.some(it => it.document !== method.points[0].document);
   const line = (point, index) => make("a", {class: `place${side === "before" && isLost(method, index) ? " lost" : ""}`, href: addressOf(at(point.offset)),
     title: spanOf(point)}, make("code", {}, hex(point.offset)), make("span", {class: "dim line"}, isVisible(point) ? point.start_line : ""),
-    isVisible(point) ? ink(excerptOf(side, point).slice(0, 80) || "\u2026", tintOf(method, index)) : ink("hidden", null),
+    isVisible(point) ? ink(excerptOf(side, point).slice(0, 80) || columnsOf(point), tintOf(method, index)) : ink("hidden", null),
     isSpread && make("span", {class: "dim"}, baseName(textOf(state[side].documents.get(point.document)))),
     side === "before" && isLost(method, index) && make("span", {class: "tag lost"}, "lost"));
   return section(method.points.length ? plural(method.points.length, "sequence point") : "No sequence points", method.points.slice(0, MANY).map(line),
@@ -124,10 +127,10 @@ function sayPoint(side, method, point) {
   const index = method.points.indexOf(point), file = state[side].documents.get(point.document);
   const name = make("span", {class: "dim", title: textOf(file)}, ` in ${baseName(textOf(file))}`);
   if (isVisible(point)) return [make("p", {}, make("strong", {}, spanOf(point)), name), make("pre", {class: `excerpt t${tintOf(method, index)}`},
-    excerptOf(side, point) || "\u2026")];
+    excerptOf(side, point) || columnsOf(point))];
   const seen = method.points.slice(0, index).findLast(isVisible);
   return [make("p", {}, make("strong", {}, "Hidden"), ": it belongs to no line, and a debugger steps over it.", seen && " A stack trace takes the visible point before:"),
-    seen && [make("p", {}, spanOf(seen), name), make("pre", {class: `excerpt t${tintOf(method, method.points.indexOf(seen))}`}, excerptOf(side, seen) || "\u2026")]];
+    seen && [make("p", {}, spanOf(seen), name), make("pre", {class: `excerpt t${tintOf(method, method.points.indexOf(seen))}`}, excerptOf(side, seen) || columnsOf(seen))]];
 }
 function slotNote(method, it) {
   const {rewriting} = state, to = rewriting?.isMap && rewriting.image(method.row) !== null ? rewriting.slot(method.row, it.slot) : it.slot;

@@ -76,7 +76,7 @@ class Axis {
     this.end = Math.max(...[this.old, this.now].map(it => it ? endOf(it.method) : 0), ...sizes);
     const room = Math.max(200, $("axis").clientWidth - LEFT - 20);
     this.fits = room / this.end;
-    this.scale = Math.min(Math.max(this.fits, Math.min(3, 40000 / this.end)) * state.zoom, Math.max(room, WIDEST) / this.end);
+    this.scale = Math.min(Math.max(this.fits, Math.min(1.5, 40000 / this.end)) * state.zoom, Math.max(room, WIDEST) / this.end);
     const high = side => side ? side.rows.reduce((sum, row) => sum + ROW + (row.steps ? 10 : 0), 0) : 0;
     this.split = TOP + high(this.old);
     this.low = this.old && state.rewriting ? this.split + BAND : this.split;
@@ -185,7 +185,7 @@ export function drawAxis() {
   drawn.axis = subject && bodyOf(subject) ? new Axis(subject) : null;
   $("zoom").hidden = !drawn.axis;
   $("low").dataset.empty = String(!drawn.axis);
-  if (drawn.axis) { drawn.axis.draw(); $("low").style.setProperty("--own", `${drawn.axis.bottom + 18}px`); }
+  if (drawn.axis) { drawn.axis.draw(); $("low").style.setProperty("--own", `${drawn.axis.bottom + ($("axis").scrollWidth > $("axis").clientWidth ? 16 : 4)}px`); }
   else $("axis").replaceChildren(make("p", {class: "dim hint"}, "Choose a method, or a span of the source: here is its code by IL offsets."));
 }
 function measured() {

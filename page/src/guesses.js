@@ -22,6 +22,15 @@ export function declaredName(text) {
   return basic ? basic[1] : "";
 }
 
+/** What code inside a method is: the block of a `finally`, or a lambda, which may have the name of its variable. @param {string} text */
+function innerName(text) {
+  if (/\bfinally\s*$/.test(text)) return "finally in ";
+  if (!/=>\s*\{?$/.test(text)) return "";
+  const named = /\b([\p{L}_][\p{L}\p{N}_]*)\s*=\s*(?:async\s+)?(?:static\s+)?(?:\([^()]*\)|[\p{L}_@][\p{L}\p{N}_]*)\s*=>\s*\{?$/u.exec(text);
+  if (named) return `lambda ${named[1]}`;
+  return /(?:^|[(,=\s])(?:async\s+)?(?:\([^()]*\)|[\p{Ll}_@][\p{L}\p{N}_]*)\s*=>\s*\{?$/u.test(text) && !/^(?:public|private|protected|internal|static|override)\b/.test(text) &&
+    !/[\p{L}_>]\([^()]*\)\s*=>\s*\{?$/u.test(text) ? "lambda in " : "";
+}
 /** The part of a line that belongs to the last declaration in it. */
 const lastPart = text => text.split(/[;}](?=\s)|\{(?=\s*(?:get|set|init|add|remove)\b)/).pop().trim();
 
@@ -32,10 +41,14 @@ const lastPart = text => text.split(/[;}](?=\s)|\{(?=\s*(?:get|set|init|add|remo
  * @returns {{name: string, text: string} | null}
  */
 export function guess(lineAt, point) {
-  let accessor = "";
+  let accessor = "", before = "";
   for (let line = point.start_line; line > 0 && line > point.start_line - ABOVE; line--) {
     const whole = line === point.start_line ? lineAt(line).slice(0, point.start_column - 1) : lineAt(line), text = whole.trim();
-    if (!text || IDLE.test(text)) continue;
+    const inner = before ? "" : innerName(text);
+    if (inner && !inner.endsWith(" in ")) return {name: inner, text};
+    if (inner) { before = inner; continue; }
+    // What ends above the point declares something else.
+    if (!text || IDLE.test(text) || line < point.start_line && /[;}]\s*$/.test(text)) continue;
     const found = accessor ? null : ACCESSOR.exec(text);
     if (found) {
       accessor = found[1];
@@ -44,9 +57,9 @@ export function guess(lineAt, point) {
       continue;
     }
     const part = lastPart(text) || text, name = declaredName(part);
-    if (name) return {name: accessor ? `${name.replace("()", "")}.${accessor}` : name, text: part};
+    if (name) return {name: before + (accessor ? `${name.replace("()", "")}.${accessor}` : name), text: part};
     if (/\b(?:class|struct|record|interface)\s+\w/.test(part)) return initializer(part, lineAt, point);
-    if (accessor) continue;
+    if (accessor || before) continue;
     return {name: "", text: part};
   }
   return null;

@@ -2,12 +2,13 @@
 
 export const ASYNC = "54fd2ac5-e925-401a-9c2a-f94f171072f8";
 export const HOISTED = "6da9a61e-f8c7-4874-be62-68bc5630df71";
+export const SOURCE_LINK = "cc110556-a091-4d38-9fec-25ab9a351a6a";
 export const EMBEDDED = "0e8a571b-6926-466e-b4ad-8ab04611f5fe";
 
 /** @type {Record<string, string>} */
 export const KINDS = {
   "755f52a8-91c5-45be-b4b8-209571e552bd": "local slot map", "a643004c-0240-496f-a783-30d64f4979de": "lambda map",
-  "8b78cd68-2ede-420b-980b-e15884b8aaa3": "state machine map", "cc110556-a091-4d38-9fec-25ab9a351a6a": "Source Link",
+  "8b78cd68-2ede-420b-980b-e15884b8aaa3": "state machine map", [SOURCE_LINK]: "Source Link",
   "83c563c4-b4f3-47d5-b824-ba5441477ea8": "dynamic locals", "ed9fdf71-8879-4747-8ed3-fe5ede3ce710": "tuple names",
   "58b2eab6-209f-4e4e-a22c-b2d0f910c782": "default namespace", "932e74bc-dba9-4478-8d46-0f32a7bab3d3": "type definition documents",
   "b5feec05-8cd0-4a83-96da-466284bb4bd8": "compilation options", "7e4d4708-096e-4c5c-aeda-cb10ba6a740d": "metadata references",

@@ -4,6 +4,12 @@ import {EMBEDDED} from "./kinds.js";
 /** The numbers of a point in `points`: offset, document, start line (-1 if hidden), start column, end line, end column. */
 export const WIDTH = 6;
 
+/** The numbers of a scope, a variable, a constant and a custom record; their rows count from 1, in order. A text is two places in `heap`. */
+export const SCOPE = {width: 4, method: 0, import: 1, start: 2, end: 3};
+export const VARIABLE = {width: 5, scope: 0, slot: 1, attributes: 2, text: 3};
+export const CONSTANT = {width: 3, scope: 0, text: 1};
+export const CUSTOM = {width: 5, table: 0, row: 1, kind: 2, text: 3};
+
 /**
  * @typedef {object} Columns
  * @property {string} id the PDB ID, 40 digits
@@ -12,21 +18,24 @@ export const WIDTH = 6;
  * @property {{row: number, algorithm: string, hash: string, language: string, name: string}[]} documents
  * @property {Int32Array} points WIDTH numbers a point
  * @property {Int32Array} methods for each method with points its row, its local signature and the index of its first point
- * @property {object[]} scopes
- * @property {object[]} variables
- * @property {object[]} constants
+ * @property {Int32Array} scopes
+ * @property {Int32Array} variables their texts are names
+ * @property {Int32Array} constants their texts are `H name NAME`
+ * @property {Int32Array} machines MoveNext and kickoff
+ * @property {Int32Array} customs their texts are values
+ * @property {string[]} kinds the kinds of custom records, by their numbers
  * @property {object[]} imports
- * @property {object[]} machines
- * @property {object[]} customs
+ * @property {Uint8Array} heap the texts, in ASCII
  */
 
-/** A list of numbers that grows. */
-class Numbers {
-  constructor() { this.data = new Int32Array(1 << 12); this.length = 0; }
+/** A list of numbers or bytes that grows. */
+class Growing {
+  /** @param {Int32ArrayConstructor | Uint8ArrayConstructor} of */
+  constructor(of) { this.of = of; this.data = new of(1 << 12); this.length = 0; }
   /** @param {number} count */
   room(count) {
     if (this.length + count <= this.data.length) return;
-    const more = new Int32Array(this.data.length * 2);
+    const more = new this.of(Math.max(this.data.length * 2, this.length + count));
     more.set(this.data);
     this.data = more;
   }
@@ -37,38 +46,38 @@ class Numbers {
 
 const LATIN = new TextDecoder("latin1");
 const [SPACE, COLON, NEW_LINE, ZERO, LOWER_P, LOWER_O] = [" ", ":", "\n", "0", "p", "o"].map(it => it.charCodeAt(0));
-const orNone = word => word === "-" ? null : word;
+const PARENT = " parent ".length, VALUE = " value ".length, NAME = " name ".length, KIND = " kind ".length, SIGNATURE = " signature ".length;
 
 /** The columns of the answer, line by line. */
 class Reading {
   /** @param {Uint8Array} bytes */
   constructor(bytes) {
-    this.bytes = bytes; this.points = new Numbers(); this.methods = new Numbers();
-    this.found = {id: "", entry: 0, counts: [], documents: [], scopes: [], variables: [], constants: [], imports: [], machines: [], customs: []};
+    this.bytes = bytes; this.at = 0; this.end = 0; this.heap = new Growing(Uint8Array);
+    for (const name of ["points", "methods", "scopes", "variables", "constants", "machines", "customs"]) this[name] = new Growing(Int32Array);
+    this.found = {id: "", entry: 0, counts: [], documents: [], imports: [], kinds: []};
+    this.kinds = new Map();
     /** The embedded source of each document that has one: its value. @type {Map<number, Uint8Array>} */
     this.embedded = new Map();
   }
   all() {
     const {bytes} = this;
-    for (let at = 0; at < bytes.length;) {
-      let end = at;
-      if (bytes[at] === LOWER_P && bytes[at + 1] === LOWER_O) end = this.point(at + 6);
-      else {
-        end = bytes.indexOf(NEW_LINE, at);
-        if (end < 0) end = bytes.length;
-        this.line(at, end);
-      }
-      at = end + 1;
+    while (this.at < bytes.length) {
+      if (bytes[this.at] === LOWER_P && bytes[this.at + 1] === LOWER_O) { this.at += 6; this.point(); continue; }
+      this.end = bytes.indexOf(NEW_LINE, this.at);
+      if (this.end < 0) this.end = bytes.length;
+      this.line();
+      this.at = this.end + 1;
     }
-    return {...this.found, points: this.points.done(), methods: this.methods.done()};
+    const lists = ["points", "methods", "scopes", "variables", "constants", "machines", "customs", "heap"].map(name => [name, this[name].done()]);
+    return {...this.found, ...Object.fromEntries(lists)};
   }
-  /** `O D hidden` or `O D SL:SC EL:EC`, read without making words of it. @param {number} at */
-  point(at) {
+  /** `O D hidden` or `O D SL:SC EL:EC`. */
+  point() {
     const {bytes, points} = this;
     points.room(WIDTH);
     const start = points.length;
     points.data.fill(-1, start, start + WIDTH);
-    let value = 0, column = 0, isNumber = false;
+    let value = 0, column = 0, isNumber = false, at = this.at;
     for (; at < bytes.length; at++) {
       const byte = bytes[at], digit = byte - ZERO;
       if (digit >= 0 && digit <= 9) { value = value * 10 + digit; isNumber = true; continue; }
@@ -77,14 +86,31 @@ class Reading {
       if (byte !== SPACE && byte !== COLON) { at = bytes.indexOf(NEW_LINE, at); if (at < 0) at = bytes.length; break; }
     }
     points.length += WIDTH;
-    return at;
+    this.at = at + 1;
   }
-  /** Any other line. @param {number} at @param {number} end */
-  line(at, end) {
-    const words = LATIN.decode(this.bytes.subarray(at, Math.min(end, at + 40))).split(" ", 1);
-    const take = TAKE[words[0]];
-    if (!take) throw new Error(`show prints a line that begins with ${words[0]}`);
-    take(this, () => LATIN.decode(this.bytes.subarray(at, end)).split(" "), at, end);
+  /** The next number of the line: it skips the words before it, which have no digits. */
+  number() {
+    const {bytes} = this;
+    let at = this.at, value = 0;
+    while (at < this.end && (bytes[at] < ZERO || bytes[at] > ZERO + 9)) at++;
+    for (; at < this.end && bytes[at] >= ZERO && bytes[at] <= ZERO + 9; at++) value = value * 10 + bytes[at] - ZERO;
+    this.at = at;
+    return value;
+  }
+  /** The rest of the line from a place on, kept in the heap: where it begins and ends there. @param {number} from */
+  kept(from) {
+    const {heap} = this, start = heap.length, length = Math.max(0, this.end - from);
+    heap.room(length);
+    heap.data.set(this.bytes.subarray(from, this.end), start);
+    heap.length += length;
+    return [start, start + length];
+  }
+  words() { return LATIN.decode(this.bytes.subarray(this.at, this.end)).split(" "); }
+  /** Any other line: its first two letters tell its word. */
+  line() {
+    const take = TAKE[this.bytes[this.at] << 8 | this.bytes[this.at + 1]];
+    if (!take) throw new Error(`show prints a line that begins with ${this.words()[0]}`);
+    take(this);
   }
 }
 
@@ -99,51 +125,48 @@ function useOf(words, from) {
   return use;
 }
 
-/** @param {Uint8Array} bytes @param {number} at @param {number} end */
+/** The bytes of hexadecimal digits. @param {Uint8Array} bytes @param {number} at @param {number} end */
 function hexBytes(bytes, at, end) {
   const value = new Uint8Array(Math.max(0, end - at) >> 1), digit = byte => byte < 58 ? byte - 48 : byte - 87;
   for (let index = 0; index < value.length; index++) value[index] = digit(bytes[at + 2 * index]) << 4 | digit(bytes[at + 2 * index + 1]);
   return value;
 }
 
-/** @param {Reading} reading @param {() => string[]} wordsOf @param {number} at @param {number} end */
-function takeCustom(reading, wordsOf, at, end) {
-  // An embedded source may be long: its value is taken from the bytes.
-  const head = LATIN.decode(reading.bytes.subarray(at, Math.min(end, at + 120))).split(" ");
-  const isEmbedded = head[3] === "30" && head[6] === EMBEDDED, words = isEmbedded ? head : wordsOf();
-  const custom = {row: +words[1], parent_table: words[3], parent_row: +words[4], kind: orNone(words[6]), value: isEmbedded ? null : orNone(words[8])};
-  reading.found.customs.push(custom);
-  if (!isEmbedded || reading.embedded.has(custom.parent_row)) return;
-  const start = at + head.slice(0, 8).join(" ").length + 1;
-  reading.embedded.set(custom.parent_row, head[8] === "-" ? new Uint8Array() : hexBytes(reading.bytes, start, end));
+/** `custom R parent TT N kind G value H`; an embedded source is kept apart, since it may be long. @param {Reading} reading */
+function takeCustom(reading) {
+  const {bytes, kinds, found} = reading;
+  reading.number();
+  const place = reading.at + PARENT, table = parseInt(String.fromCharCode(bytes[place], bytes[place + 1]), 16);
+  reading.at = place + 2;
+  const row = reading.number(), from = reading.at + KIND;
+  let to = from;
+  while (to < reading.end && bytes[to] !== SPACE) to++;
+  const kind = LATIN.decode(bytes.subarray(from, to)), start = to + VALUE, isNil = reading.end - start === 1;
+  if (!kinds.has(kind)) { kinds.set(kind, found.kinds.length); found.kinds.push(kind); }
+  const isEmbedded = table === 0x30 && kind === EMBEDDED;
+  if (isEmbedded && !reading.embedded.has(row)) reading.embedded.set(row, isNil ? new Uint8Array() : hexBytes(bytes, start, reading.end));
+  reading.customs.push(table, row, kinds.get(kind), ...reading.kept(isEmbedded ? reading.end : start));
 }
 
-// What each line says, by its first word (docs/FORMAT.md, section 7).
-const TAKE = {
-  id: ({found}, words) => { found.id = words()[1]; },
-  entry: ({found}, words) => { found.entry = parseInt(words()[1], 16) & 0xffffff; },
-  rows: ({found}, words) => { const [, table, count] = words(); found.counts.push([table, +count]); },
-  document: ({found}, words) => {
-    const [, row, , algorithm, , hash, , language, , name] = words();
-    found.documents.push({row: +row, algorithm, hash, language, name});
+/** What each line says, by its first word (docs/FORMAT.md, section 7). @type {Record<string, (it: Reading) => void>} */
+const WORDS_OF_SHOW = {
+  id: it => { it.found.id = it.words()[1]; },
+  entry: it => { it.found.entry = parseInt(it.words()[1], 16) & 0xffffff; },
+  rows: it => { const [, table, count] = it.words(); it.found.counts.push([table, +count]); },
+  document: it => {
+    const [, row, , algorithm, , hash, , language, , name] = it.words();
+    it.found.documents.push({row: +row, algorithm, hash, language, name});
   },
-  method: ({methods, points}, words) => { const [, row, , signature] = words(); methods.push(+row, +signature, points.length / WIDTH); },
-  scope: ({found}, words) => {
-    const [, row, , method, , scopes, , start, end] = words();
-    found.scopes.push({row: +row, method: +method, import: +scopes, start: +start, end: +end});
-  },
-  variable: ({found}, words) => {
-    const [, row, , scope, , slot, , attributes, , name] = words();
-    found.variables.push({row: +row, scope: +scope, slot: +slot, attributes: +attributes, name});
-  },
-  constant: ({found}, words) => {
-    const [, row, , scope, , signature, , name] = words();
-    found.constants.push({row: +row, scope: +scope, signature: orNone(signature), name});
-  },
-  import: ({found}, words) => { const [, row, , parent] = words(); found.imports.push({row: +row, parent: +parent, uses: []}); },
-  use: ({found}, words) => { found.imports[found.imports.length - 1].uses.push(useOf(words(), 2)); },
-  machine: ({found}, words) => { const [, row, , move, , kickoff] = words(); found.machines.push({row: +row, move: +move, kickoff: +kickoff}); },
+  method: it => { it.methods.push(it.number(), it.number(), it.points.length / WIDTH); },
+  scope: it => { it.number(); it.scopes.push(it.number(), it.number(), it.number(), it.number()); },
+  variable: it => { it.number(); it.variables.push(it.number(), it.number(), it.number(), ...it.kept(it.at + NAME)); },
+  constant: it => { it.number(); it.constants.push(it.number(), ...it.kept(it.at + SIGNATURE)); },
+  import: it => { it.found.imports.push({row: it.number(), parent: it.number(), uses: []}); },
+  use: it => { it.found.imports[it.found.imports.length - 1].uses.push(useOf(it.words(), 2)); },
+  machine: it => { it.number(); it.machines.push(it.number(), it.number()); },
   custom: takeCustom};
+/** The same by the first two letters, which differ. @type {Record<number, (it: Reading) => void>} */
+const TAKE = Object.fromEntries(Object.entries(WORDS_OF_SHOW).map(([word, take]) => [word.charCodeAt(0) << 8 | word.charCodeAt(1), take]));
 
 /**
  * The columns of what `ppdb show` printed, and the embedded sources.

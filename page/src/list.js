@@ -1,6 +1,5 @@
 /** The list on the left: methods by type or document, documents, and what a search finds in names and sources. */
 import {$, button, fill, isThere, make} from "./dom.js";
-import {isVisible} from "./model.js";
 import {addressOf, go} from "./place.js";
 import {rawName, sourceOf, state} from "./state.js";
 import {bodyOf, documentOf, firstLines, placeOf, sideOf, subjectAt, textOf, titleOf, titleWords, totals} from "./subjects.js";
@@ -41,7 +40,7 @@ function isWanted(subject) {
   const {want} = list, method = bodyOf(subject), side = sideOf(subject);
   if (!want) return true;
   if (/^(\d+|0x[0-9a-f]+)$/.test(want) && (want === tokenOf(method.row) || +want === method.row ||
-    method.points.some(it => isVisible(it) && it.start_line <= +want && +want <= it.end_line))) return true;
+    method.file.hasLine(method, +want))) return true;
   const raw = rawName(side, method.kickoff || method.row) ?? "", guessed = state.guesses[side].get(method.row)?.text ?? "";
   return `${titleWords(side, method)} ${raw} ${guessed}`.toLowerCase().includes(want);
 }
@@ -159,7 +158,8 @@ function methodBody({subject, line}) {
   const isEntry = method.row === state[side].entry;
   return [[make("span", {class: `name${isGuess && !isKnown ? " guess" : ""}`}, marked(name)), tag && make("span", {class: "tag"}, tag),
     isEntry && make("span", {class: "tag", title: "the entry point"}, "entry"),
-    change.words && make("span", {class: `tag ${change.kind}`}, change.words),
+    change.words === "changed" ? make("span", {class: "dim", title: "points moved, or locals changed", "aria-label": "changed"}, "\u2260")
+      : change.words && make("span", {class: `tag ${change.kind}`}, change.words),
     make("span", {class: "at"}, line > 0 && line < Infinity ? line : "")],
     `${titleWords(side, method)}\n${tokenOf(method.row)}${isGuess && !isKnown ? `\nnamed by its source: ${state.guesses[side].get(method.row)?.text ?? ""}` : ""}`];
 }

@@ -4,6 +4,7 @@ import {say, startAnswer} from "./answer.js";
 import {$, button, fill, make} from "./dom.js";
 import {dropped, inPage, picked, save} from "./files.js";
 import {bringToList, fillList, startList, stepEntry} from "./list.js";
+import {SOURCE_LINK} from "./kinds.js";
 import {isVisible, upTo} from "./model.js";
 import {bringToSource, drawSource, enterLine, lastLine, pane, shownDocument, startPane} from "./pane.js";
 import {go, readPlace} from "./place.js";
@@ -65,7 +66,7 @@ const wordsOfMap = line => line.startsWith("unfit") ? "the file does not fit the
 async function askMore() {
   const mine = ++turn;
   for (const side of /** @type {const} */ (["before", "after"])) if (state[side] && !state.told[side].names) port.ask("guess", side).catch(() => {});
-  if (state.before.others.some(it => it.kind === "cc110556-a091-4d38-9fec-25ab9a351a6a")) {
+  if (state.before.customsOf(0x00, 1).some(it => it.kind === SOURCE_LINK)) {
     const {status, text} = await port.ask("printed", "before", "links", []);
     if (mine !== turn || status) return;
     for (const [, row, address] of text.split("\n").map(line => line.split(" "))) if (address && address !== "none") state.links.set(`before:${row}`, nameOf(address));
@@ -91,7 +92,8 @@ function drawHead() {
   const {told, before, after} = state, one = told.before;
   if (!before) { fill("title", "ppdb"); fill("about-file", ""); fill("actions", openButton(), helpButtons()); return; }
   const methods = before.sorted.filter(it => it.count).length;
-  fill("title", baseName(one.name), after && [make("span", {class: "dim"}, " \u2192 "), baseName(told.after.name)]);
+  fill("title", baseName(one.name), after && [make("span", {class: "dim"}, " \u2192 "), told.after.note.startsWith("made") ? "remapped" : baseName(told.after.name)]);
+  $("title").title = [one.name, after && told.after.name].filter(it => it).join(" \u2192 ");
   fill("about-file", pill(one), after && told.after.status > 0 && pill(told.after), one.note && make("span", {class: "dim"}, one.note),
     after ? changes() : make("span", {class: "dim counts"}, [plural(methods, "method"), plural(before.pointCount, "point"), plural(before.documents.size, "document")]
       .join(" \u00b7 ")), make("span", {class: "dim id code", title: `PDB ID ${before.id}`}, before.id.slice(0, 8)),
@@ -101,10 +103,11 @@ function drawHead() {
 }
 /** What a rewrite changed, counted. */
 function changes() {
-  const sum = totals(), {told} = state, words = [`${sum.changed} of ${plural(sum.all, "method")} changed`, `${plural(sum.lost, "point")} lost`, `${sum.fresh} new`,
+  const sum = totals(), {told} = state, words = [`${sum.changed.toLocaleString("en")} of ${plural(sum.all, "method")} changed`, `${plural(sum.lost, "point")} lost`, `${sum.fresh} new`,
     sum.dropped && `${sum.dropped} dropped`, sum.added && `${sum.added} added`].filter(it => it);
-  const by = told.map ? `by ${baseName(told.mapName)}` : state.rewriting?.isByName ? "compared by name" : "compared by row";
-  return make("span", {class: "dim counts"}, `${by}: `, make("strong", {class: sum.lost ? "lost" : ""}, words.join(" \u00b7 ")));
+  const by = told.map ? `by ${baseName(told.mapName)}` : state.rewriting?.isByName ? "by name" : "by row";
+  return make("span", {class: "counts", title: `${words.join(", ")}, ${by}`}, words.slice(0, 1), words.slice(1).map((it, index) =>
+    [" \u00b7 ", make("span", {class: index === 0 && sum.lost ? "lost" : ""}, it)]), make("span", {class: "dim"}, ` ${by}`));
 }
 const openButton = () => button("Open\u2026", () => $("pick").click(), {title: "open files (o), or drop them anywhere"});
 const helpButtons = () => [button("Theme", shade, {title: "light or dark (t)"}), button("Help", help, {title: "what is what, and the keys (?)"})];
@@ -165,7 +168,7 @@ async function come() {
   await need(side, row);
   if (subject) await Promise.all(wantedSources(subject).map(it => need(...it)));
   if (mine !== turn && place !== state.place) return;
-  drawSource(side, row); bringToSource(line); drawAxis(); bringToAxis(); say(); bringToList();
+  drawSource(side, row); drawAxis(); bringToAxis(); bringToSource(line); say(); bringToList();
   document.body.dataset.ready = "";
 }
 /** The document and the line to show for a place. */

@@ -1,6 +1,6 @@
 /** A debug file by the columns of `show`, and what `ppdb query` and `ppdb breaks` answer of it. The check compares both with the program. */
 import {ASYNC, HOISTED} from "./kinds.js";
-import {WIDTH} from "./lines.js";
+import {CONSTANT, CUSTOM, SCOPE, VARIABLE, WIDTH} from "./lines.js";
 import {nameOf} from "./text.js";
 
 /** @typedef {{offset: number, document: number, start_line?: number, start_column?: number, end_line?: number, end_column?: number}} Point */
@@ -39,61 +39,115 @@ function slotsOf(custom) {
   return slots;
 }
 
-/** A method about which the file says something. Its points are made when they are asked for. */
+/** @typedef {{row: number, kind: string | null, value: string | null, length: number}} Custom */
+/** @typedef {{row: number, method: number, import: number, start: number, end: number, variables: any[], constants: any[]}} Scope */
+
+const ASCII_TEXT = new TextDecoder("latin1");
+const orNone = word => word === "-" ? null : word;
+
+/** A method about which the file says something. What it has is made when it is asked for. */
 export class Method {
   /** @param {DebugFile} file @param {number} row */
-  constructor(file, row) {
-    this.file = file; this.row = row; this.signature = 0; this.first = 0; this.count = 0; this.kickoff = 0; this.move = 0;
-    this.scopes = []; this.customs = []; this.hoisted = []; this.steps = [];
-    /** @type {Point[] | null} */
-    this.made = null;
-  }
-  get points() { return this.made ??= Array.from({length: this.count}, (_, index) => this.file.point(this.first + index)); }
+  constructor(file, row) { this.file = file; this.row = row; this.signature = 0; this.first = 0; this.count = 0; this.kickoff = 0; this.move = 0; }
+  /** @returns {Point[]} */
+  get points() { return this.madePoints ??= Array.from({length: this.count}, (_, index) => this.file.point(this.first + index)); }
+  /** @returns {Scope[]} */
+  get scopes() { return this.madeScopes ??= this.file.scopesOf(this.row); }
+  /** @returns {Custom[]} */
+  get customs() { return this.file.customsOf(0x06, this.row); }
+  get hoisted() { return this.madeHoisted ??= this.customs.filter(it => it.kind === HOISTED).map(slotsOf); }
+  get steps() { return this.madeSteps ??= this.customs.filter(it => it.kind === ASYNC).map(stepsOf); }
+}
+
+/** The index of the first item of a table with a key of at least `key` in a column that ascends. */
+function firstWith(numbers, width, column, key) {
+  let low = 0, high = numbers.length / width;
+  while (low < high) { const middle = low + high >> 1; if (numbers[middle * width + column] < key) low = middle + 1; else high = middle; }
+  return low;
 }
 
 export class DebugFile {
   /** @param {import("./lines.js").Columns} columns @param {string} name */
   constructor(columns, name) {
-    this.name = name; this.id = columns.id; this.entry = columns.entry; this.counts = new Map(columns.counts); this.numbers = columns.points;
+    this.name = name; this.columns = columns; this.id = columns.id; this.entry = columns.entry; this.counts = new Map(columns.counts); this.numbers = columns.points;
+    this.documents = new Map(columns.documents.map(it => [it.row, Object.assign(it, {text: nameOf(it.name)})]));
+    this.imports = new Map(columns.imports.map(it => [it.row, it]));
+    /** The custom records of an owner, by its table and row: their indexes. @type {Map<number, number[]>} */
+    this.owned = new Map();
     /** @type {Map<number, Method>} */
     this.methods = new Map();
-    const keep = (rows, more) => new Map(rows.map(row => [row.row, Object.assign(row, {customs: []}, more?.(row))]));
-    this.documents = keep(columns.documents, row => ({text: nameOf(row.name)}));
-    this.scopes = keep(columns.scopes, () => ({variables: [], constants: []}));
-    this.variables = keep(columns.variables, row => ({text: nameOf(row.name)}));
-    this.constants = keep(columns.constants, row => ({text: nameOf(row.name)}));
-    this.imports = keep(columns.imports);
-    this.others = [];
-    this.takeMethods(columns.methods);
-    for (const it of columns.scopes) this.method(it.method).scopes.push(it);
-    for (const it of columns.variables) this.scopes.get(it.scope).variables.push(it);
-    for (const it of columns.constants) this.scopes.get(it.scope).constants.push(it);
-    for (const it of columns.machines) { this.method(it.move).kickoff = it.kickoff; this.method(it.kickoff).move = it.move; }
-    for (const it of columns.customs) this.takeCustom(it);
-    this.sorted = [...this.methods.values()].sort((one, other) => one.row - other.row);
-  }
-  get pointCount() { return this.numbers.length / WIDTH; }
-  /** @param {Int32Array} methods */
-  takeMethods(methods) {
+    const {methods, scopes, machines, customs} = columns;
     for (let at = 0; at < methods.length; at += 3) {
       const method = this.method(methods[at]);
       method.signature = methods[at + 1]; method.first = methods[at + 2];
       method.count = (at + 3 < methods.length ? methods[at + 5] : this.pointCount) - method.first;
     }
+    for (let at = 0; at < scopes.length; at += SCOPE.width) this.method(scopes[at]);
+    for (let at = 0; at < machines.length; at += 2) { this.method(machines[at]).kickoff = machines[at + 1]; this.method(machines[at + 1]).move = machines[at]; }
+    for (let at = 0; at < customs.length; at += CUSTOM.width) {
+      const key = ownerKey(customs[at], customs[at + 1]), known = this.owned.get(key);
+      if (known) known.push(at / CUSTOM.width); else this.owned.set(key, [at / CUSTOM.width]);
+      if (customs[at] === 0x06) this.method(customs[at + 1]);
+    }
+    this.sorted = [...this.methods.values()].sort((one, other) => one.row - other.row);
   }
-  takeCustom(custom) {
-    const owners = {"30": this.documents, "32": this.scopes, "33": this.variables, "34": this.constants, "35": this.imports};
-    const owner = custom.parent_table === "06" ? this.method(custom.parent_row) : owners[custom.parent_table]?.get(custom.parent_row);
-    (owner ? owner.customs : this.others).push(custom);
-    if (custom.parent_table !== "06") return;
-    if (custom.kind === ASYNC) owner.steps.push(stepsOf(custom));
-    if (custom.kind === HOISTED) owner.hoisted.push(slotsOf(custom));
-  }
+  get pointCount() { return this.numbers.length / WIDTH; }
   /** @param {number} row */
   method(row) {
     let found = this.methods.get(row);
     if (!found) this.methods.set(row, found = new Method(this, row));
     return found;
+  }
+  /** A text of the heap, as `ppdb` prints it. @param {Int32Array} numbers @param {number} at */
+  text(numbers, at) { return ASCII_TEXT.decode(this.columns.heap.subarray(numbers[at], numbers[at + 1])); }
+  /** @param {number} table @param {number} row @returns {Custom[]} */
+  customsOf(table, row) {
+    const {customs, kinds} = this.columns;
+    return (this.owned.get(ownerKey(table, row)) ?? []).map(index => {
+      const at = index * CUSTOM.width, value = this.text(customs, at + CUSTOM.text);
+      return {row: index + 1, kind: orNone(kinds[customs[at + CUSTOM.kind]]), value: orNone(value), length: value === "-" ? 0 : value.length / 2};
+    });
+  }
+  /** The scopes of a method, by row: they are in the order of their methods. @param {number} row @returns {Scope[]} */
+  scopesOf(row) {
+    const {scopes} = this.columns, found = [];
+    for (let index = firstWith(scopes, SCOPE.width, SCOPE.method, row); scopes[index * SCOPE.width] === row; index++) {
+      const at = index * SCOPE.width, its = index + 1;
+      found.push({row: its, method: row, import: scopes[at + SCOPE.import], start: scopes[at + SCOPE.start], end: scopes[at + SCOPE.end],
+        variables: this.variablesOf(its), constants: this.constantsOf(its)});
+    }
+    return found;
+  }
+  variablesOf(scope) {
+    const {variables} = this.columns, found = [];
+    for (let index = firstWith(variables, VARIABLE.width, VARIABLE.scope, scope); variables[index * VARIABLE.width] === scope; index++) {
+      const at = index * VARIABLE.width, name = this.text(variables, at + VARIABLE.text);
+      found.push({row: index + 1, slot: variables[at + VARIABLE.slot], attributes: variables[at + VARIABLE.attributes], name, text: nameOf(name)});
+    }
+    return found;
+  }
+  constantsOf(scope) {
+    const {constants} = this.columns, found = [];
+    for (let index = firstWith(constants, CONSTANT.width, CONSTANT.scope, scope); constants[index * CONSTANT.width] === scope; index++) {
+      const [signature, , name] = this.text(constants, index * CONSTANT.width + CONSTANT.text).split(" ");
+      found.push({row: index + 1, signature: orNone(signature), name, text: nameOf(name)});
+    }
+    return found;
+  }
+  /** The first visible line of a method in each of its documents, Infinity if all its points there are hidden. @param {Method} method */
+  firstLines(method) {
+    const {numbers} = this, found = new Map();
+    for (let at = method.first * WIDTH, left = method.count; left > 0; left--, at += WIDTH) {
+      const line = numbers[at + 2] < 0 ? Infinity : numbers[at + 2], known = found.get(numbers[at + 1]);
+      if (known === undefined || known > line) found.set(numbers[at + 1], line);
+    }
+    return found;
+  }
+  /** Whether a point of a method covers a line of any document. @param {Method} method @param {number} line */
+  hasLine(method, line) {
+    for (let at = method.first * WIDTH, left = method.count; left > 0; left--, at += WIDTH)
+      if (this.numbers[at + 2] >= 0 && this.numbers[at + 2] <= line && line <= this.numbers[at + 4]) return true;
+    return false;
   }
   /** @param {number} index @returns {Point} */
   point(index) {
@@ -129,14 +183,17 @@ export function answer(file, row, offset) {
 }
 /** @param {Point} point */
 export const spanWords = point => isVisible(point) ? `${point.start_line}:${point.start_column} ${point.end_line}:${point.end_column}` : "hidden";
+/** An owner of custom records as one number. */
+const ownerKey = (table, row) => table * 0x1000000 + row;
 const customLines = customs => customs.map(custom => `custom ${custom.kind ?? "-"} ${custom.value ?? "-"}`);
 const useLine = use => `use ${use.kind}` + ["alias", "assembly", "namespace"].map(key => use[key] === undefined ? "" : ` ${key} ${use[key]}`).join("") +
   (use.type_row === undefined ? "" : ` type ${use.type_table} ${use.type_row}`);
 function scopeLines(file, scope) {
-  return [`scope ${scope.start} ${scope.end}`, ...customLines(scope.customs),
-    ...scope.variables.flatMap(it => [`variable ${it.slot} ${it.attributes} ${it.name}`, ...customLines(it.customs)]),
-    ...scope.constants.flatMap(it => [`constant ${it.signature ?? "-"} ${it.name}`, ...customLines(it.customs)]),
-    ...importsFrom(file, scope.import).flatMap(it => [`import ${it.row}`, ...it.uses.map(useLine), ...customLines(it.customs)])];
+  const customs = (table, row) => customLines(file.customsOf(table, row));
+  return [`scope ${scope.start} ${scope.end}`, ...customs(0x32, scope.row),
+    ...scope.variables.flatMap(it => [`variable ${it.slot} ${it.attributes} ${it.name}`, ...customs(0x33, it.row)]),
+    ...scope.constants.flatMap(it => [`constant ${it.signature ?? "-"} ${it.name}`, ...customs(0x34, it.row)]),
+    ...importsFrom(file, scope.import).flatMap(it => [`import ${it.row}`, ...it.uses.map(useLine), ...customs(0x35, it.row)])];
 }
 function recordLines(method, custom) {
   if (custom.kind === HOISTED) return [];

@@ -7,15 +7,13 @@ import {nameOf, plural} from "./text.js";
 /** @typedef {{old: Method | null, now: Method | null, change?: {kind: string, words: string, lost: number, fresh: number}}} Subject */
 /** @typedef {{name: string, tag: string, type: string, space: string, isGuess: boolean, isKnown: boolean}} Title */
 
-const isSomething = it => it.points.length || it.scopes.length || it.customs.length || it.move || it.kickoff;
-
 /** @returns {Subject[]} */
 export function subjectsOf() {
-  const {before, after, rewriting} = state, found = before.sorted.filter(isSomething)
+  const {before, after, rewriting} = state, found = before.sorted
     .map(old => ({old, now: (rewriting && after.methods.get(rewriting.image(old.row))) ?? null}));
   if (!after) return found;
   const known = new Set(found.map(it => it.now));
-  return [...found, ...after.sorted.filter(it => isSomething(it) && !known.has(it)).map(now => ({old: null, now}))];
+  return [...found, ...after.sorted.filter(it => !known.has(it)).map(now => ({old: null, now}))];
 }
 export const sideOf = subject => subject.old ? "before" : "after";
 /** @param {Subject} subject @returns {Method} */
@@ -103,15 +101,13 @@ export function documentOf(side, row) {
 }
 /** The lines on which a method begins, by document: `before:ROW`, or `after:ROW` of a document that is only there. @param {Subject} subject */
 export function firstLines(subject) {
-  const found = new Map(), side = sideOf(subject);
-  for (const point of bodyOf(subject).points) {
-    const row = documentOf(side, point.document), key = row === null ? `after:${point.document}` : `before:${row}`;
-    const line = isVisible(point) ? point.start_line : Infinity;
-    if (!found.has(key) || found.get(key) > line) found.set(key, line);
-  }
+  const side = sideOf(subject), method = bodyOf(subject), found = [...method.file.firstLines(method)].map(([document, line]) => {
+    const row = documentOf(side, document);
+    return [row === null ? `after:${document}` : `before:${row}`, line];
+  });
   // A hidden point alone does not bring a method to a document if it has others elsewhere.
-  const seen = [...found].filter(([, line]) => line < Infinity);
-  return seen.length ? seen : [...found].slice(0, 1);
+  const seen = found.filter(([, line]) => line < Infinity);
+  return seen.length ? seen : found.slice(0, 1);
 }
 /** The points that the map makes of those of a method and that the file after does not have, and the other way round, in words. @param {Subject} subject */
 export function differenceOf({old, now}) {
