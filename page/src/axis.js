@@ -7,7 +7,7 @@ import {state} from "./state.js";
 import {bodyOf, cameFrom, excerptOf, isLost, placeOf, subjectAt} from "./subjects.js";
 import {hex} from "./text.js";
 
-const LEFT = 84, ROW = 24, BAR = 20, BAND = 40, TOP = 24, WIDEST = 400000;
+const LEFT = 84, ROW = 24, BAR = 20, BAND = 40, TOP = 28, WIDEST = 400000;
 /** The width of a character of the axis, in pixels; it is measured once. */
 let letter = 0;
 const drawn = {axis: /** @type {Axis | null} */ (null)};

@@ -39,8 +39,13 @@ class Growing {
     more.set(this.data);
     this.data = more;
   }
-  /** @param {...number} values */
-  push(...values) { this.room(values.length); for (const it of values) this.data[this.length++] = it; }
+  /** Adds so many values, at most five; what is written after them is overwritten. */
+  push(count, first, second = 0, third = 0, fourth = 0, fifth = 0) {
+    this.room(5);
+    const {data, length} = this;
+    data[length] = first; data[length + 1] = second; data[length + 2] = third; data[length + 3] = fourth; data[length + 4] = fifth;
+    this.length = length + count;
+  }
   done() { return this.data.slice(0, this.length); }
 }
 
@@ -97,13 +102,15 @@ class Reading {
     this.at = at;
     return value;
   }
-  /** The rest of the line from a place on, kept in the heap: where it begins and ends there. @param {number} from */
+  /** Keeps the rest of the line from a place on in the heap, and returns where it begins there; it ends where the heap then ends. @param {number} from */
   kept(from) {
-    const {heap} = this, start = heap.length, length = Math.max(0, this.end - from);
-    heap.room(length);
-    heap.data.set(this.bytes.subarray(from, this.end), start);
-    heap.length += length;
-    return [start, start + length];
+    const {heap, bytes, end} = this, start = heap.length;
+    heap.room(Math.max(0, end - from));
+    const {data} = heap;
+    let to = start;
+    for (let at = from; at < end; at++) data[to++] = bytes[at];
+    heap.length = to;
+    return start;
   }
   words() { return LATIN.decode(this.bytes.subarray(this.at, this.end)).split(" "); }
   /** Any other line: its first two letters tell its word. */
@@ -145,7 +152,8 @@ function takeCustom(reading) {
   if (!kinds.has(kind)) { kinds.set(kind, found.kinds.length); found.kinds.push(kind); }
   const isEmbedded = table === 0x30 && kind === EMBEDDED;
   if (isEmbedded && !reading.embedded.has(row)) reading.embedded.set(row, isNil ? new Uint8Array() : hexBytes(bytes, start, reading.end));
-  reading.customs.push(table, row, kinds.get(kind), ...reading.kept(isEmbedded ? reading.end : start));
+  const begin = reading.kept(isEmbedded ? reading.end : start);
+  reading.customs.push(5, table, row, kinds.get(kind), begin, reading.heap.length);
 }
 
 /** What each line says, by its first word (docs/FORMAT.md, section 7). @type {Record<string, (it: Reading) => void>} */
@@ -157,13 +165,21 @@ const WORDS_OF_SHOW = {
     const [, row, , algorithm, , hash, , language, , name] = it.words();
     it.found.documents.push({row: +row, algorithm, hash, language, name});
   },
-  method: it => { it.methods.push(it.number(), it.number(), it.points.length / WIDTH); },
-  scope: it => { it.number(); it.scopes.push(it.number(), it.number(), it.number(), it.number()); },
-  variable: it => { it.number(); it.variables.push(it.number(), it.number(), it.number(), ...it.kept(it.at + NAME)); },
-  constant: it => { it.number(); it.constants.push(it.number(), ...it.kept(it.at + SIGNATURE)); },
+  method: it => { it.methods.push(3, it.number(), it.number(), it.points.length / WIDTH); },
+  scope: it => { it.number(); it.scopes.push(4, it.number(), it.number(), it.number(), it.number()); },
+  variable: it => {
+    it.number();
+    const scope = it.number(), slot = it.number(), attributes = it.number(), start = it.kept(it.at + NAME);
+    it.variables.push(5, scope, slot, attributes, start, it.heap.length);
+  },
+  constant: it => {
+    it.number();
+    const scope = it.number(), start = it.kept(it.at + SIGNATURE);
+    it.constants.push(3, scope, start, it.heap.length);
+  },
   import: it => { it.found.imports.push({row: it.number(), parent: it.number(), uses: []}); },
   use: it => { it.found.imports[it.found.imports.length - 1].uses.push(useOf(it.words(), 2)); },
-  machine: it => { it.number(); it.machines.push(it.number(), it.number()); },
+  machine: it => { it.number(); it.machines.push(2, it.number(), it.number()); },
   custom: takeCustom};
 /** The same by the first two letters, which differ. @type {Record<number, (it: Reading) => void>} */
 const TAKE = Object.fromEntries(Object.entries(WORDS_OF_SHOW).map(([word, take]) => [word.charCodeAt(0) << 8 | word.charCodeAt(1), take]));

@@ -97,8 +97,9 @@ function hitEntries() {
   const found = [{head: "In sources", dim: count > hits.length ? `the first ${hits.length} of ${count.toLocaleString("en")} lines` : plural(count, "line")}];
   let last = null;
   for (const hit of hits) {
-    const name = baseName(textOf(state.before.documents.get(hit.row)));
-    found.push({hit, name: name === last ? "" : name, place: {d: hit.row, l: hit.line}});
+    const name = textOf(state.before.documents.get(hit.row));
+    if (name !== last) found.push({head: baseName(name), dim: folderOf(name), place: {d: hit.row}});
+    found.push({hit, place: {d: hit.row, l: hit.line}});
     last = name;
   }
   return found;
@@ -163,9 +164,9 @@ function methodBody({subject, line}) {
     make("span", {class: "at"}, line > 0 && line < Infinity ? line : "")],
     `${titleWords(side, method)}\n${tokenOf(method.row)}${isGuess && !isKnown ? `\nnamed by its source: ${state.guesses[side].get(method.row)?.text ?? ""}` : ""}`];
 }
-function hitBody({hit, name}) {
+function hitBody({hit}) {
   const text = hit.text.trimStart(), from = Math.max(0, text.toLowerCase().indexOf(list.want) - 18);
-  return [[make("span", {class: "code name"}, from ? "\u2026" : "", marked(text.slice(from, from + 200))), name && make("span", {class: "dim"}, name),
+  return [[make("span", {class: "code name"}, from ? "\u2026" : "", marked(text.slice(from, from + 200))),
     make("span", {class: "at"}, hit.line)], `line ${hit.line}: ${hit.text.slice(0, 300)}`];
 }
 function documentBody({document, side, name, folder, count}) {

@@ -110,7 +110,7 @@ function changes() {
     [" \u00b7 ", make("span", {class: index === 0 && sum.lost ? "lost" : ""}, it)]), make("span", {class: "dim"}, ` ${by}`));
 }
 const openButton = () => button("Open\u2026", () => $("pick").click(), {title: "open files (o), or drop them anywhere"});
-const helpButtons = () => [button("Theme", shade, {title: "light or dark (t)"}), button("Help", help, {title: "what is what, and the keys (?)"})];
+const helpButtons = () => [button("Theme", shade, {title: "light or dark (t)", class: "theme"}), button("Help", help, {title: "what is what, and the keys (?)"})];
 function saveButtons() {
   const {told} = state;
   const choices = [told.canRemap && ["The remapped debug file", "remapped", "before"], ["The rebuilt debug file", "rebuilt", "before"],
@@ -168,7 +168,8 @@ async function come() {
   await need(side, row);
   if (subject) await Promise.all(wantedSources(subject).map(it => need(...it)));
   if (mine !== turn && place !== state.place) return;
-  drawSource(side, row); drawAxis(); bringToAxis(); bringToSource(line); say(); bringToList();
+  drawSource(side, row); drawAxis(); bringToAxis(); bringToSource(line, (place.o ?? place.a ?? place.l) !== null); say(); bringToList();
+  document.body.toggleAttribute("data-chosen", (place.o ?? place.a ?? place.l) !== null);
   document.body.dataset.ready = "";
 }
 /** The document and the line to show for a place. */
@@ -234,6 +235,7 @@ function light(event) {
   const key = keys && (keys.find(it => it.startsWith(`${own}.`)) ?? keys[0]);
   if (key) for (const it of document.querySelectorAll(`[data-p~="${key}"]`)) it.classList.add("lit");
 }
+const isNarrow = () => matchMedia("(max-width: 860px)").matches;
 /** On a narrow page one pane is in sight. @param {string} name */
 function tab(name) {
   document.body.dataset.tab = name;
@@ -257,8 +259,10 @@ function listen() {
   $("choose-folder").onclick = () => $("pick-folder").click();
   $("stop").onclick = () => { port.stop(); busy(""); startEngine().then(() => settle(() => port.ask("add", []))); };
   for (const it of $("tabs").children) it.addEventListener("click", () => tab(it.dataset.tab));
+  $("list").addEventListener("click", () => { if (isNarrow()) tab("source"); });
+  $("shade").onclick = shade;
   addEventListener("keydown", onKey);
-  addEventListener("hashchange", () => { come(); if (!state.place.l && (state.place.o ?? state.place.a ?? null) === null) return; });
+  addEventListener("hashchange", come);
   document.body.addEventListener("mouseover", light);
   document.addEventListener("click", event => { if (!event.target.closest("details.menu")) closeMenus(); });
   let resized = 0;
@@ -271,12 +275,12 @@ function redraw() {
 
 // ---- The beginning.
 
-let engine = "";
+let engine = /** @type {any} */ (null);
 /** Hands the module to the worker: it is in the page, compressed. */
 function startEngine() { return port.ask("start", engine); }
 async function main() {
   port = new Port(BUILT.worker, hears);
-  engine = $("engine").textContent.trim();
+  engine = JSON.parse($("engine").textContent);
   $("engine").remove();
   fill("made", BUILT.version);
   startPane(insist); startAxis(); startSplitters(redraw);

@@ -154,14 +154,15 @@ function drawBar(side, row, source) {
 
 // ---- Moving in it.
 
-/** Brings a line into sight, and in it the chosen span. @param {number | undefined} line */
-export function bringToSource(line) {
+/** Brings a line into sight, and in it the chosen span. @param {number | undefined} line @param {boolean} isChosen whether an offset or line is chosen */
+export function bringToSource(line, isChosen) {
   const index = line ? indexOf(line) : -1, box = $("source");
   pane.view.active = state.place.l === null ? -1 : indexOf(state.place.l);
   if (index >= 0) pane.view.bring(index);
   pane.view.draw();
   const row = index < 0 ? null : box.querySelector(`.row[data-l="${line}"]`), span = (row?.querySelector(".at") ?? row?.querySelector(".mine"))?.getBoundingClientRect();
-  if (!span) return;
+  if (!isChosen) box.scrollLeft = 0;
+  if (!span || !isChosen) return;
   const {left, right} = box.getBoundingClientRect(), at = box.scrollLeft;
   if (span.left < left + GUTTER || Math.min(span.right, span.left + 120) > right)
     box.scrollLeft = span.right - left + at < right - left ? 0 : at + span.left - left - 2 * GUTTER;

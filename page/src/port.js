@@ -1,10 +1,12 @@
 /** The worker, and questions to it. */
 import {isThere} from "./dom.js";
 
+let policy, current = "";
 /** Made from a blob, since the page is one file. A browser with Trusted Types accepts it from this policy alone. @param {string} source */
 function started(source) {
   const address = URL.createObjectURL(new Blob([source], {type: "text/javascript"}));
-  const policy = globalThis.trustedTypes?.createPolicy("ppdb-worker", {createScriptURL: () => address});
+  current = address;
+  policy ??= globalThis.trustedTypes?.createPolicy("ppdb-worker", {createScriptURL: () => current});
   return new Worker(policy ? policy.createScriptURL("") : address);
 }
 
