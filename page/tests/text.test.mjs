@@ -8,7 +8,7 @@ import {baseName, cutFront, folderOf, nameOf, quoted, seen, sizeWords} from "../
 import {chance} from "./program.mjs";
 
 test("controls and marks of direction can be seen", () => {
-  assert.equal(seen("a\u202eb\u0007\u007f\u200b\ufeff\ud800"), "a⟨U+202E⟩b␇␡⟨U+200B⟩⟨U+FEFF⟩⟨U+D800⟩");
+  assert.equal(seen("a\u202eb\u0007\u007f\u200b\ufeff\udfff"), "a⟨U+202E⟩b␇␡⟨U+200B⟩⟨U+FEFF⟩⟨U+DFFF⟩");
   assert.equal(seen("tab\there, é, 名, 😀"), "tab\there, é, 名, 😀");
   for (let code = 0; code < 0x3000; code++) if (/\p{Cc}|\p{Cf}|\p{Zl}|\p{Zp}/u.test(String.fromCharCode(code)) && code !== 9 && !/[\u0600-\u0605\u06dd\u070f\u0890\u0891\u08e2]/u
     .test(String.fromCharCode(code))) assert.notEqual(seen(String.fromCharCode(code)), String.fromCharCode(code), code.toString(16));
