@@ -54,7 +54,7 @@ function placeLine(side, {method, point, index}, isFirst, line) {
     title: spanOf(point)}, make("span", {class: "here", title: isFirst ? "a debugger stops here" : ""}, isFirst ? "\u25b6" : ""),
     make("code", {}, hex(point.offset)), ink(excerptOf(side, point).slice(0, 90) || columnsOf(point), tintOf(method, index)), make("span", {class: "dim"}, from));
 }
-const afterPlace = row => { const it = state.subjects.find(one => one.now?.row === row); return it ? placeOf(it) : {n: row}; };
+const afterPlace = row => { const it = state.byNow.get(row); return it ? placeOf(it) : {n: row}; };
 function whereItIsBound(found, groups, line) {
   const {side} = pane, spans = Map.groupBy(found, it => spanWords(it.point));
   const isShared = [...spans.values()].some(list => new Set(list.map(it => it.method)).size > 1), starts = found.some(it => it.point.start_line === line);
@@ -94,7 +94,7 @@ function sayMethod(subject, side, method) {
 }
 const fact = (name, ...words) => [make("dt", {}, name), make("dd", {}, words)];
 function methodLink(side, row) {
-  const it = state.subjects.find(one => (side === "before" ? one.old : one.now)?.row === row), words = `${rawName(side, row) ?? `method ${row}`}`;
+  const it = (side === "before" ? state.byOld : state.byNow).get(row), words = `${rawName(side, row) ?? `method ${row}`}`;
   return it ? link(placeOf(it), words) : words;
 }
 function sayChange(subject) {

@@ -50,7 +50,7 @@ class Growing {
 }
 
 const LATIN = new TextDecoder("latin1");
-const [SPACE, COLON, NEW_LINE, ZERO, LOWER_P, LOWER_O] = [" ", ":", "\n", "0", "p", "o"].map(it => it.charCodeAt(0));
+const SPACE = 32, NEW_LINE = 10, ZERO = 48, NINE = 57, HIDDEN = 104, LOWER_P = 112, LOWER_O = 111;
 const PARENT = " parent ".length, VALUE = " value ".length, NAME = " name ".length, KIND = " kind ".length, SIGNATURE = " signature ".length;
 
 /** The columns of the answer, line by line. */
@@ -76,29 +76,29 @@ class Reading {
     const lists = ["points", "methods", "scopes", "variables", "constants", "machines", "customs", "heap"].map(name => [name, this[name].done()]);
     return {...this.found, ...Object.fromEntries(lists)};
   }
-  /** `O D hidden` or `O D SL:SC EL:EC`. */
+  /** `O D hidden` or `O D SL:SC EL:EC`, and the end of the line. */
   point() {
-    const {bytes, points} = this;
+    const {bytes, points} = this, {length} = bytes;
     points.room(WIDTH);
-    const start = points.length;
-    points.data.fill(-1, start, start + WIDTH);
-    let value = 0, column = 0, isNumber = false, at = this.at;
-    for (; at < bytes.length; at++) {
-      const byte = bytes[at], digit = byte - ZERO;
-      if (digit >= 0 && digit <= 9) { value = value * 10 + digit; isNumber = true; continue; }
-      if (isNumber) { points.data[start + column++] = value; value = 0; isNumber = false; }
-      if (byte === NEW_LINE) break;
-      if (byte !== SPACE && byte !== COLON) { at = bytes.indexOf(NEW_LINE, at); if (at < 0) at = bytes.length; break; }
+    const {data} = points, first = points.length;
+    let at = this.at, column = 0;
+    for (; column < WIDTH && bytes[at] !== HIDDEN; column++) {
+      let value = 0, byte = 0;
+      // A number ends at a space, a colon or the end of the line.
+      while (at < length && (byte = bytes[at++]) >= ZERO && byte <= NINE) value = value * 10 + byte - ZERO;
+      data[first + column] = value;
     }
+    if (column < WIDTH) { data[first + 2] = data[first + 3] = data[first + 4] = data[first + 5] = -1; at += "hidden\n".length; }
     points.length += WIDTH;
-    this.at = at + 1;
+    this.at = at;
   }
   /** The next number of the line: it skips the words before it, which have no digits. */
   number() {
     const {bytes} = this;
-    let at = this.at, value = 0;
-    while (at < this.end && (bytes[at] < ZERO || bytes[at] > ZERO + 9)) at++;
-    for (; at < this.end && bytes[at] >= ZERO && bytes[at] <= ZERO + 9; at++) value = value * 10 + bytes[at] - ZERO;
+    const {end} = this;
+    let at = this.at, value = 0, byte = 0;
+    while (at < end && (bytes[at] < ZERO || bytes[at] > NINE)) at++;
+    for (; at < end && (byte = bytes[at]) >= ZERO && byte <= NINE; at++) value = value * 10 + byte - ZERO;
     this.at = at;
     return value;
   }

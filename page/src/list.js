@@ -2,7 +2,7 @@
 import {$, button, fill, isThere, make} from "./dom.js";
 import {addressOf, go} from "./place.js";
 import {rawName, sourceOf, state} from "./state.js";
-import {bodyOf, documentOf, firstLines, placeOf, sideOf, subjectAt, textOf, titleOf, titleWords, totals} from "./subjects.js";
+import {bodyOf, documentOf, firstLines, placeOf, sideOf, subjectAt, textOf, titleAt, titleWords, totals} from "./subjects.js";
 import {baseName, cutFront, folderOf, plural, tokenOf} from "./text.js";
 import {VirtualList} from "./virtual.js";
 
@@ -29,7 +29,7 @@ export function startList(searches) {
       if (want === list.want) { list.hits = hits; fillList(); }
     }, 150);
   };
-  $("find-form").onsubmit = event => { event.preventDefault(); const first = list.entries.find(it => it.place); if (first) go(first.place); };
+  $("find-form").onsubmit = event => { event.preventDefault(); const first = list.entries.find(it => it.place && !it.head); if (first) go(first.place); };
   $("list").onkeydown = onListKey;
   for (const tab of ["methods", "documents"]) $(`tab-${tab}`).onclick = () => { list.tab = tab; fillList(); bringToList(); };
 }
@@ -37,8 +37,9 @@ export function startList(searches) {
 // ---- What is in the list.
 
 function isWanted(subject) {
-  const {want} = list, method = bodyOf(subject), side = sideOf(subject);
+  const {want} = list;
   if (!want) return true;
+  const method = bodyOf(subject), side = sideOf(subject);
   if (/^(\d+|0x[0-9a-f]+)$/.test(want) && (want === tokenOf(method.row) || +want === method.row ||
     method.file.hasLine(method, +want))) return true;
   const raw = rawName(side, method.kickoff || method.row) ?? "", guessed = state.guesses[side].get(method.row)?.text ?? "";
@@ -46,7 +47,7 @@ function isWanted(subject) {
 }
 /** The heading under which a subject is: its type, or its document. */
 function groupOf(subject, key) {
-  const {type, space, isKnown} = titleOf(sideOf(subject), bodyOf(subject));
+  const {type, space, isKnown} = titleAt(subject);
   return isKnown ? `type ${space}.${type}` : key ?? "none";
 }
 function methodEntries() {
@@ -54,7 +55,7 @@ function methodEntries() {
   for (const subject of state.subjects) {
     if (!ONLY[list.only](subject) || !isWanted(subject)) continue;
     subject.lines ??= firstLines(subject);
-    const isKnown = titleOf(sideOf(subject), bodyOf(subject)).isKnown, lines = isKnown ? subject.lines.slice(0, 1) : subject.lines;
+    const {isKnown} = titleAt(subject), lines = isKnown ? subject.lines.slice(0, 1) : subject.lines;
     for (const [key, line] of lines.length ? lines : [[undefined, 0]]) {
       // Of a method with code in several documents each entry leads to its own.
       const [side, row] = (key ?? "").split(":"), more = subject.lines.length > 1 && side === "before" && !isKnown ? {d: +row} : {};
@@ -69,7 +70,7 @@ const docOrder = key => key.startsWith("before:") ? +key.slice(7) : 0;
 function headOf(key, found) {
   if (key === "none") return {head: "Without points", dim: ""};
   if (key.startsWith("type ")) {
-    const {type, space} = titleOf(sideOf(found[0].subject), bodyOf(found[0].subject));
+    const {type, space} = titleAt(found[0].subject);
     return {head: type, dim: space};
   }
   const [side, row] = key.split(":"), document = state[side].documents.get(+row);
@@ -155,7 +156,7 @@ function entryOf(entry, index) {
     href: addressOf(entry.place), title, "aria-selected": String(on), "aria-posinset": index + 1, "aria-setsize": list.entries.length}, body);
 }
 function methodBody({subject, line}) {
-  const side = sideOf(subject), method = bodyOf(subject), {name, tag, isGuess, isKnown} = titleOf(side, method), {change} = subject;
+  const side = sideOf(subject), method = bodyOf(subject), {name, tag, isGuess, isKnown} = titleAt(subject), {change} = subject;
   const isEntry = method.row === state[side].entry;
   return [[make("span", {class: `name${isGuess && !isKnown ? " guess" : ""}`}, marked(name)), tag && make("span", {class: "tag"}, tag),
     isEntry && make("span", {class: "tag", title: "the entry point"}, "entry"),

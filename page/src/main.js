@@ -77,6 +77,7 @@ let later = 0;
 function hears({event, which, found}) {
   if (event !== "guesses") return;
   for (const [row, guessed] of found) state.guesses[which].set(row, guessed);
+  state.age++;
   clearTimeout(later);
   later = setTimeout(() => { fillList(); say(); }, 60);
 }

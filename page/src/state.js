@@ -18,8 +18,14 @@ export const state = {
   rewriting: null,
   /** @type {import("./subjects.js").Subject[]} */
   subjects: [],
+  /** The subjects by the rows of their methods before and after. @type {Map<number, import("./subjects.js").Subject>} */
+  byOld: new Map(),
+  /** @type {Map<number, import("./subjects.js").Subject>} */
+  byNow: new Map(),
   /** The sources that were asked for, by side and row. @type {Map<string, Source>} */
   sources: new Map(),
+  /** How often names have come. */
+  age: 0,
   /** The guessed names by side. */
   guesses: {before: new Map(), after: new Map()},
   /** The chosen place: a method before (m) or only after (n), an offset before (o) or after (a), a document before (d) or after (e), a line. */
@@ -37,8 +43,11 @@ export function take(told) {
     return new DebugFile(columns, told[side].name);
   };
   Object.assign(state, {told, before: kept("before"), after: kept("after"), sources: new Map(), guesses: {before: new Map(), after: new Map()}});
+  state.age++;
   state.rewriting = rewritingOf(told);
   state.subjects = state.before ? subjectsOf() : [];
+  state.byOld = new Map(state.subjects.filter(it => it.old).map(it => [it.old.row, it]));
+  state.byNow = new Map(state.subjects.filter(it => it.now).map(it => [it.now.row, it]));
   for (const it of state.subjects) it.change = changeOf(it);
 }
 function rewritingOf(told) {

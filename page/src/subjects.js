@@ -20,10 +20,11 @@ export const sideOf = subject => subject.old ? "before" : "after";
 export const bodyOf = subject => subject.old ?? subject.now;
 /** @param {Subject} subject */
 export const placeOf = subject => subject.old ? {m: subject.old.row} : {n: subject.now.row};
-/** @param {{m: number | null, n: number | null}} place */
+/** @param {{m: number | null, n: number | null}} place @returns {Subject | undefined} */
 export function subjectAt({m, n}) {
-  if (m !== null) return state.subjects.find(it => it.old?.row === m);
-  return n === null ? undefined : state.subjects.find(it => !it.old && it.now.row === n);
+  if (m !== null) return state.byOld.get(m);
+  const found = n === null ? undefined : state.byNow.get(n);
+  return found && !found.old ? found : undefined;
 }
 
 // ---- Names.
@@ -34,7 +35,7 @@ function known(side, row) {
   if (names) return names.rows[row] ? {names, row} : null;
   const other = side === "before" ? "after" : "before", others = state.told?.[other]?.names;
   if (!others || !state.rewriting) return null;
-  const image = side === "before" ? state.rewriting.image(row) : state.subjects.find(it => it.now?.row === row && it.old)?.old.row;
+  const image = side === "before" ? state.rewriting.image(row) : state.byNow?.get(row)?.old?.row;
   return others.rows[image] ? {names: others, row: image} : null;
 }
 /** What a compiler calls code that has no name of its own: a lambda, a local function, the type around either. */
@@ -53,6 +54,11 @@ export function titleOf(side, method) {
   }
   const bare = method.kickoff ? `MoveNext of method ${method.kickoff}` : `method ${method.row}`;
   return {name: guessed?.name || guessed?.text || bare, tag: guessed ? tag : "", type: "", space: "", isGuess: Boolean(guessed), isKnown: false};
+}
+/** The title of a subject, made again only if other names have come. @param {Subject & {title?: Title, age?: number}} subject @returns {Title} */
+export function titleAt(subject) {
+  if (subject.age !== state.age) { subject.title = titleOf(sideOf(subject), bodyOf(subject)); subject.age = state.age; }
+  return subject.title;
 }
 /** The title in one text. @param {"before" | "after"} side @param {Method} method */
 export function titleWords(side, method) {
