@@ -49,10 +49,12 @@ function sayLine() {
     document.text && asPrinted(side, "breaks", document.text, line));
 }
 function placeLine(side, {method, point, index}, isFirst, line) {
-  const columns = point.start_line === point.end_line && excerptOf(side, point) ? `${point.start_column}\u2013${point.end_column}` : "", from = point.start_line < line ? "begins above" : columns;
+  const columns = point.start_line === point.end_line && excerptOf(side, point) ? `${point.start_column}\u2013${point.end_column}` : "",
+    from = point.start_line < line ? "begins above" : columns;
   return make("a", {class: "place", href: addressOf(side === "before" ? {m: method.row, o: point.offset} : {...afterPlace(method.row), a: point.offset}),
     title: spanOf(point)}, make("span", {class: "here", title: isFirst ? "a debugger stops here" : ""}, isFirst ? "\u25b6" : ""),
-    make("code", {}, hex(point.offset)), ink(excerptOf(side, point).slice(0, 90) || columnsOf(point), tintOf(method, index)), make("span", {class: "dim"}, from));
+    make("code", {}, hex(point.offset)), ink(excerptOf(side, point).slice(0, 90) || columnsOf(point), tintOf(method, index)), 
+    make("span", {class: "dim"}, from));
 }
 const afterPlace = row => { const it = state.byNow.get(row); return it ? placeOf(it) : {n: row}; };
 function whereItIsBound(found, groups, line) {
@@ -84,8 +86,10 @@ function sayMethod(subject, side, method) {
   const when = state.rewriting && make("span", {class: "tag"}, side);
   const from = isGuess && !isKnown && state.guesses[side].get(method.row)?.text;
   return [make("h2", {}, name, tag && make("span", {class: "tag"}, tag), when),
-    type && make("p", {class: "dim"}, `in ${type}`, space && `, ${space}`), from && make("p", {class: "code dim", title: "the source names it"}, from.slice(0, 300)),
-    make("dl", {class: "facts"}, fact("token", make("code", {}, tokenOf(method.row)), method.row === state[side].entry && make("span", {class: "tag"}, "entry point")),
+    type && make("p", {class: "dim"}, `in ${type}`, space && `, ${space}`), 
+    from && make("p", {class: "code dim", title: "the source names it"}, from.slice(0, 300)),
+    make("dl", {class: "facts"}, fact("token", make("code", {}, tokenOf(method.row)), 
+      method.row === state[side].entry && make("span", {class: "tag"}, "entry point")),
       raw && !raw.endsWith(`.${name}`) && fact("full name", make("code", {}, raw)),
       fact("locals", method.signature ? ["signature ", make("code", {}, `0x11${method.signature.toString(16).padStart(6, "0")}`)] : "none"),
       method.kickoff > 0 && fact("started by", methodLink(side, method.kickoff)), method.move > 0 && fact("continues in", methodLink(side, method.move)),
@@ -99,7 +103,8 @@ function methodLink(side, row) {
 }
 function sayChange(subject) {
   const {old, now, change} = subject, {rewriting} = state;
-  if (!old) return make("p", {class: "change added"}, rewriting.isMap ? "No method before the rewrite became this one." : "The file before has no such method.");
+  if (!old)
+    return make("p", {class: "change added"}, rewriting.isMap ? "No method before the rewrite became this one." : "The file before has no such method.");
   const image = rewriting.image(old.row);
   if (image === null) return make("p", {class: "change lost"}, rewriting.isMap ? "The map drops this method, or gives it no image."
     : "The file after has no such method.");
@@ -129,8 +134,10 @@ function sayPoint(side, method, point) {
   if (isVisible(point)) return [make("p", {}, make("strong", {}, spanOf(point)), name), make("pre", {class: `excerpt t${tintOf(method, index)}`},
     excerptOf(side, point) || columnsOf(point))];
   const seen = method.points.slice(0, index).findLast(isVisible);
-  return [make("p", {}, make("strong", {}, "Hidden"), ": it belongs to no line, and a debugger steps over it.", seen && " A stack trace takes the visible point before:"),
-    seen && [make("p", {}, spanOf(seen), name), make("pre", {class: `excerpt t${tintOf(method, method.points.indexOf(seen))}`}, excerptOf(side, seen) || columnsOf(seen))]];
+  return [make("p", {}, make("strong", {}, "Hidden"), ": it belongs to no line, and a debugger steps over it.", 
+      seen && " A stack trace takes the visible point before:"),
+    seen && [make("p", {}, spanOf(seen), name), 
+      make("pre", {class: `excerpt t${tintOf(method, method.points.indexOf(seen))}`}, excerptOf(side, seen) || columnsOf(seen))]];
 }
 function slotNote(method, it) {
   const {rewriting} = state, to = rewriting?.isMap && rewriting.image(method.row) !== null ? rewriting.slot(method.row, it.slot) : it.slot;
@@ -146,7 +153,8 @@ function sayOffset(subject, side, method, offset) {
   const file = state[side], {point, scopes, hoisted} = answer(file, method.row, offset), imports = new Set(scopes.flatMap(it => importsFrom(file, it.import)));
   const variable = it => make("div", {class: "local"}, make("code", {}, it.text), make("span", {class: "dim"}, `slot ${it.slot}`,
     it.attributes & 1 ? ", hidden from debuggers" : "", side === "before" ? slotNote(method, it) : ""));
-  const constant = it => make("div", {class: "local", title: constantWords(it)}, make("code", {}, `${it.text} = ${valueOf(it.signature)}`), make("span", {class: "dim"}, "constant"));
+  const constant = it => make("div", {class: "local", title: constantWords(it)}, 
+    make("code", {}, `${it.text} = ${valueOf(it.signature)}`), make("span", {class: "dim"}, "constant"));
   const range = it => `${hex(it.start)} up to ${hex(it.end)}`;
   return [make("h3", {class: "offset"}, make("code", {}, hex(offset)), make("span", {class: "dim"}, ` offset ${offset}`)), sayPoint(side, method, point),
     state.rewriting && sayImage(subject, side, offset),
@@ -165,14 +173,16 @@ function sayImage({old, now}, side, offset) {
     return make("p", {class: "change"}, "Now at ", now ? link({...placeOf({old, now}), a: to}, hex(to)) : hex(to), `, method ${rewriting.image(old.row)}.`);
   }
   const from = old ? rewriting.origin(old.row, offset) : null;
-  return from === null ? make("p", {class: "change added"}, rewriting.isMap ? "The rewrite put this code in: no kept offset came here." : "No point before has this place.")
+  return from === null ? make("p", {class: "change added"}, rewriting.isMap
+    ? "The rewrite put this code in: no kept offset came here." : "No point before has this place.")
     : make("p", {class: "change"}, "It was at ", link({...placeOf({old, now}), o: from}, hex(from)), " before.");
 }
 
 // ---- All of it.
 
 function saySubject(subject) {
-  const side = state.place.a !== null ? "after" : sideOf(subject), method = side === "before" ? subject.old : subject.now, offset = state.place.a ?? state.place.o;
+  const side = state.place.a !== null ? "after" : sideOf(subject), method = side === "before" ? subject.old : subject.now,
+    offset = state.place.a ?? state.place.o;
   if (!method) return null;
   return make("article", {id: "method"}, sayMethod(subject, side, method), state.rewriting && sayChange(subject),
     offset !== null ? sayOffset(subject, side, method, offset) : sayPoints(side, method));
@@ -181,7 +191,7 @@ function saySubject(subject) {
 function sayNone() {
   const {m, n} = state.place, side = m !== null ? "before" : "after", row = m ?? n, rows = state[side]?.counts.get("06") ?? 0;
   return make("article", {id: "none"}, make("h2", {}, `Method ${row}`), make("p", {}, row >= 1 && row <= rows
-    ? `The debug file says nothing of this method (${tokenOf(row)}): it has no sequence points, no scopes and no records, as an abstract method or one without source.`
+    ? `The debug file says nothing of this method (${tokenOf(row)}): it has no points, scopes or records, as an abstract method or one without source.`
     : `There is no method ${row}: the module has ${plural(rows, "method")}.`));
 }
 function guide() {

@@ -150,7 +150,8 @@ class Names {
     // A nested type has the parameters of the types around it first.
     const own = (this.generics.get(row << 1) ?? []).slice((this.generics.get(outer << 1) ?? []).length);
     const simple = (own.length ? name.replace(/`\d+$/, "") : name) + inBrackets(own);
-    const made = {name: before ? `${before.name}.${simple}`.slice(-LONGEST_NAME) : simple, space: before ? before.space : this.text(this.tables.cell(0x02, row, 2))};
+    const made = {name: before ? `${before.name}.${simple}`.slice(-LONGEST_NAME) : simple, 
+      space: before ? before.space : this.text(this.tables.cell(0x02, row, 2))};
     this.made.set(row, made);
     return made;
   }
@@ -162,7 +163,7 @@ class Names {
       for (let method = Math.max(1, first); method < Math.min(end, last + 1); method++)
         rows[method] ??= [row - 1, this.text(tables.cell(0x06, method, 3)) + inBrackets(this.generics.get(method << 1 | 1) ?? [])];
     }
-    return {types, rows};
+    return {types, rows, count: last};
   }
 }
 const inBrackets = names => names.length ? `<${names.join(", ")}>` : "";
@@ -171,7 +172,7 @@ const inBrackets = names => names.length ? `<${names.join(", ")}>` : "";
  * What an assembly says of its debug file, and the names of its methods: types in their order, and for each row of MethodDef the index
  * of its type and its name. Null if the bytes are no assembly, or a damaged one.
  * @param {Uint8Array} bytes
- * @returns {{debug: DebugDirectory, names: {types: {name: string, space: string}[], rows: [number, string][]}} | null}
+ * @returns {{debug: DebugDirectory, names: {types: {name: string, space: string}[], rows: [number, string][], count: number}} | null}
  */
 export function readAssembly(bytes) {
   try {

@@ -39,7 +39,8 @@ function scopeRows(method) {
   for (const scope of method.scopes) {
     while (open.length && open[open.length - 1].end <= scope.start) open.pop();
     const names = [...scope.variables.map(it => it.text), ...scope.constants.map(it => `${it.text} = ${valueOf(it.signature)}`)];
-    (rows[open.length] ??= []).push({from: scope.start, to: scope.end, labels: names.length ? [names.join(", "), `${names.length} names`, String(names.length)] : [],
+    (rows[open.length] ??= []).push({from: scope.start, to: scope.end, labels: names.length ? [names.join(", "), `${names.length} names`,
+      String(names.length)] : [],
       kind: names.length ? "scope" : "scope bare",
       tip: [`scope ${hex(scope.start)} up to ${hex(scope.end)}`, ...scope.variables.map(variableWords), ...scope.constants.map(constantWords)].join("\n")});
     open.push(scope);
@@ -91,7 +92,8 @@ class Axis {
   draw() {
     const box = $("axis"), from = (box.scrollLeft - box.clientWidth - LEFT) / this.scale, to = (box.scrollLeft + 2 * box.clientWidth) / this.scale;
     this.window = [box.scrollLeft - box.clientWidth / 2, box.scrollLeft + box.clientWidth / 2];
-    const isSeen = bit => bit.from <= to && bit.to >= from, inside = [...this.ticks(from, to), make("span", {class: "label ruler", role: "presentation"})], lines = [];
+    const isSeen = bit => bit.from <= to && bit.to >= from, inside = [...this.ticks(from, to), make("span", {class: "label ruler", role: "presentation"})],
+      lines = [];
     if (this.old) inside.push(...this.side(this.old, TOP, isSeen, lines));
     if (this.old && state.rewriting) inside.push(...this.bands(isSeen, lines));
     if (this.now) inside.push(...this.side(this.now, this.low, isSeen, lines));
@@ -145,7 +147,8 @@ class Axis {
     const gone = image === null ? state.rewriting.isMap ? "The map drops this method." : "The file after has no such method."
       : now ? null : `Method ${image} has nothing in the file after.`;
     if (gone) { yield make("span", {class: "label wide gone", css: {top: `${from + 8}px`}}, gone); return; }
-    yield make("span", {class: "label between", role: "presentation", css: {top: `${from}px`, height: `${to - from}px`}}, "before \u2191", make("br"), "after \u2193");
+    yield make("span", {class: "label between", role: "presentation", css: {top: `${from}px`, height: `${to - from}px`}}, "before \u2191", make("br"),
+      "after \u2193");
     for (const {old: at, to: there, length} of state.rewriting.runs(old.row) ?? [{old: 0, to: 0, length: this.end}])
       if (isSeen({from: Math.min(at, there), to: Math.max(at, there) + length}))
         lines.push(make("path", {class: "band", d: `M${this.x(at)} ${from}H${this.x(at + length)}L${this.x(there + length)} ${to}H${this.x(there)}Z`},
@@ -185,8 +188,10 @@ export function drawAxis() {
   drawn.axis = subject && bodyOf(subject) ? new Axis(subject) : null;
   $("zoom").hidden = !drawn.axis;
   $("low").dataset.empty = String(!drawn.axis);
-  if (drawn.axis) { drawn.axis.draw(); $("low").style.setProperty("--own", `${drawn.axis.bottom + ($("axis").scrollWidth > $("axis").clientWidth ? 16 : 4)}px`); }
-  else $("axis").replaceChildren(make("p", {class: "dim hint"}, "Choose a method, or a span of the source: here is its code by IL offsets."));
+  if (drawn.axis) {
+    drawn.axis.draw();
+    $("low").style.setProperty("--own", `${drawn.axis.bottom + ($("axis").scrollWidth > $("axis").clientWidth ? 16 : 4)}px`);
+  } else $("axis").replaceChildren(make("p", {class: "dim hint"}, "Choose a method, or a span of the source: here is its code by IL offsets."));
 }
 function measured() {
   const probe = make("span", {class: "bit probe"}, "0".repeat(50));
@@ -212,7 +217,8 @@ export function widen(by) {
 }
 /** Goes to another point of the method: so many further, or to the first or last one. @param {number} by */
 export function stepPoint(by) {
-  const subject = subjectAt(state.place), key = state.place.a !== null || subject && !subject.old ? "a" : "o", method = key === "a" ? subject?.now : subject?.old;
+  const subject = subjectAt(state.place), key = state.place.a !== null || subject && !subject.old ? "a" : "o",
+    method = key === "a" ? subject?.now : subject?.old;
   if (!method?.points.length) return;
   const at = isThere(state.place[key]) ? upTo(method.points, state.place[key]) - 1 : by > 0 ? -1 : method.points.length;
   go({...placeOf(subject), [key]: method.points[Math.min(method.points.length - 1, Math.max(0, at + by))].offset}, true);

@@ -46,7 +46,8 @@ export async function bytesOfBase64(text, isPacked) {
   if (!isPacked) return bytes;
   return new Uint8Array(await new Response(new Blob([bytes]).stream().pipeThrough(new DecompressionStream("deflate"))).arrayBuffer());
 }
-/** What a data block of the page holds (page/README.md): files, and the example. @param {string} id @returns {Promise<{title?: string, files: Given[]} | null>} */
+/** What a data block of the page holds (page/README.md): files, and the example.
+ @param {string} id @returns {Promise<{title?: string, files: Given[]} | null>} */
 export async function inPage(id) {
   const node = $(id);
   if (!node?.textContent.trim()) return null;

@@ -3,12 +3,14 @@
 /** How many lines above its first statement the declaration of a method is looked for. */
 const ABOVE = 16;
 /** Lines that declare nothing: comments, attributes, braces, directives, clauses. */
-const IDLE = /^(?:\/\/|\/\*|\*|'|#|(?:for|foreach|while|if|switch|using|lock|fixed|return|case|default|catch|yield|await|throw|var|goto|break|continue)\b|\[[^\]]*\]\s*$|[{}()\[\];,\s]*$|where\b|try\b|do\b|unsafe\s*$|else\b|:\s*(?:base|this)\b)/;
+const IDLE = new RegExp(String.raw`^(?:\/\/|\/\*|\*|'|#|\[[^\]]*\]\s*$|[{}()\[\];,\s]*$|:\s*(?:base|this)\b|unsafe\s*$|` +
+  String.raw`(?:for|foreach|while|if|else|do|try|catch|switch|case|default|using|lock|fixed|return|yield|await|throw|var|goto|break|continue|where)\b)`);
 const ACCESSOR = /(?:^|[\s{;])(?:(?:public|private|protected|internal|readonly)\s+)*(get|set|init|add|remove)\s*(?:=>|\{|$)/;
 const NO_NAMES = new Set(["if", "for", "foreach", "while", "switch", "using", "lock", "catch", "return", "new", "typeof", "nameof", "await", "when", "fixed",
   "base", "this", "throw", "get", "set", "add", "remove", "init", "class", "struct", "interface", "record", "namespace"]);
 
-/** The name that a declaration gives, or "". @param {string} text @param {boolean} isTyped whether a word must come before the name, as it does not in a call */
+/** The name that a declaration gives, or "".
+ @param {string} text @param {boolean} isTyped whether a word must come before the name, as it does not in a call */
 export function declaredName(text, isTyped = false) {
   const lambda = /^(?:[^"=]*[^=!<>]=\s*)?(?:async\s+)?(?:\([^()]*\)|[\w@]+)\s*=>\s*/.exec(text);
   const operator = /\boperator\s*([^\s(]+)\s*\(/.exec(text);
@@ -30,7 +32,8 @@ function innerName(text) {
   if (!/=>\s*\{?$/.test(text)) return "";
   const named = /\b([\p{L}_][\p{L}\p{N}_]*)\s*=\s*(?:async\s+)?(?:static\s+)?(?:\([^()]*\)|[\p{L}_@][\p{L}\p{N}_]*)\s*=>\s*\{?$/u.exec(text);
   if (named) return `lambda ${named[1]}`;
-  return /(?:^|[(,=\s])(?:async\s+)?(?:\([^()]*\)|[\p{Ll}_@][\p{L}\p{N}_]*)\s*=>\s*\{?$/u.test(text) && !/^(?:public|private|protected|internal|static|override)\b/.test(text) &&
+  return /(?:^|[(,=\s])(?:async\s+)?(?:\([^()]*\)|[\p{Ll}_@][\p{L}\p{N}_]*)\s*=>\s*\{?$/u.test(text)
+    && !/^(?:public|private|protected|internal|static|override)\b/.test(text) &&
     !/[\p{L}_>]\([^()]*\)\s*=>\s*\{?$/u.test(text) ? "lambda in " : "";
 }
 /** The part of a line that belongs to the last declaration in it. */
@@ -57,7 +60,8 @@ export function guess(lineAt, point) {
     if (isOpen(text)) { tail = text; continue; }
     const found = accessor ? null : ACCESSOR.exec(text);
     if (found) accessor = found[1];
-    const part = found ? text.slice(0, found.index).replace(/\{\s*$/, "").split(/[;}]/).pop().trim() : lastPart(text) || text, name = declaredName(part.replace(/\{$/, "").trim(), before !== "");
+    const part = found ? text.slice(0, found.index).replace(/\{\s*$/, "").split(/[;}]/).pop().trim() : lastPart(text) || text,
+      name = declaredName(part.replace(/\{$/, "").trim(), before !== "");
     if (name) return {name: before + (accessor ? `${name.replace("()", "")}.${accessor}` : name), text: part};
     if (/\b(?:class|struct|record|interface)\s+\w/.test(part)) return initializer(part, lineAt, point);
     if (!accessor && !before) return {name: "", text: part};

@@ -111,7 +111,8 @@ export function fillList() {
   const own = list.tab === "documents" ? documentEntries() : methodEntries();
   const extra = list.tab === "methods" && list.want && documents.length && documents.length < 50 ? [{head: "Documents", dim: ""}, ...documents] : [];
   list.entries = [...own, ...extra, ...hitEntries()];
-  if (!list.entries.length) list.entries = [{note: list.want ? `Nothing has \u201c${list.want}\u201d in its name or its source.` : "There is nothing to list."}];
+  if (!list.entries.length)
+    list.entries = [{note: list.want ? `Nothing has \u201c${list.want}\u201d in its name or its source.` : "There is nothing to list."}];
   list.view.active = activeIndex();
   list.view.fill(list.entries.length);
   for (const tab of ["methods", "documents"]) $(`tab-${tab}`).setAttribute("aria-pressed", String(list.tab === tab));
@@ -163,7 +164,8 @@ function methodBody({subject, line}) {
     change.words === "changed" ? make("span", {class: "dim", title: "points moved, or locals changed", "aria-label": "changed"}, "\u2260")
       : change.words && make("span", {class: `tag ${change.kind}`}, change.words),
     make("span", {class: "at"}, line > 0 && line < Infinity ? line : "")],
-    `${titleWords(side, method)}\n${tokenOf(method.row)}${isGuess && !isKnown ? `\nnamed by its source: ${state.guesses[side].get(method.row)?.text ?? ""}` : ""}`];
+    [titleWords(side, method), tokenOf(method.row), isGuess && !isKnown && `named by its source: ${state.guesses[side].get(method.row)?.text ?? ""}`]
+      .filter(it => it).join("\n")];
 }
 function hitBody({hit}) {
   const text = hit.text.trimStart(), from = Math.max(0, text.toLowerCase().indexOf(list.want) - 18);
@@ -173,7 +175,8 @@ function hitBody({hit}) {
 function documentBody({document, side, name, folder, count}) {
   const source = sourceOf(side, document.row);
   return [[make("span", {class: "name"}, marked(name)), make("span", {class: "dim folder"}, marked(cutFront(folder, 34))),
-    source?.state === "agrees" && make("span", {class: "good", title: "its hash agrees"}, "\u2713"), side === "after" && make("span", {class: "tag added"}, "new"),
+    source?.state === "agrees" && make("span", {class: "good", title: "its hash agrees"}, "\u2713"), side === "after" && make("span", {class: "tag added"},
+      "new"),
     make("span", {class: "at", title: plural(count, "method")}, count || "")], textOf(document)];
 }
 

@@ -69,7 +69,8 @@ async function askMore() {
   if (state.before.customsOf(0x00, 1).some(it => it.kind === SOURCE_LINK)) {
     const {status, text} = await port.ask("printed", "before", "links", []);
     if (mine !== turn || status) return;
-    for (const [, row, address] of text.split("\n").map(line => line.split(" "))) if (address && address !== "none") state.links.set(`before:${row}`, nameOf(address));
+    for (const [, row, address] of text.split("\n").map(line => line.split(" "))) if (address && address !== "none") 
+      state.links.set(`before:${row}`, nameOf(address));
     drawSource(pane.side, pane.row);
   }
 }
@@ -93,10 +94,12 @@ function drawHead() {
   const {told, before, after} = state, one = told.before;
   if (!before) { fill("title", "ppdb"); fill("about-file", ""); fill("actions", openButton(), helpButtons()); return; }
   const methods = before.sorted.filter(it => it.count).length;
-  fill("title", baseName(one.name), after && [make("span", {class: "dim"}, " \u2192 "), told.after.note.startsWith("made") ? "remapped" : baseName(told.after.name)]);
+  fill("title", baseName(one.name), after && [make("span", {class: "dim"}, " \u2192 "), 
+    told.after.note.startsWith("made") ? "remapped" : baseName(told.after.name)]);
   $("title").title = [one.name, after && told.after.name].filter(it => it).join(" \u2192 ");
   fill("about-file", pill(one), after && told.after.status > 0 && pill(told.after), one.note && make("span", {class: "dim"}, one.note),
-    after ? changes() : make("span", {class: "dim counts"}, [plural(methods, "method"), plural(before.pointCount, "point"), plural(before.documents.size, "document")]
+    after ? changes() : make("span", {class: "dim counts"}, [plural(methods, "method"), plural(before.pointCount, "point"), 
+      plural(before.documents.size, "document")]
       .join(" \u00b7 ")), make("span", {class: "dim id code", title: `PDB ID ${before.id}`}, before.id.slice(0, 8)),
     one.assembly ? make("span", {class: "dim", title: `names by ${one.assembly}`}, "named") : "");
   document.title = `${baseName(one.name)} \u2013 ppdb`;
@@ -104,20 +107,23 @@ function drawHead() {
 }
 /** What a rewrite changed, counted. */
 function changes() {
-  const sum = totals(), {told} = state, words = [`${sum.changed.toLocaleString("en")} of ${plural(sum.all, "method")} changed`, `${plural(sum.lost, "point")} lost`, `${sum.fresh} new`,
+  const sum = totals(), {told} = state, words = [`${sum.changed.toLocaleString("en")} of ${plural(sum.all, "method")} changed`,
+    `${plural(sum.lost, "point")} lost`, `${sum.fresh} new`,
     sum.dropped && `${sum.dropped} dropped`, sum.added && `${sum.added} added`].filter(it => it);
   const by = told.map ? `by ${baseName(told.mapName)}` : state.rewriting?.isByName ? "by name" : "by row";
   return make("span", {class: "counts", title: `${words.join(", ")}, ${by}`}, words.slice(0, 1), words.slice(1).map((it, index) =>
     [" \u00b7 ", make("span", {class: index === 0 && sum.lost ? "lost" : ""}, it)]), make("span", {class: "dim"}, ` ${by}`));
 }
 const openButton = () => button("Open\u2026", () => $("pick").click(), {title: "open files (o), or drop them anywhere"});
-const helpButtons = () => [button("Theme", shade, {title: "light or dark (t)", class: "theme"}), button("Help", help, {title: "what is what, and the keys (?)"})];
+const helpButtons = () => [button("Theme", shade, {title: "light or dark (t)", class: "theme"}), 
+  button("Help", help, {title: "what is what, and the keys (?)"})];
 function saveButtons() {
   const {told} = state;
   const choices = [told.canRemap && ["The remapped debug file", "remapped", "before"], ["The rebuilt debug file", "rebuilt", "before"],
     /embedded/.test(told.before.note) && ["The embedded debug file", "plain", "before"]].filter(it => it);
   return make("details", {class: "menu"}, make("summary", {}, "Save\u2026"), make("div", {}, choices.map(([words, what, side]) =>
-    button(words, async () => { closeMenus(); const made = await port.ask("save", what, side); if (made.bytes) save(made.name, made.bytes); else trouble(made.line); })),
+    button(words, async () => { closeMenus(); const made = await port.ask("save", what, side); if (made.bytes) save(made.name, made.bytes);
+      else trouble(made.line); })),
     state.after && !told.map && button("Swap before and after", () => settle(() => port.ask("choose", [told.after.name, told.before.name]))),
     button("Close all files", () => { closeMenus(); location.hash = ""; port.stop(); startEngine().then(() => settle(() => port.ask("add", []))); })));
 }
@@ -132,12 +138,14 @@ function drawStart() {
   else if (told.files.length > 2) parts.push(choice(told.files));
   for (const it of told.inputs.filter(it => it.kind === "assembly" && !it.hasInner)) parts.push(lonely(it));
   if (!told.before && told.inputs.length && !parts.length)
-    parts.push(make("p", {}, "Now drop the debug file that belongs to ", plural(told.inputs.length, "file"), " you gave: a .pdb, or the .dll or .exe that has it inside."));
+    parts.push(make("p", {}, "Now drop the debug file that belongs to ", plural(told.inputs.length, "file"),
+      " you gave: a .pdb, or the .dll or .exe that has it inside."));
   fill("found", parts);
 }
 function refused({name, line}) {
   const code = /\bF\d+\b/.exec(line)?.[0] ?? "", isWindows = code === "F2";
-  return make("article", {class: "refused", role: "alert"}, make("h2", {}, `${baseName(name)} is ${isWindows ? "a Windows PDB" : "refused"}`), make("pre", {}, line),
+  return make("article", {class: "refused", role: "alert"}, make("h2", {}, `${baseName(name)} is ${isWindows ? "a Windows PDB" : "refused"}`), 
+    make("pre", {}, line),
     isWindows ? make("p", {}, "It has the older format of Windows. Build with <DebugType>portable</DebugType>, or convert it with Pdb2Pdb.")
       : code && make("p", {}, make("strong", {}, `${code}: `), BUILT.rules[code] ?? "", "."),
     make("p", {class: "dim"}, "This is what ", make("code", {}, "ppdb verify"), " prints: the first rule that the file breaks, and where."));
@@ -145,7 +153,8 @@ function refused({name, line}) {
 function choice(files) {
   return make("article", {}, make("h2", {}, "Which one?"), make("p", {class: "dim"}, `${plural(files.length, "debug file")}: choose one to look at.`),
     make("ul", {class: "choice"}, files.map(it => make("li", {}, button(it.name, () => settle(() => port.ask("choose", [it.name]))),
-      make("span", {class: it.line === "accepted" ? "good" : "bad"}, it.line === "accepted" ? "\u2713 valid" : it.line), make("span", {class: "dim"}, sizeWords(it.size))))));
+      make("span", {class: it.line === "accepted" ? "good" : "bad"}, it.line === "accepted" ? "\u2713 valid" : it.line), 
+        make("span", {class: "dim"}, sizeWords(it.size))))));
 }
 function lonely({name, isRead, path}) {
   if (!isRead) return make("p", {}, make("strong", {}, baseName(name)), " is not an assembly of .NET, or a damaged one.");
@@ -203,7 +212,8 @@ async function insist(side, row) {
 }
 function firstMethod() {
   const {before} = state, entry = before.methods.get(before.entry), main = entry?.count ? entry : before.methods.get(entry?.move);
-  const lost = state.rewriting && state.subjects.find(it => it.old && it.change.lost > 0), changed = state.rewriting && state.subjects.find(it => it.old && it.change.kind !== "same");
+  const lost = state.rewriting && state.subjects.find(it => it.old && it.change.lost > 0), changed = state.rewriting && 
+    state.subjects.find(it => it.old && it.change.kind !== "same");
   return lost?.old.row ?? changed?.old.row ?? (main?.count ? main.row : state.subjects.find(it => it.old?.count)?.old.row ?? null);
 }
 function stepLine(by) {
@@ -218,7 +228,8 @@ function shade() {
 
 // ---- Keys, and what the hand does.
 
-const KEYS = {"/": () => { tab("list"); $("find").focus(); }, j: () => stepEntry(1), k: () => stepEntry(-1), ArrowRight: () => stepPoint(1), ArrowLeft: () => stepPoint(-1),
+const KEYS = {"/": () => { tab("list"); $("find").focus(); }, j: () => stepEntry(1), k: () => stepEntry(-1), ArrowRight: () => stepPoint(1), 
+  ArrowLeft: () => stepPoint(-1),
   ArrowDown: () => stepLine(1), ArrowUp: () => stepLine(-1), Home: () => stepPoint(-Infinity), End: () => stepPoint(Infinity), Enter: enterLine,
   "+": () => widen(1.5), "-": () => widen(1 / 1.5), o: () => $("pick").click(), t: shade, "?": help,
   Escape: () => { const subject = subjectAt(state.place); closeMenus(); go(subject ? placeOf(subject) : {}); }};

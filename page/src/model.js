@@ -69,7 +69,8 @@ function firstWith(numbers, width, column, key) {
 export class DebugFile {
   /** @param {import("./lines.js").Columns} columns @param {string} name */
   constructor(columns, name) {
-    this.name = name; this.columns = columns; this.id = columns.id; this.entry = columns.entry; this.counts = new Map(columns.counts); this.numbers = columns.points;
+    this.name = name; this.columns = columns; this.id = columns.id; this.entry = columns.entry; this.counts = new Map(columns.counts);
+      this.numbers = columns.points;
     this.documents = new Map(columns.documents.map(it => [it.row, Object.assign(it, {text: nameOf(it.name)})]));
     this.imports = new Map(columns.imports.map(it => [it.row, it]));
     /** The custom records of an owner, by its table and row: their indexes. @type {Map<number, number[]>} */

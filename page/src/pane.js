@@ -142,7 +142,8 @@ function drawBar(side, row, source) {
   if (!it) { fill("bar", make("span", {class: "dim"}, "No document is chosen.")); $("notice").hidden = true; return; }
   const name = textOf(it), [mood, word, sentence] = moodOf(source), address = (state.links?.get(`${side}:${row}`));
   // Only an address of the web becomes a link.
-  const web = address && (/^https?:[/][/]/.test(address) ? make("a", {href: address, rel: "noreferrer noopener", target: "_blank", title: address}, "Source Link")
+  const web = address && (/^https?:[/][/]/.test(address) ? make("a", {href: address, rel: "noreferrer noopener", target: "_blank", title: address},
+    "Source Link")
     : make("span", {class: "dim", title: address}, "Source Link"));
   fill("bar", make("strong", {class: "doc", title: name}, baseName(name)), make("span", {class: "dim folder", title: name}, cutFront(folderOf(name), 48)),
     make("span", {class: "dim"}, LANGUAGES[it.language] ?? ""), make("span", {class: `mark ${mood}`, title: sentence}, word), web);
@@ -160,7 +161,8 @@ export function bringToSource(line, isChosen) {
   pane.view.active = state.place.l === null ? -1 : indexOf(state.place.l);
   if (index >= 0) pane.view.bring(index);
   pane.view.draw();
-  const row = index < 0 ? null : box.querySelector(`.row[data-l="${line}"]`), span = (row?.querySelector(".at") ?? row?.querySelector(".mine"))?.getBoundingClientRect();
+  const row = index < 0 ? null : box.querySelector(`.row[data-l="${line}"]`),
+    span = (row?.querySelector(".at") ?? row?.querySelector(".mine"))?.getBoundingClientRect();
   if (!isChosen) box.scrollLeft = 0;
   if (!span || !isChosen) return;
   const {left, right} = box.getBoundingClientRect(), at = box.scrollLeft;

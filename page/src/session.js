@@ -138,14 +138,17 @@ export class Session {
     const same = [known.before, known.after].find(it => it?.input === input);
     return same ?? new Side(input, this.ask(["show", input.word], input));
   }
-  /** Which assembly gives each side its names: one whose debug directory has the PDB ID. If both sides have one ID, it is that of after. */
+  /** Which assembly gives each side its names: one whose debug directory has the PDB ID, and that has as many methods as the debug file says.
+   If both sides have one ID, or the rewritten assembly kept that of before, it is that of after. */
   attach() {
-    const {before, after} = this.sides, fits = side => this.inputs.filter(it => side?.id && it.assembly?.debug.ids.includes(side.id));
+    const {before, after} = this.sides, assemblies = this.inputs.filter(it => it.assembly), has = (it, side) => it.assembly.debug.ids.includes(side.id);
+    const isSize = (it, side) => it.assembly.names.count === (side.columns?.counts.find(([table]) => table === "06")?.[1] ?? 0);
+    const fits = side => side?.id ? assemblies.filter(it => has(it, side) && isSize(it, side)) : [];
     for (const side of [before, after]) if (side) side.assembly = fits(side)[0] ?? null;
-    if (!before || !after || before.id !== after.id) return;
-    const [first, second] = fits(after);
-    before.assembly = second ? first : null;
-    after.assembly = second ?? first ?? null;
+    if (!before || !after) return;
+    const [first, second] = before.id === after.id ? fits(after) : [];
+    if (first) [before.assembly, after.assembly] = [second ? first : null, second ?? first];
+    after.assembly ??= assemblies.find(it => it !== before.assembly && has(it, before) && isSize(it, after)) ?? null;
   }
   /** What the page is told of all this. */
   told(files) {
@@ -233,7 +236,8 @@ export class Session {
   async *guesses(which) {
     const side = this.sides[which], byDocument = new Map();
     if (!side?.columns) return;
-    for (const [row, point] of firstPoints(side.columns)) (byDocument.get(point.document) ?? byDocument.set(point.document, []).get(point.document)).push([row, point]);
+    for (const [row, point] of firstPoints(side.columns)) (byDocument.get(point.document) ?? byDocument.set(point.document, []).get(point.document))
+      .push([row, point]);
     for (const [document, methods] of byDocument) {
       const source = await this.source(which, document);
       if (!source?.text) continue;

@@ -31,7 +31,8 @@ export async function inflated(packed, length, form = "deflate-raw") {
 export async function unpacked(value) {
   if (value.length < 4) return {note: "The embedded source is damaged"};
   const length = new DataView(value.buffer, value.byteOffset, 4).getUint32(0, true), rest = value.subarray(4);
-  if (Math.max(length, rest.length) > LONGEST) return {note: `The embedded source says that it has ${length.toLocaleString("en")} bytes: more than the page shows`};
+  if (Math.max(length, rest.length) > LONGEST)
+    return {note: `The embedded source says that it has ${length.toLocaleString("en")} bytes: more than the page shows`};
   const bytes = length ? await inflated(rest, length) : rest;
   return bytes ? {bytes} : {note: "The embedded source is damaged"};
 }

@@ -133,5 +133,6 @@ export function excerptOf(side, point) {
   const source = sourceOf(side, point.document) ?? (side === "after" ? sourceOf("before", documentOf("after", point.document)) : undefined);
   const first = lineOf(source, point.start_line), from = point.start_column - 1;
   if (!source?.lines) return "";
-  return point.start_line === point.end_line ? first.slice(from, Math.min(point.end_column - 1, from + 400)).trim() : `${first.slice(from, from + 400).trim()} \u2026`;
+  if (point.start_line !== point.end_line) return `${first.slice(from, from + 400).trim()} \u2026`;
+  return first.slice(from, Math.min(point.end_column - 1, from + 400)).trim();
 }

@@ -24,7 +24,8 @@ for (const name of corpus()) test(`answers of ${name}`, () => {
 test("every line of show is taken", () => {
   for (const name of corpus()) {
     const {text} = ppdb(["show", join(ROOT, name)]), {columns} = readLines(text), count = word => lines(text).filter(it => it.startsWith(`${word} `)).length;
-    assert.deepEqual([count("point"), count("method"), count("scope"), count("variable"), count("constant"), count("custom"), count("document"), count("import")],
+    assert.deepEqual([count("point"), count("method"), count("scope"), count("variable"), count("constant"), count("custom"), count("document"),
+      count("import")],
       [columns.points.length / 6, columns.methods.length / 3, columns.scopes.length / 4, columns.variables.length / 5, columns.constants.length / 3,
         columns.customs.length / 5, columns.documents.length, columns.imports.length]);
   }
@@ -41,7 +42,8 @@ test("the map of docs/FORMAT.md, section 11", () => {
 });
 
 test("the points of a map are those that remap writes", () => {
-  for (const [before, map] of [["examples/woven/async_iter.before.pdb", "examples/woven/async_iter.map"], ["examples/throw/before.pdb", "examples/throw/throw.map"]]) {
+  for (const [before, map] of [["examples/woven/async_iter.before.pdb", "examples/woven/async_iter.map"], ["examples/throw/before.pdb",
+    "examples/throw/throw.map"]]) {
     const files = [before, map].map(name => ({name, bytes: bytesOf(name)})), {out} = engine.run(["remap", before, map, "out.pdb"], files);
     const shown = name => engine.run(["show", name], [{name, bytes: name === "after" ? out : files[0].bytes}]).text;
     const [old, now] = ["before", "after"].map(name => new DebugFile(readLines(shown(name)).columns, name));

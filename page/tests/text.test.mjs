@@ -10,7 +10,8 @@ import {chance} from "./program.mjs";
 test("controls and marks of direction can be seen", () => {
   assert.equal(seen("a\u202eb\u0007\u007f\u200b\ufeff\udfff"), "a⟨U+202E⟩b␇␡⟨U+200B⟩⟨U+FEFF⟩⟨U+DFFF⟩");
   assert.equal(seen("tab\there, é, 名, 😀"), "tab\there, é, 名, 😀");
-  for (let code = 0; code < 0x3000; code++) if (/\p{Cc}|\p{Cf}|\p{Zl}|\p{Zp}/u.test(String.fromCharCode(code)) && code !== 9 && !/[\u0600-\u0605\u06dd\u070f\u0890\u0891\u08e2]/u
+  for (let code = 0; code < 0x3000; code++) if (/\p{Cc}|\p{Cf}|\p{Zl}|\p{Zp}/u.test(String.fromCharCode(code)) && code !== 9
+    && !/[\u0600-\u0605\u06dd\u070f\u0890\u0891\u08e2]/u
     .test(String.fromCharCode(code))) assert.notEqual(seen(String.fromCharCode(code)), String.fromCharCode(code), code.toString(16));
 });
 test("names and paths", () => {
@@ -22,11 +23,14 @@ test("names and paths", () => {
   assert.equal(cutFront("abcdef", 4), "…def");
   assert.equal(quoted("it's"), "'it'\\''s'");
   assert.deepEqual([1, 999, 1500, 2e6, 3e7].map(sizeWords), ["1 byte", "999 bytes", "1.5 kB", "2.0 MB", "30 MB"]);
-  assert.deepEqual([sharedParts("src/A/B.cs", "/home/me/src/a/b.cs"), sharedParts("B.cs", "C:\\x\\B.cs"), sharedParts("B.cs", "AB.cs"), sharedParts("../B.cs", "/x/B.cs")], [3, 1, 0, 1]);
+  assert.deepEqual([sharedParts("src/A/B.cs", "/home/me/src/a/b.cs"), sharedParts("B.cs", "C:\\x\\B.cs"), sharedParts("B.cs", "AB.cs"), sharedParts("../B.cs",
+    "/x/B.cs")], [3, 1, 0, 1]);
 });
 test("names that sources give", () => {
-  const named = (text, line, column) => { const all = text.split("\n"); return guess(at => all[at - 1] ?? "", {start_line: line, start_column: column})?.name; };
-  const source = ["class Order {", "  /// <summary>Adds.</summary>", "  [Pure]", "  public override byte[] Add(int one,", "      int other)", "  {", "    return one;", "  }",
+  const named = (text, line, column) => { const all = text.split("\n"); return guess(at => all[at - 1] ?? "", {start_line: line, start_column: column})?.name;
+    };
+  const source = ["class Order {", "  /// <summary>Adds.</summary>", "  [Pure]", "  public override byte[] Add(int one,", "      int other)", "  {",
+    "    return one;", "  }",
     "  public int Total", "  {", "    get { return 1; }", "    set { x = value; }", "  }", "  public string Name => name;", "  public Order() : base(1) { }",
     "  int x = 5;", "  static bool operator ==(Order a, Order b) { return true; }", "  void Each() { Run(x => x + 1); }", "  public int Auto { get; set; }",
     "  async Task Go() {", "    for (int i = 0; i < 3; i++) Run();", "    Func<int> f = () => 5;", "    try { A(); } finally { B(); }", "  }"].join("\n");

@@ -105,7 +105,8 @@ def check_clicks(user: User) -> None:
     user.that("source verified" in user.text("#bar"), f"the source is {user.text('#bar')}")
     browser.click('.row[data-l="20"] > .number')
     user.that(browser.place() == "#d=1&l=20" and "Breakpoint on line 20" in user.text("#said"), f"a line number leads to {browser.place()}")
-    bound = user.run("return [...document.querySelectorAll('#breaks .place')].filter(it => it.textContent.startsWith('▶')).map(it => it.querySelector('code').textContent)")
+    bound = user.run("""return [...document.querySelectorAll('#breaks .place')].filter(it => it.textContent.startsWith('▶'))
+        .map(it => it.querySelector('code').textContent)""")
     user.that(bound == ["IL_0000", "IL_0038"], f"line 20 is bound at {bound}")
     browser.click('.row[data-l="23"] .p')
     user.that(re.fullmatch(r"#m=\d+&o=\d+", browser.place()) and "int outer = 5;" in user.text("#said"), f"a span leads to {browser.place()}")
@@ -132,8 +133,8 @@ def check_keys(user: User) -> None:
     browser = user.browser
     user.new(user.root / "examples/async_iter.pdb", user.root / "examples/async_iter.cs", place="#m=50")
     user.run("document.activeElement.blur()")
-    for key, place in (("ArrowRight", "#m=50&o=0"), ("ArrowRight", "#m=50&o=31"), ("ArrowLeft", "#m=50&o=0"), ("Escape", "#m=50"), ("ArrowDown", "#m=50&d=1&l=21"),
-                       ("ArrowDown", "#m=50&d=1&l=22"), ("Escape", "#m=50"), ("j", "#m=58"), ("k", "#m=50")):
+    for key, place in (("ArrowRight", "#m=50&o=0"), ("ArrowRight", "#m=50&o=31"), ("ArrowLeft", "#m=50&o=0"), ("Escape", "#m=50"),
+                       ("ArrowDown", "#m=50&d=1&l=21"), ("ArrowDown", "#m=50&d=1&l=22"), ("Escape", "#m=50"), ("j", "#m=58"), ("k", "#m=50")):
         browser.key(key)
         user.that(browser.place() == place, f"the key {key!r} leads to {browser.place()} and not {place}")
     user.run("document.querySelector('#list').focus()")
@@ -313,7 +314,8 @@ def check_large(user: User) -> None:
     print(f"check-page: a source of {LINES} lines is shown after {clock:.1f} s, {cpu:.1f} s of the processor")
     user.that((clock <= LONG_SOURCE or cpu <= BUSY * LONG_SOURCE), f"a source of {LINES} lines is shown after {clock:.1f} s")
     user.go(f"#d=1&l={LINES - 1}")
-    user.that(f"int line{LINES - 2} = " in user.text("#source") and user.run("return document.querySelectorAll('#source .row').length") < 200, "the last line is not shown")
+    rows = user.run("return document.querySelectorAll('#source .row').length")
+    user.that(f"int line{LINES - 2} = " in user.text("#source") and rows < 200, f"the last line is not shown, or all {rows} are drawn")
     wide = with_names(b"/src/wide.cs", bytes(4) + b"x" * 3_000_000)
     (work / "wide.pdb").write_bytes(wide)
     user.new(work / "wide.pdb")
@@ -327,7 +329,8 @@ CONTRAST_OF = """
     known.set(text, [...canvas.getImageData(0, 0, 1, 1).data]); } return known.get(text); };
   const bright = ([r, g, b]) => { const [x, y, z] = [r, g, b].map(it => it / 255 <= .04045 ? it / 255 / 12.92 : ((it / 255 + .055) / 1.055) ** 2.4);
     return .2126 * x + .7152 * y + .0722 * z; };
-  const behind = it => { for (; it; it = it.parentElement) { const back = rgba(getComputedStyle(it).backgroundColor); if (back[3] > 250) return back; } return [255, 255, 255]; };
+  const behind = it => { for (; it; it = it.parentElement) { const back = rgba(getComputedStyle(it).backgroundColor); if (back[3] > 250) return back; }
+    return [255, 255, 255]; };
   const walker = document.createTreeWalker(document.body, NodeFilter.SHOW_TEXT), found = new Map();
   for (let node = walker.nextNode(); node; node = walker.nextNode()) {
     const it = node.parentElement;
@@ -349,7 +352,8 @@ def check_looks(user: User) -> None:
             user.new(*files, place=place)
             weak = user.run(CONTRAST_OF, CONTRAST)
             user.that(not weak, f"too little contrast in {scheme}: {weak[:6]}")
-            cut = user.run("return [...document.querySelectorAll('#axis .bit > span')].filter(it => it.offsetWidth > it.parentElement.clientWidth + 1).map(it => it.textContent)")
+            cut = user.run("""return [...document.querySelectorAll('#axis .bit > span')].filter(it => it.offsetWidth > it.parentElement.clientWidth + 1)
+                .map(it => it.textContent)""")
             user.that(not cut, f"labels of the code are cut: {cut[:4]}")
     browser.media(prefers_color_scheme="light")
     for width, height in ((390, 844), (640, 400), (320, 640)):
@@ -380,10 +384,12 @@ def check_looks(user: User) -> None:
 STATES = {"start": ((), "", "Drop a debug file here"),
           "offset": (("examples/async_iter.pdb", "examples/async_iter.cs"), "#m=24&o=300", "await Task.FromResult(big);"),
           "breakpoint": (("examples/async_iter.pdb", "examples/async_iter.cs"), "#m=42&d=1&l=20", "Breakpoint on line 20"),
-          "rewrite": (("examples/woven/async_iter.before.pdb", "examples/woven/async_iter.map", "examples/async_iter.cs"), "#m=42&o=57", "Now at IL_0045, method 34."),
+          "rewrite": (("examples/woven/async_iter.before.pdb", "examples/woven/async_iter.map", "examples/async_iter.cs"), "#m=42&o=57",
+                      "Now at IL_0045, method 34."),
           "compare": (("corpus/async_iter.pdb", "corpus/async_iter-release.pdb", "examples/async_iter.cs"), "#m=55&o=100", "points lost"),
           "refused": (("corpus/refused/cecil-null.pdb",), "", "F39")}
-LOOKS = {"light": {"prefers_color_scheme": "light"}, "dark": {"prefers_color_scheme": "dark"}, "forced": {"forced_colors": "active"}, "phone": {"prefers_color_scheme": "light"}}
+LOOKS = {"light": {"prefers_color_scheme": "light"}, "dark": {"prefers_color_scheme": "dark"}, "forced": {"forced_colors": "active"},
+         "phone": {"prefers_color_scheme": "light"}}
 # Those that docs/PAGE.md shows: the state, the look.
 SHOWN = {"page": ("offset", "light"), "breakpoint": ("breakpoint", "light"), "remap": ("rewrite", "dark"), "phone": ("offset", "phone")}
 SEEN = """
@@ -394,7 +400,8 @@ SEEN = """
   return ["# head", document.querySelector("#title").innerText, flat(document.querySelector("#about-file").innerText), "# list",
     ...each(".entry.on", it => flat(it.innerText)), "# source", flat(document.querySelector("#bar").innerText),
     ...rows.map(it => `${it.dataset.l}: ${[...it.querySelectorAll(".mine")].map(one => one.textContent + marks(one)).join(" | ")}`),
-    "# code", ...each("#axis [data-from]", it => `${it.dataset.side}${marks(it)} ${flat(it.title)}`), "# answer", ...document.querySelector("#said").innerText.split("\\n")]
+    "# code", ...each("#axis [data-from]", it => `${it.dataset.side}${marks(it)} ${flat(it.title)}`),
+    "# answer", ...document.querySelector("#said").innerText.split("\\n")]
     .map(it => it.trimEnd()).filter(it => it).join("\\n") + "\\n\""""
 
 
@@ -421,7 +428,8 @@ def pictures(user: User, writes: bool) -> None:
                         (folder.parent / f"{name}.png").write_bytes(data)
             browser.media(prefers_color_scheme="light", forced_colors="none")
         text = folder / f"{state}.txt"
-        user.that(text.exists() and text.read_text() == seen, f"docs/pictures/states/{state}-*.png show something else than the page; check-page --pictures makes them again")
+        user.that(text.exists() and text.read_text() == seen,
+                  f"docs/pictures/states/{state}-*.png show something else than the page; scripts/checks/check-page --pictures makes them again")
     browser.size(1280, 800)
     user.console("the pictures")
 
