@@ -98,7 +98,8 @@ function sayMethod(subject, side, method) {
 }
 const fact = (name, ...words) => [make("dt", {}, name), make("dd", {}, words)];
 function methodLink(side, row) {
-  const it = (side === "before" ? state.byOld : state.byNow).get(row), words = `${rawName(side, row) ?? `method ${row}`}`;
+  const it = (side === "before" ? state.byOld : state.byNow).get(row);
+  const words = rawName(side, row) ?? (it ? titleWords(side, side === "before" ? it.old : it.now) : `method ${row}`);
   return it ? link(placeOf(it), words) : words;
 }
 function sayChange(subject) {

@@ -7,6 +7,8 @@ import {baseName, cutFront, folderOf, plural, tokenOf} from "./text.js";
 import {VirtualList} from "./virtual.js";
 
 const ENTRY_TALL = 28;
+/** The most methods that the list has: a search finds the others. */
+const MOST_LISTED = 100000;
 /** Which methods the list has. */
 const ONLY = {all: () => true, changed: it => it.change.kind !== "same", lost: it => it.change.lost > 0, fresh: it => it.change.fresh > 0,
   dropped: it => it.change.kind === "dropped", added: it => it.change.kind === "added"};
@@ -52,19 +54,22 @@ function groupOf(subject, key) {
 }
 function methodEntries() {
   const groups = new Map(), put = (group, entry) => (groups.get(group) ?? groups.set(group, []).get(group)).push(entry);
+  let left = MOST_LISTED, more = 0;
   for (const subject of state.subjects) {
     if (!ONLY[list.only](subject) || !isWanted(subject)) continue;
+    if (--left < 0) { more++; continue; }
     subject.lines ??= firstLines(subject);
     const {isKnown} = titleAt(subject), lines = isKnown ? subject.lines.slice(0, 1) : subject.lines;
     for (const [key, line] of lines.length ? lines : [[undefined, 0]]) {
       // Of a method with code in several documents each entry leads to its own.
-      const [side, row] = (key ?? "").split(":"), more = subject.lines.length > 1 && side === "before" && !isKnown ? {d: +row} : {};
-      put(groupOf(subject, key), {subject, line, key, place: {...placeOf(subject), ...more}});
+      const [side, row] = (key ?? "").split(":"), its = subject.lines.length > 1 && side === "before" && !isKnown ? {d: +row} : {};
+      put(groupOf(subject, key), {subject, line, key, place: {...placeOf(subject), ...its}});
     }
   }
   const order = key => key === "none" ? 2 : key.startsWith("after") ? 1 : 0;
-  return [...groups].sort(([one], [other]) => order(one) - order(other) || docOrder(one) - docOrder(other)).flatMap(([key, found]) =>
+  const listed = [...groups].sort(([one], [other]) => order(one) - order(other) || docOrder(one) - docOrder(other)).flatMap(([key, found]) =>
     [headOf(key, found), ...found.sort((one, other) => one.line - other.line || bodyOf(one.subject).row - bodyOf(other.subject).row)]);
+  return more ? [...listed, {note: `and ${plural(more, "method")} more: a search finds them`}] : listed;
 }
 const docOrder = key => key.startsWith("before:") ? +key.slice(7) : 0;
 function headOf(key, found) {

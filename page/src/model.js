@@ -49,6 +49,8 @@ const orNone = word => word === "-" ? null : word;
 export class Method {
   /** @param {DebugFile} file @param {number} row */
   constructor(file, row) { this.file = file; this.row = row; this.signature = 0; this.first = 0; this.count = 0; this.kickoff = 0; this.move = 0; }
+  /** The offset of a point, without making it. @param {number} index */
+  offsetAt(index) { return this.file.numbers[(this.first + index) * WIDTH]; }
   /** @returns {Point[]} */
   get points() { return this.madePoints ??= Array.from({length: this.count}, (_, index) => this.file.point(this.first + index)); }
   /** @returns {Scope[]} */

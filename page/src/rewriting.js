@@ -38,10 +38,10 @@ export class Rewriting {
   }
   /** Where a point moves: to the first kept offset of its code, or nowhere. @param {Method} method @param {number} index */
   point(method, index) {
-    const {offset} = method.points[index], body = this.bodies.get(method.row);
+    const offset = method.offsetAt(index), body = this.bodies.get(method.row);
     if (this.image(method.row) === null || !body) return this.kept(method.row, offset);
     const run = this.run(method.row, offset), kept = run && Math.max(run.old, offset);
-    return run && kept < (method.points[index + 1]?.offset ?? body.old) ? run.to + kept - run.old : null;
+    return run && kept < (index + 1 < method.count ? method.offsetAt(index + 1) : body.old) ? run.to + kept - run.old : null;
   }
   /** The kept offset whose image an offset of the new code is, or null. */
   origin(row, offset) {
@@ -118,7 +118,7 @@ export class Comparison {
   }
   point(method, index) {
     const to = this.matches(method).get(index);
-    return to === undefined ? null : this.pairs.get(method.row).points[to].offset;
+    return to === undefined ? null : this.pairs.get(method.row).offsetAt(to);
   }
   methodBefore(row) { return [...this.pairs].find(([, now]) => now.row === row)?.[0]; }
   /** Of two files that no map joins only the offsets of points that agree are known. */
@@ -139,9 +139,9 @@ export class Comparison {
       length: Math.min(length(old.points, from), length(now.points, to))})) : null;
   }
   isChanged(old, now) {
-    const moved = index => old.points[index].offset !== now.points[this.matches(old).get(index)]?.offset;
-    return old.points.length !== now.points.length || this.matches(old).size !== old.points.length || old.points.some((_, index) => moved(index)) ||
-      localsOf(old) !== localsOf(now);
+    if (old.count !== now.count || this.matches(old).size !== old.count) return true;
+    for (const [from, to] of this.matches(old)) if (old.offsetAt(from) !== now.offsetAt(to)) return true;
+    return localsOf(old) !== localsOf(now);
   }
   sizes() { return [0, 0]; }
   documentName(name) { return name; }

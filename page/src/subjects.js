@@ -46,7 +46,8 @@ function spoken(name) {
 }
 /** @param {"before" | "after"} side @param {Method} method @returns {Title} */
 export function titleOf(side, method) {
-  const found = known(side, method.kickoff || method.row), guessed = state.guesses[side].get(method.row) ?? state.guesses[side].get(method.kickoff);
+  const found = known(side, method.kickoff || method.row), guesses = state.guesses[side];
+  const guessed = guesses.get(method.row) ?? guesses.get(method.kickoff) ?? guesses.get(method.move);
   const tag = method.kickoff ? method.steps.length ? "async" : "iterator" : "";
   if (found) {
     const [type, name] = found.names.rows[found.row], {name: typeName, space} = found.names.types[type];
@@ -74,7 +75,10 @@ export const isLost = (method, index) => state.rewriting !== null && state.rewri
 /** The index of the old point for each offset of the new code that one came to. @param {Subject} subject @returns {Map<number, number>} */
 export function cameFrom({old}) {
   const found = new Map();
-  if (old && state.rewriting) old.points.forEach((_, index) => { const to = state.rewriting.point(old, index); if (to !== null) found.set(to, index); });
+  for (let index = 0; old && state.rewriting && index < old.count; index++) {
+    const to = state.rewriting.point(old, index);
+    if (to !== null) found.set(to, index);
+  }
   return found;
 }
 /** @param {Subject} subject */
@@ -82,9 +86,11 @@ export function changeOf(subject) {
   const {old, now} = subject, {rewriting} = state, none = {lost: 0, fresh: 0};
   if (!rewriting) return {kind: "same", words: "", ...none};
   if (!old) return {kind: "added", words: "new", ...none};
-  if (rewriting.image(old.row) === null) return {kind: "dropped", words: "dropped", lost: old.points.length, fresh: 0};
-  const from = cameFrom(subject), fresh = now ? now.points.filter(it => !from.has(it.offset)).length : 0;
-  const lost = old.points.reduce((sum, _, index) => sum + Number(isLost(old, index)), 0);
+  if (rewriting.image(old.row) === null) return {kind: "dropped", words: "dropped", lost: old.count, fresh: 0};
+  const from = cameFrom(subject);
+  let lost = 0, fresh = 0;
+  for (let index = 0; index < old.count; index++) lost += Number(isLost(old, index));
+  for (let index = 0; now && index < now.count; index++) fresh += Number(!from.has(now.offsetAt(index)));
   const words = [lost && `${lost} lost`, fresh && `${fresh} new`].filter(it => it).join(", ");
   if (words) return {kind: lost ? "lost" : "changed", words, lost, fresh};
   return rewriting.isChanged(old, now) ? {kind: "changed", words: "changed", ...none} : {kind: "same", words: "", ...none};
