@@ -1,7 +1,10 @@
 """The half of check-page that opens the page in a browser: Chromium without a window. It gives files to the page as a user does, uses it by
 mouse and keys, and compares what it shows and saves with what the program prints and writes."""
+import functools
 import hashlib
+import http.server
 import re
+import threading
 import time
 import uuid
 from pathlib import Path
@@ -97,6 +100,21 @@ def check_start(user: User) -> None:
     user.that(user.run("""try { await fetch("data:,x"); return false } catch { return true }"""), "the page may load something")
     user.that(user.run("try { document.body.innerHTML = '<b>'; return false } catch { return true }"), "text may become markup")
     user.browser.said.clear()
+    handler = functools.partial(Quiet, directory=str(user.check.work))
+    with http.server.ThreadingHTTPServer(("127.0.0.1", 0), handler) as server:
+        threading.Thread(target=server.serve_forever, daemon=True).start()
+        user.browser.open(f"http://127.0.0.1:{server.server_port}/page.html")
+        user.browser.click("#try")
+        user.browser.wait("state.before")
+        user.browser.settled()
+        user.that("source verified" in user.text("#bar"), "a page from a server does not open a file")
+        server.shutdown()
+    user.console("the start")
+
+
+class Quiet(http.server.SimpleHTTPRequestHandler):
+    def log_message(self, *_: object) -> None:
+        """A server of a check prints nothing."""
 
 
 def check_clicks(user: User) -> None:
