@@ -19,7 +19,7 @@ export const constantWords = it => `const ${it.text} = ${valueOf(it.signature)}`
 
 // ---- Rows of bars.
 
-/** @typedef {{from: number, to: number, labels: string[], kind: string, tip: string, tint?: number, key?: string | null}} Bit */
+/** @typedef {{from: number, to: number, labels: string[], kind: string, tip: string | string[], tint?: number, key?: string | null}} Bit */
 
 /** @returns {Bit[]} */
 function pointBits(side, method, tints, lost) {
@@ -30,7 +30,7 @@ function pointBits(side, method, tints, lost) {
     const note = isGone ? ", its code is gone" : isNew ? ", new" : "";
     const span = isVisible(point) ? `line ${point.start_line}, column ${point.start_column}` : "hidden";
     return {from: point.offset, to: method.points[index + 1]?.offset ?? end, labels: isVisible(point) ? [`${short} ${text}`, short] : [], tint: tint ?? 0, kind,
-      key: `${method.row}.${index}`, tip: `${hex(point.offset)} (${point.offset}), ${span}${note}${text ? `\n${text}` : ""}`};
+      key: `${method.row}.${index}`, tip: [`${hex(point.offset)} (${point.offset}), ${span}${note}`, text]};
   });
 }
 /** Scopes in one another: a row for each depth. */
@@ -42,7 +42,7 @@ function scopeRows(method) {
     (rows[open.length] ??= []).push({from: scope.start, to: scope.end, labels: names.length ? [names.join(", "), `${names.length} names`,
       String(names.length)] : [],
       kind: names.length ? "scope" : "scope bare",
-      tip: [`scope ${hex(scope.start)} up to ${hex(scope.end)}`, ...scope.variables.map(variableWords), ...scope.constants.map(constantWords)].join("\n")});
+      tip: [`scope ${hex(scope.start)} up to ${hex(scope.end)}`, ...scope.variables.map(variableWords), ...scope.constants.map(constantWords)]});
     open.push(scope);
   }
   return rows.map((bits, index) => ({label: index ? "" : "scopes", bits}));

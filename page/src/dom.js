@@ -10,7 +10,7 @@ export const $ = id => /** @type {HTMLElement} */ (document.getElementById(id));
 export const isThere = value => value !== null && value !== undefined && value !== false && value !== "";
 
 /**
- * An element with attributes and children; `css` is an object of properties, `on` one of listeners.
+ * An element with attributes and children; `css` is an object of properties, `on` one of listeners, a list the lines of an attribute.
  * @param {string} tag @param {Record<string, any>} given @param {...any} children
  */
 export function make(tag, given = {}, ...children) {
@@ -19,7 +19,7 @@ export function make(tag, given = {}, ...children) {
     if (!isThere(value)) continue;
     if (key === "css") for (const [name, to] of Object.entries(value)) it.style.setProperty(name, String(to));
     else if (key === "on") for (const [event, does] of Object.entries(value)) it.addEventListener(event, does);
-    else it.setAttribute(key, value === true ? "" : seen(String(value)));
+    else it.setAttribute(key, value === true ? "" : [value].flat().filter(isThere).map(one => seen(String(one))).join("\n"));
   }
   put(it, children);
   return it;

@@ -6,6 +6,10 @@ const MOST_FILES = 20000, LONGEST_GIVEN = 134217728;
 /** Ends of names that are worth reading from a folder: debug files, assemblies, maps and sources. */
 const ENDS = /\.(?:pdb|dll|exe|netmodule|map|ppdbmap|cs|vb|fs|fsi|fsx|razor|cshtml|il|txt|g|cpp|h|js)$/i;
 
+const FIRST = /\.(?:pdb|dll|exe|netmodule|map|ppdbmap)$/i;
+/** The most bytes that are read at once. */
+const MOST_BYTES = 536870912;
+
 /** @typedef {{name: string, bytes: Uint8Array}} Given */
 
 /** The files below an entry that was dropped, each with its path. @returns {Promise<{file: File, path: string}[]>} */
@@ -24,10 +28,15 @@ async function below(entry, found) {
   }
   return found;
 }
-/** @param {{file: File, path: string}[]} files @param {boolean} isFolder @returns {Promise<Given[]>} */
+/** @param {{file: File, path: string}[]} files @param {boolean} isFolder @returns {Promise<Given[] & {left: number}>} */
 async function read(files, isFolder) {
-  const some = files.filter(({file, path}) => file.size <= LONGEST_GIVEN + 1 && (!isFolder || ENDS.test(path)));
-  return Promise.all(some.map(async ({file, path}) => ({name: path, bytes: new Uint8Array(await file.arrayBuffer())})));
+  const wanted = files.filter(({file, path}) => file.size <= LONGEST_GIVEN + 1 && (!isFolder || ENDS.test(path)));
+  // Sources come last: there may be many.
+  wanted.sort((one, other) => Number(FIRST.test(other.path)) - Number(FIRST.test(one.path)));
+  let room = MOST_BYTES;
+  const some = wanted.filter(({file}) => (room -= file.size) >= 0);
+  const given = await Promise.all(some.map(async ({file, path}) => ({name: path, bytes: new Uint8Array(await file.arrayBuffer())})));
+  return Object.assign(given, {left: wanted.length - some.length});
 }
 /** @param {DataTransfer} data */
 export async function dropped(data) {

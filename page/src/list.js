@@ -154,7 +154,7 @@ function entryOf(entry, index) {
   if (entry.note) return make("div", {class: "entry note dim", role: "option", "aria-disabled": "true"}, entry.note);
   if (entry.head) {
     const name = entry.place ? make("a", {href: addressOf(entry.place), tabindex: -1}, marked(entry.head)) : marked(entry.head);
-    return make("div", {class: "entry head", role: "presentation", title: entry.dim ? `${entry.head}\n${entry.dim}` : entry.head},
+    return make("div", {class: "entry head", role: "presentation", title: [entry.head, entry.dim]},
       make("strong", {}, name), make("span", {class: "dim"}, cutFront(entry.dim, 60)));
   }
   const [body, title] = entry.subject ? methodBody(entry) : entry.hit ? hitBody(entry) : documentBody(entry), on = isOn(entry);
@@ -169,8 +169,7 @@ function methodBody({subject, line}) {
     change.words === "changed" ? make("span", {class: "dim", title: "points moved, or locals changed", "aria-label": "changed"}, "\u2260")
       : change.words && make("span", {class: `tag ${change.kind}`}, change.words),
     make("span", {class: "at"}, line > 0 && line < Infinity ? line : "")],
-    [titleWords(side, method), tokenOf(method.row), isGuess && !isKnown && `named by its source: ${state.guesses[side].get(method.row)?.text ?? ""}`]
-      .filter(it => it).join("\n")];
+    [titleWords(side, method), tokenOf(method.row), isGuess && !isKnown && `named by its source: ${state.guesses[side].get(method.row)?.text ?? ""}`]];
 }
 function hitBody({hit}) {
   const text = hit.text.trimStart(), from = Math.max(0, text.toLowerCase().indexOf(list.want) - 18);

@@ -12,7 +12,7 @@ import {Port} from "./port.js";
 import {startSplitters} from "./splitters.js";
 import {sourceOf, state, take} from "./state.js";
 import {bodyOf, documentOf, placeOf, sideOf, subjectAt, totals} from "./subjects.js";
-import {baseName, nameOf, plural, sizeWords} from "./text.js";
+import {baseName, nameOf, plural, seen, sizeWords} from "./text.js";
 
 /** The script of the worker and the rules of the format, which the build puts here. */
 const BUILT = /** @type {{worker: string, rules: Record<string, string>, version: string}} */ (PPDB_BUILT);
@@ -33,6 +33,7 @@ async function give(files) {
   const size = files.reduce((sum, it) => sum + it.bytes.length, 0);
   busy(files.length === 1 ? `Reading ${baseName(files[0].name)}, ${sizeWords(size)}` : `Reading ${plural(files.length, "file")}, ${sizeWords(size)}`);
   await settle(() => port.ask("add", files));
+  if (files.left) trouble(`${plural(files.left, "file")} left out: together they are too long for a page.`);
 }
 /** Asks the session, and draws what it then has. @param {() => Promise<any>} asks */
 async function settle(asks) {
@@ -102,7 +103,7 @@ function drawHead() {
       plural(before.documents.size, "document")]
       .join(" \u00b7 ")), make("span", {class: "dim id code", title: `PDB ID ${before.id}`}, before.id.slice(0, 8)),
     one.assembly ? make("span", {class: "dim", title: `names by ${one.assembly}`}, "named") : "");
-  document.title = `${baseName(one.name)} \u2013 ppdb`;
+  document.title = seen(`${baseName(one.name)} \u2013 ppdb`);
   fill("actions", openButton(), saveButtons(), helpButtons());
 }
 /** What a rewrite changed, counted. */
@@ -212,7 +213,8 @@ async function insist(side, row) {
 }
 function firstMethod() {
   const {before} = state, entry = before.methods.get(before.entry), main = entry?.count ? entry : before.methods.get(entry?.move);
-  const lost = state.rewriting && state.subjects.find(it => it.old && it.change.lost > 0), changed = state.rewriting && 
+  const lost = state.rewriting && state.subjects.filter(it => it.old && it.now && it.change.lost > 0)
+    .reduce((most, it) => most && most.change.lost >= it.change.lost ? most : it, null), changed = state.rewriting && 
     state.subjects.find(it => it.old && it.change.kind !== "same");
   return lost?.old.row ?? changed?.old.row ?? (main?.count ? main.row : state.subjects.find(it => it.old?.count)?.old.row ?? null);
 }
@@ -307,7 +309,7 @@ async function main() {
   state.told = {files: [], inputs: []};
   document.body.dataset.view = "start";
   drawHead();
-  if (inside) { document.title = inside.title ?? document.title; await give(inside.files); }
+  if (inside) { document.title = seen(inside.title || document.title); await give(inside.files); }
   if (!state.before) { $("start").hidden = false; document.body.dataset.ready = ""; }
 }
 main().catch(wrong => { busy(""); trouble(`This page could not start: ${wrong.message}. A browser of 2024 or later is needed.`); });

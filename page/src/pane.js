@@ -105,7 +105,7 @@ function inked(text, from, to, colours) {
 }
 function spanOver(inside, text, on) {
   const subject = subjectAt(state.place), own = pane.side === "before" ? subject?.old : subject?.now, mine = on.find(it => it.method === own);
-  const tip = on.slice(0, 12).map(({method, point}) => `${titleWords(pane.side, method)} ${hex(point.offset)}`).join("\n");
+  const tip = on.slice(0, 12).map(({method, point}) => `${titleWords(pane.side, method)} ${hex(point.offset)}`);
   const classes = ["p", /^\s*[{}]+\s*$/.test(text) && "brace", ...mine ? mineClasses(mine, subject) : []].filter(it => it).join(" ");
   return make("span", {class: classes, title: tip, "data-p": on.map(({method, index}) => `${method.row}.${index}`).join(" ")}, inside);
 }

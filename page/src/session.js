@@ -157,11 +157,12 @@ export class Session {
     this.problem = "";
     return {before: this.tellSide(this.sides.before), after: this.tellSide(this.sides.after), map: this.map && WORDS.decode(this.map.bytes),
       mapName: this.map?.name ?? null, mapLine: this.mapLine, canRemap: this.made !== null, problem, sources: sources.length,
-      files: files.map(it => ({name: it.name, size: it.bytes.length, note: it.note, line: it === this.sides.before?.input ? this.sides.before.line : it ===
-        this.sides.after?.input ? this.sides.after.line : files.length > 2 ? WORDS.decode(this.ask(["verify", it.word], it).text).trim() : ""})),
+      files: files.map(it => ({name: it.name, size: it.bytes.length, note: it.note, line: files.length > 2 ? this.verdict(it) : ""})),
       inputs: this.inputs.map(it => ({name: it.name, size: it.bytes.length, kind: it.kind, isRead: it.kind !== "assembly" || it.assembly !== null,
         path: it.assembly?.debug.path ?? "", hasInner: Boolean(it.assembly?.debug.embedded), fits: this.isUsed(it)}))};
   }
+  /** What `verify` says of a file, of several to choose from. @param {Input} input */
+  verdict(input) { return input.line ??= WORDS.decode(this.ask(["verify", input.word], input).text).trim(); }
   isUsed(input) { return [this.sides.before, this.sides.after].some(side => side && (side.input === input || side.assembly === input)); }
   /** @param {Side | null} side */
   tellSide(side) {
