@@ -90,20 +90,22 @@ function relativeSpans(method) {
   return method.points.map(it => isVisible(it) ? `${it.start_line - base}:${it.start_column} ${it.end_line - base}:${it.end_column}` : "hidden");
 }
 
-/** Two debug files without a map: methods are paired by their names if both are known, otherwise by their rows; points by their spans. */
+/** Two debug files without a map: methods are paired by their names if both are known, otherwise by their rows, those of state machines by the
+ rows of the methods that start them; points by their spans. */
 export class Comparison {
   /** @param {import("./model.js").DebugFile} after @param {(side: "before" | "after", row: number) => string | undefined} nameAt */
   constructor(after, before, nameAt) {
     this.isMap = false; this.after = after; this.pairs = new Map(); this.found = new Map(); this.renamed = new Map();
     const spoken = file => file.sorted.some(it => nameAt(file === after ? "after" : "before", it.row) !== undefined);
     this.isByName = spoken(before) && spoken(after);
-    const rest = new Map();
+    const byRow = it => it.kickoff ? `started by ${it.kickoff}` : `row ${it.row}`, rest = new Map();
+    const keyOf = (side, it) => this.isByName ? nameAt(side, it.row) ?? byRow(it) : byRow(it);
     for (const it of after.sorted) {
-      const key = this.isByName ? nameAt("after", it.row) ?? `row ${it.row}` : it.row;
-      rest.set(key, [...rest.get(key) ?? [], it]);
+      const key = keyOf("after", it);
+      if (rest.has(key)) rest.get(key).push(it); else rest.set(key, [it]);
     }
     for (const it of before.sorted) {
-      const now = rest.get(this.isByName ? nameAt("before", it.row) ?? `row ${it.row}` : it.row)?.shift();
+      const now = rest.get(keyOf("before", it))?.shift();
       if (now) this.pairs.set(it.row, now);
     }
   }
