@@ -2,6 +2,7 @@
 # make test         tests the program that ./ppdb runs, in a minute; it requires python3 and no toolchain
 # make quick        runs the program and all tests unproved, in 30 to 50 minutes
 # make lib          makes libppdb in build/library: an archive, a shared object and the header
+# make page         makes build/page/ppdb.html, the page that has the library inside; it requires ppdb.wasm of scripts/making/targets
 # make check        runs make test and the checks of the program and of the repository (scripts/checks/check-*), as .ci/run does after the proofs
 # make install      copies the program, the library if make lib has built it, the manual page, completions, documents and scripts below prefix, by default /usr/local
 # make uninstall    removes what make install copied
@@ -34,7 +35,7 @@ samples = examples/async_iter.cs examples/async_iter.pdb examples/embed_link.pdb
 # What make test has run when the checks of make check are run.
 tested = $(addprefix scripts/checks/,check-cases check-readme)
 
-.PHONY: all quick lib test check install uninstall release targets packages clean help
+.PHONY: all quick lib test page check install uninstall release packages clean help
 
 all:
 	@scripts/making/build
@@ -47,6 +48,9 @@ lib:
 
 test:
 	@scripts/test
+
+page:
+	@page/build
 
 # With the toolchain the program is built first; without it the checks take the released one.
 check:
@@ -63,11 +67,13 @@ install: install-tools install-old-names
 	install -m 644 completions/ppdb.bash "$(DESTDIR)$(bashdir)/ppdb"
 	install -m 644 completions/_ppdb "$(DESTDIR)$(zshdir)/_ppdb"
 	install -m 644 completions/ppdb.fish "$(DESTDIR)$(fishdir)/ppdb.fish"
+	if [ -f build/page/ppdb.html ]; then install -m 644 build/page/ppdb.html "$(DESTDIR)$(datadir)/ppdb"; \
+	  else echo "install: the page is left out, since make page has not made it"; fi
 	if scripts/making/library is-built; then scripts/making/library install "$(DESTDIR)" "$(prefix)" "$(libdir)" "$(includedir)"; \
 	  else echo "install: the library is left out, since make lib has not built it"; fi
 
 uninstall: uninstall-tools
-	rm -f "$(DESTDIR)$(bindir)/ppdb" "$(DESTDIR)$(mandir)/man1/ppdb.1"
+	rm -f "$(DESTDIR)$(bindir)/ppdb" "$(DESTDIR)$(mandir)/man1/ppdb.1" "$(DESTDIR)$(datadir)/ppdb/ppdb.html"
 	rm -f "$(DESTDIR)$(bashdir)/ppdb" "$(DESTDIR)$(zshdir)/_ppdb" "$(DESTDIR)$(fishdir)/ppdb.fish"
 	rm -f $(foreach file,$(documents) $(samples),"$(DESTDIR)$(docdir)/$(file)")
 	scripts/making/library uninstall "$(DESTDIR)" "$(prefix)" "$(libdir)" "$(includedir)"

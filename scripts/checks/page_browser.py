@@ -1,313 +1,471 @@
-"""The half of scripts/checks/check-page that opens pages in a browser: Chromium without a window, driven by selenium. It compares the page's own
-answers with those of the program, and clicks through it."""
-import os
+"""The half of check-page that opens the page in a browser: Chromium without a window. It gives files to the page as a user does, uses it by
+mouse and keys, and compares what it shows and saves with what the program prints and writes."""
+import functools
+import hashlib
+import http.server
 import re
-import shutil
-import sys
+import threading
 import time
+import uuid
 from pathlib import Path
 from typing import Any
 
+import pdbfile
+from browser import Browser, Failed, found
+from page_file import with_files
 from small_png import small
 
-# Where Debian has selenium, beside a python3 that is not Debian's.
-DEBIAN = "/usr/lib/python3/dist-packages"
-SIZE = {"width": 1240, "height": 780, "deviceScaleFactor": 1, "mobile": False}
-PATIENCE = 60
-MANY_SECONDS = 10
-# Of each file so many lines and so many offsets are asked for, spread over all of them; of the first file all.
-ASKED = 25
+HOSTILE = "</script><img src=x onerror=alert(1)>&\"'`${0}\u202e\u0007"
+EMBEDDED = uuid.UUID("0e8a571b-6926-466e-b4ad-8ab04611f5fe").bytes_le
+# How long the first screen of a file of 10 MB and a source of 300,000 lines may take, in seconds of the clock; or of processors, which
+# compile the module and collect garbage beside the work, on a machine that others use.
+FIRST_SCREEN, LONG_SOURCE, BUSY = 2, 3, 3
+LINES = 300000
+MOST_ELEMENTS = 4000
+# The least contrast of text (WCAG 2.2, 1.4.3).
+CONTRAST = 4.5
 
 
-def selenium() -> Any:
-    """The driver of selenium, or nothing where it or the browser is not here."""
-    if not (shutil.which("chromium") and shutil.which("chromedriver")):
-        return None
-    try:
-        import selenium.webdriver
-    except ImportError:
-        sys.path.append(DEBIAN)
-        try:
-            import selenium.webdriver
-        except ImportError:
-            return None
-    return selenium.webdriver
+class User:
+    """The page in a browser, and the check that counts."""
 
+    def __init__(self, check: Any, root: Path, page: str) -> None:
+        self.check, self.root, self.page, self.browser = check, root, page, Browser()
+        self.address = self.filled([])
 
-class Browser:
-    def __init__(self, check: Any, webdriver: Any) -> None:
-        from selenium.webdriver.chrome.service import Service
-        options = webdriver.ChromeOptions()
-        options.binary_location = shutil.which("chromium")
-        for word in ("--headless=new", "--no-sandbox", "--disable-gpu", "--disable-dev-shm-usage", "--hide-scrollbars"):
-            options.add_argument(word)
-        options.set_capability("goog:loggingPrefs", {"browser": "ALL"})
-        self.check = check
-        self.driver = webdriver.Chrome(service=Service(shutil.which("chromedriver")), options=options)
-        self.driver.execute_cdp_cmd("Emulation.setDeviceMetricsOverride", SIZE)
+    def filled(self, files: list[tuple[str, bytes]], name: str = "page.html") -> str:
+        path = self.check.work / name
+        path.write_text(with_files(self.page, files) if files else self.page, encoding="utf-8", errors="replace")
+        return path.as_uri()
 
-    def run(self, script: str, *words: Any) -> Any:
-        return self.driver.execute_script(script, *words)
+    def that(self, is_so: object, what: str) -> None:
+        self.check.that(is_so, what)
 
-    def open(self, file: Path, place: str = "") -> float:
-        """Opens a page, and returns the seconds until it was drawn."""
-        self.driver.get("about:blank")
-        began = time.monotonic()
-        self.driver.get(file.as_uri() + place)
-        while self.run("return document.body === null || document.body.dataset.ready === undefined"):
-            if time.monotonic() - began > PATIENCE:
-                self.check.that(False, f"{file}: the page is not drawn; it says {self.run('return document.body.innerText')[:200]}")
-                break
-            time.sleep(0.05)
-        return time.monotonic() - began
+    def new(self, *files: Path, place: str = "") -> None:
+        """The page anew, with files that are chosen; the place is gone to after them."""
+        self.browser.open(self.address)
+        self.browser.settled()
+        self.more(*files)
+        if place:
+            self.go(place)
 
-    def worked(self) -> float:
-        """The seconds of a processor that the page took, which other programs on the machine do not lengthen."""
-        self.driver.execute_cdp_cmd("Performance.enable", {})
-        return next(it["value"] for it in self.driver.execute_cdp_cmd("Performance.getMetrics", {})["metrics"] if it["name"] == "ProcessTime")
+    def more(self, *files: Path) -> None:
+        if files:
+            self.browser.run("window.had = state.told")
+            self.browser.give(*files)
+            self.browser.wait("state.told !== window.had")
+            self.browser.settled()
+            time.sleep(0.3)
 
     def go(self, place: str) -> None:
-        self.run("location.hash = arguments[0]; come()", place)
+        self.browser.run("location.hash = a[0]; await come()", place)
 
-    def find(self, selector: str) -> Any:
-        return self.driver.find_element("css selector", selector)
+    def run(self, script: str, *words: Any) -> Any:
+        return self.browser.run(script, *words)
 
     def text(self, selector: str) -> str:
-        return self.find(selector).text
-
-    def place(self) -> str:
-        time.sleep(0.1)
-        return self.run("return location.hash")
+        return self.browser.text(selector)
 
     def console(self, what: str) -> None:
-        said = [entry["message"] for entry in self.driver.get_log("browser")]
-        self.check.that(not said, f"{what}: the console has {said[:3]}")
-
-    def shade(self, scheme: str) -> None:
-        self.driver.execute_cdp_cmd("Emulation.setEmulatedMedia", {"features": [{"name": "prefers-color-scheme", "value": scheme}]})
+        self.that(not self.browser.said, f"{what}: the console has {self.browser.said[:3]}")
+        self.browser.said.clear()
 
 
-def some(items: list, count: int) -> list:
-    return items[::len(items) // count + 1]
+def with_names(name: bytes, source: bytes | None = None, digest: bytes = b"") -> bytes:
+    """A debug file of one method, whose document, variable, constant and namespace have a name, and with an embedded source."""
+    pdb, texts, blobs = pdbfile.Pdb(), pdbfile.Heap(), pdbfile.Heap()
+    pdb.counts[0x00] = pdb.counts[0x06] = pdb.counts[0x11] = pdb.entry = 1
+    pdb.guids = EMBEDDED + pdbfile.SHA256
+    pdb.tables[0x30] = [(blobs.blob(b"\0" + pdbfile.unsigned(blobs.blob(name))), 2 if digest else 0, blobs.blob(digest), 0)]
+    pdb.tables[0x31] = [(1, blobs.blob(pdbfile.points_blob(0, 3)))]
+    pdb.tables[0x32] = [(1, 1, 1, 1, 0, 20)]
+    pdb.tables[0x33] = [(0, 0, texts.text(name))]
+    pdb.tables[0x34] = [(texts.text(name), blobs.blob(b"\x0e" + name.decode().encode("utf-16-le")))]
+    pdb.tables[0x35] = [(0, blobs.blob(b"\x01" + pdbfile.unsigned(blobs.blob(name))))]
+    if source is not None:
+        pdb.tables[0x37] = [(1 << 5 | pdbfile.PARENTS.index(0x30), 1, blobs.blob(source))]
+    pdb.texts, pdb.blobs = bytes(texts.data), bytes(blobs.data)
+    return pdbfile.write(pdb)
 
 
-class Shown:
-    """What `ppdb show` prints of a file: the names of documents, and the points of each method."""
+# ---- What a user does.
 
-    def __init__(self, text: str) -> None:
-        self.names: dict[str, str] = {}
-        self.points: dict[int, list[list[str]]] = {}
-        for words in map(str.split, text.splitlines()):
-            if words[0] == "document":
-                self.names[words[1]] = words[-1]
-            elif words[0] == "method":
-                here = self.points.setdefault(int(words[1]), [])
-            elif words[0] == "point":
-                here.append(words[1:])
-
-    def lines(self) -> list[tuple[str, int]]:
-        """The documents and lines where points begin or end, and the lines beside them."""
-        found = {(point[1], int(place.split(":")[0]) + by) for points in self.points.values() for point in points if point[2] != "hidden"
-                 for place in point[2:4] for by in (0, 1)}
-        return sorted(found)
-
-    def offsets(self) -> list[tuple[int, int]]:
-        return [(method, max(0, int(point[0]) + by)) for method, points in self.points.items() for point in points for by in (0, 1)]
-
-    def moved(self) -> dict[str, list[str]]:
-        """The points of each method, with the names of their documents."""
-        return {str(method): [" ".join([point[0], self.names[point[1]], *point[2:]]) for point in points] for method, points in self.points.items()}
+def check_start(user: User) -> None:
+    user.new()
+    user.that("Drop a debug file here" in user.text("#start") and "Nothing leaves this computer" in user.text("#start"), "the start says something else")
+    user.browser.click("#try")
+    user.browser.wait("state.before")
+    user.browser.settled()
+    user.that("valid" in user.text("#about-file") and "source verified" in user.text("#bar"), f"the example is shown as {user.text('#top')}")
+    user.that(user.run("""try { await fetch("data:,x"); return false } catch { return true }"""), "the page may load something")
+    user.that(user.run("try { document.body.innerHTML = '<b>'; return false } catch { return true }"), "text may become markup")
+    user.browser.said.clear()
+    handler = functools.partial(Quiet, directory=str(user.check.work))
+    with http.server.ThreadingHTTPServer(("127.0.0.1", 0), handler) as server:
+        threading.Thread(target=server.serve_forever, daemon=True).start()
+        user.browser.open(f"http://127.0.0.1:{server.server_port}/page.html")
+        user.browser.click("#try")
+        user.browser.wait("state.before")
+        user.browser.settled()
+        user.that("source verified" in user.text("#bar"), "a page from a server does not open a file")
+        server.shutdown()
+    user.console("the start")
 
 
-def unescaped(name: str) -> bytes:
-    return b"" if name == "\\-" else re.sub(rb"\\x(..)", lambda found: bytes.fromhex(found[1].decode()), name.encode())
+class Quiet(http.server.SimpleHTTPRequestHandler):
+    def log_message(self, *_: object) -> None:
+        """A server of a check prints nothing."""
 
 
-def compare_answers(browser: Browser, file: Path, count: int) -> None:
-    """The page's places of lines are those of `breaks`, its answers at offsets those of `query`."""
-    check, shown = browser.check, Shown(browser.check.ppdb("show", file))
-    for document, line in some(shown.lines(), count):
-        got = browser.run("return breakLines(before, ...arguments)", int(document), line)
-        want = check.ppdb("breaks", file, unescaped(shown.names[document]).decode(), line).splitlines()
-        check.that(got == want, f"{file}: line {line} of document {document} has the places {got} and not {want}")
-    for method, offset in some(shown.offsets(), count):
-        got = browser.run("return queryLines(before, ...arguments)", method, offset)
-        want = check.ppdb("query", file, method, offset).splitlines()
-        check.that(got == want, f"{file}: method {method} has at {offset} the answer {got} and not {want}")
+def check_clicks(user: User) -> None:
+    root, browser, example = user.root, user.browser, user.root / "examples/async_iter.pdb"
+    user.new(example, root / "examples/async_iter.cs")
+    user.that("source verified" in user.text("#bar"), f"the source is {user.text('#bar')}")
+    browser.click('.row[data-l="20"] > .number')
+    user.that(browser.place() == "#d=1&l=20" and "Breakpoint on line 20" in user.text("#said"), f"a line number leads to {browser.place()}")
+    bound = user.run("""return [...document.querySelectorAll('#breaks .place')].filter(it => it.textContent.startsWith('▶'))
+        .map(it => it.querySelector('code').textContent)""")
+    user.that(bound == ["IL_0000", "IL_0038"], f"line 20 is bound at {bound}")
+    browser.click('.row[data-l="23"] .p')
+    user.that(re.fullmatch(r"#m=\d+&o=\d+", browser.place()) and "int outer = 5;" in user.text("#said"), f"a span leads to {browser.place()}")
+    user.go("#m=50")
+    browser.click('#axis .bit[data-from="42"]')
+    user.that(re.fullmatch(r"#m=50&o=(4[2-9]|5\d|6[0-8])", browser.place()), f"a bar leads to {browser.place()}")
+    user.that("K = 5" in user.text("#said") and "using System.IO" in user.text("#said"), "the answer has no constants or imports")
+    user.run("history.back()")
+    user.that(browser.place() == "#m=50", f"back leads to {browser.place()}")
+    user.go("#m=50&o=42")
+    browser.click("#said summary")
+    browser.wait("document.querySelectorAll('.printed div').length > 1")
+    printed = user.text(".printed").split("\n")[1:]
+    user.that(printed == user.check.ppdb("query", example, 50, 42).splitlines(), f"query prints {printed}")
+    user.go("#m=9999")
+    user.that("There is no method 9999" in user.text("#said"), f"an unknown method is {user.text('#said')}")
+    browser.click("#tab-documents")
+    user.that("async_iter.cs" in user.text("#list") and user.run("return document.querySelectorAll('#list .entry').length") == 1, "the documents are others")
+    user.console("clicks")
 
 
-def compare_moved(browser: Browser, root: Path, pair: tuple[Path, Path]) -> None:
-    """Of a rewriting the page has the points that `remap` writes: those that it makes of the map, and those on the axis below."""
-    check, (before, mapped), moved = browser.check, pair, browser.check.work / "moved.pdb"
-    check.ppdb("remap", before, mapped, moved)
-    page = check.work / "moved.html"
-    page.write_bytes(check.page(before, "--map", mapped, moved, "--source", root / "examples"))
-    browser.open(page)
-    want, got = Shown(check.ppdb("show", moved)), browser.run("""
-        return Object.fromEntries(before.sorted.flatMap(old => { const image = rewriting.image(old.row), found = old.points.flatMap((point, index) => {
-          const to = image === null ? null : rewriting.point(old, index), name = before.documents.get(point.document).name;
-          return to === null ? [] : [`${to} ${name} ${spanWords(point)}`]; });
-          return found.length ? [[image, found]] : []; }))""")
-    check.that(got == want.moved(), f"{before}: the map's points are others than those that remap writes")
-    is_same = browser.run("return all.every(it => !it.old || !it.now || differenceOf(it.old, it.now) === null)")
-    check.that(is_same, f"{before}: the page says that the files differ")
-    for subject in some(browser.run("return all.filter(it => it.old && it.now).map(it => [it.old.row, it.now.row])"), 6):
-        browser.go(f"#m={subject[0]}")
-        bars = browser.run("return [...document.querySelectorAll('#axis [data-side=after].bit:not(.scope):not(.slot)')].map(it => +it.dataset.from)")
-        points = [int(point[0]) for point in want.points.get(subject[1], [])]
-        check.that(bars and bars == points[:len(bars)] or not points, f"{before}: method {subject[1]} has the bars {bars} and not {points}")
-    browser.console(f"{before} with its map")
+def check_keys(user: User) -> None:
+    """Everything by keys; the focus stays on the list while it scrolls, and leads through all panes."""
+    browser = user.browser
+    user.new(user.root / "examples/async_iter.pdb", user.root / "examples/async_iter.cs", place="#m=50")
+    user.run("document.activeElement.blur()")
+    for key, place in (("ArrowRight", "#m=50&o=0"), ("ArrowRight", "#m=50&o=31"), ("ArrowLeft", "#m=50&o=0"), ("Escape", "#m=50"),
+                       ("ArrowDown", "#m=50&d=1&l=21"), ("ArrowDown", "#m=50&d=1&l=22"), ("Escape", "#m=50"), ("j", "#m=58"), ("k", "#m=50")):
+        browser.key(key)
+        user.that(browser.place() == place, f"the key {key!r} leads to {browser.place()} and not {place}")
+    user.run("document.querySelector('#list').focus()")
+    for _ in range(25):
+        browser.key("ArrowDown")
+    said = user.run("""const box = document.activeElement, on = document.getElementById(box.getAttribute("aria-activedescendant"));
+        return [box.id, on?.getAttribute("aria-selected"), on?.getAttribute("role")]""")
+    user.that(said == ["list", "true", "option"], f"after 25 steps the focus is on {said}")
+    browser.key("Home")
+    user.that(user.run("return list.entries.findIndex(it => it.place && !it.head) === list.view.active"), "Home does not lead to the first method")
+    seen = []
+    user.run("document.activeElement.blur()")
+    for _ in range(40):
+        browser.key("Tab")
+        seen.append(user.run("return document.activeElement.id || document.activeElement.closest('[id]')?.id"))
+    wanted = {"actions", "find", "tab-methods", "tab-documents", "list", "split-left", "source", "split-low", "zoom", "axis", "split-right", "said"}
+    user.that(wanted <= set(seen), f"Tab does not reach {wanted - set(seen)}")
+    width = user.run("document.querySelector('#split-left').focus(); return document.querySelector('#nav').offsetWidth")
+    browser.key("ArrowRight")
+    user.that(user.run("return document.querySelector('#nav').offsetWidth") == width + 24, "a bar does not move by keys")
+    user.run("document.querySelector('#axis').focus()")
+    browser.key("End")
+    user.that(user.run("return document.querySelector('#axis .bit.at')?.getAttribute('aria-selected')") == "true", "the end of the code is not chosen")
+    user.run("document.activeElement.blur()")
+    browser.key("?")
+    user.that(user.run("return document.getElementById('about').open"), "? does not explain the page")
+    browser.key("Escape")
+    user.console("keys")
 
 
-def click_through(browser: Browser, page: Path) -> None:
-    """What a click and a key do, on the page of examples/async_iter.pdb with its source."""
-    check, keys = browser.check, __import__("selenium.webdriver.common.keys", fromlist=["Keys"]).Keys
-    browser.open(page)
-    check.that("static async Task<int> One(int n)" in browser.text("#said"), f"the page begins with {browser.text('#said')}")
-    browser.find('.row[data-l="20"] > a').click()
-    check.that(browser.place() == "#d=1&l=20" and "A breakpoint on line 20" in browser.text("#said"), f"a line number leads to {browser.place()}")
-    check.that(re.findall(r"▶\s*(IL_\w+)", browser.text("#breaks")) == ["IL_0000", "IL_0038"], f"line 20 stops at {browser.text('#breaks')}")
-    browser.find('.row[data-l="23"] .p').click()
-    check.that(re.fullmatch(r"#m=\d+&o=\d+", browser.place()) is not None and "int outer = 5;" in browser.text("#said"), f"a span leads to {browser.place()}")
-    browser.go("#m=50")
-    browser.find('#axis .bit[data-from="42"]').click()
-    check.that(re.fullmatch(r"#m=50&o=(4[2-9]|5\d|6[0-8])", browser.place()) is not None, f"a bar leads to {browser.place()}")
-    check.that("const K = 5" in browser.text("#said") and "using System.IO" in browser.text("#said"), "the answer has no constants or imports")
-    browser.driver.back()
-    check.that(browser.place() == "#m=50", f"back leads to {browser.place()}")
-    body = browser.find("body")
-    for key, place in ((keys.ARROW_RIGHT, "#m=50&o=0"), (keys.ARROW_RIGHT, "#m=50&o=31"), (keys.ARROW_LEFT, "#m=50&o=0"), (keys.ESCAPE, "#m=50"),
-                       (keys.ARROW_DOWN, "#m=50&d=1&l=21"), (keys.ARROW_DOWN, "#m=50&d=1&l=22"), (keys.ESCAPE, "#m=50"), ("j", "#m=58"), ("k", "#m=50")):
-        body.send_keys(key)
-        check.that(browser.place() == place, f"the key {key!r} leads to {browser.place()} and not {place}")
-    browser.find("#find").send_keys("0x06000027")
-    check.that(len(browser.driver.find_elements("css selector", "a.entry")) == 1, "the search by a token finds other methods")
-    browser.find("#find").send_keys(keys.ENTER)
-    check.that(browser.place() == "#m=39", f"the search leads to {browser.place()}")
-    browser.run("document.activeElement.blur()")
-    body.send_keys("?")
-    check.that(browser.run("return document.getElementById('about').open"), "? does not explain the page")
-    browser.console(page.name)
+def check_search(user: User) -> None:
+    browser = user.browser
+    user.new(user.root / "examples/async_iter.pdb", user.root / "examples/async_iter.cs")
+    browser.key("/")
+    browser.type("0x06000027")
+    user.that(user.run("return list.entries.filter(it => it.subject).length") == 1, "the search by a token finds other methods")
+    browser.key("Enter")
+    user.that(browser.place() == "#m=39", f"the search leads to {browser.place()}")
+    user.run("document.querySelector('#find').select()")
+    browser.type("task.yield")
+    browser.wait("list.hits")
+    user.run("await new Promise(done => setTimeout(done, 60))")
+    marks = user.run("return [...document.querySelectorAll('#list mark')].map(it => it.textContent)")
+    user.that(len(marks) > 3 and set(marks) == {"Task.Yield"}, f"the search in sources marks {marks}")
+    browser.click("#list .entry:not(.head)")
+    user.that(re.fullmatch(r"#d=1&l=\d+", browser.place()), f"a hit leads to {browser.place()}")
+    user.run("document.querySelector('#find').select()")
+    browser.type("nothing has this")
+    user.that("Nothing has" in user.text("#list"), "a search without hits says nothing")
+    user.console("a search")
 
 
-def check_documents(browser: Browser, page: Path) -> None:
-    """A method with code in several documents is in the list of each, and each entry leads to its document."""
-    browser.open(page)
-    entries = browser.run("return entries.filter(it => it.subject && it.subject.lines.length > 1).map(it => [it.subject.old.row, it.document])")
-    browser.check.that({row for row, _ in entries} == {6} and len(entries) == 3, f"the methods of several documents are {entries}")
-    for row, document in entries:
-        browser.go(f"#m={row}&d={document}")
-        shown = browser.run("return [drawn.document, document.querySelectorAll('#source .mine').length, document.querySelectorAll('.entry.on').length]")
-        browser.check.that(shown[0] == document and shown[1] > 0 and shown[2] == 1, f"method {row} in document {document} is shown as {shown}")
-    browser.console("a method of several documents")
+def check_names(user: User) -> None:
+    throw = user.root / "examples/throw"
+    user.new(throw / "Throw.pdb", throw / "Throw.exe")
+    heads = user.run("return list.entries.filter(it => it.head).map(it => it.head)")
+    user.that("Throw.G<T>" in heads and "lambda in Main" in user.text("#list"), f"the types are {heads}")
+    user.new(throw / "Throw.exe")
+    user.that("debug file beside it" in user.text("#found") and "Throw.pdb" in user.text("#found"), f"an assembly alone: {user.text('#found')}")
+    user.console("names")
 
 
-def check_hostile(browser: Browser, page: Path, name: str) -> None:
-    """Names that are markup are shown as text, and nothing of them runs."""
-    browser.open(page, "#d=1&l=5&m=1&o=0")
-    elements = browser.run("return document.querySelectorAll('img, main script, nav script, aside script').length")
-    browser.check.that(elements == 0, "a hostile name became an element")
-    browser.check.that(name in browser.run("return document.body.innerText"), "a hostile name is not shown as it is")
-    browser.console("the page of hostile names")
-    browser.check.that(browser.run("try { document.body.innerHTML = '<b>'; return false } catch { return true }"), "text may become markup")
-    browser.driver.get_log("browser")
+def check_rewrite(user: User) -> None:
+    root, browser = user.root, user.browser
+    before, mapped, moved = root / "examples/woven/async_iter.before.pdb", root / "examples/woven/async_iter.map", user.check.work / "moved.pdb"
+    user.new(before, mapped, root / "examples/async_iter.cs", place="#m=42&o=57")
+    user.check.ppdb("remap", before, mapped, moved)
+    user.that("Now at IL_0045, method 34." in user.text("#said"), f"the offset went to {user.text('#said')}")
+    user.that("methods changed" in user.text("#about-file"), f"the head says {user.text('#about-file')}")
+    folder = user.check.work / "saved"
+    browser.ask("Page.setDownloadBehavior", behavior="allow", downloadPath=str(folder))
+    for what, want in (("remapped", moved.read_bytes()), ("rebuilt", None)):
+        browser.click(".menu summary")
+        user.run("[...document.querySelectorAll('.menu button')].find(it => it.textContent.includes(a[0])).click()", what)
+        for _ in range(100):
+            made = [it for it in folder.glob("*.pdb") if what in it.name] if folder.exists() else []
+            if made and made[0].stat().st_size:
+                break
+            time.sleep(0.1)
+        if want is None:
+            rebuilt = user.check.work / "rebuilt.pdb"
+            user.check.ppdb("rebuild", before, rebuilt)
+            want = rebuilt.read_bytes()
+        user.that(made and made[0].read_bytes() == want, f"what is saved as {what} is not what the program writes")
+    user.new(root / "examples/async_iter.pdb", root / "examples/throw/throw.map")
+    user.that("unfit" in user.text("#trouble"), f"a map that does not fit: {user.text('#trouble')}")
+    user.new(root / "corpus/async_iter.pdb", root / "corpus/async_iter-release.pdb")
+    user.that("points lost" in user.text("#about-file") and user.run("return document.querySelector('#axis .bit.lost') !== null"), "two files are not compared")
+    user.console("a rewrite")
 
 
-def check_many(browser: Browser, page: Path) -> None:
-    began = browser.worked()
-    seconds = min(browser.open(page), browser.worked() - began)
-    browser.check.that(seconds < MANY_SECONDS, f"a page of many methods opens in {seconds:.1f} seconds")
-    browser.go("#m=12345&o=20")
-    browser.check.that("method 12345" in browser.text("#said"), "a late method is not shown")
-    browser.check.that(browser.run("return document.querySelectorAll('.entry').length") < 200, "the list is drawn as a whole")
-    browser.console("the page of many methods")
+def check_refused(user: User) -> None:
+    work, root = user.check.work, user.root
+    damaged = work / "damaged.pdb"
+    damaged.write_bytes((root / "examples/async_iter.pdb").read_bytes()[:-1000])
+    user.new(damaged)
+    line = user.check.ppdb("verify", damaged).split(" ", 2)
+    user.that(line[0] == "refused" and line[2].strip() in user.text("#found"), f"a damaged file: {user.text('#found')}")
+    windows = work / "windows.pdb"
+    windows.write_bytes(b"Microsoft C/C++ MSF 7.00\r\n\x1aDS\0\0\0")
+    user.new(windows)
+    user.that("Windows PDB" in user.text("#found"), f"a Windows PDB: {user.text('#found')}")
+    user.new(*(root / "corpus" / name for name in ("tiny.pdb", "lib1.pdb", "lib2.pdb")))
+    user.that(user.text("#found").count("valid") == 3, f"three files: {user.text('#found')}")
+    user.browser.click(".choice button")
+    user.browser.wait("state.before")
+    user.browser.settled()
+    user.console("files that are refused")
 
 
-# The pictures: the page and the place of each, light or dark, and words that are to be seen in it.
-PICTURES = {"page": ("page.html", "#m=24&o=300", "light", "await Task.FromResult(big); <"),
-            "breakpoint": ("page.html", "#m=42&d=1&l=20", "light", "A breakpoint on line 20"),
-            "remap": ("rewriting.html", "#m=42&o=57", "dark", "It went to IL_0045 of method 34.")}
+def check_sources(user: User) -> None:
+    """A source with another hash is shown only to one who insists; names and sources of any bytes are text."""
+    work, other = user.check.work, user.check.work / "async_iter.cs"
+    other.write_text("// not the source\n" * 60)
+    user.new(user.root / "examples/async_iter.pdb", other)
+    user.that("its hash differs" in user.text("#notice") and "not the source" not in user.text("#source"), f"another source: {user.text('#notice')}")
+    user.browser.click("#notice button")
+    user.browser.wait("document.querySelector('#source').innerText.includes('// not the source')")
+    user.that("spans may be off" in user.text("#notice"), "another source is shown without a word")
+    hostile, source = work / (HOSTILE.replace("/", "") + ".pdb"), (HOSTILE + "\n").encode() * 12
+    hostile.write_bytes(with_names(HOSTILE.encode(), bytes(4) + source, hashlib.sha256(source).digest()))
+    user.new(hostile, place="#d=1&l=5&m=1&o=0")
+    elements = user.run("return document.querySelectorAll('img, main script, nav script, aside script').length")
+    shown = user.run("return document.body.innerText")
+    user.that(elements == 0, "a hostile name became an element")
+    user.that("<img src=x onerror=alert(1)>" in shown and "⟨U+202E⟩" in shown and "␇" in shown, "a hostile name is not shown as it is")
+    user.that("\u202e" not in user.run("return document.body.textContent"), "a mark of direction is in the page")
+    user.console("hostile names")
+    for what, value, word in (("that is damaged", b"\x09\0\0\0\xff\xff", "damaged"), ("that is too long", b"\xff\xff\xff\x7f\xff", "more than the page shows")):
+        (work / "one.pdb").write_bytes(with_names(b"/src/none.cs", value))
+        user.new(work / "one.pdb")
+        user.that(word in user.text("#notice"), f"an embedded source {what}: {user.text('#notice')}")
+    user.console("sources")
+
+
+def check_inside(user: User) -> None:
+    """A page with files inside shows them at once, at the place of its address."""
+    files = [(f"/src/{name}" if name.endswith(".cs") else name, (user.root / "examples" / name).read_bytes()) for name in ("async_iter.pdb", "async_iter.cs")]
+    user.browser.open(user.filled(files, "inside.html") + "#m=50&o=42")
+    user.that("K = 5" in user.text("#said") and "source verified" in user.text("#bar"), f"a page with files shows {user.text('#top')} {user.text('#said')}")
+    user.browser.open(user.filled([(HOSTILE, files[0][1]), (HOSTILE + ".cs", b"x")], "inside.html"))
+    user.that(user.run("return document.querySelectorAll('img').length") == 0 and "valid" in user.text("#top"), "a file with a hostile name is not shown")
+    user.console("a page with files")
+
+
+# ---- Large files, looks and reach.
+
+def worked(browser: Browser) -> float:
+    """The seconds of a processor that the page and its worker took, which other programs on the machine do not lengthen."""
+    browser.ask("Performance.enable")
+    return next(it["value"] for it in browser.ask("Performance.getMetrics")["metrics"] if it["name"] == "ProcessTime")
+
+
+def timed(user: User, files: list[Path]) -> tuple[float, float]:
+    """The seconds from giving the files to the first screen: by the clock, and of the page's processor."""
+    user.new()
+    began, cpu = time.monotonic(), worked(user.browser)
+    user.browser.give(*files)
+    user.browser.wait("document.body.dataset.ready !== undefined && state.before && document.querySelector('#said article')", 120)
+    return time.monotonic() - began, worked(user.browser) - cpu
+
+
+def check_large(user: User) -> None:
+    work, browser = user.check.work, user.browser
+    large = pdbfile.made(76000)
+    (work / "large.pdb").write_bytes(pdbfile.write(large))
+    size = (work / "large.pdb").stat().st_size
+    clock, cpu = timed(user, [work / "large.pdb"])
+    print(f"check-page: a file of {size / 1e6:.1f} MB is shown after {clock:.1f} s, {cpu:.1f} s of the processor")
+    user.that(size > 10_000_000 and (clock <= FIRST_SCREEN or cpu <= BUSY * FIRST_SCREEN), f"a file of {size} bytes is shown after {clock:.1f} s")
+    user.go("#m=12345&o=20")
+    user.that("0x06003039" in user.text("#said"), "a late method is not shown")
+    user.that(user.run("return document.querySelectorAll('*').length") < MOST_ELEMENTS, "the list is drawn as a whole")
+    pdb = with_names(b"/src/long.cs", bytes(4) + b"".join(b"    int line%d = %d; // %d\n" % (at, at, at) for at in range(LINES)))
+    (work / "long.pdb").write_bytes(pdb)
+    clock, cpu = timed(user, [work / "long.pdb"])
+    print(f"check-page: a source of {LINES} lines is shown after {clock:.1f} s, {cpu:.1f} s of the processor")
+    user.that((clock <= LONG_SOURCE or cpu <= BUSY * LONG_SOURCE), f"a source of {LINES} lines is shown after {clock:.1f} s")
+    user.go(f"#d=1&l={LINES - 1}")
+    rows = user.run("return document.querySelectorAll('#source .row').length")
+    user.that(f"int line{LINES - 2} = " in user.text("#source") and rows < 200, f"the last line is not shown, or all {rows} are drawn")
+    wide = with_names(b"/src/wide.cs", bytes(4) + b"x" * 3_000_000)
+    (work / "wide.pdb").write_bytes(wide)
+    user.new(work / "wide.pdb")
+    user.that("more characters" in user.text("#source"), "a long line is drawn as a whole")
+    browser.said and user.console("large files")
+
+
+CONTRAST_OF = """
+  const canvas = document.createElement("canvas").getContext("2d", {willReadFrequently: true}), known = new Map();
+  const rgba = text => { if (!known.has(text)) { canvas.clearRect(0, 0, 1, 1); canvas.fillStyle = text; canvas.fillRect(0, 0, 1, 1);
+    known.set(text, [...canvas.getImageData(0, 0, 1, 1).data]); } return known.get(text); };
+  const bright = ([r, g, b]) => { const [x, y, z] = [r, g, b].map(it => it / 255 <= .04045 ? it / 255 / 12.92 : ((it / 255 + .055) / 1.055) ** 2.4);
+    return .2126 * x + .7152 * y + .0722 * z; };
+  const behind = it => { for (; it; it = it.parentElement) { const back = rgba(getComputedStyle(it).backgroundColor); if (back[3] > 250) return back; }
+    return [255, 255, 255]; };
+  const walker = document.createTreeWalker(document.body, NodeFilter.SHOW_TEXT), found = new Map();
+  for (let node = walker.nextNode(); node; node = walker.nextNode()) {
+    const it = node.parentElement;
+    if (!node.data.trim() || !it.checkVisibility?.({visibilityProperty: true}) || it.closest("[aria-hidden=true], script, style")) continue;
+    const [one, other] = [bright(rgba(getComputedStyle(it).color)), bright(behind(it))], ratio = (Math.max(one, other) + .05) / (Math.min(one, other) + .05);
+    if (ratio < a[0]) found.set(`${it.tagName}.${it.className} ${ratio.toFixed(2)}`, node.data.slice(0, 30));
+  }
+  return [...found]"""
+
+
+def check_looks(user: User) -> None:
+    """Contrast in light and dark, no label that is cut, a phone and a page at 200 %, and what forced colours leave."""
+    browser, root = user.browser, user.root
+    states = [((root / "examples/async_iter.pdb", root / "examples/async_iter.cs"), "#m=24&o=300"), ((root / "examples/async_iter.pdb",), "#d=1&l=20"),
+              ((root / "corpus/async_iter.pdb", root / "corpus/async_iter-release.pdb", root / "examples/async_iter.cs"), ""), ((), "")]
+    for scheme in ("light", "dark"):
+        browser.media(prefers_color_scheme=scheme)
+        for files, place in states:
+            user.new(*files, place=place)
+            weak = user.run(CONTRAST_OF, CONTRAST)
+            user.that(not weak, f"too little contrast in {scheme}: {weak[:6]}")
+            cut = user.run("""return [...document.querySelectorAll('#axis .bit > span')].filter(it => it.offsetWidth > it.parentElement.clientWidth + 1)
+                .map(it => it.textContent)""")
+            user.that(not cut, f"labels of the code are cut: {cut[:4]}")
+    browser.media(prefers_color_scheme="light")
+    for width, height in ((390, 844), (640, 400), (320, 640)):
+        browser.size(width, height, mobile=width < 640)
+        user.new(root / "examples/async_iter.pdb", root / "examples/async_iter.cs", place="#m=24&o=300")
+        user.that(user.run("return document.documentElement.scrollWidth <= innerWidth"), f"at {width} pixels the page scrolls to the side")
+        for tab, pane in (("list", "#nav"), ("source", "#middle"), ("answer", "#said")):
+            browser.click(f"#tabs [data-tab={tab}]")
+            box = user.run("const {width, height} = document.querySelector(a[0]).getBoundingClientRect(); return [width, height]", pane)
+            user.that(box[0] >= width - 1 and box[1] > 100, f"at {width} pixels the pane {pane} has the size {box}")
+        browser.click("#tabs [data-tab=list]")
+        browser.click("#list .entry:not(.head)")
+        user.that(user.run("return document.body.dataset.tab") == "source", "a method of the list does not lead to its source")
+    browser.size(1280, 800)
+    browser.media(forced_colors="active")
+    user.new(root / "examples/async_iter.pdb", root / "examples/async_iter.cs", place="#m=24&o=300")
+    user.that(user.run("""const of = (it, key) => getComputedStyle(document.querySelector(it))[key];
+        return of(".entry.on", "backgroundColor") !== of(".entry:not(.on):not(.head)", "backgroundColor") && of(".p.mine.at", "outlineStyle") === "solid" &&
+          of(".bit.hidden", "backgroundImage").includes("gradient")"""), "forced colours hide what is chosen or hidden")
+    browser.media(forced_colors="none", prefers_reduced_motion="reduce")
+    user.that(user.run("return getComputedStyle(document.querySelector('.spin')).animationName") == "none", "the page moves although it should not")
+    browser.media(prefers_reduced_motion="no-preference")
+    user.console("looks")
+
+
+# ---- Pictures: the states of the page, each in all its looks, and a text of what it shows.
+
+STATES = {"start": ((), "", "Drop a debug file here"),
+          "offset": (("examples/async_iter.pdb", "examples/async_iter.cs"), "#m=24&o=300", "await Task.FromResult(big);"),
+          "breakpoint": (("examples/async_iter.pdb", "examples/async_iter.cs"), "#m=42&d=1&l=20", "Breakpoint on line 20"),
+          "rewrite": (("examples/woven/async_iter.before.pdb", "examples/woven/async_iter.map", "examples/async_iter.cs"), "#m=42&o=57",
+                      "Now at IL_0045, method 34."),
+          "compare": (("corpus/async_iter.pdb", "corpus/async_iter-release.pdb", "examples/async_iter.cs"), "", "points lost"),
+          "refused": (("corpus/refused/cecil-null.pdb",), "", "F39")}
+LOOKS = {"light": {"prefers_color_scheme": "light"}, "dark": {"prefers_color_scheme": "dark"}, "forced": {"forced_colors": "active"},
+         "phone": {"prefers_color_scheme": "light"}}
+# Those that docs/PAGE.md shows: the state, the look.
+SHOWN = {"page": ("offset", "light"), "breakpoint": ("breakpoint", "light"), "remap": ("rewrite", "dark"), "phone": ("offset", "phone")}
 SEEN = """
   const flat = text => text.replaceAll("\\n", " / "), each = (selector, words) => [...document.querySelectorAll(selector)].map(words);
-  const mark = span => span.textContent + (span.classList.contains("at") ? " <" : "") + (span.classList.contains("lost") ? " lost" : "");
-  const lines = each("#source .row", it => it).filter(it => it.querySelector(".mine") || it.classList.contains("on"));
-  return ["# header", $("title").textContent, $("counts").textContent, "# list", ...each(".entry.on", it => flat(it.innerText)),
-    "# source", ...each("#bar .grow", it => it.textContent), ...lines.map(it => `${it.dataset.l}: ${[...it.querySelectorAll(".mine")].map(mark).join(" | ")}`),
-    "# code", ...each("#axis [title]", it => `${it.dataset.side} ${flat(it.title)}`), "# said", ...$("said").innerText.split("\\n")]
+  if (document.body.dataset.view !== "work") return document.querySelector("#start").innerText.replace(/\\n+/g, "\\n") + "\\n";
+  const marks = it => ["at", "lost", "new"].filter(name => it.classList.contains(name)).map(name => ` <${name}>`).join("");
+  const rows = each("#source .row", it => it).filter(it => it.querySelector(".mine") || it.classList.contains("on"));
+  return ["# head", document.querySelector("#title").innerText, flat(document.querySelector("#about-file").innerText), "# list",
+    ...each(".entry.on", it => flat(it.innerText)), "# source", flat(document.querySelector("#bar").innerText),
+    ...rows.map(it => `${it.dataset.l}: ${[...it.querySelectorAll(".mine")].map(one => one.textContent + marks(one)).join(" | ")}`),
+    "# code", ...each("#axis [data-from]", it => `${it.dataset.side}${marks(it)} ${flat(it.title)}`),
+    "# answer", ...document.querySelector("#said").innerText.split("\\n")]
     .map(it => it.trimEnd()).filter(it => it).join("\\n") + "\\n\""""
 
 
-def pictures(browser: Browser, folder: Path, pages: Path, writes: bool) -> None:
-    """Each picture has a text of what it shows beside it, which does not depend on fonts: that is compared, or both are written."""
-    for name, (page, place, scheme, words) in PICTURES.items():
-        browser.shade(scheme)
-        browser.open(pages / page, place)
-        seen = browser.run(SEEN)
-        browser.check.that(words in seen, f"the page of {name} has no {words!r}")
-        if writes:
-            folder.mkdir(exist_ok=True)
-            (folder / f"{name}.txt").write_text(seen)
-            time.sleep(0.3)
-            (folder / f"{name}.png").write_bytes(small(browser.driver.get_screenshot_as_png()))
-        text = folder / f"{name}.txt"
-        browser.check.that(text.exists() and text.read_text() == seen and (folder / f"{name}.png").exists(),
-                           f"docs/pictures/{name}.png shows something else than the page; scripts/checks/check-page --pictures makes it again")
-    browser.shade("light")
+def pictures(user: User, writes: bool) -> None:
+    """The text of a state does not depend on fonts: it is compared, or both are written."""
+    browser, folder = user.browser, user.root / "docs/pictures/states"
+    for state, (files, place, words) in STATES.items():
+        for look, features in LOOKS.items() if writes else [("light", LOOKS["light"])]:
+            browser.size(*((390, 844, 2, True) if look == "phone" else (1280, 800)))
+            browser.media(**features)
+            user.new(*(user.root / name for name in files), place=place)
+            time.sleep(0.5)
+            if look == "light":
+                seen = user.run(SEEN)
+                user.that(words in seen, f"the state {state} has no {words!r}: {seen[:400]}")
+                if writes:
+                    folder.mkdir(parents=True, exist_ok=True)
+                    (folder / f"{state}.txt").write_text(seen)
+            if writes:
+                data = small(browser.picture())
+                (folder / f"{state}-{look}.png").write_bytes(data)
+                for name, shown in SHOWN.items():
+                    if shown == (state, look):
+                        (folder.parent / f"{name}.png").write_bytes(data)
+            browser.media(prefers_color_scheme="light", forced_colors="none")
+        text = folder / f"{state}.txt"
+        user.that(text.exists() and text.read_text() == seen,
+                  f"docs/pictures/states/{state}-*.png show something else than the page; scripts/checks/check-page --pictures makes them again")
+    browser.size(1280, 800)
+    user.console("the pictures")
 
 
-def check_worked(browser: Browser) -> None:
-    """The map of docs/FORMAT.md, 11, makes of points at 0, 3 and 7 those that are said there, and lines of other tables change nothing."""
-    text = ["ppdbmap 4", "shares", "link x", "rows 01 2", "row 01 1 02 3", "gone 01 2", "rows 06 5", "row 06 1 2", "drop 3", "signature 1 0",
-            "document /a.cs /b\\x20.cs", "method 1 9 12", "run 0 0 1", "run 5 6 4"]
-    got = browser.run("""const map = new Rewriting(arguments[0]), method = {row: 1, points: [{offset: 0}, {offset: 3}, {offset: 7}]};
-        return [[0, 1, 2].map(index => map.point(method, index)), [0, 1, 4, 5, 8].map(offset => map.kept(1, offset)),
-          [0, 1, 5, 6, 9, 10].map(offset => map.origin(1, offset)), [1, 2, 3].map(row => map.image(row)), map.renamed.get("/a.cs")]""", "\n".join(text))
-    want = [[0, 6, 8], [0, None, None, 6, 9], [0, None, None, 5, 8, None], [2, None, None], "/b .cs"]
-    browser.check.that(got == want, f"the map of FORMAT.md has the images {got} and not {want}")
+CHECKS = (check_start, check_clicks, check_keys, check_search, check_names, check_rewrite, check_refused, check_sources, check_inside, check_large, check_looks)
 
 
-def woven_pairs(root: Path) -> list[tuple[Path, Path]]:
-    """Files before a rewriting with the maps of it: those of examples/, and those of the corpus folder that PPDB_CORPUS names, or of
-    ../shared/corpus beside the repository; but for those that are large."""
-    folders = [root / "examples/woven", Path(os.environ.get("PPDB_CORPUS") or root.parent / "shared/corpus") / "woven"]
-    found = [(file, Path(str(file).replace(".before.pdb", ".map"))) for folder in folders for file in sorted(folder.glob("*.before.pdb"))
-             if file.stat().st_size < 200000]
-    return [(root / "examples/throw/before.pdb", root / "examples/throw/throw.map"), *found]
-
-
-def look(check: Any, root: Path, files: list[Path], hostile: tuple[Path, str], many: Path, writes: bool) -> None:
-    webdriver = selenium()
-    if webdriver is None:
-        print("check-page: skipped: no chromium, chromedriver and selenium here to open the pages")
+def look(check: Any, root: Path, page: str, writes: bool) -> None:
+    if found() is None:
+        print("check-page: skipped: no chromium here to open the page")
         return
-    browser = Browser(check, webdriver)
+    user = User(check, root, page)
     try:
-        walk(browser, root, files, hostile, many, writes)
+        for does in CHECKS:
+            try:
+                does(user)
+            except Failed as why:
+                check.that(False, f"{does.__name__}: {why}")
+        pictures(user, writes)
     finally:
-        browser.driver.quit()
-
-
-def walk(browser: Browser, root: Path, files: list[Path], hostile: tuple[Path, str], many: Path, writes: bool) -> None:
-    check, example, woven = browser.check, root / "examples/async_iter.pdb", root / "examples/woven/async_iter"
-    page = check.work / "page.html"
-    for file in files:
-        page.write_bytes(check.page(file))
-        browser.open(page)
-        compare_answers(browser, file, ASKED)
-        browser.console(str(file))
-    page.write_bytes(check.page(example, "--source", root / "examples"))
-    browser.open(page)
-    compare_answers(browser, example, 10 ** 6)
-    click_through(browser, page)
-    check_worked(browser)
-    (check.work / "partial.html").write_bytes(check.page(root / "corpus/partial.pdb"))
-    check_documents(browser, check.work / "partial.html")
-    for pair in woven_pairs(root):
-        compare_moved(browser, root, pair)
-    check_hostile(browser, *hostile)
-    (check.work / "many.html").write_bytes(check.page(many))
-    check_many(browser, check.work / "many.html")
-    check.ppdb("remap", f"{woven}.before.pdb", f"{woven}.map", check.work / "async_iter.woven.pdb")
-    rewritten = check.page(f"{woven}.before.pdb", "--map", f"{woven}.map", check.work / "async_iter.woven.pdb", "--source", root / "examples")
-    (check.work / "rewriting.html").write_bytes(rewritten)
-    pictures(browser, root / "docs/pictures", check.work, writes)
+        user.browser.close()

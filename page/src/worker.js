@@ -1,0 +1,34 @@
+/** The worker of the page: it holds the files and the engine, so that long work never stops the page. It answers messages one by one. */
+import {startEngine} from "./engine.js";
+import {Session} from "./session.js";
+
+/** @type {Session} */
+let session;
+let last = Promise.resolve();
+
+/** What the page can ask for. */
+const DOES = {
+  start: async module => { session = new Session(await startEngine(module)); },
+  add: files => { session.forget(); return session.add(files); },
+  remove: name => { session.forget(); return session.remove(name); },
+  choose: names => session.choose(names),
+  source: (which, row, insists) => session.source(which, row, insists),
+  search: (which, text) => session.search(which, text),
+  printed: (which, command, rest) => session.printed(which, command, rest),
+  save: (what, which) => session.save(what, which),
+  guess: async which => {
+    for await (const found of session.guesses(which)) {
+      postMessage({event: "guesses", which, found});
+      // Other questions come between two documents.
+      await new Promise(done => setTimeout(done));
+    }
+  }};
+
+async function answer({id, name, words}) {
+  try { postMessage({id, value: await DOES[name](...words)}); }
+  catch (wrong) { postMessage({id, wrong: String(wrong?.message ?? wrong)}); }
+}
+onmessage = ({data}) => {
+  // Names are guessed beside the other work; everything else keeps its order.
+  if (data.name === "guess") answer(data); else last = last.then(() => answer(data));
+};

@@ -1,0 +1,110 @@
+/** Assemblies, and what a session makes of the files that it is given. */
+import assert from "node:assert/strict";
+import {deflateRawSync} from "node:zlib";
+import test from "node:test";
+import {readAssembly} from "../src/assembly.js";
+import {Session} from "../src/session.js";
+import {bytesOf, chance, engine} from "./program.mjs";
+
+const throwing = bytesOf("examples/throw/Throw.exe");
+const given = (...names) => names.map(name => ({name: name.split("/").pop(), bytes: bytesOf(name)}));
+
+test("names of methods", () => {
+  const {names, debug} = readAssembly(throwing), name = row => { const [type, own] = names.rows[row]; return `${names.types[type].name}.${own}`; };
+  // The frames of examples/throw/lines have these, as Mono spells them: Throw+G`1[T].Run, Throw+<It>d__1.MoveNext.
+  assert.deepEqual([5, 7, 11, 31, 33].map(name), ["Throw.Try", "Throw.G<T>.Run", "Throw.<It>d__1.MoveNext", "Other.Far", "Cctor..cctor"]);
+  assert.equal(debug.ids.length, 1);
+  assert.equal(debug.embedded, null);
+});
+test("damaged assemblies are refused, or read within their bounds", () => {
+  const next = chance(11);
+  let read = 0;
+  for (let round = 0; round < 3000; round++) {
+    const bytes = throwing.slice(0, round % 3 ? throwing.length : next(throwing.length));
+    for (let k = 0; k <= next(6); k++) bytes[next(Math.min(bytes.length, round % 2 ? 1024 : bytes.length)) || 0] = [0, 255, 127, next(256)][next(4)];
+    const found = readAssembly(bytes);
+    if (found) { read++; assert.ok(found.debug.ids.length <= 64); }
+  }
+  assert.ok(read > 300 && read < 3000, String(read));
+});
+/** The program of examples/throw with a debug file inside: its debug directory gets an entry of type 17. */
+function withInside(pdb, length = pdb.length) {
+  const packed = deflateRawSync(pdb), bytes = new Uint8Array(throwing.length + 8 + packed.length), view = new DataView(bytes.buffer);
+  bytes.set(throwing);
+  bytes.set(packed, throwing.length + 8);
+  view.setUint32(throwing.length, 0x4244504d, true);
+  view.setUint32(throwing.length + 4, length, true);
+  const optional = view.getUint32(0x3c, true) + 24, sections = optional + view.getUint16(optional - 4, true), directory = optional + 96 + 48;
+  const place = address => { for (let at = sections; ; at += 40) { const start = view.getUint32(at + 12, true);
+    if (start <= address && address < start + view.getUint32(at + 16, true)) return address - start + view.getUint32(at + 20, true); } };
+  const entry = place(view.getUint32(directory, true)) + view.getUint32(directory + 4, true) - 28;
+  view.setUint32(entry + 12, 17, true);
+  view.setUint32(entry + 16, 8 + packed.length, true);
+  view.setUint32(entry + 24, throwing.length, true);
+  return bytes;
+}
+test("the debug file in an assembly is shown", async () => {
+  const told = await new Session(engine).add([{name: "Throw.exe", bytes: withInside(bytesOf("examples/throw/Throw.pdb"))}]);
+  assert.equal(told.before.name, "Throw.pdb");
+  assert.equal(told.before.line, "accepted");
+  for (const length of [5, 0xffffffff]) {
+    const damaged = await new Session(engine).add([{name: "Throw.exe", bytes: withInside(bytesOf("examples/throw/Throw.pdb"), length)}]);
+    assert.match(damaged.problem, /damaged|too long/);
+    assert.equal(damaged.before, null);
+  }
+});
+test("what files are", async () => {
+  const session = new Session(engine);
+  let told = await session.add(given("examples/throw/Throw.pdb", "examples/throw/Throw.exe"));
+  assert.equal(told.before.assembly, "Throw.exe");
+  told = await session.add(given("examples/async_iter.pdb"));
+  assert.deepEqual([told.before.name, told.after.name], ["Throw.pdb", "async_iter.pdb"]);
+  assert.equal((await session.choose(["async_iter.pdb"])).after, null);
+  told = await session.add(given("examples/embed_link.pdb"));
+  assert.equal(told.files.length, 3);
+  assert.equal((await session.remove("async_iter.pdb")).files.length, 2);
+});
+test("a map makes the file after, or says why not", async () => {
+  const told = await new Session(engine).add(given("examples/woven/async_iter.before.pdb", "examples/woven/async_iter.map"));
+  assert.ok(told.canRemap && told.map.startsWith("ppdbmap") && told.after.line === "accepted");
+  const wrong = await new Session(engine).add(given("examples/async_iter.pdb", "examples/throw/throw.map"));
+  assert.match(wrong.mapLine, /^(?:unfit|map) /);
+  assert.equal(wrong.map, null);
+  // The file that the map is for may come second.
+  const swapped = await new Session(engine).add(given("examples/throw/Throw.pdb", "examples/throw/before.pdb", "examples/throw/throw.map"));
+  assert.ok(swapped.map, swapped.mapLine);
+});
+test("damaged debug files are refused with their line, and others are no debug files", async () => {
+  const pdb = bytesOf("examples/async_iter.pdb"), cut = await new Session(engine).add([{name: "cut.pdb", bytes: pdb.slice(0, 100)}]);
+  assert.equal(cut.before.columns, null);
+  assert.match(cut.before.line, /^refused \S+ F\d+ /);
+  const windows = await new Session(engine).add([{name: "w.pdb", bytes: new TextEncoder().encode("Microsoft C/C++ MSF 7.00\r\n")}]);
+  assert.match(windows.before.line, /^refused \S+ F2 /);
+  assert.equal((await new Session(engine).add([{name: "x.cs", bytes: new Uint8Array()}])).before, null);
+});
+test("a source is shown if its hash fits, or if the user insists", async () => {
+  const session = new Session(engine), source = bytesOf("examples/async_iter.cs");
+  await session.add([...given("examples/async_iter.pdb"), {name: "old/async_iter.cs", bytes: new TextEncoder().encode("old")}]);
+  const other = await session.source("before", 1);
+  assert.deepEqual([other.state, other.text, other.canInsist], ["differs", undefined, true]);
+  assert.equal((await session.source("before", 1, true)).text, "old");
+  // The one whose hash fits comes before the one with the longer path.
+  session.forget();
+  await session.add([{name: "async_iter.cs", bytes: source}]);
+  assert.equal((await session.source("before", 1)).state, "agrees");
+  const {hits} = await session.search("before", "await ONE");
+  assert.deepEqual(hits.map(it => it.line), [10, 15]);
+  const names = [];
+  for await (const found of session.guesses("before")) names.push(...found.map(([, it]) => it.name));
+  assert.ok(names.includes("One()") && names.includes("finally in Count()"), names.join(", "));
+});
+test("embedded sources, and what is saved", async () => {
+  const session = new Session(engine);
+  await session.add(given("examples/embed_link.pdb"));
+  const source = await session.source("before", 1);
+  assert.deepEqual([source.state, source.from], ["agrees", "embedded in the debug file"]);
+  const made = session.save("rebuilt");
+  assert.equal(made.name, "embed_link.rebuilt.pdb");
+  assert.equal((await new Session(engine).add([{name: "r.pdb", bytes: made.bytes}])).before.line, "accepted");
+  assert.match(session.printed("before", "links", []).text, /^link 1 https/);
+});
