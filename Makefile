@@ -85,6 +85,7 @@ release:
 
 packages:
 	scripts/making/packages
+	if [ -d release/targets ]; then scripts/making/packages-targets; else echo "packages: those of other systems are left out: there is no release/targets"; fi
 
 targets:
 	scripts/making/targets

@@ -6,7 +6,7 @@ import fs from "node:fs";
 const FOR_WRITING = 3, MAY_MAKE = 0o100, MUST_MAKE = 0o200, CUTS = 0o1000, APPENDS = 0o2000, NO_FOLLOW = 0x100, LINK = 0o120777;
 const ERRORS = {
   EPERM: 1, ENOENT: 2, EINTR: 4, EIO: 5, ENXIO: 6, EBADF: 9, EAGAIN: 11, ENOMEM: 12, EACCES: 13, EBUSY: 16, EEXIST: 17, EXDEV: 18, ENODEV: 19,
-  ENOTDIR: 20, EISDIR: 21, EINVAL: 22, ENFILE: 23, EMFILE: 24, ETXTBSY: 26, EFBIG: 27, ENOSPC: 28, EROFS: 30, EPIPE: 32, ENAMETOOLONG: 36, ELOOP: 40,
+  ENOTDIR: 20, EISDIR: 21, EINVAL: 22, ENFILE: 23, EMFILE: 24, ETXTBSY: 26, EFBIG: 27, ENOSPC: 28, EROFS: 30, EPIPE: 32, ENAMETOOLONG: 36, ENOSYS: 38, ELOOP: 40,
   EOVERFLOW: 75,
 };
 /** How many bytes Linux's struct statx has, and where its fields are that the program reads. */
@@ -132,6 +132,8 @@ function word(at, to, room) {
 
 const env = {
   open, close, fsync, rename, statx, readlink,
+  fdatasync: fsync,
+  flock: () => failed("ENOSYS"),
   read: (file, to, length) => BigInt(tried(() => fs.readSync(file, bytes(to, length)))),
   write: (file, from, length) => BigInt(tried(() => fs.writeSync(file, bytes(from, length)))),
   ftruncate: (file, length) => tried(() => fs.ftruncateSync(file, Number(length))),

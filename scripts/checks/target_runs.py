@@ -36,11 +36,16 @@ class Run:
 
 @dataclass(frozen=True)
 class Odd:
-    """A run of the program with what only a system has. DEVICE is its device without bytes; the folder has the file F and the folder sub."""
+    """A run of the program with what only a system has. DEVICE is its device without bytes; the folder has the file F and the folder sub.
+    `closed` is the standard stream that is closed."""
     words: tuple[str, ...]
     files: dict[str, bytes] = field(hash=False)
     redirected: str = ""
     out: str | None = None
+
+    @property
+    def closed(self) -> str:
+        return self.redirected if self.redirected.endswith("&-") else ""
 
 
 def odd_runs() -> list[Odd]:
