@@ -21,10 +21,10 @@ pub trait Form: Folder {
     fn run(&mut self, report: &mut Report<'_>, run: &Run) -> Result<()>;
 }
 
-/// What was done where memory was found.
-pub fn found(done: Result<(), Memory>) -> Result<()> {
+/// What was found where memory was.
+pub fn found<T: Drop>(done: Result<T, Memory>) -> Result<T> {
     match done {
-        Ok(()) => Ok(()),
+        Ok(value) => Ok(value),
         Err(_) => bail!("out of memory"),
     }
 }
@@ -40,7 +40,7 @@ impl Form for SteadyFolder {
 
     /// A file that is rebuilt has to be what its value is written as.
     fn run(&mut self, report: &mut Report<'_>, run: &Run) -> Result<()> {
-        let by_value = written_by_value(report.rt, run, self);
+        let by_value = written_by_value(report.rt, run, self)?;
         let mut out = SteadySink::new(report.rt.alloc());
         let status = ran(report.rt, run.words.as_slice(), self, &mut out);
         let text = out.as_slice();
@@ -58,19 +58,22 @@ impl Form for SteadyFolder {
 }
 
 /// What the value of the file is written as that a run rebuilds, where no kind is marked as free.
-fn written_by_value(rt: &HostRuntime, run: &Run, folder: &SteadyFolder) -> Option<Bytes> {
+fn written_by_value(rt: &HostRuntime, run: &Run, folder: &SteadyFolder) -> Result<Option<Bytes>> {
     let [command, input, _, options @ ..] = run.words.as_slice() else {
-        return None;
+        return Ok(None);
     };
     if command.as_str() != "rebuild" || options.iter().any(|word| word.as_str() == "--free") {
-        return None;
+        return Ok(None);
     }
     let id = if options.is_empty() {
         IdChoice::Hash
     } else {
         IdChoice::Keep
     };
-    written(rt, folder.get(input.as_str())?, id)
+    match folder.get(input.as_str()) {
+        Some(bytes) => found(written(rt, bytes, id)),
+        None => Ok(None),
+    }
 }
 
 impl Form for MemoryFolder {
