@@ -6,17 +6,20 @@ use crate::comparing::{Ended, compare};
 use crate::report::Report;
 use crate::values::written;
 use anyhow::{Result, bail};
-use ppdb_base::{Bytes, Folder, Memory, MemoryFolder, MemorySink, SteadyFolder, SteadySink};
+use ppdb_base::{Bytes, Memory, MemoryFolder, MemorySink, SteadyFolder, SteadySink};
 use ppdb_build::IdChoice;
 
-/// A folder of files in memory.
-pub trait Form: Folder {
+/// Files in memory.
+pub trait Contents {
     /// Makes the file hold the bytes.
     fn set(&mut self, name: &str, bytes: &[u8]) -> Result<()>;
 
     /// What the file holds, where there is one of the name.
     fn get(&self, name: &str) -> Option<&[u8]>;
+}
 
+/// A folder in memory.
+pub trait Form: Contents {
     /// Runs a command, and reports what is not as it says.
     fn run(&mut self, report: &mut Report<'_>, run: &Run) -> Result<()>;
 }
@@ -29,7 +32,7 @@ pub fn found<T: Drop>(done: Result<T, Memory>) -> Result<T> {
     }
 }
 
-impl Form for SteadyFolder {
+impl Contents for SteadyFolder {
     fn set(&mut self, name: &str, bytes: &[u8]) -> Result<()> {
         found(SteadyFolder::set(self, name, bytes))
     }
@@ -37,7 +40,9 @@ impl Form for SteadyFolder {
     fn get(&self, name: &str) -> Option<&[u8]> {
         SteadyFolder::get(self, name)
     }
+}
 
+impl Form for SteadyFolder {
     /// A file that is rebuilt has to be what its value is written as.
     fn run(&mut self, report: &mut Report<'_>, run: &Run) -> Result<()> {
         let by_value = written_by_value(report.rt, run, self)?;
@@ -76,7 +81,7 @@ fn written_by_value(rt: &HostRuntime, run: &Run, folder: &SteadyFolder) -> Resul
     }
 }
 
-impl Form for MemoryFolder {
+impl Contents for MemoryFolder {
     fn set(&mut self, name: &str, bytes: &[u8]) -> Result<()> {
         found(MemoryFolder::set(self, name, bytes))
     }
@@ -84,7 +89,9 @@ impl Form for MemoryFolder {
     fn get(&self, name: &str) -> Option<&[u8]> {
         MemoryFolder::get(self, name)
     }
+}
 
+impl Form for MemoryFolder {
     fn run(&mut self, report: &mut Report<'_>, run: &Run) -> Result<()> {
         match run.puts {
             Puts::Kept => run_failing(self, report, run, None)?,
