@@ -244,7 +244,7 @@ class Reader:
             self.debug_file.put(word, rest, told)
         elif word == "run":
             self.last_case().runs.append(Run(line, rest.split(), told))
-        elif word in ("use", "pdb", "case", "since", "fail"):
+        elif word in ("use", "pdb", "case", "since", "outside", "fail"):
             if told:
                 raise Misspelled("bytes of a line that has none")
             self.close_silent(word, rest)
@@ -252,6 +252,7 @@ class Reader:
             self.close_of_run(word, rest, told)
 
     def close_silent(self, word: str, rest: str) -> None:
+        """Ends a line that has no bytes. `use` and `outside` say nothing to a program that runs the cases from outside."""
         if word == "pdb":
             self.debug_file = DebugFile(rest)
         elif word == "case":

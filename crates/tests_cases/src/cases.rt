@@ -99,6 +99,8 @@ impl Run {
 pub struct Case {
     pub title: String,
     pub files: Vec<NamedBytes>,
+    /// Whether only a program is to run it, which this one is too slow for.
+    pub outside: bool,
     /// The numbers of the reads and writes that fail.
     pub failing: Vec<u32>,
     pub runs: Vec<Run>,
@@ -110,6 +112,7 @@ impl Case {
         Ok(Case {
             title: String::from_str(alloc, title)?,
             files: Vec::new(alloc),
+            outside: false,
             failing: Vec::new(alloc),
             runs: Vec::new(alloc),
         })

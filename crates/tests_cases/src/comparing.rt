@@ -1,6 +1,6 @@
 // What a command comes to beside what its case says.
 use crate::cases::{Check, Compared, Run, Want};
-use crate::forms::Form;
+use crate::forms::Contents;
 use crate::report::Report;
 use anyhow::Result;
 
@@ -35,7 +35,7 @@ fn is_printed(rt: &HostRuntime, run: &Run, text: &[u8]) -> Result<bool> {
 }
 
 /// Whether a file is what it has to be.
-fn is_so<F: Form>(folder: &F, check: &Check) -> bool {
+fn is_so<F: Contents>(folder: &F, check: &Check) -> bool {
     match (&check.want, folder.get(check.name.as_str())) {
         (Want::Holds(bytes), Some(file)) => file == bytes.as_slice(),
         (Want::Ends(bytes), Some(file)) => file.ends_with(bytes.as_slice()),
@@ -55,7 +55,7 @@ fn is_so<F: Form>(folder: &F, check: &Check) -> bool {
 }
 
 /// Reports what of a run is not as it says.
-pub fn compare<F: Form>(
+pub fn compare<F: Contents>(
     report: &mut Report<'_>,
     run: &Run,
     ended: Ended<'_>,

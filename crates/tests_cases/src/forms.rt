@@ -6,30 +6,33 @@ use crate::comparing::{Ended, compare};
 use crate::report::Report;
 use crate::values::written;
 use anyhow::{Result, bail};
-use ppdb_base::{Bytes, Folder, Memory, MemoryFolder, MemorySink, SteadyFolder, SteadySink};
+use ppdb_base::{Bytes, Memory, MemoryFolder, MemorySink, SteadyFolder, SteadySink};
 use ppdb_build::IdChoice;
 
-/// A folder of files in memory.
-pub trait Form: Folder {
+/// Files in memory.
+pub trait Contents {
     /// Makes the file hold the bytes.
     fn set(&mut self, name: &str, bytes: &[u8]) -> Result<()>;
 
     /// What the file holds, where there is one of the name.
     fn get(&self, name: &str) -> Option<&[u8]>;
+}
 
+/// A folder in memory.
+pub trait Form: Contents {
     /// Runs a command, and reports what is not as it says.
     fn run(&mut self, report: &mut Report<'_>, run: &Run) -> Result<()>;
 }
 
-/// What was done where memory was found.
-pub fn found(done: Result<(), Memory>) -> Result<()> {
+/// What was found where memory was.
+pub fn found<T: Drop>(done: Result<T, Memory>) -> Result<T> {
     match done {
-        Ok(()) => Ok(()),
+        Ok(value) => Ok(value),
         Err(_) => bail!("out of memory"),
     }
 }
 
-impl Form for SteadyFolder {
+impl Contents for SteadyFolder {
     fn set(&mut self, name: &str, bytes: &[u8]) -> Result<()> {
         found(SteadyFolder::set(self, name, bytes))
     }
@@ -37,10 +40,12 @@ impl Form for SteadyFolder {
     fn get(&self, name: &str) -> Option<&[u8]> {
         SteadyFolder::get(self, name)
     }
+}
 
+impl Form for SteadyFolder {
     /// A file that is rebuilt has to be what its value is written as.
     fn run(&mut self, report: &mut Report<'_>, run: &Run) -> Result<()> {
-        let by_value = written_by_value(report.rt, run, self);
+        let by_value = written_by_value(report.rt, run, self)?;
         let mut out = SteadySink::new(report.rt.alloc());
         let status = ran(report.rt, run.words.as_slice(), self, &mut out);
         let text = out.as_slice();
@@ -58,22 +63,25 @@ impl Form for SteadyFolder {
 }
 
 /// What the value of the file is written as that a run rebuilds, where no kind is marked as free.
-fn written_by_value(rt: &HostRuntime, run: &Run, folder: &SteadyFolder) -> Option<Bytes> {
+fn written_by_value(rt: &HostRuntime, run: &Run, folder: &SteadyFolder) -> Result<Option<Bytes>> {
     let [command, input, _, options @ ..] = run.words.as_slice() else {
-        return None;
+        return Ok(None);
     };
     if command.as_str() != "rebuild" || options.iter().any(|word| word.as_str() == "--free") {
-        return None;
+        return Ok(None);
     }
     let id = if options.is_empty() {
         IdChoice::Hash
     } else {
         IdChoice::Keep
     };
-    written(rt, folder.get(input.as_str())?, id)
+    match folder.get(input.as_str()) {
+        Some(bytes) => found(written(rt, bytes, id)),
+        None => Ok(None),
+    }
 }
 
-impl Form for MemoryFolder {
+impl Contents for MemoryFolder {
     fn set(&mut self, name: &str, bytes: &[u8]) -> Result<()> {
         found(MemoryFolder::set(self, name, bytes))
     }
@@ -81,7 +89,9 @@ impl Form for MemoryFolder {
     fn get(&self, name: &str) -> Option<&[u8]> {
         MemoryFolder::get(self, name)
     }
+}
 
+impl Form for MemoryFolder {
     fn run(&mut self, report: &mut Report<'_>, run: &Run) -> Result<()> {
         match run.puts {
             Puts::Kept => run_failing(self, report, run, None)?,

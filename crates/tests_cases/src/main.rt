@@ -93,7 +93,9 @@ fn shared_files(rt: &HostRuntime, name: &str) -> Result<Vec<NamedBytes>> {
 /// Runs all cases of a file, and prints how many runs they have.
 fn run_cases(report: &mut Report<'_>, file: &CaseFile) -> Result<()> {
     for case in &file.cases {
-        run_case(report, file.files.as_slice(), case)?;
+        if !case.outside {
+            run_case(report, file.files.as_slice(), case)?;
+        }
     }
     report.put_count(file.cases.len())
 }

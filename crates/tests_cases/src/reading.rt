@@ -171,6 +171,7 @@ impl<'a> Reader<'a> {
             },
             "use" | "since" => {}
             "case" => self.file.cases.push(Case::new(self.alloc, text)?)?,
+            "outside" => self.last_case()?.outside = true,
             "fail" => {
                 let call = number(text)?;
                 self.last_case()?.failing.push(call)?;

@@ -1,6 +1,6 @@
 // The cases of a file, run one after the other.
 use crate::cases::{Case, NamedBytes, Run};
-use crate::forms::{Form, found};
+use crate::forms::{Contents, Form, found};
 use crate::report::Report;
 use anyhow::{Result, bail};
 use ppdb_base::{MemoryFolder, SteadyFolder};
@@ -22,7 +22,7 @@ fn run_cut<F: Form>(report: &mut Report<'_>, run: &Run, folder: &mut F) -> Resul
     folder.set(name, whole.as_slice())
 }
 
-fn put_files<F: Form>(folder: &mut F, files: &[NamedBytes]) -> Result<()> {
+fn put_files<F: Contents>(folder: &mut F, files: &[NamedBytes]) -> Result<()> {
     for file in files {
         folder.set(file.name.as_str(), file.bytes.as_slice())?;
     }

@@ -1,34 +1,46 @@
 // Files that are written by their values.
 ghost use Rattle.std.specs.Prelude.{◌≡◌, ◌<◌};
 
-use ppdb_base::{Bytes, CounterPermit, Steps};
-use ppdb_build::{IdChoice, sound, write_file};
+use ppdb_base::{Bytes, CounterPermit, Memory, Steps};
+use ppdb_build::{FileValue, IdChoice, sound, write_file};
 use ppdb_values_reading::value_of;
 use ppdb_verify::verify;
+use std::alloc::Global;
 use std::marker::Brand;
 use std::sync::ledger::{Blank, Ledger};
+
+/// What a value is written as, if it is sound and passes no limit.
+fn written_value(alloc: Global, value: &FileValue, id: IdChoice) -> Result<Option<Bytes>, Memory> {
+    let is_sound = sound(alloc, value)?;
+    if !is_sound {
+        return Ok(None);
+    }
+    match write_file(alloc, value, id) {
+        Ok(bytes) => Ok(Some(bytes)),
+        Err(_) => Ok(None),
+    }
+}
 
 fn written_in<L: Ledger>(
     rt: &HostRuntime,
     bytes: &[u8],
     id: IdChoice,
     blank: Blank,
-) -> Option<Bytes>
+) -> Result<Option<Bytes>, Memory>
     requires { (blank.name ≡ L.name) × (blank.parts ≡ L.parts) × (0 < L.parts) }
 {
     if bytes.len() > 0x0800_0000 {
-        return None;
+        return Ok(None);
     }
     let mut steps = Steps::<L>::new(CounterPermit::new(rt), blank);
-    let file = verify(rt.alloc(), bytes, &mut steps).ok()?;
-    let value = value_of(rt.alloc(), &file, &mut steps).ok()?;
-    let Ok(true) = sound(rt.alloc(), &value) else {
-        return None;
+    let Ok(file) = verify(rt.alloc(), bytes, &mut steps) else {
+        return Ok(None);
     };
-    write_file(rt.alloc(), &value, id).ok()
+    let value = value_of(rt.alloc(), &file, &mut steps)?;
+    written_value(rt.alloc(), &value, id)
 }
 
-/// What the value of a valid file is written as, if it is sound.
-pub fn written(rt: &HostRuntime, bytes: &[u8], id: IdChoice) -> Option<Bytes> {
+/// What the value of a valid file is written as.
+pub fn written(rt: &HostRuntime, bytes: &[u8], id: IdChoice) -> Result<Option<Bytes>, Memory> {
     written_in::<Brand>(rt, bytes, id, Blank::new(1))
 }

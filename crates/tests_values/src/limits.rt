@@ -1,12 +1,10 @@
 // What is written of values at the limits of the format and of its widths.
-use crate::parts::{add_variable, bytes, custom, empty, lines, point, scope};
-use custom_info::SOURCE_LINK;
+use crate::parts::{add_variable, bytes, empty, lines, point, scope};
 use ppdb_base::{Bytes, List, Memory};
 use ppdb_build::{
-    BuildError, CustomBody, DocumentValue, FileValue, IdChoice, Limit, MethodValue, VariableValue,
-    sound, write_file,
+    BuildError, DocumentValue, FileValue, IdChoice, Limit, MethodValue, VariableValue, sound,
+    write_file,
 };
-use ppdb_tables::MachineRow;
 use sequence_points::Point;
 use std::alloc::Global;
 
