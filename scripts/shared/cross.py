@@ -90,5 +90,6 @@ def written(source: str, machine: Machine, folder: Path) -> Path:
     """Compiles a file of targets/, C or LLVM's language, for a machine, without a header of any system."""
     made = folder / f"{Path(source).stem}.o"
     pic = () if "-fPIC" in machine.without else ("-fPIC",)
-    run([*machine.options, "-O2", "-ffreestanding", "-nostdlibinc", *pic, "-Wno-override-module", "-c", TARGETS / source, "-o", made], "clang")
+    alone = ("-ffreestanding", "-nostdlibinc", "-fno-stack-protector")
+    run([*machine.options, "-O2", *alone, *pic, "-Wno-override-module", "-c", TARGETS / source, "-o", made], "clang")
     return made
