@@ -84,9 +84,10 @@ function inFull(one, other, low, wide, tall) {
   return pairs;
 }
 
-/** The spans of a method, with lines counted from that of its first visible point: what stays if code above it grows. @param {Method} method */
-function relativeSpans(method) {
-  const base = method.points.find(isVisible)?.start_line ?? 0;
+/** The spans of a method, with lines counted from that of its first visible point, which stay if code above it grows; or as they are.
+ @param {Method} method @param {boolean} isMoved */
+function spansOf(method, isMoved) {
+  const base = isMoved ? method.points.find(isVisible)?.start_line ?? 0 : 0;
   return method.points.map(it => isVisible(it) ? `${it.start_line - base}:${it.start_column} ${it.end_line - base}:${it.end_column}` : "hidden");
 }
 
@@ -114,7 +115,9 @@ export class Comparison {
   matches(method) {
     const known = this.found.get(method.row), now = this.pairs.get(method.row);
     if (known || !now) return known ?? new Map();
-    const made = new Map(commonOf(relativeSpans(method), relativeSpans(now)));
+    // The first point may have come or gone, and the code may have moved: what agrees more counts.
+    const [moved, stayed] = [true, false].map(isMoved => commonOf(spansOf(method, isMoved), spansOf(now, isMoved)));
+    const made = new Map(moved.length > stayed.length ? moved : stayed);
     this.found.set(method.row, made);
     return made;
   }
