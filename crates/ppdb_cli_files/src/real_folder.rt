@@ -167,3 +167,35 @@ fn write_file<R: Files<File = File> + Print + AllocGlobal>(
     let mut place = SystemPlace::find(system, process, name)?;
     put_file(&mut place, bytes)
 }
+
+#[cfg(test)]
+mod tests {
+    use super::RealFolder;
+    use ppdb_base::{Folder, List, ReadError};
+    use std::test::Fail;
+    use std::{fs, process};
+
+    #[test]
+    fn a_file_is_written_and_read(rt: HostRuntime) -> Result<(), Fail> {
+        let mut folder = RealFolder::new(&rt, process::id(rt.process()));
+        let mut bytes = List::new(rt.alloc());
+        assert_eq!(rt; folder.write("real_folder.test", b"abcd"), Ok(()));
+        assert_eq!(rt; folder.write("real_folder.test", b"abc"), Ok(()));
+        assert_eq!(rt; folder.read("real_folder.test", 3, &mut bytes), Ok(()));
+        assert_eq!(rt; bytes.as_slice(), b"abc".as_slice());
+        assert_eq!(rt;
+            folder.read("real_folder.test", 2, &mut bytes),
+            Err(ReadError::TooLong)
+        );
+        fs::remove_file(&rt, "real_folder.test")?;
+        assert_eq!(rt;
+            folder.read("real_folder.test", 3, &mut bytes),
+            Err(ReadError::Absent)
+        );
+        assert_eq!(rt;
+            (folder.reads, folder.read_faults, folder.write_faults),
+            (1, 2, 0)
+        );
+        Ok(())
+    }
+}
