@@ -107,25 +107,17 @@ impl DebugFile {
         let (texts, blobs) = (or_empty_item(&self.texts), or_empty_item(&self.blobs));
         let pdb = self.pdb_stream(alloc)?;
         let tables = self.tables_stream(alloc, texts, blobs)?;
-        let streams: [(&[u8], &[u8]); 5] = [
-            (b"#Pdb\0\0\0\0", &pdb),
-            (b"#~\0\0", &tables),
-            (b"#Strings\0\0\0\0", texts),
-            (b"#GUID\0\0\0", &self.guids),
-            (b"#Blob\0\0\0", blobs),
-        ];
         let mut file = Vec::from_slice(alloc, &ROOT)?;
-        let mut place = FIRST_STREAM;
-        for (name, stream) in streams {
-            let size = u32::try_from(stream.len()).unwrap_or(u32::MAX);
-            file.extend_from_slice(&place.to_le_bytes())?;
-            file.extend_from_slice(&size.to_le_bytes())?;
-            file.extend_from_slice(name)?;
-            place = place.wrapping_add(size);
-        }
-        for (_, stream) in streams {
-            file.extend_from_slice(stream)?;
-        }
+        let place = put_header(&mut file, FIRST_STREAM, b"#Pdb\0\0\0\0", &pdb)?;
+        let place = put_header(&mut file, place, b"#~\0\0", &tables)?;
+        let place = put_header(&mut file, place, b"#Strings\0\0\0\0", texts)?;
+        let place = put_header(&mut file, place, b"#GUID\0\0\0", &self.guids)?;
+        put_header(&mut file, place, b"#Blob\0\0\0", blobs)?;
+        file.extend_from_slice(&pdb)?;
+        file.extend_from_slice(&tables)?;
+        file.extend_from_slice(texts)?;
+        file.extend_from_slice(&self.guids)?;
+        file.extend_from_slice(blobs)?;
         Ok(file)
     }
 
@@ -153,6 +145,20 @@ impl DebugFile {
         stream.extend_from_slice(&self.rows)?;
         Ok(stream)
     }
+}
+
+/// Puts the header of a stream at this place, and answers the place of the next.
+fn put_header(
+    file: &mut Vec<u8>,
+    place: u32,
+    name: &[u8],
+    stream: &[u8],
+) -> Result<u32, AllocError> {
+    let size = u32::try_from(stream.len()).unwrap_or(u32::MAX);
+    file.extend_from_slice(&place.to_le_bytes())?;
+    file.extend_from_slice(&size.to_le_bytes())?;
+    file.extend_from_slice(name)?;
+    Ok(place.wrapping_add(size))
 }
 
 fn or_empty_item(heap: &[u8]) -> &[u8] {
