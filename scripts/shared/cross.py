@@ -7,7 +7,7 @@ from dataclasses import dataclass
 from pathlib import Path
 from typing import Sequence
 
-from kept_modules import ROOT, Module, kit
+from kept_modules import ROOT, Failed, Module, kit
 
 TARGETS = ROOT / "targets"
 # What a module for Linux on x86-64 says of its machine alone: how a stack is probed, and for which processor a function is.
@@ -42,10 +42,6 @@ WASM = Machine("wasm64-unknown-unknown", "e-m:e-p:64:64-p10:8:8-p20:8:8-i64:64-i
 MACOS_ARM64 = Machine("arm64-apple-macosx11.0.0", "e-m:o-p270:32:32-p271:32:32-p272:64:64-i64:64-i128:128-n32:64-S128-Fn32", (), (), ("main", "open", "statx"))
 MACOS_X64 = Machine("x86_64-apple-macosx11.0.0", "e-m:o-p270:32:32-p271:32:32-p272:64:64-i64:64-i128:128-f80:128-n8:16:32:64-S128",
                     ("-march=x86-64",), (), ("main", "open", "statx"))
-
-
-class Failed(Exception):
-    """A tool failed; the text is what it printed."""
 
 
 def run(words: Sequence[str | Path], name: str | None = None) -> None:

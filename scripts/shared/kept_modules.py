@@ -22,6 +22,10 @@ exec -a "${{0##*/}}" '{clang}' "$@"
 """
 
 
+class Failed(Exception):
+    """A tool failed; the text says which, and what it printed."""
+
+
 @dataclass(frozen=True)
 class Module:
     """A module for Linux on x86-64 and what clang was told of it; `object` is what the toolchain itself made for its target."""
@@ -73,6 +77,7 @@ def proved(part: str, target: str, folder: Path) -> Module:
     (folder / "log").write_text(ran.stdout)
     verdict = [line for line in ran.stdout.splitlines() if line.startswith("logic=proved ")]
     if ran.returncode or not verdict or not made.is_file():
-        raise SystemExit(f"targets: {crate} was not proved and built for {target}; the whole log is {folder / 'log'}")
+        said = "; ".join(ran.stdout.splitlines()[-2:])
+        raise Failed(f"{crate} was not proved and built for {target} (status {ran.returncode}): {said}")
     shutil.rmtree(folder / "toolchain")
     return Module(folder / "module.bc", optimizing((folder / "words").read_text().splitlines()), made, f"{crate} {verdict[-1]}")
