@@ -30,7 +30,7 @@ include tools/install.mk
 
 # What is installed below docdir as it lies here, so that the links of the documents lead to it.
 documents = README.md CHANGELOG.md CONTRIBUTING.md SECURITY.md NOTICE LICENSE $(wildcard docs/*.md docs/pictures/*.png) docs/lines.schema.json \
-  docs/verify-debug-files.yml targets/README.md bindings/js/ppdb.d.mts
+  docs/verify-debug-files.yml targets/README.md bindings/js/ppdb.d.mts bindings/js/ppdb.mjs
 samples = examples/async_iter.cs examples/async_iter.pdb examples/embed_link.pdb $(wildcard examples/library/* examples/weaver/*.cs examples/weaver/tests/*.cs)
 # What make test has run when the checks of make check are run.
 tested = $(addprefix scripts/checks/,check-cases check-readme)
