@@ -2,10 +2,10 @@
 use Rattle.std.proofs.Common.{◌≡◌, ℕ, ◌+◌, ◌<◌, ◌++◌, [], ◌∷◌, List, length, get_or, take, sym, ap, ◌∙◌, arith, append-nil, append_assoc}
 use Rattle.std.proofs.lemmas.List.{length-take, take_more}
 use Rattle.ppdb_build_merged.specs.declared.inputs.Placed.{Placed}
-use Rattle.ppdb_build_merged.specs.declared.keys.Table.{Table}
+use Rattle.ppdb_build_merged.specs.declared.keys.MethodTable.{MethodTable}
 use Rattle.ppdb_build_merged.specs.Keyed.{keys_in, keys_from}
 
-keys_append : (n : ℕ) (xs : List Placed) (x : Placed) (table : Table)
+keys_append : (n : ℕ) (xs : List Placed) (x : Placed) (table : MethodTable)
     → keys_from n (xs ++ x ∷ []) table ≡ keys_from n xs table ++ keys_in (n + length xs) x table
 keys_append n [] x table = let e : n ≡ n + 0 = omega arith in append-nil (keys_in n x table) ∙ ap (λ m. keys_in m x table) e
 keys_append n (y ∷ ys) x table =
@@ -13,7 +13,7 @@ keys_append n (y ∷ ys) x table =
     ap (λ l. keys_in n y table ++ l) (keys_append (n + 1) ys x table ∙ ap (λ m. keys_from (n + 1) ys table ++ keys_in m x table) e)
     ∙ sym (append_assoc (keys_in n y table) (keys_from (n + 1) ys table) (keys_in (n + length (y ∷ ys)) x table))
 
-pub keys_more : (xs : List Placed) (k : ℕ) (x : Placed) (table : Table) → k < length xs → x ≡ get_or xs k x
+pub keys_more : (xs : List Placed) (k : ℕ) (x : Placed) (table : MethodTable) → k < length xs → x ≡ get_or xs k x
     → keys_from 0 (take (k + 1) xs) table ≡ keys_from 0 (take k xs) table ++ keys_in k x table
 keys_more xs k x table within here =
     let many = length-take k xs in

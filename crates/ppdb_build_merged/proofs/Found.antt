@@ -16,7 +16,7 @@ use Rattle.ppdb_merge_parts.specs.Flat.{Counted}
 use Rattle.ppdb_merge_parts.proofs.Lists.{filter_map_map, filter_map_append, map_filter_map}
 use Rattle.ppdb_merge_parts.proofs.Ordered.{in_order_made}
 use Rattle.ppdb_build_merged.specs.declared.inputs.Placed.{Placed}
-use Rattle.ppdb_build_merged.specs.declared.keys.Table.{Table}
+use Rattle.ppdb_build_merged.specs.declared.keys.MethodTable.{MethodTable}
 use Rattle.ppdb_build_merged.specs.Inputs.{raw_of, counted_of}
 use Rattle.ppdb_build_merged.specs.Keyed.{rows_in, method_in, key_of, keys_in, keys_from, placed_at}
 
@@ -71,7 +71,7 @@ then_kept {A} {B} g h (x ∷ xs) = step (g x) (then_kept g h xs)
 
 -- ---- the rows of one table
 
-module _ {A B : Type 0} (table : Table) (at : Placed → ℕ → Option A) (part : Placed → List A) (method : A → ℕ) (image : Counted × A → Option B)
+module _ {A B : Type 0} (table : MethodTable) (at : Placed → ℕ → Option A) (part : Placed → List A) (method : A → ℕ) (image : Counted × A → Option B)
     (listed_are : (p : Placed) → filter_map (at p) (range_with_len 1 (rows_in (raw_of p).tables table)) ≡ part p)
     (methods_are : (p : Placed) (row : ℕ) (a : A) → at p row ≡ Some a → method a ≡ method_in (raw_of p).tables table row)
     (placed : List Placed) where

@@ -45,7 +45,7 @@ use Rattle.ppdb_merge_rows.specs.Inputs.{moved_by}
 use Rattle.ppdb_build_merged.specs.declared.customs_scopes.Owned.{Owned}
 use Rattle.ppdb_build_merged.specs.declared.customs_scopes.Owned.TheVariants.{Variables, Constants}
 use Rattle.ppdb_build_merged.specs.declared.inputs.Placed.{Placed}
-use Rattle.ppdb_build_merged.specs.declared.keys.Table.TheVariants.{Scopes}
+use Rattle.ppdb_build_merged.specs.declared.keys.MethodTable.TheVariants.{Scopes}
 use Rattle.ppdb_build_merged.specs.Inputs.{counted_of, raw_of}
 use Rattle.ppdb_build_merged.specs.Keyed.{key_of, keys_from, keys_in, scope_in as scope_image_in, scope_of}
 use Rattle.ppdb_build_merged.specs.Origins.{HaveNewRows, count_of, item_stays, kept_scopes, left_at, left_in, left_of, list_keys, list_of, origin_in, owned_key, table_of}

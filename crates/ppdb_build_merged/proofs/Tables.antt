@@ -44,7 +44,7 @@ use Rattle.ppdb_merge_rows.specs.Laws.{FittingPointsFit, RowsAreImages}
 use Rattle.ppdb_merge_rows.specs.Methods.{method_after}
 use Rattle.ppdb_merge_rows.specs.declared.inputs.RowInput.{RowInput}
 use Rattle.ppdb_build_merged.specs.declared.inputs.Placed.{Placed}
-use Rattle.ppdb_build_merged.specs.declared.keys.Table.TheVariants.{Methods, Scopes, Machines}
+use Rattle.ppdb_build_merged.specs.declared.keys.MethodTable.TheVariants.{Methods, Scopes, Machines}
 use Rattle.ppdb_merge_rows.specs.Inputs.{moved_by, moved_inputs}
 use Rattle.ppdb_merge_rows.proofs.RowImages.{found_is}
 use Rattle.ppdb_build_merged.specs.Inputs.{ArePlaced, IsReady, counted_of, documents_in, raw_of}

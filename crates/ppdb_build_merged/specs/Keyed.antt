@@ -6,22 +6,22 @@ use Rattle.ppdb_values.specs.{declared.file.MethodValue.MethodValue, declared.im
 use Rattle.ppdb_merge_order.specs.declared.keys.Key.{Key}
 use Rattle.ppdb_merge_parts.specs.Flat.{scope_image, machine_image}
 use Rattle.ppdb_merge_rows.specs.{Methods.method_after, Rows.imports_after}
-use Rattle.ppdb_build_merged.specs.{declared.inputs.Placed.Placed, declared.keys.Table.{Table, TheVariants.{Methods, Scopes, Machines}}, Inputs.{raw_of, counted_of}}
+use Rattle.ppdb_build_merged.specs.{declared.inputs.Placed.Placed, declared.keys.MethodTable.{MethodTable, TheVariants.{Methods, Scopes, Machines}}, Inputs.{raw_of, counted_of}}
 
 -- ---- keys
 
-abbrev pub rows_in : RawTables → Table → ℕ
+abbrev pub rows_in : RawTables → MethodTable → ℕ
 rows_in raw Methods = length raw.methods
 rows_in raw Scopes = length raw.scopes
 rows_in raw Machines = length raw.machines
 
 -- the method of a row; that of a state machine is its MoveNext method
-abbrev pub method_in : RawTables → Table → ℕ → ℕ
+abbrev pub method_in : RawTables → MethodTable → ℕ → ℕ
 method_in raw Methods row = row
 method_in raw Scopes row = unwrap_or (option_map (λ (s : ScopeRow). s.method) (row_at raw.scopes row)) 0
 method_in raw Machines row = unwrap_or (option_map (λ (m : MachineRow). m.move_next) (row_at raw.machines row)) 0
 
-abbrev pub key_of : ℕ → Placed → Table → ℕ → Key
+abbrev pub key_of : ℕ → Placed → MethodTable → ℕ → Key
 key_of number placed table row = record {
   image = moved_row placed.input.now.map 0x06 (method_in (raw_of placed).tables table row);
   input = number;
@@ -29,11 +29,11 @@ key_of number placed table row = record {
 }
 
 -- the keys of all rows of a table of an input
-abbrev pub keys_in : ℕ → Placed → Table → List Key
+abbrev pub keys_in : ℕ → Placed → MethodTable → List Key
 keys_in number placed table = map (key_of number placed table) (range_with_len 1 (rows_in (raw_of placed).tables table))
 
 -- the keys of all rows of a table of all inputs, which are numbered from this number on
-abbrev pub keys_from : ℕ → List Placed → Table → List Key
+abbrev pub keys_from : ℕ → List Placed → MethodTable → List Key
 keys_from number [] table = []
 keys_from number (placed ∷ others) table = keys_in number placed table ++ keys_from (number + 1) others table
 

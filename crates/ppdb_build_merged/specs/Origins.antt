@@ -10,7 +10,7 @@ use Rattle.ppdb_merge_items.specs.{NamedRows.goes_constant, Sorted.in_order}
 use Rattle.ppdb_merge_order.specs.declared.keys.Key.{Key}
 use Rattle.ppdb_merge_records_laws.specs.Records.{Origin, origins_in, row_of, rows_left}
 use Rattle.ppdb_merge_rows.specs.Rows.{constants_after}
-use Rattle.ppdb_build_merged.specs.{declared.inputs.Placed.Placed, declared.keys.Table.TheVariants.{Scopes}, Inputs.raw_of, Keyed.{keys_from, placed_at, scope_of}, Records.inputs_of}
+use Rattle.ppdb_build_merged.specs.{declared.inputs.Placed.Placed, declared.keys.MethodTable.TheVariants.{Scopes}, Inputs.raw_of, Keyed.{keys_from, placed_at, scope_of}, Records.inputs_of}
 use Rattle.ppdb_build_merged.specs.declared.{customs_scopes.Owned.{Owned, TheVariants.{Variables, Constants}}, customs_rows.NewRows.NewRows}
 
 abbrev pub origin_in : Key → Origin

@@ -8,7 +8,7 @@ ghost use Rattle.ppdb_build_merged.specs.Keyed.{scope_in, scope_of};
 ghost use Rattle.ppdb_build_merged.specs.Origins.{count_of, item_stays, kept_scopes, left_at, left_of, list_keys, list_of, origin_in, owned_key, table_of};
 
 use crate::inputs::Placed;
-use crate::keys::{Table, keys_of};
+use crate::keys::{MethodTable, keys_of};
 use crate::there::has_row;
 use ppdb_base::{List, Memory, Steps};
 use ppdb_merge_order::Key;
@@ -82,7 +82,7 @@ pub(crate) fn scope_keys<L: Ledger>(
     requires room { Each HasRoom placed.now }
     ensures { IfOk result (λ keys. keys.items ≡ kept_scopes placed.now) }
 {
-    let keys = keys_of(alloc, placed, Table::Scopes, steps)?;
+    let keys = keys_of(alloc, placed, MethodTable::Scopes, steps)?;
     let sorted = keys.as_slice();
     let mut kept = Vec::new(alloc);
     for key in sorted {

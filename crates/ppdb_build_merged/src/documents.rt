@@ -1,6 +1,7 @@
 // The documents of all inputs, the first of each name.
 ghost use Rattle.std.specs.Prelude.{◌≡◌, ◌+◌, ◌≤◌, length, List, [], ◌++◌, map, fold, option_to_list, OnOk, IfOk, Some};
 ghost use Rattle.ppdb_tables.specs.RawTables.{row_at};
+ghost use Rattle.ppdb_maps.specs.Map.{moved_name};
 ghost use Rattle.ppdb_values.specs.declared.file.DocumentValue.{DocumentValue};
 ghost use Rattle.ppdb_values.specs.Rules.{HasRow};
 ghost use Rattle.ppdb_verify.specs.Views.{raw_file};
@@ -17,6 +18,7 @@ use crate::names::Names;
 use crate::stopped::Stopped;
 use ppdb_base::{Bytes, List, Memory, Steps};
 use ppdb_build_draft::Drafting;
+use ppdb_maps::MapText;
 use ppdb_merge_rows::RowInput;
 use ppdb_tables::{DOCUMENT, IMPORT_SCOPE};
 use ppdb_values_reading::read_document;
@@ -24,11 +26,14 @@ use ppdb_verify_rows::count;
 use std::alloc::Global;
 use std::sync::ledger::Ledger;
 
-/// A name as a key.
-fn key_of(alloc: Global, name: &[u8]) -> Result<Vec<u8>, Memory>
-    ensures { IfOk result (λ key. key.items ≡ name.now) }
+/// The name that the map gives a document, as a key: the bytes of the name itself, if the map has no other.
+fn key_of(alloc: Global, map: &MapText, name: Bytes) -> Result<Vec<u8>, Memory>
+    ensures { IfOk result (λ key. key.items ≡ moved_name map.now name) }
 {
-    Ok(Vec::from_slice(alloc, name)?)
+    match map.document(name.as_slice()) {
+        Some(new) => Ok(Vec::from_slice(alloc, new)?),
+        None => Ok(name.into_vec()),
+    }
 }
 
 /// Adds the document of a row by the name that the map gives it, if it is the first of that name; its new row.
@@ -38,7 +43,6 @@ fn add_document<L: Ledger>(
     row: u32,
     names: &mut Names,
     draft: &mut Drafting,
-    name: &mut Bytes,
     steps: &mut Steps<L>,
 ) -> Result<u32, Stopped>
     requires there { HasRow (raw_file input.now.file).tables 0x30 row }
@@ -48,9 +52,9 @@ fn add_document<L: Ledger>(
         → row_at (documents_in input.now) row ≡ Some document
         → new ≡ row_named (firsts [] (before ++ option_to_list (row_at (documents_in input.now) row))) document.name) }
 {
-    let lent = read_document(&input.file, row, name, steps)?;
-    let new_name = input.map.moved_name(name.as_slice());
-    let key = key_of(alloc, new_name)?;
+    let mut name = Bytes::new(alloc);
+    let lent = read_document(&input.file, row, &mut name, steps)?;
+    let key = key_of(alloc, &input.map, name)?;
     let known = names.row_of(&key);
     if known != 0 {
         return Ok(known);
@@ -58,8 +62,8 @@ fn add_document<L: Ledger>(
     if names.rows >= 16777215 {
         return Err(Stopped::Limit);
     }
+    draft.document(key.as_slice(), lent.algorithm, lent.hash, lent.language)?;
     let new = names.push(key)?;
-    draft.document(new_name, lent.algorithm, lent.hash, lent.language)?;
     Ok(new)
 }
 
@@ -69,7 +73,6 @@ fn add_input<L: Ledger>(
     input: &RowInput<'_>,
     names: &mut Names,
     draft: &mut Drafting,
-    name: &mut Bytes,
     steps: &mut Steps<L>,
 ) -> Result<List<u32>, Stopped>
     ensures named { OnOk result ((start : draft_value) (before : List DocumentValue) → AreNamed start before names.old draft.old
@@ -82,7 +85,7 @@ fn add_input<L: Ledger>(
     let count = count(&input.file, DOCUMENT);
     let mut row = 1;
     'documents: while row <= count {
-        let new = add_document(alloc, input, row, names, draft, name, steps)?;
+        let new = add_document(alloc, input, row, names, draft, steps)?;
         rows.push(new)?;
         row += 1;
     }
@@ -103,12 +106,11 @@ pub(crate) fn add_documents<'r, 'a, L: Ledger>(
     ensures few { OnOk result (length (documents_of (moved_inputs inputs.entry.now)) ≤ 16777215) }
 {
     let mut names = Names::new(alloc);
-    let mut name = Bytes::new(alloc);
     let mut placed = List::new(alloc);
     let mut before = 0;
     for input in inputs {
         let _ = input.file.keeps();
-        let documents = add_input(alloc, input, &mut names, draft, &mut name, steps)?;
+        let documents = add_input(alloc, input, &mut names, draft, steps)?;
         placed.push(Placed {
             input,
             before,

@@ -14,7 +14,7 @@ use crate::customs::add_customs;
 use crate::documents::add_documents;
 use crate::imports::add_imports;
 use crate::inputs::Placed;
-use crate::keys::{Table, keys_of};
+use crate::keys::{MethodTable, keys_of};
 use crate::machines::add_machines;
 use crate::methods::add_methods;
 use crate::scopes::add_scopes;
@@ -61,7 +61,7 @@ fn add_all_methods<L: Ledger>(
 {
     joined_parts_are_flat();
     rows_are_images();
-    let keys = keys_of(alloc, placed, Table::Methods, steps)?;
+    let keys = keys_of(alloc, placed, MethodTable::Methods, steps)?;
     add_methods(alloc, placed, keys.as_slice(), draft, steps)?;
     draft.end_methods(method_count(inputs))?;
     Ok(())
@@ -85,7 +85,7 @@ fn add_lists<L: Ledger>(
 {
     joined_parts_are_flat();
     sound_parts_can_be_written();
-    let keys = keys_of(alloc, placed, Table::Scopes, steps)?;
+    let keys = keys_of(alloc, placed, MethodTable::Scopes, steps)?;
     add_scopes(alloc, placed, keys.as_slice(), draft, steps)?;
     add_constants(alloc, placed, keys.as_slice(), draft, steps)?;
     Ok(())
@@ -111,7 +111,7 @@ fn add_others<L: Ledger>(
     joined_parts_are_flat();
     sound_parts_can_be_written();
     add_imports(alloc, placed, draft, steps)?;
-    let keys = keys_of(alloc, placed, Table::Machines, steps)?;
+    let keys = keys_of(alloc, placed, MethodTable::Machines, steps)?;
     add_machines(placed, keys.as_slice(), draft, steps)?;
     Ok(())
 }

@@ -16,7 +16,7 @@ use std::sync::ledger::Ledger;
 
 /// A table whose rows are in the order of their methods.
 #[derive(Clone, Copy, Debug, PartialEq, Eq)]
-pub(crate) enum Table {
+pub(crate) enum MethodTable {
     /// MethodDebugInformation.
     Methods,
     /// LocalScope.
@@ -26,29 +26,34 @@ pub(crate) enum Table {
 }
 
 /// How many rows a table has.
-fn rows_of(file: &Verified<'_>, table: Table) -> u32
+fn rows_of(file: &Verified<'_>, table: MethodTable) -> u32
     ensures rows { result ≡ rows_in (raw_file file.now).tables table }
     ensures few { result ≤ 16777215 }
 {
     let _ = file.keeps();
     match table {
-        Table::Methods => count(file, METHOD_DEBUG),
-        Table::Scopes => count(file, LOCAL_SCOPE),
-        Table::Machines => count(file, STATE_MACHINE),
+        MethodTable::Methods => count(file, METHOD_DEBUG),
+        MethodTable::Scopes => count(file, LOCAL_SCOPE),
+        MethodTable::Machines => count(file, STATE_MACHINE),
     }
 }
 
 /// The method of a row.
-fn method_of<L: Ledger>(file: &Verified<'_>, table: Table, row: u32, steps: &mut Steps<L>) -> u32
+fn method_of<L: Ledger>(
+    file: &Verified<'_>,
+    table: MethodTable,
+    row: u32,
+    steps: &mut Steps<L>,
+) -> u32
     requires first { 1 ≤ row }
     requires last { row ≤ rows_in (raw_file file.now).tables table }
     ensures { result ≡ method_in (raw_file file.now).tables table row }
 {
     let _ = file.keeps();
     match table {
-        Table::Methods => row,
-        Table::Scopes => scope(file, row, steps).method,
-        Table::Machines => machine(file, row, steps).move_next,
+        MethodTable::Methods => row,
+        MethodTable::Scopes => scope(file, row, steps).method,
+        MethodTable::Machines => machine(file, row, steps).move_next,
     }
 }
 
@@ -56,7 +61,7 @@ fn method_of<L: Ledger>(file: &Verified<'_>, table: Table, row: u32, steps: &mut
 fn put_keys<L: Ledger>(
     number: u32,
     placed: &Placed<'_, '_>,
-    table: Table,
+    table: MethodTable,
     keys: &mut Vec<Key>,
     steps: &mut Steps<L>,
 ) -> Result<(), Memory>
@@ -79,7 +84,7 @@ fn put_keys<L: Ledger>(
 }
 
 /// How many rows a table has in all inputs, as room for their keys.
-fn room_for(placed: &[Placed<'_, '_>], table: Table) -> usize {
+fn room_for(placed: &[Placed<'_, '_>], table: MethodTable) -> usize {
     let mut rows: usize = 0;
     for one in placed {
         rows = rows.saturating_add(rows_of(&one.input.file, table) as usize);
@@ -92,7 +97,7 @@ fn room_for(placed: &[Placed<'_, '_>], table: Table) -> usize {
 pub(crate) fn keys_of<L: Ledger>(
     alloc: Global,
     placed: &[Placed<'_, '_>],
-    table: Table,
+    table: MethodTable,
     steps: &mut Steps<L>,
 ) -> Result<Vec<Key>, Memory>
     requires { length placed.now ≤ 256 }

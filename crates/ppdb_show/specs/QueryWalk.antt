@@ -1,11 +1,11 @@
 -- Lines put one after the other, and the rows that are read for them, for the functions that put them.
 use Rattle.std.specs.Prelude.{map, ℕ, ◌≡◌, ◌+◌, ◌*◌, ◌≤◌, ◌++◌, List, [], ◌∷◌, codes, length, Option, Some, None, flat_map, sum_by}
 use Rattle.ppdb_tables.specs.{declared.rows.ScopeRow.ScopeRow, RawTables.{RawTables, row_at}}
-use Rattle.ppdb_values.specs.{Imports.import_value, Rules.HasRow}
+use Rattle.ppdb_values.specs.{Imports.import_value, Names.join_by}
 use Rattle.ppdb_queries.specs.{declared.imports.ImportLink.ImportLink, declared.points.PointAt.PointAt, declared.scopes.ScopeView.ScopeView, Digits.digits}
 use Rattle.ppdb_queries.specs.{Runs.customs_at, Scopes.{scope_view, scopes_at, scope_count}}
 use Rattle.ppdb_show_lines.specs.{declared.form.Form.Form, Forms.lines_as, Lines.{Line, line_with, bare, number, absent}, Uses.use_line}
-use Rattle.ppdb_show.specs.Query.{customs_found, point_found, document_name, variables_of, constants_of, imports_of}
+use Rattle.ppdb_show.specs.Query.{customs_found, point_found, variables_of, constants_of, imports_of}
 
 -- the lines were put after a text
 abbrev pub Adds : Form → List ℕ → List ℕ → List Line → Type 0
@@ -50,12 +50,12 @@ abbrev pub lines_of_link : RawTables → ImportLink → List Line
 lines_of_link raw link =
     line_with "import" (bare "row" (number link.row) ∷ []) ∷ (map use_line (map import_value link.imports.items) ++ customs_found raw 0x35 link.row)
 
--- the document of a point that was found is there
-abbrev pub HasDocument : RawTables → Option PointAt → Type 0
-HasDocument raw (Some at) = HasRow raw 0x30 at.point.document
-HasDocument raw None = Unit {0}
+-- the name of the document of a point that was found has no fault
+abbrev pub HasWholeName : Option PointAt → Type 0
+HasWholeName (Some at) = at.name.left.fault ≡ None
+HasWholeName None = Unit {0}
 
 -- a point that was found, or that there is none
-abbrev pub found_line : RawTables → Option PointAt → Line
-found_line raw (Some at) = point_found at.point at.signature (document_name raw at.point.document)
-found_line raw None = line_with "point" (bare "offset" (absent (codes "none")) ∷ [])
+abbrev pub found_line : Option PointAt → Line
+found_line (Some at) = point_found at.point at.signature (join_by (λ part. part) at.name.separator at.name.left.items)
+found_line None = line_with "point" (bare "offset" (absent (codes "none")) ∷ [])

@@ -56,19 +56,19 @@ fn put_answer<L: Ledger>(
     file: &Verified<'_>,
     method: u32,
     offset: u32,
-    found: &Option<PointAt<'_>>,
+    found: Option<PointAt<'_>>,
     notes: &mut Notes,
     steps: &mut Steps<L>,
 ) -> Result<(), Memory>
     requires there { HasRow (raw_of (tables_of file.now)) 0x06 method }
-    requires point { PointIs (raw_file file.now) method offset found.now }
+    requires point { PointIs (raw_file file.now) method offset found }
     requires known { AreNotes printer.form (raw_of (tables_of file.now)) notes.old }
     ensures known { AreNotes printer.entry.form (raw_of (tables_of file.now)) notes.new }
     ensures ok { OnOk result (Adds printer.entry.form text.old text.new (query_lines (raw_file file.now) method offset)) }
     ensures cost { steps.new + 2 ≤ steps.old + query_rows (raw_of (tables_of file.now)) method offset }
 {
     let _ = file.keeps();
-    put_point(printer, text, file, found, steps)?;
+    put_point(printer, text, found)?;
     put_scopes(
         printer,
         text,
@@ -114,7 +114,7 @@ pub(crate) fn put_noted_query<O: Sink, L: Ledger>(
     };
     let mut text = SteadySink::new(printer.alloc);
     if put_answer(
-        printer, &mut text, file, method, offset, &found, notes, steps,
+        printer, &mut text, file, method, offset, found, notes, steps,
     )
     .is_err()
     {

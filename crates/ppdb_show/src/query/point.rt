@@ -1,36 +1,33 @@
 // The line of the sequence point of an offset.
-ghost use Rattle.std.specs.Prelude.{◌≡◌, ◌+◌, ◌≤◌, ◌<◌, [], ◌∷◌, OnOk, IfOk, Some};
-ghost use Rattle.ppdb_tables.specs.RawOf.{raw_of};
-ghost use Rattle.ppdb_values.specs.Rules.{HasRow};
-ghost use Rattle.ppdb_verify.specs.Views.{tables_of};
-ghost use Rattle.ppdb_show.specs.Query.{document_name, point_found};
-ghost use Rattle.ppdb_show.specs.QueryWalk.{Adds, HasDocument, found_line};
+ghost use Rattle.std.specs.Prelude.{◌≡◌, [], ◌∷◌, OnOk, IfOk, None};
+ghost use Rattle.std.specs.List.{join_by};
+ghost use Rattle.ppdb_show.specs.Query.{point_found};
+ghost use Rattle.ppdb_show.specs.QueryWalk.{Adds, HasWholeName, found_line};
 
 use crate::query::text::put_line;
-use ppdb_base::{Bytes, Memory, SteadySink, Steps};
+use ppdb_base::{Bytes, Memory, SteadySink};
+use ppdb_heaps::NameCursor;
 use ppdb_queries::PointAt;
 use ppdb_show_lines::Item::{Absent, Name, Number};
 use ppdb_show_lines::Part::{Field, Mark};
 use ppdb_show_lines::{Key, Printer};
-use ppdb_verify::Verified;
-use ppdb_verify_rows::{document, joined_name};
 use sequence_points::{Point, Span};
 use std::alloc::Global;
-use std::sync::ledger::Ledger;
 
-/// The name of a document, its parts joined.
-fn document_name_of<L: Ledger>(
-    alloc: Global,
-    file: &Verified<'_>,
-    row: u32,
-    steps: &mut Steps<L>,
-) -> Result<Bytes, Memory>
-    requires { HasRow (raw_of (tables_of file.now)) 0x30 row }
-    ensures name { IfOk result (λ name. name ≡ document_name (raw_of (tables_of file.now)) row) }
-    ensures step { steps.new ≡ steps.old + 1 }
+/// The parts of a name, joined by its separator.
+fn joined(alloc: Global, mut name: NameCursor<'_>) -> Result<Bytes, Memory>
+    requires { name.left.fault ≡ None }
+    ensures { IfOk result (λ joined. joined ≡ join_by (λ part. part) name.entry.separator name.entry.left.items) }
 {
-    let document = document(file, row, steps);
-    joined_name(alloc, file, row, &document)
+    let mut joined = Bytes::new(alloc);
+    let separator = name.separator();
+    let mut between: &[u8] = &[];
+    'parts: while let Ok(Some(part)) = name.next() {
+        joined.append(between)?;
+        joined.append(part)?;
+        between = separator;
+    }
+    Ok(joined)
 }
 
 /// Puts the line of a point.
@@ -80,22 +77,18 @@ fn put_point_line(
 }
 
 /// Puts the line of the point that was found, or that there is none.
-pub(crate) fn put_point<L: Ledger>(
+pub(crate) fn put_point(
     printer: Printer<'_>,
     text: &mut SteadySink,
-    file: &Verified<'_>,
-    found: &Option<PointAt<'_>>,
-    steps: &mut Steps<L>,
+    found: Option<PointAt<'_>>,
 ) -> Result<(), Memory>
-    requires { HasDocument (raw_of (tables_of file.now)) found.now }
-    ensures ok { OnOk result (Adds printer.entry.form text.old text.new (found_line (raw_of (tables_of file.now)) found.now ∷ [])) }
-    ensures later { steps.old ≤ steps.new }
-    ensures cost { steps.new ≤ steps.old + 1 }
+    requires { HasWholeName found }
+    ensures { OnOk result (Adds printer.entry.form text.old text.new (found_line found.entry ∷ [])) }
 {
     let Some(at) = found else {
         let none = Field(" ", Key::Offset, Absent("none"));
         return put_line(printer, text, "point", &[0, 1], &[none]);
     };
-    let name = document_name_of(printer.alloc, file, at.point.document, steps)?;
+    let name = joined(printer.alloc, at.name)?;
     put_point_line(printer, text, at.point, at.signature, name.as_slice())
 }
