@@ -14,8 +14,9 @@ from dataclasses import dataclass
 from pathlib import Path
 
 ROOT = Path(__file__).resolve().parents[2]
-SUMMARY = "Inspects, validates, rewrites and merges Portable PDBs, the debug files of .NET"
-NAME, LICENSE = "ppdb", "Apache-2.0"
+ABOUT = dict(line.split(": ", 1) for line in (ROOT / "scripts/packages/about").read_text().splitlines() if not line.startswith("#"))
+SUMMARY = ABOUT["summary"][:1].upper() + ABOUT["summary"][1:]
+NAME, LICENSE, OWNERS, KEYWORDS = "ppdb", ABOUT["license"], ABOUT["owners"], ABOUT["keywords"]
 
 
 @dataclass(frozen=True)

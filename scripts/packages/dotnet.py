@@ -5,9 +5,8 @@ from __future__ import annotations
 import json
 from xml.sax.saxutils import escape
 
-from common import LICENSE, NAME, SUMMARY, Member, source, targets, version, zipped
+from common import KEYWORDS, LICENSE, NAME, OWNERS, SUMMARY, Member, source, targets, version, zipped
 
-OWNERS = "Jamtrov maintainers"
 LIBRARY = "PortablePdb"
 # The native libraries of the .NET tool, which looks for them beside itself.
 PROGRAMS = ("ppdb-program-x64.dll", "libppdb-program-x64.so", "libppdb-program-arm64.so")
@@ -20,7 +19,7 @@ NUSPEC = """<?xml version="1.0" encoding="utf-8"?>
     <license type="expression">{license}</license>
     <readme>README.md</readme>
     <description>{summary}</description>
-    <tags>pdb portable-pdb dotnet debug symbols</tags>
+    <tags>{keywords}</tags>
     {kind}
   </metadata>
 </package>
@@ -73,7 +72,7 @@ Answer shown = DebugFile.Run(new[] {{ "show", "app.pdb", "--json" }}, new Dictio
 
 def packed(name: str, kind: str, readme: str, members: list[Member]) -> bytes:
     """A package: its files, and what the format of NuGet has beside them."""
-    manifest = NUSPEC.format(name=name, version=version(), owners=OWNERS, license=LICENSE, summary=escape(SUMMARY), kind=kind)
+    manifest = NUSPEC.format(name=name, version=version(), owners=OWNERS, license=LICENSE, summary=escape(SUMMARY), keywords=KEYWORDS, kind=kind)
     files = [Member(f"{name}.nuspec", manifest.encode()), Member("README.md", readme.format(summary=SUMMARY).encode()), *members]
     files += [source(text, text) for text in ("LICENSE", "NOTICE")]
     endings = sorted({file.name.rpartition(".")[2] for file in files if "." in file.name.rpartition("/")[2]})
