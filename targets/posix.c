@@ -78,8 +78,4 @@ int statx(int folder, const char *path, int flags, unsigned mask, void *found)
 }
 #endif
 
-int main(int count, char **words)
-{
-    keep_words(count, words);
-    return ppdb_main();
-}
+int main(int count, char **words) { return ppdb_program(count, words); }

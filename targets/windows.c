@@ -359,6 +359,5 @@ int wmain(int count, wchar_t **words)
         return 5;
     for (int at = 0; at < count; at++)
         all[at] = in_utf8(words[at]);
-    keep_words(count, all);
-    return ppdb_main();
+    return ppdb_program(count, all);
 }

@@ -4,10 +4,11 @@
 static int word_count;
 static char **all_words;
 
-void keep_words(int count, char **words)
+int ppdb_program(int count, char **words)
 {
     word_count = count;
     all_words = words;
+    return ppdb_main();
 }
 
 long long rattle_arg_count(void) { return word_count; }

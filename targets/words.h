@@ -8,7 +8,7 @@ typedef unsigned long long size64;
 /* The program's own `main`, under the name that scripts/making/targets gives it. */
 int ppdb_main(void);
 
-/* Keeps the arguments, the program's name first, in UTF-8. */
-void keep_words(int count, char **words);
+/* Runs the program with arguments in UTF-8, its name first, and returns its status. Libraries of the program export it. */
+int ppdb_program(int count, char **words);
 
 #endif

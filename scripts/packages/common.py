@@ -3,6 +3,7 @@ from __future__ import annotations
 
 import gzip
 import io
+import os
 import re
 import stat
 import tarfile
@@ -13,8 +14,9 @@ from dataclasses import dataclass
 from pathlib import Path
 
 ROOT = Path(__file__).resolve().parents[2]
-SUMMARY = "Inspects, validates, rewrites and merges Portable PDBs, the debug files of .NET"
-NAME, LICENSE = "ppdb", "Apache-2.0"
+ABOUT = dict(line.split(": ", 1) for line in (ROOT / "scripts/packages/about").read_text().splitlines() if not line.startswith("#"))
+SUMMARY = ABOUT["summary"][:1].upper() + ABOUT["summary"][1:]
+NAME, LICENSE, OWNERS, KEYWORDS = "ppdb", ABOUT["license"], ABOUT["owners"], ABOUT["keywords"]
 
 
 @dataclass(frozen=True)
@@ -43,8 +45,9 @@ def date() -> int:
 
 
 def targets() -> Path:
-    """Where the files of other systems are: those of a release, or those that were made here."""
-    for folder in (ROOT / "release/targets", ROOT / "build/targets"):
+    """Where the files of other systems are: those of a release, those that were made here, or those in the folder that PPDB_TARGETS names."""
+    named = os.environ.get("PPDB_TARGETS")
+    for folder in ([Path(named)] if named else [ROOT / "release/targets", ROOT / "build/targets"]):
         if folder.is_dir():
             return folder
     raise SystemExit("packages: there is no release/targets and no build/targets; scripts/making/targets makes them")
@@ -53,6 +56,12 @@ def targets() -> Path:
 def source(name: str, to: str, is_program: bool = False) -> Member:
     """A file of the repository under another name."""
     return Member(to, (ROOT / name).read_bytes(), is_program)
+
+
+def sources(folder: str, to: str) -> list[Member]:
+    """The files of Python and of its data below a folder of the repository."""
+    found = sorted(file for file in (ROOT / folder).rglob("*") if file.suffix in (".py", ".html"))
+    return [Member(f"{to}/{file.relative_to(ROOT / folder).as_posix()}", file.read_bytes()) for file in found]
 
 
 def tar(members: list[Member], compressed: bool = True) -> bytes:

@@ -3,7 +3,7 @@ from __future__ import annotations
 
 import json
 
-from common import LICENSE, NAME, SUMMARY, Member, source, tar, targets, version
+from common import KEYWORDS, LICENSE, NAME, SUMMARY, Member, source, tar, targets, version
 
 README = """# ppdb
 
@@ -29,7 +29,7 @@ and docs/PROMISES.md of the sources.
 def manifest() -> bytes:
     told = {
         "name": NAME, "version": version(), "description": SUMMARY, "license": LICENSE, "type": "module",
-        "keywords": ["pdb", "portable-pdb", "dotnet", "debug", "symbols"],
+        "keywords": KEYWORDS.split(),
         "bin": {"ppdb": "program.mjs"},
         "exports": {
             ".": {"types": "./index.d.mts", "default": "./index.mjs"},

@@ -1,4 +1,5 @@
-"""An OCI image with the static program, for x86-64 and arm64, as a tar file that docker, podman and skopeo read. No engine makes it."""
+"""An OCI image with the static program, for x86-64 and arm64, as a tar file that docker, podman and skopeo read. No engine makes it. It also
+has ppdb-tools, for images with Python 3.10 or later: `COPY --from=ppdb /usr /usr`."""
 from __future__ import annotations
 
 import hashlib
@@ -6,7 +7,7 @@ import json
 import time
 from typing import Any
 
-from common import LICENSE, NAME, SUMMARY, Member, date, source, tar, targets, version
+from common import LICENSE, NAME, SUMMARY, Member, date, source, sources, tar, targets, version
 
 TYPE = "application/vnd.oci.image"
 PLATFORMS = {"amd64": "linux-x64-static", "arm64": "linux-arm64-static"}
@@ -33,7 +34,8 @@ def as_json(told: Any) -> bytes:
 def image(blobs: Blobs, processor: str, folder: str) -> dict[str, Any]:
     """The manifest of the image for one processor."""
     program = Member("usr/bin/ppdb", (targets() / folder / "ppdb").read_bytes(), is_program=True)
-    files = [program, source("LICENSE", "usr/share/doc/ppdb/LICENSE"), source("NOTICE", "usr/share/doc/ppdb/NOTICE")]
+    tools = [source("tools/ppdb-tools", "usr/bin/ppdb-tools", is_program=True), *sources("tools/src/ppdb_tools", "usr/share/ppdb/ppdb_tools")]
+    files = [program, *tools, source("LICENSE", "usr/share/doc/ppdb/LICENSE"), source("NOTICE", "usr/share/doc/ppdb/NOTICE")]
     layer = blobs.put(tar(files), "layer.v1.tar+gzip")
     told = {
         "architecture": processor, "os": "linux", "created": time.strftime("%Y-%m-%dT00:00:00Z", time.gmtime(date())),

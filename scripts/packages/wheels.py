@@ -1,4 +1,4 @@
-"""The wheels of PyPI: the module `ppdb` (the binding), the library that it calls, and the command `ppdb`."""
+"""The wheels of PyPI: the module `ppdb` (the binding), the library that it calls, and the commands `ppdb` and `ppdb-tools`."""
 from __future__ import annotations
 
 import base64
@@ -6,7 +6,7 @@ import hashlib
 from dataclasses import dataclass
 from pathlib import Path
 
-from common import LICENSE, NAME, SUMMARY, Member, source, targets, version, zipped
+from common import LICENSE, NAME, SUMMARY, Member, source, sources, targets, version, zipped
 
 MODULE = '''"""Portable PDB debug files by the proved library, over bytes: `verify`, `lines` and `run`. ppdb.calls says what each does."""
 import os
@@ -16,6 +16,21 @@ from .calls import Failed, Fault, Frame, Line, lines, run, verify, version  # no
 
 __all__ = ["Failed", "Fault", "Frame", "Line", "lines", "run", "verify", "version"]
 '''
+# pip makes a command of `tools`, and puts it and the program into one folder, which need not be on the PATH.
+TOOLS = '''"""The command `ppdb-tools`, over the program of this package."""
+import os
+import sys
+
+from ppdb_tools.main import run
+
+
+def main() -> int:
+    program = os.path.join(os.path.dirname(os.path.abspath(sys.argv[0])), {program!r})
+    if os.path.exists(program):
+        os.environ.setdefault("PPDB", program)
+    return run()
+'''
+ENTRY_POINTS = "[console_scripts]\nppdb-tools = ppdb.tools:main\n"
 
 
 @dataclass(frozen=True)
@@ -53,8 +68,10 @@ def wheel(system: System) -> bytes:
         source("examples/library/ppdb.py", "ppdb/calls.py"),
         Member(f"ppdb/{library}", (targets() / system.library).read_bytes()),
         Member(f"{scripts}/{program}", (targets() / system.program).read_bytes(), is_program=True),
+        Member("ppdb/tools.py", TOOLS.format(program=program).encode()),
+        *sources("tools/src/ppdb_tools", "ppdb_tools"),
         source("LICENSE", f"{about}/LICENSE"), source("NOTICE", f"{about}/NOTICE"),
-        Member(f"{about}/METADATA", metadata.encode()),
+        Member(f"{about}/METADATA", metadata.encode()), Member(f"{about}/entry_points.txt", ENTRY_POINTS.encode()),
         Member(f"{about}/WHEEL", f"Wheel-Version: 1.0\nGenerator: ppdb\nRoot-Is-Purelib: false\n{tags}".encode()),
     ]
     return zipped([*members, recorded(members, f"{about}/RECORD")])

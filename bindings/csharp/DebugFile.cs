@@ -58,7 +58,7 @@ namespace PortablePdb
     public static class DebugFile
     {
         const byte Done = 0, Refused = 1;
-        static readonly bool IsArm64 = RuntimeInformation.ProcessArchitecture == Architecture.Arm64;
+        static readonly bool IsArm64 = !LoadsForX64();
 
         /// <summary>The version of the library, as 1002003 for 1.2.3.</summary>
         public static uint Version => IsArm64 ? OnArm64.Version() : OnX64.Version();
@@ -88,12 +88,17 @@ namespace PortablePdb
         /// <summary>Runs a command over files by their names, as Run(new[] { "show", "app.pdb" }, files).</summary>
         public static Answer Run(IEnumerable<string> words, IEnumerable<KeyValuePair<string, byte[]>> files)
         {
-            byte[] spelled = Encoding.UTF8.GetBytes(string.Concat(System.Linq.Enumerable.Select(words, word => word + "\0")));
-            var (joined, pieces) = Joined(files);
+            var spelled = new StringBuilder();
+            foreach (string word in words) spelled.Append(word).Append('\0');
+            return Run(Encoding.UTF8.GetBytes(spelled.ToString()), Joined(files, out Piece[] pieces), pieces);
+        }
+
+        static Answer Run(byte[] words, byte[] joined, Piece[] pieces)
+        {
             byte[] text = new byte[1 << 16], made = new byte[joined.Length + 1];
             while (true)
             {
-                byte status = Call(spelled, joined, pieces, text, out ulong textNeeded, made, out ulong madeNeeded);
+                byte status = Call(words, joined, pieces, text, out ulong textNeeded, made, out ulong madeNeeded);
                 bool fits = textNeeded <= (ulong)text.Length && madeNeeded <= (ulong)made.Length;
                 if (textNeeded > (ulong)text.Length) text = new byte[textNeeded];
                 if (madeNeeded > (ulong)made.Length) made = new byte[madeNeeded];
@@ -117,7 +122,7 @@ namespace PortablePdb
         }
 
         /// <summary>The names and bytes of all files, and where they are. Both arrays have one item more, since no empty array has an address.</summary>
-        static (byte[], Piece[]) Joined(IEnumerable<KeyValuePair<string, byte[]>> files)
+        static byte[] Joined(IEnumerable<KeyValuePair<string, byte[]>> files, out Piece[] all)
         {
             var pieces = new List<Piece>();
             using (var joined = new System.IO.MemoryStream())
@@ -131,7 +136,20 @@ namespace PortablePdb
                 }
                 joined.WriteByte(0);
                 pieces.Add(new Piece());
-                return (joined.ToArray(), pieces.ToArray());
+                all = pieces.ToArray();
+                return joined.ToArray();
+            }
+        }
+
+        static bool LoadsForX64()
+        {
+            try
+            {
+                return OnX64.Version() != 0;
+            }
+            catch (Exception error) when (error is DllNotFoundException || error is BadImageFormatException)
+            {
+                return false;
             }
         }
 
