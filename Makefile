@@ -67,13 +67,11 @@ install: install-tools install-old-names
 	install -m 644 completions/ppdb.bash "$(DESTDIR)$(bashdir)/ppdb"
 	install -m 644 completions/_ppdb "$(DESTDIR)$(zshdir)/_ppdb"
 	install -m 644 completions/ppdb.fish "$(DESTDIR)$(fishdir)/ppdb.fish"
-	if [ -f build/page/ppdb.html ]; then install -m 644 build/page/ppdb.html "$(DESTDIR)$(datadir)/ppdb"; \
-	  else echo "install: the page is left out, since make page has not made it"; fi
 	if scripts/making/library is-built; then scripts/making/library install "$(DESTDIR)" "$(prefix)" "$(libdir)" "$(includedir)"; \
 	  else echo "install: the library is left out, since make lib has not built it"; fi
 
 uninstall: uninstall-tools
-	rm -f "$(DESTDIR)$(bindir)/ppdb" "$(DESTDIR)$(mandir)/man1/ppdb.1" "$(DESTDIR)$(datadir)/ppdb/ppdb.html"
+	rm -f "$(DESTDIR)$(bindir)/ppdb" "$(DESTDIR)$(mandir)/man1/ppdb.1"
 	rm -f "$(DESTDIR)$(bashdir)/ppdb" "$(DESTDIR)$(zshdir)/_ppdb" "$(DESTDIR)$(fishdir)/ppdb.fish"
 	rm -f $(foreach file,$(documents) $(samples),"$(DESTDIR)$(docdir)/$(file)")
 	scripts/making/library uninstall "$(DESTDIR)" "$(prefix)" "$(libdir)" "$(includedir)"

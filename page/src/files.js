@@ -56,14 +56,14 @@ export async function bytesOfBase64(text, isPacked) {
   return new Uint8Array(await new Response(new Blob([bytes]).stream().pipeThrough(new DecompressionStream("deflate"))).arrayBuffer());
 }
 /** What a data block of the page holds (page/README.md): files, and the example.
- @param {string} id @returns {Promise<{title?: string, files: Given[]} | null>} */
+ @param {string} id @returns {Promise<{title?: string, shows?: string[], files: Given[]} | null>} */
 export async function inPage(id) {
   const node = $(id);
   if (!node?.textContent.trim()) return null;
   const said = JSON.parse(node.textContent), files = [];
   for (const {name, data, packed} of said.files) files.push({name, bytes: await bytesOfBase64(data, packed)});
   node.remove();
-  return {title: said.title, files};
+  return {title: said.title, shows: said.shows, files};
 }
 /** Saves a file. @param {string} name @param {Uint8Array} bytes */
 export function save(name, bytes) {

@@ -27,12 +27,12 @@ function busy(words) {
   fill("busy-words", words);
   document.body.toggleAttribute("data-busy", Boolean(words));
 }
-/** @param {import("./files.js").Given[]} files */
-async function give(files) {
+/** @param {import("./files.js").Given[]} files @param {string[]} [shows] the debug files that are to be shown, if not all */
+async function give(files, shows) {
   if (!files.length) return;
   const size = files.reduce((sum, it) => sum + it.bytes.length, 0);
   busy(files.length === 1 ? `Reading ${baseName(files[0].name)}, ${sizeWords(size)}` : `Reading ${plural(files.length, "file")}, ${sizeWords(size)}`);
-  await settle(() => port.ask("add", files));
+  await settle(() => port.ask("add", files, shows));
   if (files.left) trouble(`${plural(files.left, "file")} left out: together they are too long for a page.`);
 }
 /** Asks the session, and draws what it then has. @param {() => Promise<any>} asks */
@@ -309,7 +309,7 @@ async function main() {
   state.told = {files: [], inputs: []};
   document.body.dataset.view = "start";
   drawHead();
-  if (inside) { document.title = seen(inside.title || document.title); await give(inside.files); }
+  if (inside) { document.title = seen(inside.title || document.title); await give(inside.files, inside.shows); }
   if (!state.before) { $("start").hidden = false; document.body.dataset.ready = ""; }
 }
 main().catch(wrong => { busy(""); trouble(`This page could not start: ${wrong.message}. A browser of 2024 or later is needed.`); });

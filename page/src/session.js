@@ -4,7 +4,7 @@ import {isColoured, statesOf} from "./colours.js";
 import {guess} from "./guesses.js";
 import {LANGUAGES} from "./kinds.js";
 import {readLines, WIDTH} from "./lines.js";
-import {decoded, inflated, linesOf, LONGEST, sharedParts, stateOf, unpacked} from "./sources.js";
+import {decoded, inflated, linesOf, LONGEST, sharedParts, stateOf, unpacked, unpackedLength} from "./sources.js";
 import {baseName, nameOf} from "./text.js";
 
 /** @typedef {{status: number, text: Uint8Array, out: Uint8Array}} Answer the exit status, standard output and the file that is written */
@@ -12,6 +12,8 @@ import {baseName, nameOf} from "./text.js";
 /** @typedef {"pdb" | "windows" | "assembly" | "map" | "source"} Kind */
 
 const LONGEST_FILE = 134217728, MOST_HITS = 300, MOST_PRINTED = 400000, KEPT = 1.5e8;
+/** Embedded sources may unpack together to so many bytes, and some more for each byte of the file. */
+const UNPACKED = 134217728, UNPACKED_EACH = 64;
 const ASCII = new TextDecoder("latin1"), WORDS = new TextDecoder();
 const beginsWith = (bytes, text) => ASCII.decode(bytes.subarray(0, text.length)) === text;
 
@@ -46,11 +48,23 @@ class Side {
     this.columns = read?.columns ?? null; this.embedded = read?.embedded ?? new Map();
     /** @type {Map<number, object>} */
     this.sources = new Map();
-    this.insisted = new Set(); this.kept = 0;
+    this.insisted = new Set(); this.kept = 0; this.counted = new Set();
+    /** How many bytes embedded sources may still unpack to: a small file cannot ask for hours of work. */
+    this.left = UNPACKED + UNPACKED_EACH * input.bytes.length;
     /** @type {Input | null} */
     this.assembly = null;
   }
   get id() { return this.columns?.id; }
+  /** A note if an embedded source is too long together with those that were asked for before. @param {number} row @param {Uint8Array} value */
+  room(row, value) {
+    const length = unpackedLength(value);
+    if (!this.counted.has(row) && length <= LONGEST) {
+      if (length > this.left) return {note: "The embedded sources are too long together for the page"};
+      this.left -= length;
+      this.counted.add(row);
+    }
+    return null;
+  }
 }
 
 export class Session {
@@ -70,8 +84,9 @@ export class Session {
 
   // ---- Which file is what.
 
-  /** @param {{name: string, bytes: Uint8Array}[]} files */
-  async add(files) {
+  /** @param {{name: string, bytes: Uint8Array}[]} files @param {string[]} [shows] the names of the debug files that are to be before and after */
+  async add(files, shows = []) {
+    const had = this.debugFiles();
     for (const {name, bytes} of files) {
       const input = bytes.length > LONGEST_FILE ? null : new Input(name, bytes);
       if (!input) { this.problem = `${name} has more than ${LONGEST_FILE.toLocaleString("en")} bytes, which is the most that ppdb reads`; continue; }
@@ -79,7 +94,13 @@ export class Session {
       this.inputs.push(input);
       if (input.assembly) await this.takeInner(input);
     }
+    if (shows.length) this.chosen = shows; else this.chooseAlso(this.debugFiles().filter(it => !had.includes(it)).map(it => it.name));
     return this.arrange();
+  }
+  /** A debug file that comes when one was chosen is compared with it; of more than two, one is to be chosen again. @param {string[]} names */
+  chooseAlso(names) {
+    const fresh = names.filter(it => !this.chosen.includes(it));
+    if (this.chosen.length && fresh.length) this.chosen = this.chosen.length + fresh.length === 2 ? [...this.chosen, ...fresh] : [];
   }
   /** The debug file in an assembly, by its debug directory. @param {Input} input */
   async takeInner(input) {
@@ -176,12 +197,8 @@ export class Session {
 
   /** The bytes of a document's source, and where they are from: embedded, or the file whose hash fits, otherwise that with most parts of its path. */
   async bytesOf(side, document) {
-    const value = side.embedded.get(document.row);
-    if (value) {
-      const found = await unpacked(value);
-      if ("note" in found) return found;
-      return {bytes: found.bytes, from: "embedded in the debug file", state: await stateOf(document, found.bytes)};
-    }
+    const value = side.embedded.get(document.row), inside = value && (side.room(document.row, value) ?? await unpacked(value));
+    if (inside && "bytes" in inside) return {bytes: inside.bytes, from: "embedded in the debug file", state: await stateOf(document, inside.bytes)};
     const name = nameOf(document.name), files = this.inputs.filter(it => it.kind === "source" && sharedParts(it.name, name) > 0);
     let best = null;
     for (const file of files) {
@@ -190,7 +207,7 @@ export class Session {
       if (found.state === "agrees") return found;
       if (!best || found.parts > best.parts) best = found;
     }
-    return best ?? {note: files.length ? "The source is longer than the page shows" : "No source"};
+    return best ?? inside ?? {note: files.length ? "The source is longer than the page shows" : "No source"};
   }
   /** The source of a document, once it is asked for. @param {"before" | "after"} which @param {number} row @param {boolean} insists */
   async source(which, row, insists = false) {

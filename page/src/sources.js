@@ -23,6 +23,10 @@ export async function inflated(packed, length, form = "deflate-raw") {
   } catch { return null; }
 }
 
+/** The length before the bytes of an embedded source, 0 if they are not deflated. @param {Uint8Array} value */
+const lengthBefore = value => value.length < 4 ? 0 : new DataView(value.buffer, value.byteOffset, 4).getUint32(0, true);
+/** How long an embedded source is, unpacked, by its own word. @param {Uint8Array} value */
+export const unpackedLength = value => lengthBefore(value) || Math.max(0, value.length - 4);
 /**
  * An embedded source (Portable PDB v1.0): four bytes of a length, 0 if the bytes after it are not deflated.
  * @param {Uint8Array} value
@@ -30,9 +34,9 @@ export async function inflated(packed, length, form = "deflate-raw") {
  */
 export async function unpacked(value) {
   if (value.length < 4) return {note: "The embedded source is damaged"};
-  const length = new DataView(value.buffer, value.byteOffset, 4).getUint32(0, true), rest = value.subarray(4);
+  const length = lengthBefore(value), rest = value.subarray(4);
   if (Math.max(length, rest.length) > LONGEST)
-    return {note: `The embedded source says that it has ${length.toLocaleString("en")} bytes: more than the page shows`};
+    return {note: `The embedded source says that it has ${unpackedLength(value).toLocaleString("en")} bytes: more than the page shows`};
   const bytes = length ? await inflated(rest, length) : rest;
   return bytes ? {bytes} : {note: "The embedded source is damaged"};
 }

@@ -9,7 +9,7 @@ let last = Promise.resolve();
 /** What the page can ask for. */
 const DOES = {
   start: async module => { session = new Session(await startEngine(module)); },
-  add: files => { session.forget(); return session.add(files); },
+  add: (files, shows) => { session.forget(); return session.add(files, shows); },
   remove: name => { session.forget(); return session.remove(name); },
   choose: names => session.choose(names),
   source: (which, row, insists) => session.source(which, row, insists),

@@ -18,6 +18,11 @@ if not os.environ.get("PPDB"):
     # The program is looked for once, not for each test.
     os.environ["PPDB"] = subprocess.run([ROOT / "scripts/making/program", "--quiet"], stdout=subprocess.PIPE, text=True, check=True).stdout.strip()
 
+# Pages are made by an empty one of these sources, without the module of the library: no test here opens one.
+EMPTY_PAGE = tempfile.TemporaryDirectory(prefix="ppdb-page-")
+os.environ["PPDB_PAGE"] = f"{EMPTY_PAGE.name}/ppdb.html"
+subprocess.run([ROOT / "page/build", "--wasm", os.devnull, os.environ["PPDB_PAGE"]], check=True)
+
 import pdbfile  # noqa: E402
 from ppdb_tools import main  # noqa: E402
 

@@ -150,8 +150,13 @@ class Installed(InFolder):
         bare = {"PATH": f"{self.folder}/bin:/usr/bin:/bin:{os.path.dirname(sys.executable)}"}
         ended = subprocess.run(["ppdb-tools", "check", "--format", "lines", "tiny.pdb"], cwd=ROOT / "corpus", env=bare, capture_output=True, check=False)
         self.assertEqual(ended.stdout, b"0\ttiny.pdb\taccepted\n", ended.stderr)
+        (self.folder / "share/ppdb/ppdb.html").unlink(missing_ok=True)
         page = subprocess.run(["ppdb-tools", "page", TINY], env=bare, capture_output=True, check=False)
-        self.assertIn(b"<title>tiny.pdb</title>", page.stdout)
+        self.assertEqual((page.returncode, page.stdout), (2, b""))
+        self.assertIn(b"there is no ppdb.html", page.stderr)
+        shutil.copy(os.environ["PPDB_PAGE"], self.folder / "share/ppdb")
+        page = subprocess.run(["ppdb-tools", "page", TINY], env=bare, capture_output=True, check=False)
+        self.assertIn(b'"title": "tiny.pdb"', page.stdout)
         for place in ("share/man/man1/ppdb-tools.1", "share/bash-completion/completions/ppdb-tools", "share/zsh/site-functions/_ppdb-tools",
                       "share/fish/vendor_completions.d/ppdb-tools.fish"):
             self.assertTrue((self.folder / place).is_file(), place)

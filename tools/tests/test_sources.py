@@ -4,10 +4,12 @@ import hashlib
 import json
 import os
 import re
+import unittest.mock
 import zlib
+from pathlib import Path
 
 from made import Type, assembly, code_view, embedded
-from support import ASYNC, HOSTILE, ROOT, Doc, InFolder, below, debug_file, embedded_source, run
+from support import ASYNC, HOSTILE, ROOT, THROW, Doc, InFolder, below, debug_file, embedded_source, run
 
 IDENTITY = bytes(range(20))
 OLD, NEW = b"class Old {}\n", b"class New {}\n"
@@ -18,15 +20,18 @@ def sha(data: bytes) -> bytes:
 
 
 class InPages(InFolder):
-    def page(self, *words: object) -> dict:
-        """What a page knows beside the lines."""
+    def inside(self, *words: object) -> dict[str, bytes]:
+        """The files in a page, by their names."""
         ended = run("page", *words)
         self.assertEqual(ended.status, 0, ended.err)
-        found = re.search(rb'id="page">([^<]*)<', ended.out)
-        return json.loads(zlib.decompress(base64.b64decode(found[1])))
+        self.said = json.loads(re.search(rb'id="files">([^<]*)<', ended.out)[1])
+        return {it["name"]: zlib.decompress(base64.b64decode(it["data"])) for it in self.said["files"]}
 
-    def source(self, *words: object) -> dict | None:
-        return self.page(*words)["sources"].get("1")
+    def sources(self, place: object, *words: object) -> dict[str, bytes]:
+        """The files in a page beside the debug file."""
+        files = self.inside(place, *words)
+        self.assertEqual(files.pop(str(place)), place.read_bytes())
+        return files
 
 
 class Page(InPages):
@@ -34,38 +39,36 @@ class Page(InPages):
         place = self.file("H.pdb", debug_file([Doc(b"/build/H.cs", sha(NEW))]))
         self.file("o1/H.cs", OLD)
         self.file("o2/H.cs", NEW)
-        found = self.source(place, "--source", self.folder / "o1", "--source", self.folder / "o2")
-        self.assertEqual((found["state"], found["lines"][0]), ("agrees", "class New {}"))
+        self.assertEqual(self.sources(place, "--source", self.folder / "o1", "--source", self.folder / "o2"), {"/build/H.cs": NEW})
         self.file("o1/build/H.cs", NEW)
-        self.assertEqual(self.source(place, "--source", self.folder / "o1")["from"], "found as build/H.cs")
-        found = self.source(place, "--source", self.file("o3/H.cs", OLD).parent)
-        self.assertEqual((found["state"], found["lines"][0]), ("differs", "class Old {}"))
+        self.assertEqual(self.sources(place, "--source", self.folder / "o1"), {"/build/H.cs": NEW})
+        self.assertEqual(self.sources(place, "--source", self.file("o3/H.cs", OLD).parent), {"/build/H.cs": OLD})
 
     def test_a_link_out_of_the_folder_is_not_followed(self) -> None:
         place = self.file("H.pdb", debug_file([Doc(b"/build/H.cs", sha(NEW))]))
         secret, folder = self.file("secret.txt", NEW), self.folder / "source"
         folder.mkdir()
         (folder / "H.cs").symlink_to(secret)
-        self.assertIsNone(self.source(place, "--source", folder))
+        self.assertEqual(self.sources(place, "--source", folder), {})
         (folder / "sub").symlink_to(self.folder)
         place = self.file("H.pdb", debug_file([Doc(b"/sub/secret.txt", sha(NEW))]))
-        self.assertIsNone(self.source(place, "--source", folder))
+        self.assertEqual(self.sources(place, "--source", folder), {})
         self.file("source/real.cs", NEW)
         (folder / "H.cs").unlink()
         (folder / "H.cs").symlink_to("real.cs")
         place = self.file("H.pdb", debug_file([Doc(b"/build/H.cs", sha(NEW))]))
-        self.assertEqual(self.source(place, "--source", folder)["state"], "agrees")
+        self.assertEqual(self.sources(place, "--source", folder), {"/build/H.cs": NEW})
 
     def test_only_named_folders_are_read(self) -> None:
         """A document's own name is not opened, whatever its hash; below a folder that contains it it is found."""
         own = self.file("own/H.cs", NEW)
         place = self.file("H.pdb", debug_file([Doc(os.fsencode(own), sha(NEW))]))
-        self.assertIsNone(self.source(place))
-        self.assertEqual(self.source(place, "--source", self.folder / "own")["state"], "agrees")
+        self.assertEqual(self.sources(place), {})
+        self.assertEqual(self.sources(place, "--source", self.folder / "own"), {str(own): NEW})
         for name in (b"../own/H.cs", b"/x/../../own/../own/H.cs"):
             place = self.file("H.pdb", debug_file([Doc(name, sha(NEW))]))
             self.file("inner/x", b"")
-            self.assertIsNone(self.source(place, "--source", self.folder / "inner"))
+            self.assertEqual(self.sources(place, "--source", self.folder / "inner"), {})
 
     def test_pipes_devices_and_long_files_are_not_read(self) -> None:
         os.mkfifo(self.folder / "pipe.cs")
@@ -74,7 +77,7 @@ class Page(InPages):
             file.truncate(30 << 30)
         documents = [Doc(name, sha(NEW)) for name in (b"/pipe.cs", b"/zero.cs", b"/long.cs", b"/proc/kmsg", b"/dev/tty")]
         place = self.file("H.pdb", debug_file(documents))
-        self.assertEqual(self.page(place, "--source", self.folder)["sources"], {})
+        self.assertEqual(self.sources(place, "--source", self.folder), {})
         self.assertEqual([row[1] for row in run("sources", place, "--source", self.folder).rows], ["none"] * 5)
 
     def test_names_that_are_no_paths(self) -> None:
@@ -82,37 +85,58 @@ class Page(InPages):
         for name in (b"/" + b"x" * 300 + b"/a.cs", b"/a.cs/" + b"x" * 300, b"/" + b"d/" * 3000 + b"a.cs", b"/a\0b/a.cs", b"", b"\\\\?\\", HOSTILE,
                      b"\xff/a.cs"):
             place = self.file("H.pdb", debug_file([Doc(name, sha(NEW))]))
-            self.page(place, "--source", self.folder)
+            self.inside(place, "--source", self.folder)
             run("sources", place, "--source", self.folder)
 
     def test_embedded_sources(self) -> None:
-        cases = {"plain": (bytes(4) + NEW, sha(NEW), "agrees"), "packed": (embedded_source(NEW), sha(NEW), "agrees"),
-                 "other": (bytes(4) + OLD, sha(NEW), "differs"), "no hash": (bytes(4) + NEW, b"", "unchecked"),
-                 "damaged": (b"\x09\0\0\0\xff\xff", sha(NEW), None), "cut": (b"\1\2", sha(NEW), None),
-                 "longer than it says": (embedded_source(NEW, 3), sha(NEW), None)}
-        for what, (value, digest, state) in cases.items():
+        """A file of a folder stands in for an embedded source that is damaged, and for no other."""
+        self.file("none.cs", NEW)
+        cases = {"plain": (bytes(4) + NEW, {}), "packed": (embedded_source(NEW), {}), "other": (bytes(4) + OLD, {}),
+                 "damaged": (b"\x09\0\0\0\xff\xff", {"/none.cs": NEW}), "cut": (b"\1\2", {"/none.cs": NEW}),
+                 "longer than it says": (embedded_source(NEW, 3), {"/none.cs": NEW}), "no source": (None, {"/none.cs": NEW})}
+        for what, (value, files) in cases.items():
             with self.subTest(what):
-                place = self.file("E.pdb", debug_file([Doc(b"/none.cs", digest, value)]))
-                self.assertEqual(self.source(place).get("state"), state)
+                place = self.file("E.pdb", debug_file([Doc(b"/none.cs", sha(NEW), value)]))
+                self.assertEqual(self.sources(place, "--source", self.folder), files)
+                self.assertEqual(self.sources(place), {})
 
-    def test_long_embedded_sources_are_left_out(self) -> None:
-        for count, size in ((1, 5 << 20), (8, 3 << 20)):
-            bombs = [Doc(b"/%d.cs" % number, b"", embedded_source(b"x" * size)) for number in range(count)]
-            sources = self.page(self.file("E.pdb", debug_file(bombs)))["sources"]
-            self.assertIn("note", sources[str(count)])
-            self.assertLessEqual(sum(len(it["lines"][0]) for it in sources.values() if "lines" in it), 9 << 20)
-        lines = [Doc(b"/l.cs", b"", embedded_source(b"\n" * 200000))]
-        self.assertIn("lines", self.source(self.file("E.pdb", debug_file(lines)))["note"])
+    def test_files_that_the_page_would_take_for_something_else(self) -> None:
+        for data in (b"BSJB", b"MZ", b"ppdbmap 1\n", b"Microsoft C/C++ MSF 7.00"):
+            self.file("x.cs", data)
+            place = self.file("E.pdb", debug_file([Doc(b"/x.cs", sha(data))]))
+            self.assertEqual(self.sources(place, "--source", self.folder), {})
 
     def test_names_of_methods(self) -> None:
         types = [Type(b"", b"<Module>", []), Type(b"Shop\xff\x1b[31m", "Or\u202eder".encode(), [(b"Div\n", b"\0\0\1")])]
         data = debug_file([Doc(b"/a.cs")], IDENTITY)
         place = self.file("App.dll", assembly([code_view(IDENTITY), embedded(data)], types))
-        self.assertEqual(self.page(place)["names"]["rows"], {"1": r"Shop\xff\x1b[31m.Or\xe2\x80\xaeder.Div\x0a"})
+        self.assertEqual(self.inside(place), {str(place): place.read_bytes(), str(place.with_suffix(".pdb")): data})
+        self.assertEqual(self.said["shows"], [str(place.with_suffix(".pdb"))])
         other = self.file("Other.dll", assembly([code_view(bytes(20))], types))
         ended = run("page", self.file("App.pdb", data), "--assembly", other)
         self.assertEqual(ended.status, 3)
         self.assertIn("another debug file", ended.err)
+
+    def test_a_rewrite(self) -> None:
+        before, after, mapped = THROW / "before.pdb", THROW / "Throw.pdb", THROW / "throw.map"
+        files = self.inside(before, "--map", mapped, after, "--assembly", THROW / "Throw.exe")
+        self.assertEqual(files, {str(place): place.read_bytes() for place in (before, mapped, after, THROW / "Throw.exe")})
+        self.assertEqual(self.said["shows"], [str(before), str(after)])
+        ended = run("page", before, "--map", self.file("unfit.map", b"ppdbmap 1\nrows 06 9\nrow 06 9 1\nmethod 9999 1 1\n"), after)
+        self.assertEqual((ended.status, ended.out), (3, b""))
+        self.assertIn("status 8: unfit", ended.err)
+
+    def test_the_empty_page(self) -> None:
+        """Without ppdb.html, or with another file in its place, the command says so."""
+        for name, why in (("/none/ppdb.html", "No such file"), (str(ROOT / "README.md"), "this is not ppdb.html")):
+            with unittest.mock.patch.dict(os.environ, {"PPDB_PAGE": name}):
+                ended = run("page", ASYNC)
+                self.assertEqual((ended.status > 1, ended.out), (True, b""))
+                self.assertIn(why, ended.err)
+        with unittest.mock.patch.dict(os.environ, {"PPDB_PAGE": ""}), unittest.mock.patch("ppdb_tools.commands.page.PLACES", ()):
+            ended = run("page", ASYNC)
+            self.assertEqual(ended.status, 2)
+            self.assertIn("there is no ppdb.html", ended.err)
 
     def test_a_page_of_an_assembly_says_what_to_do(self) -> None:
         ended = run("page", ROOT / "examples/throw/trace")
@@ -125,8 +149,11 @@ class Page(InPages):
             place = self.file(name.replace(b"/", b"_"), debug_file([Doc(b"/a.cs")]))
             ended = run("page", os.fsencode(place))
             self.assertEqual(ended.status, 0)
-            self.assertEqual(ended.out.count(b"<script>"), 1)
-            self.assertNotIn(b"\x1b", ended.out)
+            before, after = Path(os.environ["PPDB_PAGE"]).read_bytes().split(b"<!-- files -->")
+            self.assertTrue(ended.out.startswith(before) and ended.out.endswith(after))
+            inside = ended.out[len(before):len(ended.out) - len(after)]
+            self.assertEqual(inside.count(b"<"), 2)
+            self.assertNotIn(b"\x1b", inside)
 
 
 class Sources(InFolder):
