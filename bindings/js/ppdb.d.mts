@@ -67,6 +67,11 @@ export interface Answer {
   made: Uint8Array | null;
 }
 
+/** The same, with the text as its bytes. */
+export interface BytesAnswer extends Omit<Answer, "text"> {
+  text: Uint8Array;
+}
+
 /** A call without an answer; `status` says why: 5 out of memory, 7 the file is too long; of `lines` also 1, the file breaks a rule. */
 export declare class Failed extends Error {
   readonly status: number;
@@ -86,6 +91,8 @@ export declare class Ppdb {
   lines(file: Bytes, frames: readonly Frame[]): Line[];
   /** Runs a command, as `["show", "app.pdb", "--json"]`, over files by their names. */
   run(words: readonly string[], files?: Record<string, Bytes> | Iterable<readonly [string, Bytes]>): Answer;
+  /** The same, with the text as its bytes: `show` of a file above some 40 MB prints more than a string may have. */
+  runBytes(words: readonly string[], files?: Record<string, Bytes> | Iterable<readonly [string, Bytes]>): BytesAnswer;
 }
 
 /** Compiles ppdb.wasm: its bytes, its address, a response to a request for it, or the module; by default the file beside ppdb.mjs. */

@@ -169,13 +169,23 @@ export class Ppdb {
 
   /** Runs a command of the program over files by their names. */
   run(words, files = {}) {
+    return this.#run(words, files, (text) => decoder.decode(text));
+  }
+
+  /** The same, with the text as its bytes: that of a large file is longer than a string may be. */
+  runBytes(words, files = {}) {
+    return this.#run(words, files, (text) => text.slice());
+  }
+
+  /** What a command answers; `takes` copies the text out of the memory of the module. */
+  #run(words, files, takes) {
     const given = new Files(files);
     const spelled = encoder.encode(words.map((word) => `${word}\0`).join(""));
     try {
-      return this.#call((exports, places) => ran(exports, places, spelled, given));
+      return this.#call((exports, places) => ran(exports, places, spelled, given, takes));
     } catch (error) {
       if (!(error instanceof Failed)) throw error;
-      return { status: error.status, text: "", made: null };
+      return { status: error.status, text: takes(new Uint8Array()), made: null };
     }
   }
 
@@ -214,7 +224,7 @@ function lineAt(view, at) {
 }
 
 /** Calls ppdb_run, again with more room where the text or the new file is longer. */
-function ran(exports, places, spelled, given) {
+function ran(exports, places, spelled, given, takes) {
   const words = places.put(spelled);
   const { joined, pieces } = given.put(places);
   const needed = places.room(2 * LENGTH);
@@ -231,7 +241,7 @@ function ran(exports, places, spelled, given) {
     const lengths = [0, LENGTH].map((field) => Number(places.view(needed, 2 * LENGTH).getBigUint64(field, true)));
     if (lengths.every((length, at) => length <= rooms[at])) {
       const bytes = places.bytes(made, lengths[1]);
-      return { status, text: decoder.decode(places.bytes(text, lengths[0])), made: lengths[1] ? bytes.slice() : null };
+      return { status, text: takes(places.bytes(text, lengths[0])), made: lengths[1] ? bytes.slice() : null };
     }
     rooms = lengths;
   }

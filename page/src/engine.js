@@ -2,8 +2,6 @@
 import {Ppdb} from "../../bindings/js/ppdb.mjs";
 import {inflated} from "./sources.js";
 
-const ENCODER = new TextEncoder();
-
 /**
  * @param {{length: number, packed: string}} module the bytes of the module, deflated and in base64, and how many they are
  * @returns {Promise<import("./session.js").Engine>}
@@ -12,8 +10,8 @@ export async function startEngine({length, packed}) {
   const bytes = await inflated(Uint8Array.from(atob(packed), it => it.charCodeAt(0)), length, "deflate");
   const library = new Ppdb(await WebAssembly.compile(bytes));
   return {run(words, files) {
-    const {status, text, made} = library.run(words, files.map(it => [it.name, it.bytes]));
+    const {status, text, made} = library.runBytes(words, files.map(it => [it.name, it.bytes]));
     if (status === 5) throw new Error("The memory of the page is too small for this file: use the program ppdb");
-    return {status, text: ENCODER.encode(text), out: made ?? new Uint8Array()};
+    return {status, text, out: made ?? new Uint8Array()};
   }};
 }
