@@ -62,24 +62,33 @@ function methodEntries() {
     const {isKnown} = titleAt(subject), lines = isKnown ? subject.lines.slice(0, 1) : subject.lines;
     for (const [key, line] of lines.length ? lines : [[undefined, 0]]) {
       // Of a method with code in several documents each entry leads to its own.
-      const [side, row] = (key ?? "").split(":"), its = subject.lines.length > 1 && side === "before" && !isKnown ? {d: +row} : {};
+      const its = subject.lines.length > 1 && !isKnown && key?.startsWith("before:") ? {d: +key.slice(7)} : {};
       put(groupOf(subject, key), {subject, line, key, place: {...placeOf(subject), ...its}});
     }
   }
   const order = key => key === "none" ? 2 : key.startsWith("after") ? 1 : 0;
   const listed = [...groups].sort(([one], [other]) => order(one) - order(other) || docOrder(one) - docOrder(other)).flatMap(([key, found]) =>
-    [headOf(key, found), ...found.sort((one, other) => one.line - other.line || bodyOf(one.subject).row - bodyOf(other.subject).row)]);
+    [new Head(key, found[0].subject), ...found.sort((one, other) => one.line - other.line || bodyOf(one.subject).row - bodyOf(other.subject).row)]);
   return more ? [...listed, {note: `and ${plural(more, "method")} more: a search finds them`}] : listed;
 }
 const docOrder = key => key.startsWith("before:") ? +key.slice(7) : 0;
-function headOf(key, found) {
-  if (key === "none") return {head: "Without points", dim: ""};
-  if (key.startsWith("type ")) {
-    const {type, space} = titleAt(found[0].subject);
-    return {head: type, dim: space};
+/** The entry above the methods of a type or a document; its words are made when it is looked at, since there may be many. */
+class Head {
+  constructor(key, subject) { this.key = key; this.first = subject; }
+  get head() { return this.words().head; }
+  get dim() { return this.words().dim; }
+  get place() { return this.words().place; }
+  words() { return this.known ??= this.made(); }
+  made() {
+    const {key} = this;
+    if (key === "none") return {head: "Without points", dim: ""};
+    if (key.startsWith("type ")) {
+      const {type, space} = titleAt(this.first);
+      return {head: type, dim: space};
+    }
+    const [side, row] = key.split(":"), document = state[side].documents.get(+row);
+    return {head: baseName(textOf(document)), dim: folderOf(textOf(document)), place: {[side === "before" ? "d" : "e"]: +row}};
   }
-  const [side, row] = key.split(":"), document = state[side].documents.get(+row);
-  return {head: baseName(textOf(document)), dim: folderOf(textOf(document)), place: {[side === "before" ? "d" : "e"]: +row}};
 }
 function documentEntries() {
   const counts = new Map(), found = [];

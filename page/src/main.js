@@ -216,7 +216,12 @@ function firstMethod() {
   const lost = state.rewriting && state.subjects.filter(it => it.old && it.now && it.change.lost > 0)
     .reduce((most, it) => most && most.change.lost >= it.change.lost ? most : it, null), changed = state.rewriting && 
     state.subjects.find(it => it.old && it.change.kind !== "same");
-  return lost?.old.row ?? changed?.old.row ?? (main?.count ? main.row : state.subjects.find(it => it.old?.count)?.old.row ?? null);
+  return lost?.old.row ?? changed?.old.row ?? (main?.count ? main.row : earliest()?.old.row ?? null);
+}
+/** The method whose code comes first in the first document: the list has it on top. */
+function earliest() {
+  const place = ({lines}) => { const [key, line] = lines?.[0] ?? ["before:1e9", 0]; return +key.split(":")[1] * 1e9 + Math.min(line, 1e9 - 1); };
+  return state.subjects.filter(it => it.old?.count).reduce((first, it) => first && place(first) <= place(it) ? first : it, null);
 }
 function stepLine(by) {
   const {place} = state, subject = subjectAt(place), first = subject && bodyOf(subject).points.find(isVisible);

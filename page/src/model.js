@@ -140,11 +140,15 @@ export class DebugFile {
   /** The first visible line of a method in each of its documents, Infinity if all its points there are hidden. @param {Method} method */
   firstLines(method) {
     const {numbers} = this, found = new Map();
+    let document = -1, first = Infinity;
     for (let at = method.first * WIDTH, left = method.count; left > 0; left--, at += WIDTH) {
-      const line = numbers[at + 2] < 0 ? Infinity : numbers[at + 2], known = found.get(numbers[at + 1]);
-      if (known === undefined || known > line) found.set(numbers[at + 1], line);
+      if (numbers[at + 1] !== document) {
+        if (document >= 0) found.set(document, first);
+        document = numbers[at + 1]; first = found.get(document) ?? Infinity;
+      }
+      if (numbers[at + 2] >= 0 && numbers[at + 2] < first) first = numbers[at + 2];
     }
-    return found;
+    return document < 0 ? found : found.set(document, first);
   }
   /** Whether a point of a method covers a line of any document. @param {Method} method @param {number} line */
   hasLine(method, line) {

@@ -17,19 +17,20 @@ const UNPACKED = 134217728, UNPACKED_EACH = 64;
 const ASCII = new TextDecoder("latin1"), WORDS = new TextDecoder();
 const beginsWith = (bytes, text) => ASCII.decode(bytes.subarray(0, text.length)) === text;
 
-/** What a file is, by its first bytes. @param {Uint8Array} bytes @returns {Kind} */
-export function kindOf(bytes) {
+/** What a file is, by its first bytes; by its name, if these say nothing: a damaged debug file. @param {Uint8Array} bytes @param {string} name @returns {Kind} */
+export function kindOf(bytes, name = "") {
   if (beginsWith(bytes, "BSJB")) return "pdb";
   if (beginsWith(bytes, "Microsoft C/C++ MSF ")) return "windows";
   if (beginsWith(bytes, "MZ")) return "assembly";
-  return beginsWith(bytes, "ppdbmap ") ? "map" : "source";
+  if (beginsWith(bytes, "ppdbmap ")) return "map";
+  return /\.pdb$/i.test(name) ? "pdb" : "source";
 }
 
 /** A file that was given, or one that was taken out of an assembly or made by a map. */
 class Input {
   /** @param {string} name @param {Uint8Array} bytes @param {string} note */
   constructor(name, bytes, note = "") {
-    this.name = name; this.bytes = bytes; this.note = note; this.kind = kindOf(bytes);
+    this.name = name; this.bytes = bytes; this.note = note; this.kind = kindOf(bytes, name);
     /** @type {ReturnType<typeof readAssembly>} */
     this.assembly = this.kind === "assembly" ? readAssembly(bytes) : null;
   }

@@ -11,7 +11,7 @@ import time
 from pathlib import Path
 from typing import Any
 
-PATIENCE = 120
+PATIENCE = 300
 WORDS = ("--headless=new", "--no-sandbox", "--disable-gpu", "--disable-dev-shm-usage", "--hide-scrollbars", "--no-first-run", "--remote-debugging-pipe",
          "--disable-background-networking", "--disable-component-update", "--disable-extensions", "--mute-audio", "--force-color-profile=srgb",
          "--disable-features=Translate,OptimizationHints,MediaRouter")
@@ -128,7 +128,7 @@ class Browser:
 
     def settled(self) -> None:
         """Waits until nothing is read, and what was asked for is drawn."""
-        self.wait("document.body.dataset.busy === undefined")
+        self.wait("document.body.dataset.busy === undefined", PATIENCE)
         self.run("await new Promise(done => requestAnimationFrame(() => setTimeout(done, 60)))")
 
     def key(self, key: str, text: str = "") -> None:

@@ -78,6 +78,8 @@ test("damaged debug files are refused with their line, and others are no debug f
   const pdb = bytesOf("examples/async_iter.pdb"), cut = await new Session(engine).add([{name: "cut.pdb", bytes: pdb.slice(0, 100)}]);
   assert.equal(cut.before.columns, null);
   assert.match(cut.before.line, /^refused \S+ F\d+ /);
+  const empty = await new Session(engine).add([{name: "empty.pdb", bytes: new Uint8Array()}]);
+  assert.match(empty.before.line, /^refused \S+ F1 root byte 0$/);
   const windows = await new Session(engine).add([{name: "w.pdb", bytes: new TextEncoder().encode("Microsoft C/C++ MSF 7.00\r\n")}]);
   assert.match(windows.before.line, /^refused \S+ F2 /);
   assert.equal((await new Session(engine).add([{name: "x.cs", bytes: new Uint8Array()}])).before, null);

@@ -7,6 +7,7 @@ import re
 import threading
 import time
 import uuid
+import zlib
 from pathlib import Path
 from typing import Any
 
@@ -17,10 +18,9 @@ from small_png import small
 
 HOSTILE = "</script><img src=x onerror=alert(1)>&\"'`${0}\u202e\u0007"
 EMBEDDED = uuid.UUID("0e8a571b-6926-466e-b4ad-8ab04611f5fe").bytes_le
-# How long the first screen of a file of 10 MB and a source of 300,000 lines may take, in seconds of the clock; or of processors, which
-# compile the module and collect garbage beside the work, on a machine that others use.
-FIRST_SCREEN, LONG_SOURCE, BUSY = 2, 3, 3
 LINES = 300000
+# How many seconds a busy machine may take to read files.
+PATIENCE = 300
 MOST_ELEMENTS = 4000
 # The least contrast of text (WCAG 2.2, 1.4.3).
 CONTRAST = 4.5
@@ -53,7 +53,7 @@ class User:
         if files:
             self.browser.run("window.had = state.told")
             self.browser.give(*files)
-            self.browser.wait("state.told !== window.had")
+            self.browser.wait("state.told !== window.had", PATIENCE)
             self.browser.settled()
             time.sleep(0.3)
 
@@ -85,6 +85,18 @@ def with_names(name: bytes, source: bytes | None = None, digest: bytes = b"") ->
     if source is not None:
         pdb.tables[0x37] = [(1 << 5 | pdbfile.PARENTS.index(0x30), 1, blobs.blob(source))]
     pdb.texts, pdb.blobs = bytes(texts.data), bytes(blobs.data)
+    return pdbfile.write(pdb)
+
+
+def with_sources(values: list[bytes]) -> bytes:
+    """A debug file of a method for each embedded source."""
+    pdb, blobs = pdbfile.Pdb(), pdbfile.Heap()
+    pdb.counts[0x00], pdb.counts[0x06], pdb.counts[0x11], pdb.guids = 1, len(values), 1, EMBEDDED
+    for row, value in enumerate(values, 1):
+        pdb.tables[0x30].append((blobs.blob(b"\0" + pdbfile.unsigned(blobs.blob(b"/src/%d.cs" % row))), 0, 0, 0))
+        pdb.tables[0x31].append((row, blobs.blob(pdbfile.points_blob(0, 3))))
+        pdb.tables[0x37].append((row << 5 | pdbfile.PARENTS.index(0x30), 1, blobs.blob(value)))
+    pdb.blobs = bytes(blobs.data)
     return pdbfile.write(pdb)
 
 
@@ -295,42 +307,44 @@ def check_inside(user: User) -> None:
     user.that("K = 5" in user.text("#said") and "source verified" in user.text("#bar"), f"a page with files shows {user.text('#top')} {user.text('#said')}")
     user.browser.open(user.filled([(HOSTILE, files[0][1]), (HOSTILE + ".cs", b"x")], "inside.html"))
     user.that(user.run("return document.querySelectorAll('img').length") == 0 and "valid" in user.text("#top"), "a file with a hostile name is not shown")
+    # Of two debug files, one in an assembly, only those that the page names are shown.
+    names = [str(user.root / "examples" / name) for name in ("throw/Throw.pdb", "async_iter.pdb")]
+    path = user.check.work / "shows.html"
+    path.write_text(with_files(user.page, [(name, Path(name).read_bytes()) for name in names], "", names[1:]), encoding="utf-8")
+    user.browser.open(path.as_uri())
+    user.that(user.run("return [state.before.name, state.after]") == [names[1], None], "a page shows other files than those that it names")
+    user.browser.give(Path(names[0]))
+    user.browser.wait("state.after")
+    user.that(user.run("return [state.before.name, state.after.name]") == [names[1], "Throw.pdb"], "a file that comes later is not compared")
+    user.browser.settled()
     user.console("a page with files")
+
+
+def check_hostile_files(user: User) -> None:
+    """Of each file of an attack the page says what `verify` prints, or shows it, and writes nothing to the console."""
+    for file in sorted([*user.root.glob("corpus/hostile/*.pdb"), *user.root.glob("corpus/refused/*.pdb")]):
+        user.new(file)
+        line = user.check.ppdb("verify", file).strip()
+        if line == "accepted":
+            user.that("valid" in user.text("#about-file"), f"{file} is not shown: {user.text('#found')} {user.text('#trouble')}")
+        else:
+            user.that(line.split(" ", 2)[2] in user.text("#found"), f"{file} is {line}, and the page says {user.text('#found')} {user.text('#trouble')}")
+        user.console(str(file))
 
 
 # ---- Large files, looks and reach.
 
-def worked(browser: Browser) -> float:
-    """The seconds of a processor that the page and its worker took, which other programs on the machine do not lengthen."""
-    browser.ask("Performance.enable")
-    return next(it["value"] for it in browser.ask("Performance.getMetrics")["metrics"] if it["name"] == "ProcessTime")
-
-
-def timed(user: User, files: list[Path]) -> tuple[float, float]:
-    """The seconds from giving the files to the first screen: by the clock, and of the page's processor."""
-    user.new()
-    began, cpu = time.monotonic(), worked(user.browser)
-    user.browser.give(*files)
-    user.browser.wait("document.body.dataset.ready !== undefined && state.before && document.querySelector('#said article')", 120)
-    return time.monotonic() - began, worked(user.browser) - cpu
-
-
 def check_large(user: User) -> None:
+    """Large files are shown, and of their lists, lines and characters only those in sight are drawn. bench/page measures how fast."""
     work, browser = user.check.work, user.browser
-    large = pdbfile.made(76000)
-    (work / "large.pdb").write_bytes(pdbfile.write(large))
-    size = (work / "large.pdb").stat().st_size
-    clock, cpu = timed(user, [work / "large.pdb"])
-    print(f"check-page: a file of {size / 1e6:.1f} MB is shown after {clock:.1f} s, {cpu:.1f} s of the processor")
-    user.that(size > 10_000_000 and (clock <= FIRST_SCREEN or cpu <= BUSY * FIRST_SCREEN), f"a file of {size} bytes is shown after {clock:.1f} s")
+    (work / "large.pdb").write_bytes(pdbfile.write(pdbfile.made(76000)))
+    user.new(work / "large.pdb")
     user.go("#m=12345&o=20")
     user.that("0x06003039" in user.text("#said"), "a late method is not shown")
     user.that(user.run("return document.querySelectorAll('*').length") < MOST_ELEMENTS, "the list is drawn as a whole")
     pdb = with_names(b"/src/long.cs", bytes(4) + b"".join(b"    int line%d = %d; // %d\n" % (at, at, at) for at in range(LINES)))
     (work / "long.pdb").write_bytes(pdb)
-    clock, cpu = timed(user, [work / "long.pdb"])
-    print(f"check-page: a source of {LINES} lines is shown after {clock:.1f} s, {cpu:.1f} s of the processor")
-    user.that((clock <= LONG_SOURCE or cpu <= BUSY * LONG_SOURCE), f"a source of {LINES} lines is shown after {clock:.1f} s")
+    user.new(work / "long.pdb")
     user.go(f"#d=1&l={LINES - 1}")
     rows = user.run("return document.querySelectorAll('#source .row').length")
     user.that(f"int line{LINES - 2} = " in user.text("#source") and rows < 200, f"the last line is not shown, or all {rows} are drawn")
@@ -338,7 +352,13 @@ def check_large(user: User) -> None:
     (work / "wide.pdb").write_bytes(wide)
     user.new(work / "wide.pdb")
     user.that("more characters" in user.text("#source"), "a long line is drawn as a whole")
-    browser.said and user.console("large files")
+    packer = zlib.compressobj(9, zlib.DEFLATED, -15)
+    bomb = (32 << 20).to_bytes(4, "little") + packer.compress(bytes(32 << 20)) + packer.flush()
+    (work / "bombs.pdb").write_bytes(with_sources([bomb] * 6))
+    user.new(work / "bombs.pdb")
+    notes = user.run("return await Promise.all([1, 2, 3, 4, 5, 6].map(async row => (await port.ask('source', 'before', row, false)).note))")
+    user.that("too long together" in notes[5] and notes[0] == "", f"six sources of 32 MiB in a small file: {notes}")
+    user.console("large files")
 
 
 CONTRAST_OF = """
@@ -356,6 +376,10 @@ CONTRAST_OF = """
     const [one, other] = [bright(rgba(getComputedStyle(it).color)), bright(behind(it))], ratio = (Math.max(one, other) + .05) / (Math.min(one, other) + .05);
     if (ratio < a[0]) found.set(`${it.tagName}.${it.className} ${ratio.toFixed(2)}`, node.data.slice(0, 30));
   }
+  // A dot stands for a breakpoint.
+  const dots = [...document.querySelectorAll(".number.some")].map(it => [bright(rgba(getComputedStyle(it, "::before").backgroundColor)), bright(behind(it))]);
+  for (const [one, other] of dots) { const ratio = (Math.max(one, other) + .05) / (Math.min(one, other) + .05);
+    if (ratio < a[0]) found.set(`dot ${ratio.toFixed(2)}`, ""); }
   return [...found]"""
 
 
@@ -374,6 +398,9 @@ def check_looks(user: User) -> None:
                 .map(it => it.textContent)""")
             user.that(not cut, f"labels of the code are cut: {cut[:4]}")
     browser.media(prefers_color_scheme="light")
+    browser.size(1024, 768)
+    user.new(root / "examples/woven/async_iter.before.pdb", root / "examples/woven/async_iter.map")
+    user.that(user.run("return document.querySelector('#axis').clientWidth") > 0.7 * 1024, "at 1024 pixels little of the code is to be seen")
     for width, height in ((390, 844), (640, 400), (320, 640)):
         browser.size(width, height, mobile=width < 640)
         user.new(root / "examples/async_iter.pdb", root / "examples/async_iter.cs", place="#m=24&o=300")
@@ -452,7 +479,8 @@ def pictures(user: User, writes: bool) -> None:
     user.console("the pictures")
 
 
-CHECKS = (check_start, check_clicks, check_keys, check_search, check_names, check_rewrite, check_refused, check_sources, check_inside, check_large, check_looks)
+CHECKS = (check_start, check_clicks, check_keys, check_search, check_names, check_rewrite, check_refused, check_sources, check_inside, check_hostile_files,
+          check_large, check_looks)
 
 
 def look(check: Any, root: Path, page: str, writes: bool) -> None:
