@@ -17,7 +17,7 @@ pub found_is : (raw : RawFile) (m x : ℕ) (found : Option PointAt) → PointIs 
 found_is raw m x None is = sym (ap (line_of_point raw m) is)
 found_is raw m x (Some at) is =
     let called : document_name raw.tables at.point.document ≡ (document_of raw.tables is.document).name =
-        ap (λ (o : Option DocumentRow). unwrap_or (option_map (λ (document : DocumentRow). (document_of raw.tables document).name) o) []) is.document_there in
+    ap (λ (o : Option DocumentRow). unwrap_or (option_map (λ (document : DocumentRow). (document_of raw.tables document).name) o) []) is.document_there in
     ap (λ (name : List ℕ). point_found at.point at.signature name) (sym (called ∙ is.name.text))
     ∙ ap (λ (signature : ℕ). point_found at.point signature (document_name raw.tables at.point.document)) is.signature ∙ sym (ap (line_of_point raw m) is.point)
 
