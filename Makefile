@@ -30,7 +30,7 @@ include tools/install.mk
 
 # What is installed below docdir as it lies here, so that the links of the documents lead to it.
 documents = README.md CHANGELOG.md CONTRIBUTING.md SECURITY.md NOTICE LICENSE $(wildcard docs/*.md docs/pictures/*.png) docs/lines.schema.json \
-  docs/verify-debug-files.yml targets/README.md action.yml bindings/js/ppdb.d.mts bindings/js/ppdb.mjs $(wildcard bindings/csharp/*.cs)
+  docs/verify-debug-files.yml targets/README.md bench/history.csv action.yml bindings/js/ppdb.d.mts bindings/js/ppdb.mjs $(wildcard bindings/csharp/*.cs)
 samples = examples/async_iter.cs examples/async_iter.pdb examples/embed_link.pdb $(wildcard examples/library/* examples/weaver/*.cs examples/weaver/tests/*.cs)
 # What make test has run when the checks of make check are run.
 tested = $(addprefix scripts/checks/,check-cases check-readme)
@@ -75,7 +75,7 @@ uninstall: uninstall-tools
 	rm -f "$(DESTDIR)$(bashdir)/ppdb" "$(DESTDIR)$(zshdir)/_ppdb" "$(DESTDIR)$(fishdir)/ppdb.fish"
 	rm -f $(foreach file,$(documents) $(samples),"$(DESTDIR)$(docdir)/$(file)")
 	scripts/making/library uninstall "$(DESTDIR)" "$(prefix)" "$(libdir)" "$(includedir)"
-	rmdir $(foreach folder,examples/library examples/weaver/tests examples/weaver examples docs/pictures docs targets bindings/csharp bindings/js bindings,"$(DESTDIR)$(docdir)/$(folder)") \
+	rmdir $(foreach folder,examples/library examples/weaver/tests examples/weaver examples docs/pictures docs targets bench bindings/csharp bindings/js bindings,"$(DESTDIR)$(docdir)/$(folder)") \
 	  "$(DESTDIR)$(docdir)" "$(DESTDIR)$(datadir)/ppdb" 2>/dev/null || true
 
 release:
