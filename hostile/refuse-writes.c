@@ -1,7 +1,7 @@
 // Calls of the C library about files, of which one goes wrong: of the calls that FAULT_CALL names, the one with the number FAULT_NUMBER,
 // from 1. FAULT_HOW is an error number; or `short`, to write half of the bytes; `before` or `after`, to end the process there by SIGKILL.
-// Each call is a line in the file FAULT_LOG: its name, what it answered, and the file or its number. Loaded before a program by
-// LD_PRELOAD; hostile/refuse-writes builds it.
+// All calls that FAULT_ALSO names fail too. Each call is a line in the file FAULT_LOG: its name, what it answered, and the file or its
+// number. Loaded before a program by LD_PRELOAD; hostile/refuse-writes builds it.
 #define _GNU_SOURCE
 #include <errno.h>
 #include <fcntl.h>
@@ -14,7 +14,7 @@
 #include <sys/syscall.h>
 #include <unistd.h>
 
-static const char *call, *how;
+static const char *call, *how, *also;
 static long number;
 static int log_file = -1;
 
@@ -22,6 +22,7 @@ __attribute__((constructor)) static void begin(void) {
     const char *log = getenv("FAULT_LOG"), *count = getenv("FAULT_NUMBER");
     call = getenv("FAULT_CALL");
     how = getenv("FAULT_HOW");
+    also = getenv("FAULT_ALSO");
     number = count ? atol(count) : 0;
     if (log)
         log_file = syscall(SYS_openat, AT_FDCWD, log, O_WRONLY | O_CREAT | O_APPEND | O_CLOEXEC, 0600);
@@ -49,8 +50,12 @@ static long told_of(const char *name, int file, long answer) {
     return told(name, of, answer);
 }
 
-// Whether the chosen call is refused; it may end the process here.
-static int is_refused(int chosen) {
+// Whether a call is refused; the chosen one may end the process here.
+static int is_refused(const char *name, int chosen) {
+    if (!chosen && also && !strcmp(name, also)) {
+        errno = EIO;
+        return 1;
+    }
     if (!chosen || !strcmp(how, "short") || !strcmp(how, "after"))
         return 0;
     if (!strcmp(how, "before"))
@@ -66,7 +71,7 @@ static void end_after(int chosen) {
 
 #define RUN(name, of, told_by, made)                                                                                                    \
     int chosen = is_chosen(name);                                                                                                       \
-    long answer = is_refused(chosen) ? -1 : (made);                                                                                     \
+    long answer = is_refused(name, chosen) ? -1 : (made);                                                                               \
     end_after(chosen);                                                                                                                  \
     return told_by(name, of, answer)
 
@@ -85,7 +90,7 @@ ssize_t read(int file, void *into, size_t size) { RUN("read", file, told_of, sys
 ssize_t write(int file, const void *from, size_t size) {
     int chosen = is_chosen("write");
     int cut = chosen && !strcmp(how, "short") && size > 1;
-    long answer = is_refused(chosen) ? -1 : syscall(SYS_write, file, from, cut ? size / 2 : size);
+    long answer = is_refused("write", chosen) ? -1 : syscall(SYS_write, file, from, cut ? size / 2 : size);
     end_after(chosen);
     return told_of("write", file, answer);
 }

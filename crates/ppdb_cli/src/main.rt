@@ -52,16 +52,17 @@ fn answer(rt: &HostRuntime, words: &[String]) -> Status {
         None => run_outside(rt, words, &mut folder, &mut out),
     };
     let refusal = refusal_line(rt, status, out.kept());
-    match out.flush() {
-        Err(_) if status != Status::Memory => {
-            tell_unwritten(rt, out.reason());
-            Status::WriteFault
+    let status = match out.flush() {
+        Err(_) if status != Status::Memory => Status::WriteFault,
+        _ => status,
+    };
+    match out.reason() {
+        Some(error) if status == Status::WriteFault => {
+            let _ = eprintln!(rt; "ppdb: standard output: {error}");
         }
-        _ => {
-            tell_more(rt, words, status, &folder, refusal.as_ref());
-            status
-        }
+        _ => tell_more(rt, words, status, &folder, refusal.as_ref()),
     }
+    status
 }
 
 /// The line of a file that breaks a rule, where the run ended with it and there is memory for it.
@@ -70,13 +71,6 @@ fn refusal_line(rt: &HostRuntime, status: Status, put: &[u8]) -> Option<String> 
         return None;
     }
     String::from_str(rt.alloc(), str::from_utf8(put).ok()?).ok()
-}
-
-/// Prints on standard error why standard output was not written.
-fn tell_unwritten(rt: &HostRuntime, reason: Option<io::Error>) {
-    if let Some(error) = reason {
-        let _ = eprintln!(rt; "ppdb: standard output: {error}");
-    }
 }
 
 /// Prints on standard error what the line of the run does not say: a hint for words that are no command, what a code means, or why a

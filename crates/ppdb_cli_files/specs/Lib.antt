@@ -3,3 +3,4 @@ pub mod Disk
 pub mod Replaces
 pub mod Kept
 pub mod Target
+pub mod Retried

@@ -1,6 +1,7 @@
 // What a system is asked to do with a file.
 ghost use Rattle.std.specs.Prelude.{◌≡◌, List, Option, Bool};
 ghost use Rattle.ppdb_cli_files.specs.Log.{Logs};
+ghost use Rattle.ppdb_cli_files.specs.Retried.{IsRetried};
 ghost use Rattle.ppdb_cli_files.specs.declared.place.Made.{Made as made_call};
 
 use ppdb_base::Bytes;
@@ -32,7 +33,8 @@ pub struct Made {
     pub succeeded: bool,
 }
 
-/// The name of a file in a folder, and what a system can do there. A new file beside it has a name that no other file has.
+/// The name of a file in a folder, and what a system can do there. A new file beside it has a name that no other file has. A call that a
+/// signal interrupts is made again.
 pub trait Place {
     /// The calls that were made, the oldest first, where the place reports them.
     ghost log: { Self → Option (List made_call) };
@@ -50,7 +52,8 @@ pub trait Place {
 
     /// Writes all bytes at the end of the new file.
     fn write(&mut self, bytes: &[u8]) -> io::Result<()>
-        ensures { Logs (log self.old) (log self.new) (Call.Write bytes.now) result };
+        ensures call { Logs (log self.old) (log self.new) (Call.Write bytes.now) result }
+        ensures retried { IsRetried result };
 
     /// Puts all of the new file on the disk.
     fn flush(&mut self) -> io::Result<()>
@@ -58,7 +61,8 @@ pub trait Place {
 
     /// Gives the new file the name.
     fn rename(&mut self) -> io::Result<()>
-        ensures { Logs (log self.old) (log self.new) Call.Rename result };
+        ensures call { Logs (log self.old) (log self.new) Call.Rename result }
+        ensures retried { IsRetried result };
 
     /// Puts the names of the folder on the disk.
     fn flush_folder(&mut self) -> io::Result<()>
@@ -66,7 +70,8 @@ pub trait Place {
 
     /// Removes the new file.
     fn remove(&mut self) -> io::Result<()>
-        ensures { Logs (log self.old) (log self.new) Call.Remove result };
+        ensures call { Logs (log self.old) (log self.new) Call.Remove result }
+        ensures retried { IsRetried result };
 
     /// Writes all bytes into the file itself, and puts them on the disk.
     fn overwrite(&mut self, bytes: &[u8]) -> io::Result<()>

@@ -3,13 +3,13 @@ ghost use Rattle.std.specs.Prelude.{None};
 ghost use Rattle.ppdb_cli_files.specs.Target.{takes_new_file};
 
 use crate::place::Place;
-use crate::streams::write_all;
+use crate::streams::{retried, write_all};
 use std::fs::{File, Metadata, OpenFile, OpenOptions, Permissions};
-use std::io;
 use std::io::ErrorKind;
 use std::os::unix::fs::{MetadataExt, OpenOptionsExt, PermissionsExt, fchown};
 use std::path::PathBuf;
 use std::rt::Files;
+use std::{fs, io};
 
 /// How many links are followed, one after the other: as many as Linux follows.
 const MOST_LINKS: u32 = 40;
@@ -115,8 +115,9 @@ impl<R: Files<File = File> + Print + AllocGlobal> Place for SystemPlace<'_, R> {
 
     fn rename(&mut self) -> io::Result<()> {
         self.new = None;
+        let system = self.system;
         let (from, to) = (self.new_name.as_path(), self.name.as_path());
-        std::fs::rename(self.system, from, to)
+        retried(|| fs::rename(system, from, to))
     }
 
     fn flush_folder(&mut self) -> io::Result<()> {
@@ -128,7 +129,8 @@ impl<R: Files<File = File> + Print + AllocGlobal> Place for SystemPlace<'_, R> {
 
     fn remove(&mut self) -> io::Result<()> {
         self.new = None;
-        std::fs::remove_file(self.system, self.new_name.as_path())
+        let (system, name) = (self.system, self.new_name.as_path());
+        retried(|| fs::remove_file(system, name))
     }
 
     fn overwrite(&mut self, bytes: &[u8]) -> io::Result<()> {
@@ -159,7 +161,7 @@ fn follow<R: Files + AllocGlobal>(system: &R, name: &str) -> io::Result<PathBuf>
         if descriptor(path.as_str()).is_some() {
             return Ok(path);
         }
-        match system.symlink_metadata(path.as_str()) {
+        match retried(|| system.symlink_metadata(path.as_str())) {
             Ok(found) if found.is_symlink() => path = link_target(system, &path)?,
             Err(error) if error.kind() != ErrorKind::NotFound => return Err(error),
             _ => return Ok(path),
@@ -170,7 +172,7 @@ fn follow<R: Files + AllocGlobal>(system: &R, name: &str) -> io::Result<PathBuf>
 
 /// Where one link leads.
 fn link_target<R: Files + AllocGlobal>(system: &R, link: &PathBuf) -> io::Result<PathBuf> {
-    let target = system.read_link(system.alloc(), link.as_str())?;
+    let target = retried(|| system.read_link(system.alloc(), link.as_str()))?;
     match link.parent() {
         Some(folder) => Ok(folder.join(system.alloc(), target.as_path())?),
         None => Ok(target),
@@ -199,7 +201,7 @@ fn open_target<R: Files<File = File>>(system: &R, name: &PathBuf) -> io::Result<
     }
     match OpenOptions::new().write(true).open(system, name.as_path()) {
         Ok(file) => {
-            let metadata = file.metadata()?;
+            let metadata = retried(|| file.metadata())?;
             if metadata.is_file() {
                 Ok(Target::Regular(file, metadata))
             } else {
@@ -233,8 +235,8 @@ fn new_name<R: AllocGlobal>(
 /// Gives a new file the owner, the group and the permissions of an old one, as far as the system allows. If it does not allow the
 /// group, the new group may do no more than everyone.
 fn dress(new: &File, old: &Metadata) {
-    let has_group = fchown(new, Some(old.uid()), Some(old.gid())).is_ok()
-        || fchown(new, None, Some(old.gid())).is_ok();
+    let give = |owner| retried(|| fchown(new, owner, Some(old.gid()))).is_ok();
+    let has_group = give(Some(old.uid())) || give(None);
     let mode = old.mode() & 0o777;
     let for_group = if has_group {
         0o070

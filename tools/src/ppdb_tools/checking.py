@@ -146,7 +146,7 @@ class Allowed:
 
     def __init__(self, name: str, text: str) -> None:
         self.name = name
-        self.lines: list[tuple[int, str, re.Pattern, re.Pattern]] = []
+        self.lines: list[tuple[int, str, re.Pattern[str], re.Pattern[str]]] = []
         self.used: set[int] = set()
         for number, line in enumerate(text.splitlines(), 1):
             words = line.split("#", 1)[0].split()

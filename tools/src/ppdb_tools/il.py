@@ -183,6 +183,7 @@ def decode(code: bytes) -> Code:
     offsets: list[int] = []
     operations: list[int] = []
     operands: list[Any] = []
+    value: Any
     at, end = 0, len(code)
     try:
         while at < end:

@@ -57,7 +57,8 @@ def asked(words: Sequence[str]) -> int:
         return Status.DONE
     if first not in SUBCOMMANDS:
         raise Stop(f'there is no subcommand "{first}"; ppdb-tools help lists them', Status.WORDS)
-    return module(first).run(parser_of(first).parse_args(words[1:]))
+    status: int = module(first).run(parser_of(first).parse_args(words[1:]))
+    return status
 
 
 def run(words: Sequence[str] | None = None) -> int:

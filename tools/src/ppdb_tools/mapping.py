@@ -87,8 +87,8 @@ class Map:
                     yield f"slot {method} {slot} {'gone' if image is None else image}"
         for method, row in sorted(self.signatures.items()):
             yield f"signature {method} {row}"
-        for name, image in sorted(self.documents.items()):
-            yield f"document {name} {image}"
+        for name, new in sorted(self.documents.items()):
+            yield f"document {name} {new}"
         for method, code in sorted(self.code.items()):
             yield f"method {method} {code.old_size} {code.new_size}"
             lines = [(run.new, f"run {run.old} {run.new} {run.length}") for run in code.runs]
@@ -131,7 +131,7 @@ class Reader:
             raise self._fail()
         try:
             read(words[1:])
-        except (ValueError, KeyError, IndexError, AttributeError):
+        except (ValueError, KeyError, IndexError):
             raise self._fail() from None
 
     def _rows(self, words: list[str]) -> None:
@@ -150,11 +150,17 @@ class Reader:
     def _method(self, words: list[str]) -> None:
         self.last = self.map.code[int(words[0])] = CodeMap(int(words[1]), int(words[2]))
 
+    def _code(self) -> CodeMap:
+        """The method to which a line belongs."""
+        if self.last is None:
+            raise self._fail()
+        return self.last
+
     def _run(self, words: list[str]) -> None:
-        self.last.runs.append(Run(int(words[0]), int(words[1]), int(words[2])))
+        self._code().runs.append(Run(int(words[0]), int(words[1]), int(words[2])))
 
     def _hide(self, words: list[str]) -> None:
-        self.last.hidden.append((int(words[0]), int(words[1])))
+        self._code().hidden.append((int(words[0]), int(words[1])))
 
     def _drop(self, words: list[str]) -> None:
         self.map.drops.add(int(words[0]))

@@ -44,6 +44,6 @@ def hexadecimal(letter: str) -> str:
     return "".join(f"\\x{byte:02x}" for byte in letter.encode("utf-8", "surrogateescape"))
 
 
-def shown(name: str | os.PathLike) -> str:
+def shown(name: str | os.PathLike[str]) -> str:
     """The name of a file for people."""
     return printable(os.fsdecode(name))

@@ -67,7 +67,7 @@ def jobs_of(said: argparse.Namespace) -> int:
     if said.jobs is not None:
         if not 1 <= said.jobs <= MOST_JOBS:
             raise Stop(f"--jobs is a number from 1 to {MOST_JOBS}", Status.WORDS)
-        return said.jobs
+        return int(said.jobs)
     return 1 if said.format == "lines" else min(os.cpu_count() or 1, MOST_JOBS)
 
 

@@ -57,9 +57,9 @@ def specifications(old: Namer, new: Namer) -> Images:
     return found
 
 
-def identities(module: Module) -> list[tuple]:
+def identities(module: Module) -> list[tuple[object, ...]]:
     """Of each reference to an assembly its name, version, culture and key."""
-    def value(cells: tuple[int, ...]) -> tuple:
+    def value(cells: tuple[int, ...]) -> tuple[object, ...]:
         try:
             return module.text(cells[6]), cells[:4], module.text(cells[7]), module.metadata.blob(cells[5])
         except Damaged:
@@ -70,8 +70,8 @@ def identities(module: Module) -> list[tuple]:
 def assemblies(each: Input, new: Module, merged: set[str]) -> Images:
     """The reference to the same assembly, by all that names it and then by its name; the module's own assembly for one that is part of
     it now."""
-    exact: dict[tuple, int] = {}
-    names: dict[str, int] = {}
+    exact: dict[tuple[object, ...], int] = {}
+    names: dict[object, int] = {}
     for row, identity in reversed(list(enumerate(identities(new)))):
         if row:
             exact[identity] = names[identity[0]] = row

@@ -80,7 +80,7 @@ class Reader:
             raise Damaged("a signature is none of a field")
         return self.type()
 
-    def any(self) -> tuple:
+    def any(self) -> tuple[object, ...]:
         """A signature of the table StandAloneSig, by its first byte."""
         first = self.data[:1]
         if first == bytes((LOCALS,)):

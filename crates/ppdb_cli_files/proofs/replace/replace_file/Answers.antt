@@ -12,7 +12,7 @@ returns-in-Err g c = weaker _ _ _ _ (one _ _ (refused Create) c.in-Err.ensures)
 pub returns-in-Err-fill : goal.returns-in-Err-fill
 returns-in-Err-fill g c =
     let e = c.in-Err-fill.error in
-    not_written_between _ _ _ _ c.args.bytes.now e e _ c.in_default.ensures c.in-Err-fill.ensures c.remove.ensures
+    not_written_between _ _ _ _ c.args.bytes.now e e _ c.in_default.ensures c.in-Err-fill.ensures c.remove.ensures.call
 
 pub returns-in-Ok : goal.returns-in-Ok
 returns-in-Ok g c =

@@ -25,4 +25,4 @@ returns g c =
     let (done, split, appended) = c.loop-rest.invariant in
     let rest = c.loop-rest.rest.now in
     let empty : rest ≡ [] = drop_of_length-le rest {i = 0} (search rules) in
-    record { bytes = subst (Appends _ _) (sym (split ∙ ap (λ l. done ++ l) empty ∙ append-nil done)) appended }
+    record { bytes = subst (Appends _ _) (sym (split ∙ ap (λ l. done ++ l) empty ∙ append-nil done)) appended; retried = tt }
