@@ -35,8 +35,9 @@ class Opened(InFolder):
             IS_WATCHING = False
         mine = (self.folder / "named", ROOT / "tools/src", ROOT / "share/ppdb", sys.prefix, sys.base_prefix, "/usr/lib")
         allowed = [os.path.realpath(place) for place in mine]
-        # A file without a name is made in the folder of temporary files, and the program is started by its own name.
-        free = {"/dev/null", "/dev/stdin", os.path.realpath(tempfile.gettempdir()), os.path.realpath(os.environ["PPDB"])}
+        # A file without a name is made in the folder of temporary files; the program and the empty page have names of their own.
+        own = (os.path.realpath(os.environ[name]) for name in ("PPDB", "PPDB_PAGE"))
+        free = {"/dev/null", "/dev/stdin", os.path.realpath(tempfile.gettempdir()), *own}
         # A name without a slash is opened in a folder that is open already: no word here is one.
         found = [os.path.realpath(name) for name in OPENED if "/" in name]
         return [name for name in found if name not in free and not any(Path(name).is_relative_to(place) for place in allowed)
