@@ -3,16 +3,49 @@ import assert from "node:assert/strict";
 import {deflateRawSync} from "node:zlib";
 import test from "node:test";
 import {readAssembly} from "../src/assembly.js";
+import {isVisible} from "../src/model.js";
 import {Session} from "../src/session.js";
-import {bytesOf, chance, engine} from "./program.mjs";
+import {rawName, state, take} from "../src/state.js";
+import {titleWords} from "../src/subjects.js";
+import {bytesOf, chance, engine, lines} from "./program.mjs";
 
 const throwing = bytesOf("examples/throw/Throw.exe");
 const given = (...names) => names.map(name => ({name: name.split("/").pop(), bytes: bytesOf(name)}));
 
-test("names of methods", () => {
-  const {names, debug} = readAssembly(throwing), name = row => { const [type, own] = names.rows[row]; return `${names.types[type].name}.${own}`; };
-  // The frames of examples/throw/lines have these, as Mono spells them: Throw+G`1[T].Run, Throw+<It>d__1.MoveNext.
-  assert.deepEqual([5, 7, 11, 31, 33].map(name), ["Throw.Try", "Throw.G<T>.Run", "Throw.<It>d__1.MoveNext", "Other.Far", "Cctor..cctor"]);
+/** The frames that Mono printed of the program, with the names as the page spells them: Throw+G`1[T].Run is Throw.G<T>.Run. */
+const FRAMES = lines(bytesOf("examples/throw/lines")).map(text => /^ {2}at (\S+) \(.*\) in (\S+):(\d+) ?$/.exec(text)).filter(it => it)
+  .map(([, name, document, line]) => ({name: name.replaceAll("+", ".").replace(/`\d+\[(\w+)\]/, "<$1>"), document, line: Number(line)}));
+/** The methods of a side with a name, by their rows. */
+const rowsOf = (side, name) => [...state[side].methods.keys()].filter(row => rawName(side, row) === name);
+
+test("a method has the name that Mono gives to the frames at its lines", async () => {
+  take(await new Session(engine).add(given("examples/throw/Throw.pdb", "examples/throw/Throw.exe")));
+  assert.equal(state.told.before.assembly, "Throw.exe");
+  assert.ok(FRAMES.length > 20);
+  for (const {name, document, line} of FRAMES) {
+    const [row, ...others] = rowsOf("before", name), {methods} = state.before, method = methods.get(row);
+    assert.deepEqual(others, [], name);
+    // Mono gives the code that an async method continues in the name of that method.
+    const points = [...method.points, ...methods.get(method.move)?.points ?? []];
+    assert.ok(points.some(it => isVisible(it) && it.start_line <= line && line <= it.end_line && state.before.documents.get(it.document).text === document),
+      `${name} has no point on line ${line} of ${document}`);
+  }
+});
+test("an assembly of after a rewrite names the methods of before through the map", async () => {
+  const map = "examples/throw/throw.map";
+  take(await new Session(engine).add(given("examples/throw/before.pdb", map, "examples/throw/Throw.pdb", "examples/throw/Throw.exe")));
+  // Both files have the identity that the assembly names.
+  assert.deepEqual([state.told.before.name, state.told.before.assembly, state.told.after.assembly], ["before.pdb", null, "Throw.exe"]);
+  const moved = lines(bytesOf(map)).map(text => /^row 06 (\d+) (\d+)$/.exec(text)).filter(it => it).map(([, from, to]) => [Number(to), Number(from)]);
+  const origins = new Map(moved), spelled = new Set(FRAMES.map(it => it.name).filter(name => !name.includes(".<")));
+  assert.ok(spelled.size >= 7 && moved.some(([to, from]) => to !== from));
+  for (const name of spelled) {
+    const [row] = rowsOf("after", name);
+    assert.equal(titleWords("before", state.before.methods.get(origins.get(row))), name);
+  }
+});
+test("the debug directory of an assembly", () => {
+  const {debug} = readAssembly(throwing);
   assert.equal(debug.ids.length, 1);
   assert.equal(debug.embedded, null);
 });
@@ -86,7 +119,11 @@ test("damaged debug files are refused with their line, and others are no debug f
 });
 test("a source is shown if its hash fits, or if the user insists", async () => {
   const session = new Session(engine), source = bytesOf("examples/async_iter.cs");
-  await session.add([...given("examples/async_iter.pdb"), {name: "old/async_iter.cs", bytes: new TextEncoder().encode("old")}]);
+  await session.add(given("examples/async_iter.pdb"));
+  const none = await session.source("before", 1);
+  assert.deepEqual([none.state, none.text, none.note, none.canInsist], ["none", undefined, "No source", false]);
+  session.forget();
+  await session.add([{name: "old/async_iter.cs", bytes: new TextEncoder().encode("old")}]);
   const other = await session.source("before", 1);
   assert.deepEqual([other.state, other.text, other.canInsist], ["differs", undefined, true]);
   assert.equal((await session.source("before", 1, true)).text, "old");
@@ -104,7 +141,8 @@ test("embedded sources, and what is saved", async () => {
   const session = new Session(engine);
   await session.add(given("examples/embed_link.pdb"));
   const source = await session.source("before", 1);
-  assert.deepEqual([source.state, source.from], ["agrees", "embedded in the debug file"]);
+  assert.deepEqual([source.state, source.from, source.text],
+    ["agrees", "embedded in the debug file", new TextDecoder().decode(bytesOf("examples/async_iter.cs"))]);
   const made = session.save("rebuilt");
   assert.equal(made.name, "embed_link.rebuilt.pdb");
   assert.equal((await new Session(engine).add([{name: "r.pdb", bytes: made.bytes}])).before.line, "accepted");

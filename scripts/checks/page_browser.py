@@ -293,11 +293,23 @@ def check_sources(user: User) -> None:
     user.that("<img src=x onerror=alert(1)>" in shown and "⟨U+202E⟩" in shown and "␇" in shown, "a hostile name is not shown as it is")
     user.that("\u202e" not in user.run("return document.body.textContent"), "a mark of direction is in the page")
     user.console("hostile names")
-    for what, value, word in (("that is damaged", b"\x09\0\0\0\xff\xff", "damaged"), ("that is too long", b"\xff\xff\xff\x7f\xff", "more than the page shows")):
-        (work / "one.pdb").write_bytes(with_names(b"/src/none.cs", value))
-        user.new(work / "one.pdb")
-        user.that(word in user.text("#notice"), f"an embedded source {what}: {user.text('#notice')}")
+    check_embedded(user)
     user.console("sources")
+
+
+def check_embedded(user: User) -> None:
+    """Embedded sources that are shown with what their hash says, or why not."""
+    file, plain = user.check.work / "one.pdb", bytes(4) + b"a\r\nb"
+    for what, value, digest, state, seen in (
+            ("as it is", plain, hashlib.sha256(b"a\r\nb").digest(), "agrees", "source verified"), ("with another hash", plain, bytes(32), "differs", "its hash differs"),
+            ("without a hash", plain, b"", "unchecked", "source not checked"), ("that is damaged", b"\x09\0\0\0\xff\xff", b"", "none", "damaged"),
+            ("that is too long", b"\xff\xff\xff\x7f\xff", b"", "none", "more than the page shows")):
+        file.write_bytes(with_names(b"/src/none.cs", value, digest))
+        user.new(file)
+        got, lines = user.run("""const it = await port.ask("source", "before", 1, a[0]);
+            return [it.state, Array.from({length: lineCount(it)}, (_, index) => lineOf(it, index + 1))]""", state == "differs")
+        user.that([got, lines] == [state, [] if state == "none" else ["a", "b"]], f"an embedded source {what} is {got} {lines}")
+        user.that(seen in user.text("#bar") + user.text("#notice"), f"an embedded source {what}: {user.text('#bar')} {user.text('#notice')}")
 
 
 def check_inside(user: User) -> None:
