@@ -292,21 +292,6 @@ class Commands(InFolder):
         self.assertEqual(self.checked(lines)[0], 0)
         self.assertEqual(self.checked([line for line in lines if not line.startswith("slot")])[0], 1)
 
-    def test_damaged_modules(self) -> None:
-        random.seed(3)
-        whole = (THROW / "Throw.exe").read_bytes()
-        old = self.file("whole.exe", whole)
-        said = self.file("m", b"ppdbmap 4\n")
-        for _ in range(25):
-            data = bytearray(whole)
-            for _ in range(random.choice((1, 3, 30))):
-                data[random.randrange(len(data))] = random.choice((0, 1, 0x7F, 0x80, 0xFF))
-            if random.random() < 0.2:
-                del data[random.randrange(len(data)):]
-            new = self.file("damaged.exe", data)
-            for words in (("map", old, new), ("map", new, old), ("check-map", new, old, said)):
-                self.assertIn(run(*words).status, (0, 1, 3))
-
     def test_many_methods_with_one_body(self) -> None:
         """Rows that share the bytes of a long body would cost their product."""
         code = NOP * 60000 + RETURN
