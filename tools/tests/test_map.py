@@ -11,7 +11,9 @@ from ppdb_tools.errors import Damaged
 from ppdb_tools.il import OPERATIONS, decode
 from ppdb_tools.mapping import CodeMap, Map, read_map
 from ppdb_tools.match.align import align, by_rare_items, longest
+from ppdb_tools.match.module import Module
 from ppdb_tools.match.signatures import Reader
+from ppdb_tools.match.texts import name_of
 
 TEXTS = Texts("one", "two", "log")
 ONE, TWO, LOG = (text(TEXTS.places[each]) for each in ("one", "two", "log"))
@@ -266,6 +268,24 @@ class Commands(InFolder):
             self.assertEqual(run("map", old, new, "--explain", wanted).text, run("map", old, new, "--explain", "Run").text)
         self.assertEqual(run("map", old, new, "--explain", "None").status, 2)
         self.assertFalse((self.folder / "n.dll.map").exists())
+
+    def test_explain_tells_overloads_and_try_blocks(self) -> None:
+        body, clause = ONE + call(LINE), (2, 0, 12, 12, 7, 0)
+        old = self.file("o.dll", self.one(Method(b"Run", body + RETURN)))
+        new = self.file("n.dll", self.one(Method(b"Run", body + b"\xde\x07" + LOG + POP + b"\xdc" + RETURN, VOID, b"", (clause,))))
+        said = run("map", old, new, "--explain", "Run").text
+        self.assertIn(" 5 call [mscorlib]System.Console::WriteLine(string) ", said)
+        self.assertIn(" try 0 to 12 finally 12 to 19\n", said)
+
+    def test_types_of_parameters(self) -> None:
+        """Each kind of type of a signature (ECMA-335 II.23.2.12)."""
+        wanted = {b"\x15\x12\x05\x02\x0e\x1d\x08": "System.Console<string, int32[]>", b"\x14\x08\x02\x01\x03\x01\x00": "int32[,]",
+                  b"\x1b\x00\x01\x01\x0e": "void *(string)", b"\x10\x0f\x08": "int32*&", b"\x1e\x00": "!!0", b"\x13\x01": "!1",
+                  b"\x20\x05\x08": "int32", b"\x11\x08": "Shop.Order", b"\x1c": "object", b"\x18": "native int"}
+        signature = bytes((0x30, 1, len(wanted), 1)) + b"".join(wanted)
+        made = Module(self.one(Method(b"Run", RETURN, signature)), "made")
+        self.assertEqual(name_of(made, 0x06000001), f"Shop.Order::Run({', '.join(wanted.values())})")
+        self.assertEqual(name_of(made, 0x06000009), "06000009")
 
     def checked(self, lines: list[str]) -> tuple[int, list[list[str]]]:
         ended = run("check-map", self.folder / "old.dll", self.folder / "new.dll", self.file("m", "\n".join(lines).encode()))
