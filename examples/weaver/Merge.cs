@@ -43,7 +43,7 @@ static class Merge
     }
 
     // The objects stay the same: by them MapWriter knows what moved. A type whose name is taken gets another one.
-    static void Move(ModuleDefinition from, ModuleDefinition to)
+    public static void Move(ModuleDefinition from, ModuleDefinition to)
     {
         // Cecil frees a type from its module when the module itself had it, which had no nested one.
         foreach (var type in from.GetTypes().Where(type => type.IsNested).ToList())

@@ -11,7 +11,9 @@ from ppdb_tools.errors import Damaged
 from ppdb_tools.il import OPERATIONS, decode
 from ppdb_tools.mapping import CodeMap, Map, read_map
 from ppdb_tools.match.align import align, by_rare_items, longest
+from ppdb_tools.match.module import Module
 from ppdb_tools.match.signatures import Reader
+from ppdb_tools.match.texts import name_of
 
 TEXTS = Texts("one", "two", "log")
 ONE, TWO, LOG = (text(TEXTS.places[each]) for each in ("one", "two", "log"))
@@ -267,6 +269,24 @@ class Commands(InFolder):
         self.assertEqual(run("map", old, new, "--explain", "None").status, 2)
         self.assertFalse((self.folder / "n.dll.map").exists())
 
+    def test_explain_tells_overloads_and_try_blocks(self) -> None:
+        body, clause = ONE + call(LINE), (2, 0, 12, 12, 7, 0)
+        old = self.file("o.dll", self.one(Method(b"Run", body + RETURN)))
+        new = self.file("n.dll", self.one(Method(b"Run", body + b"\xde\x07" + LOG + POP + b"\xdc" + RETURN, VOID, b"", (clause,))))
+        said = run("map", old, new, "--explain", "Run").text
+        self.assertIn(" 5 call [mscorlib]System.Console::WriteLine(string) ", said)
+        self.assertIn(" try 0 to 12 finally 12 to 19\n", said)
+
+    def test_types_of_parameters(self) -> None:
+        """Each kind of type of a signature (ECMA-335 II.23.2.12)."""
+        wanted = {b"\x15\x12\x05\x02\x0e\x1d\x08": "System.Console<string, int32[]>", b"\x14\x08\x02\x01\x03\x01\x00": "int32[,]",
+                  b"\x1b\x00\x01\x01\x0e": "void *(string)", b"\x10\x0f\x08": "int32*&", b"\x1e\x00": "!!0", b"\x13\x01": "!1",
+                  b"\x20\x05\x08": "int32", b"\x11\x08": "Shop.Order", b"\x1c": "object", b"\x18": "native int"}
+        signature = bytes((0x30, 1, len(wanted), 1)) + b"".join(wanted)
+        made = Module(self.one(Method(b"Run", RETURN, signature)), "made")
+        self.assertEqual(name_of(made, 0x06000001), f"Shop.Order::Run({', '.join(wanted.values())})")
+        self.assertEqual(name_of(made, 0x06000009), "06000009")
+
     def checked(self, lines: list[str]) -> tuple[int, list[list[str]]]:
         ended = run("check-map", self.folder / "old.dll", self.folder / "new.dll", self.file("m", "\n".join(lines).encode()))
         return ended.status, ended.rows
@@ -291,21 +311,6 @@ class Commands(InFolder):
         _, lines, _ = self.maps(self.one(Method(b"Run", old, VOID, LOCALS)), self.one(Method(b"Run", new, VOID, b"\x07\x02\x0e\x08")))
         self.assertEqual(self.checked(lines)[0], 0)
         self.assertEqual(self.checked([line for line in lines if not line.startswith("slot")])[0], 1)
-
-    def test_damaged_modules(self) -> None:
-        random.seed(3)
-        whole = (THROW / "Throw.exe").read_bytes()
-        old = self.file("whole.exe", whole)
-        said = self.file("m", b"ppdbmap 4\n")
-        for _ in range(25):
-            data = bytearray(whole)
-            for _ in range(random.choice((1, 3, 30))):
-                data[random.randrange(len(data))] = random.choice((0, 1, 0x7F, 0x80, 0xFF))
-            if random.random() < 0.2:
-                del data[random.randrange(len(data)):]
-            new = self.file("damaged.exe", data)
-            for words in (("map", old, new), ("map", new, old), ("check-map", new, old, said)):
-                self.assertIn(run(*words).status, (0, 1, 3))
 
     def test_many_methods_with_one_body(self) -> None:
         """Rows that share the bytes of a long body would cost their product."""

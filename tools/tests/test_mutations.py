@@ -114,6 +114,23 @@ class Mutations(InFolder):
         self.rounds(names, lambda seed, data: self.tried(seed, "stack-maps", self.folder / "maps", ROOT / "corpus/aliases.pdb", ROOT / "corpus/lib2.pdb",
                                                          "--names", self.file("names", data)), 10)
 
+    def test_modules_before_and_after(self) -> None:
+        """A damaged module, before or after a rewrite, and damaged maps."""
+        place = THROW / "Throw.exe"
+        map_of_itself = self.folder / "Throw.map"
+        run("map", place, place, "--output", map_of_itself)
+
+        def work(seed: int, data: bytes) -> None:
+            damaged = self.file("damaged.exe", data)
+            for words in ((damaged, place), (place, damaged)):
+                self.tried(seed, "map", *words, "--output", self.folder / "damaged.map")
+                self.tried(seed, "map", *words, "--explain", "Main")
+                self.tried(seed, "check-map", *words, map_of_itself)
+            self.tried(seed, "map", place, damaged, "--into", place, "--output", self.folder / "two.map")
+
+        self.rounds(place.read_bytes(), work, 11)
+        self.rounds(map_of_itself.read_bytes(), lambda seed, data: self.tried(seed, "check-map", place, place, self.file("m.map", data)), 12)
+
     def test_stores(self) -> None:
         """A store whose folders are files, links, pipes and other names."""
         place = self.file("App.pdb", debug_file([Doc(b"/a.cs")], IDENTITY))

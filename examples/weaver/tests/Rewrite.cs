@@ -1,7 +1,8 @@
 // What weavers, trimmers, optimisers and obfuscators do, so that other writers of maps can be compared with MapWriter, which knows the
-// objects. `mono Rewrite.exe FOLDER IN..` rewrites each module in each way: FOLDER/WAY-IN has the new module in the file `new`, its map in
-// `map`, and in `map.changed` the old instructions, each by the row of its method and its offset, that are another instruction now (another
-// opcode or operand); `offsets` has all old instructions, and `old` names these files for scripts/checks/compare-maps.
+// objects. `mono Rewrite.exe FOLDER WAYS IN..` rewrites each module in each of the ways, `all` or names with commas between them:
+// FOLDER/WAY-IN has the new module in the file `new`, its map in `map`, and in `map.changed` the old instructions, each by the row of its
+// method and its offset, that are another instruction now (another opcode or operand); `offsets` has all old instructions, and `old` names
+// these files for scripts/checks/compare-maps.
 using System;
 using System.Collections.Generic;
 using System.IO;
@@ -52,12 +53,13 @@ static class Rewrite
 
     static void Main(string[] words)
     {
-        foreach (var file in words.Skip(1))
-            foreach (var way in ways)
+        var wanted = words[1] == "all" ? ways.Keys.ToArray() : words[1].Split(',');
+        foreach (var file in words.Skip(2))
+            foreach (var way in wanted)
             {
-                var folder = Path.Combine(words[0], way.Key + "-" + Path.GetFileNameWithoutExtension(file));
+                var folder = Path.Combine(words[0], way + "-" + Path.GetFileNameWithoutExtension(file));
                 Directory.CreateDirectory(folder);
-                Write(file, folder, way.Value);
+                Write(file, folder, ways[way]);
             }
     }
 
@@ -532,7 +534,6 @@ static class Rewrite
     static void RenameMethods(ModuleDefinition module)
     {
         int n = 0;
-        var references = module.GetMemberReferences().ToList();
         foreach (var method in module.GetTypes().Where(t => !t.IsInterface && t != say.DeclaringType).SelectMany(type => type.Methods)
             .Where(m => !m.IsVirtual && !m.IsConstructor && !m.IsRuntime && m.HasBody && !m.DeclaringType.HasGenericParameters)) method.Name = "m" + n++;
     }

@@ -111,24 +111,23 @@ class Prepared:
     def strong(self, keys: list[int]) -> list[int]:
         """Keys that are equal only if, besides, the values of two instructions go to the same one in the same place, or, of instructions
         without a value, if their last value comes from the same one."""
-        consumer, place, producer = self.flow
         found = []
-        for at, key in enumerate(keys):
-            other = keys[consumer[at]] + 1 if consumer[at] >= 0 else -keys[producer[at]] - 1 if producer[at] >= 0 else 0
-            found.append((key << 32) + (other << 4) + min(place[at], 15))
+        for key, taker, place, giver in zip(keys, *self.flow):
+            other = keys[taker] + 1 if taker >= 0 else -keys[giver] - 1 if giver >= 0 else 0
+            found.append((key << 32) + (other << 4) + (place if place < 15 else 15))
         return found
 
     @cached_property
     def flow(self) -> tuple[list[int], list[int], list[int]]:
         """For each instruction the one that takes its value, in which place, and the one that gave its last value; -1 for none."""
-        count = len(self)
+        operations, targets, count = self.code.operations, self.targets, len(self)
         consumer, place, producer = [-1] * count, [0] * count, [-1] * count
         starts = {self.places.get(start): [CAUGHT] for clause in self.body.clauses if clause.kind < 2
                   for start in ((clause.start, clause.operand) if clause.kind else (clause.start,))}
         saved: dict[int | None, list[int]] = dict(starts)
         stack: list[int] = []
         falls = True
-        for at, operation in enumerate(self.code.operations):
+        for at, operation in enumerate(operations):
             if at in saved and (not falls or at in starts):
                 stack = list(saved[at])
             elif not falls:
@@ -136,16 +135,16 @@ class Prepared:
             pops, pushes = POPS[operation], PUSHES[operation]
             if pops < 0 or pushes < 0:
                 pops, pushes = self.effect(at, len(stack))
-            for index in range(min(pops, len(stack))):
-                source = stack.pop()
-                if index == 0:
-                    producer[at] = source
-                if source >= 0 and consumer[source] < 0:
-                    consumer[source], place[source] = at, pops - 1 - index
+            if pops and stack:
+                producer[at] = stack[-1]
+                for index in range(pops - 1, max(-1, pops - 1 - len(stack)), -1):
+                    source = stack.pop()
+                    if source >= 0 and consumer[source] < 0:
+                        consumer[source], place[source] = at, index
             if pushes:
                 stack += (at,) * pushes
-            if at in self.targets:
-                for target in self.targets[at]:
+            if at in targets:
+                for target in targets[at]:
                     if target > at:
                         saved.setdefault(target, list(stack))
             falls = operation not in ENDS

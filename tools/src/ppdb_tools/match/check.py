@@ -6,10 +6,10 @@ from ppdb_tools.il import BY_NAME, OPERATIONS
 from ppdb_tools.mapping import Map, Run
 from ppdb_tools.match.bodies import KIND_OF, LOCAL, RETURN, Prepared, prepared
 from ppdb_tools.match.compare import compare, edges
-from ppdb_tools.match.explain import name_of
 from ppdb_tools.match.maps import Mapper
 from ppdb_tools.match.members import Input, new_namer, old_namer
 from ppdb_tools.match.rows import LAST_TABLE, row_images
+from ppdb_tools.match.texts import name_of
 from ppdb_tools.match.types import simple_name
 
 # What a `ret` may be inside of a protected range: a tool puts the value into a local, and leaves.

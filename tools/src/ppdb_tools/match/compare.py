@@ -2,7 +2,7 @@
 from collections import Counter
 from typing import NamedTuple
 
-from ppdb_tools.match.align import Alignment, align
+from ppdb_tools.match.align import Alignment, align, embedded
 from ppdb_tools.match.bodies import KIND_OF, LOCAL, RETURN, STORE, Prepared
 
 
@@ -81,7 +81,11 @@ def next_kept(kept: set[int], count: int) -> list[int]:
 
 
 def aligned(view: View, unsure: dict[int, str]) -> list[tuple[int, int]]:
-    """The pairs that are the same by their keys, and by what takes their values."""
+    """The pairs that are the same by their keys, if the new code has all of the old code and in one way; else by what takes their values,
+    too."""
+    whole = embedded(view.keys, view.others) if len(view.keys) < len(view.others) else None
+    if whole is not None and not whole.unsure:
+        return whole.pairs
     found = align(view.old.strong(view.keys), view.new.strong(view.others))
     unsure.update((at, AMBIGUOUS) for at in found.unsure)
     return fill(view, found.pairs, unsure)
@@ -241,6 +245,8 @@ def with_slots(old: Prepared, new: Prepared, pairs: list[tuple[int, int]], unsur
 
 def used_slots(old: Prepared, new: Prepared, pairs: list[tuple[int, int]]) -> tuple[dict[int, int], dict[int, str]]:
     """The new slot of each old one that kept code uses. It must be one, and that of no other."""
+    if not old.locals:
+        return {}, {}
     slots: dict[int, int] = {}
     unsure: dict[int, str] = {}
     for slot, counts in sorted(slot_votes(old, new, pairs).items()):

@@ -1,45 +1,18 @@
-"""Two bodies side by side, with what was matched."""
+"""Two bodies side by side, with what was matched, and their exception clauses."""
 from collections.abc import Iterator
 
-from ppdb_tools import metadata as tables
-from ppdb_tools.errors import Damaged
-from ppdb_tools.il import OPERATIONS
+from itertools import zip_longest
+
+from ppdb_tools.il import OPERATIONS, Clause
 from ppdb_tools.match.bodies import BRANCH, KIND_OF, NONE, STRING, SWITCH, TOKEN, Prepared
 from ppdb_tools.match.compare import Comparison
-from ppdb_tools.match.module import Module
-from ppdb_tools.metadata import METHOD_SPEC, decoded
+from ppdb_tools.match.texts import name_of
 
 # Signs between two instructions: kept, gone, added, not decided.
 KEPT, GONE, ADDED, UNSURE = "=", "-", "+", "?"
 WIDTH = 60
-
-
-def name_of(module: Module, token: int) -> str:
-    """What a token names."""
-    try:
-        return _name(module, token >> 24, token & 0xFFFFFF)
-    except (Damaged, IndexError):
-        return f"{token:08x}"
-
-
-def _name(module: Module, table: int, row: int) -> str:
-    if table == tables.TYPE_DEF:
-        return module.type_names[row]
-    if table == tables.TYPE_REF:
-        where, whole = module.reference_names[row]
-        return f"[{where}]{whole}" if where else whole
-    if table == tables.METHOD_DEF:
-        return f"{module.type_names[module.owner[row]]}::{module.method_name(row)}"
-    if table == tables.FIELD:
-        return f"{module.type_names[module.field_owner[row]]}::{module.field_name(row)}"
-    if table == tables.MEMBER_REF:
-        parent, name, _ = module.metadata.row(table, row)
-        above, of = decoded("MemberRefParent", parent)
-        return f"{_name(module, above, of)}::{module.text(name)}"
-    if table == METHOD_SPEC:
-        above, of = decoded("MethodDefOrRef", module.metadata.row(table, row)[0])
-        return f"{_name(module, above, of)}<>" if above != METHOD_SPEC else "?"
-    return f"{table:02x}{row:06x}"
+# What is before the handler of an exception clause, by its kind (II.25.4.6).
+HANDLERS = {0: "catch", 1: "filter", 2: "finally", 4: "fault"}
 
 
 def instruction(body: Prepared, at: int) -> str:
@@ -72,13 +45,22 @@ def side_by_side(old: Prepared, new: Prepared, same: Comparison) -> Iterator[str
         if one < len(old):
             yield line(instruction(old, one), KEPT, instruction(new, other))
         at, to = one + 1, other + 1
+    for before, after in zip_longest(*(map(clause, body.body.clauses) for body in (old, new)), fillvalue=""):
+        yield line(before, " ", after)
     for slot in range(len(old.locals)):
         place = same.slots.get(slot)
         said = f"slot {place}" if place is not None else ""
         yield line(f"slot {slot}", KEPT if said else UNSURE if slot in same.unsure_slots else GONE, said, same.unsure_slots.get(slot, ""))
 
 
+def clause(each: Clause) -> str:
+    """An exception clause, by the offsets of its ranges."""
+    return f"try {each.try_start} to {each.try_end} {HANDLERS.get(each.kind, each.kind)} {each.start} to {each.end}"
+
+
 def line(left: str, sign: str, right: str, why: str = "") -> str:
     """A line: an old instruction, a sign, a new one, and a reason."""
-    return f"{left[:WIDTH].ljust(WIDTH)} {sign} {right}{f'  ({why})' if why else ''}".rstrip()
+    if len(left) > WIDTH:
+        left = f"{left[:WIDTH - 2]}.."
+    return f"{left.ljust(WIDTH)} {sign} {right}{f'  ({why})' if why else ''}".rstrip()
 

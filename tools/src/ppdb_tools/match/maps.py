@@ -189,13 +189,21 @@ def code_map(old: Prepared, new: Prepared, same: Comparison) -> CodeMap:
     """The runs of pairs; of an instruction whose length changed the common part. New code between them is hidden."""
     starts, places = old.code.offsets, new.code.offsets
     found = CodeMap(starts[-1], places[-1])
-    at_new = 0
-    for at, to in [*same.pairs, (len(old), len(new))]:
-        for added in range(at_new, to):
-            found.hide(places[added], places[added + 1] - places[added])
-        at_new = to + 1
-        if at < len(old):
-            found.keep(starts[at], places[to], min(starts[at + 1] - starts[at], places[to + 1] - places[to]))
+    run_old = run_new = length = hidden = 0
+    for at, to in same.pairs:
+        start, place = starts[at], places[to]
+        if place > places[hidden]:
+            found.hide(places[hidden], place - places[hidden])
+        hidden = to + 1
+        if start != run_old + length or place != run_new + length:
+            if length:
+                found.keep(run_old, run_new, length)
+            run_old, run_new, length = start, place, 0
+        length += min(starts[at + 1] - start, places[hidden] - place)
+    if length:
+        found.keep(run_old, run_new, length)
+    if places[-1] > places[hidden]:
+        found.hide(places[hidden], places[-1] - places[hidden])
     return found
 
 

@@ -30,6 +30,7 @@ class Namer:
         self.specifications: dict[int, int] = {}
         self.signatures: dict[int, Method] = {}
         self.tokens: dict[int, int] = {}
+        self.arities: dict[int, tuple[int, int]] = {}
         self.locals: dict[int, tuple[int, ...]] = {}
         # The keys of instructions with a token or a text, by operation and token.
         self.keys: dict[int, int] = {}
@@ -160,8 +161,11 @@ class Namer:
 
     def arity(self, token: int) -> tuple[int, int]:
         """How many values a call of what a token names takes and gives."""
-        signature = self.called(token >> 24, token & 0xFFFFFF)
-        return signature.pops, signature.pushes
+        found = self.arities.get(token)
+        if found is None:
+            signature = self.called(token >> 24, token & 0xFFFFFF)
+            found = self.arities[token] = signature.pops, signature.pushes
+        return found
 
     def called(self, table: int, row: int) -> Method:
         """The signature of what a call names."""
