@@ -301,7 +301,8 @@ def check_embedded(user: User) -> None:
     """Embedded sources that are shown with what their hash says, or why not."""
     file, plain = user.check.work / "one.pdb", bytes(4) + b"a\r\nb"
     for what, value, digest, state, seen in (
-            ("as it is", plain, hashlib.sha256(b"a\r\nb").digest(), "agrees", "source verified"), ("with another hash", plain, bytes(32), "differs", "its hash differs"),
+            ("as it is", plain, hashlib.sha256(b"a\r\nb").digest(), "agrees", "source verified"),
+            ("with another hash", plain, bytes(32), "differs", "its hash differs"),
             ("without a hash", plain, b"", "unchecked", "source not checked"), ("that is damaged", b"\x09\0\0\0\xff\xff", b"", "none", "damaged"),
             ("that is too long", b"\xff\xff\xff\x7f\xff", b"", "none", "more than the page shows")):
         file.write_bytes(with_names(b"/src/none.cs", value, digest))
