@@ -201,7 +201,7 @@ pub(crate) fn draft_of(alloc: Global, value: &FileValue) -> Result<Drafting, Bui
     ensures none { OnOk result (first_of (filter_map large_step_of value.now.methods) ≡ None) }
     ensures limit { IfErr result (IsLimit (first_of (filter_map large_step_of value.now.methods))) }
 {
-    let mut draft = match Drafting::new(alloc) {
+    let mut draft = match Drafting::new(alloc, None) {
         Ok(draft) => draft,
         Err(Memory) => return Err(BuildError::Memory),
     };

@@ -12,6 +12,7 @@ use ppdb_tables::{
 use ppdb_values::{CustomBody, ImportValue};
 use sequence_points::{Point, PointError, single_document};
 use std::alloc::Global;
+use std::hash::RandomState;
 use std::marker::Model;
 use type_blobs::{Constant, Modifier};
 
@@ -48,15 +49,15 @@ impl Drafting {
     ghost use Rattle.ppdb_build_draft.specs.Draft.{empty_draft, with_document, with_method, with_all_methods, with_variable, with_scope_row};
     ghost use Rattle.ppdb_build_draft.specs.Draft.{with_signature, with_import, with_machine, with_custom};
 
-    /// A draft without parts.
-    pub fn new(alloc: Global) -> Result<Drafting, Memory>
+    /// A draft without parts. Items of its heaps are hashed under the key, if there is one.
+    pub fn new(alloc: Global, key: Option<RandomState>) -> Result<Drafting, Memory>
         ensures { IfOk result (λ draft. draft ≡ empty_draft) }
     {
         Ok(Drafting {
             alloc,
-            texts: TextHeap::new(alloc)?,
-            guids: GuidHeap::new(alloc),
-            blobs: BlobHeap::new(alloc)?,
+            texts: TextHeap::new(alloc, key)?,
+            guids: GuidHeap::new(alloc, key),
+            blobs: BlobHeap::new(alloc, key)?,
             rows: Rows {
                 documents: List::new(alloc),
                 methods: List::new(alloc),
@@ -247,6 +248,14 @@ impl Drafting {
             value,
         })?;
         Ok(())
+    }
+
+    /// Frees what items of the heaps are found by, once all parts are there.
+    pub fn close(&mut self)
+        ensures { self.new ≡ self.old }
+    {
+        self.texts.close();
+        self.blobs.close();
     }
 
     /// The rows so far.

@@ -5,6 +5,7 @@ pub mod FirstUses
 pub mod Interned
 pub mod Spellings
 pub mod Marks
+pub mod Searches
 pub mod GuidSets
 pub mod Parts
 pub mod Drafts

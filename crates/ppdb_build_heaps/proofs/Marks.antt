@@ -12,9 +12,9 @@ use Rattle.std.specs.{Prelude.{nat_eq, nat_lt}, List.{list_any, position_or_len,
 use Rattle.ppdb_base.specs.Told.{told}
 use Rattle.ppdb_build_heaps.specs.declared.heap.HeapKind.{HeapKind}
 use Rattle.ppdb_build_heaps.specs.Kinds.{spelled}
-use Rattle.ppdb_build_heaps.specs.Items.{with_use, index_of}
+use Rattle.ppdb_build_heaps.specs.Items.{IsIn, with_use, index_of}
 use Rattle.ppdb_build_heaps.specs.Interned.{length_of, index_in}
-use Rattle.ppdb_build_heaps.specs.Marks.{mark, has_mark, first_with, is_first, other_index}
+use Rattle.ppdb_build_heaps.specs.Marks.{has_mark, first_with, is_first, other_index}
 use Rattle.ppdb_build_heaps.proofs.Items.{itself, index-new, index-stable}
 use Rattle.ppdb_build_heaps.proofs.Interned.{said_more}
 use Rattle.ppdb_build_heaps.proofs.Stays.{counted}
@@ -82,220 +82,207 @@ found_none p xs is = by (nat_lt (position_or_len p xs) (length xs)) refl is
     by true less e = absurd (cc (e))
     by false not_less e = omega (arith, prefix_len-le-length (λ x. not (p x)) xs, ltb-false (position_or_len p xs) (length xs) not_less)
 
--- ---- items and marks
-
-marked : (item : List ℕ) → has_mark (mark item) item ≡ true
-marked item = eq-eqb (mark item) (mark item) refl
-
--- before the first place nothing passes
-earlier : (p : List ℕ → Bool) (xs : List (List ℕ)) (k : ℕ) → k < position_or_len p xs → p (get_or xs k []) ≡ false
-earlier p xs k less = by (p (get_or xs k [])) refl
-  where
-    by : (b : Bool) → p (get_or xs k []) ≡ b → b ≡ false
-    by true is = absurd (true≢false (sym (prefix_len_passes (λ x. not (p x)) xs k [] less) ∙ ap not is))
-    by false is = refl
-
--- at the first place something passes
-at_place : (p : List ℕ → Bool) (xs : List (List ℕ)) → position_or_len p xs < length xs → p (get_or xs (position_or_len p xs) []) ≡ true
-at_place p xs less = by (p (get_or xs (position_or_len p xs) [])) refl
-  where
-    by : (b : Bool) → p (get_or xs (position_or_len p xs) []) ≡ b → b ≡ true
-    by true is = refl
-    by false is = absurd (true≢false (sym (ap not is) ∙ prefix_len_stops (λ x. not (p x)) xs [] less))
-
-module _ (items : List (List ℕ)) (item : List ℕ) where
-  -- an item of a mark that no item has is not there
-  pub not_there : position_or_len (has_mark (mark item)) items ≡ length items → list_any (bytes_eq item) items ≡ false
-  not_there none = by (list_any (bytes_eq item) items) refl
-    where
-      by : (b : Bool) → list_any (bytes_eq item) items ≡ b → b ≡ false
-      by true is =
-          let n = position_or_len (bytes_eq item) items in
-          let less : n < length items = counted items item is in
-          let same : item ≡ get_or items n [] = (bytes_decides item (get_or items n [])).0 (at_place (bytes_eq item) items less) in
-          absurd (true≢false (sym (ap (has_mark (mark item)) (sym same) ∙ marked item)
-          ∙ earlier (has_mark (mark item)) items n (omega (arith, none, less))))
-      by false is = refl
-
-  -- the first item of its mark is there, at that place
-  module _ (less : position_or_len (has_mark (mark item)) items < length items) (is : is_first items item ≡ true) where
-    same : get_or items (position_or_len (has_mark (mark item)) items) [] ≡ item
-    same = (bytes_decides (get_or items (position_or_len (has_mark (mark item)) items) []) item).0 is
-
-    pub first_there : list_any (bytes_eq item) items ≡ true
-    first_there = list_any_at (bytes_eq item) items (position_or_len (has_mark (mark item)) items) [] less
-        (ap (bytes_eq item) same ∙ itself item)
-
-    pub first_place : position_or_len (bytes_eq item) items ≡ position_or_len (has_mark (mark item)) items
-    first_place = position_or_len_is (bytes_eq item) items (position_or_len (has_mark (mark item)) items) [] (omega (arith, less))
-        (λ k before. other k before (bytes_eq item (get_or items k [])) refl) (λ within. ap (bytes_eq item) same ∙ itself item)
-      where
-        other : (k : ℕ) → k < position_or_len (has_mark (mark item)) items → (b : Bool) → bytes_eq item (get_or items k []) ≡ b → b ≡ false
-        other k before true e = absurd (true≢false (sym (ap (has_mark (mark item)) (sym ((bytes_decides item (get_or items k [])).0 e)) ∙ marked item)
-            ∙ earlier (has_mark (mark item)) items k before))
-        other k before false e = refl
-
-    pub first_index : (kind : HeapKind) → length_of kind (take (position_or_len (has_mark (mark item)) items) items) ≡ index_of (spelled kind) items item
-    first_index kind = ap (λ n. length_of kind (take n items)) (sym first_place)
-
-    pub first_used : with_use items item ≡ items
-    first_used = ap (λ b. if b then items else items ++ item ∷ []) first_there
-
--- ---- one more item
-
-module _ (kind : HeapKind) (items : List (List ℕ)) (new : List ℕ) where
-  -- the index of each item, with one more
-  indexes_more : list_any (bytes_eq new) items ≡ false → (item : List ℕ)
-      → index_in kind (items ++ new ∷ []) item ≡ cond (bytes_eq new item) (Some (told (length_of kind items))) (index_in kind items item)
-  indexes_more none item = said_more (λ all one. told (index_of (spelled kind) all one)) items new item (told (length_of kind items))
-      (λ there. ap told (index-stable (spelled kind) items (new ∷ []) item there))
-      (ap told (index-new (spelled kind) items new none))
-
-  none_in : (item : List ℕ) → position_or_len (has_mark (mark item)) items ≡ length items → index_in kind items item ≡ None
-  none_in item none = ap (λ b. if b then Some (told (index_of (spelled kind) items item)) else None) (not_there items item none)
-
-  abbrev no_index : Option ℕ
-  no_index = None
-
-  none_always : (b : Bool) → (if b then None else None) ≡ no_index
-  none_always true = refl
-  none_always false = refl
-
-  first_stays : (item : List ℕ) → position_or_len (has_mark (mark item)) items < length items → is_first (items ++ new ∷ []) item ≡ is_first items item
-  first_stays item less =
-      let n = position_or_len (has_mark (mark item)) items in
-      ap (λ i. bytes_eq (get_or (items ++ new ∷ []) i []) item) (place_stays (has_mark (mark item)) items new less)
-      ∙ ap (λ one. bytes_eq one item) (get_or_append_left items (new ∷ []) [] n less)
-
-  -- an item that differs keeps what it has
-  other_stays : (item : List ℕ) → list_any (bytes_eq new) items ≡ false → bytes_eq new item ≡ false
-      → other_index kind (items ++ new ∷ []) item ≡ other_index kind items item
-  other_stays item none differ = by (nat_lt (position_or_len (has_mark (mark item)) items) (length items)) refl
-    where
-      n : ℕ
-      n = position_or_len (has_mark (mark item)) items
-
-      same_index : index_in kind (items ++ new ∷ []) item ≡ index_in kind items item
-      same_index = indexes_more none item ∙ ap (λ b. cond b (Some (told (length_of kind items))) (index_in kind items item)) differ
-
-      by : (b : Bool) → nat_lt (position_or_len (has_mark (mark item)) items) (length items) ≡ b
-          → other_index kind (items ++ new ∷ []) item ≡ other_index kind items item
-      by true less =
-          ap (λ i. if is_first (items ++ new ∷ []) item then None else i) same_index
-          ∙ ap (λ b. if b then None else index_in kind items item)
-          (first_stays item (ltb-true (position_or_len (has_mark (mark item)) items) (length items) less))
-      by false not_less =
-          let past : position_or_len (has_mark (mark item)) items ≡ length items = omega (
-            arith,
-            prefix_len-le-length (λ x. not (has_mark (mark item) x)) items,
-            ltb-false (position_or_len (has_mark (mark item)) items) (length items) not_less,
-          ) in
-          ap (λ i. if is_first (items ++ new ∷ []) item then None else i) (same_index ∙ none_in item past)
-          ∙ none_always (is_first (items ++ new ∷ []) item)
-          ∙ sym (none_always (is_first items item))
-          ∙ ap (λ i. if is_first items item then None else i) (sym (none_in item past))
-
-  -- a new item of a new mark is the first of its mark
-  pub others_first : position_or_len (has_mark (mark new)) items ≡ length items → (item : List ℕ)
-      → other_index kind (items ++ new ∷ []) item ≡ other_index kind items item
-  others_first none item = by (bytes_eq new item) refl
-    where
-      by : (b : Bool) → bytes_eq new item ≡ b → other_index kind (items ++ new ∷ []) item ≡ other_index kind items item
-      by true is = subst (λ one. other_index kind (items ++ new ∷ []) one ≡ other_index kind items one) ((bytes_decides new item).0 is)
-          (ap (λ i. if bytes_eq (get_or (items ++ new ∷ []) i []) new then None else index_in kind (items ++ new ∷ []) new)
-          (place_new (has_mark (mark new)) items new none (marked new))
-          ∙ ap (λ one. if bytes_eq one new then None else index_in kind (items ++ new ∷ []) new) (get_or-append_seam items new [] [])
-          ∙ ap (λ b. if b then None else index_in kind (items ++ new ∷ []) new) (itself new)
-          ∙ sym (none_always (is_first items new))
-          ∙ ap (λ i. if is_first items new then None else i) (sym (none_in new none)))
-      by false differ = other_stays item (not_there items new none) differ
-
-  -- a new item of a mark that another has
-  pub others_more : list_any (bytes_eq new) items ≡ false → position_or_len (has_mark (mark new)) items < length items → is_first items new ≡ false
-      → (item : List ℕ) → other_index kind (items ++ new ∷ []) item ≡ cond (bytes_eq new item) (Some (told (length_of kind items))) (other_index kind items item)
-  others_more none less other item = by (bytes_eq new item) refl
-    where
-      by : (b : Bool) → bytes_eq new item ≡ b
-          → other_index kind (items ++ new ∷ []) item ≡ cond (bytes_eq new item) (Some (told (length_of kind items))) (other_index kind items item)
-      by true is =
-          subst (λ one. other_index kind (items ++ new ∷ []) one ≡ Some (told (length_of kind items))) ((bytes_decides new item).0 is)
-          (ap (λ b. if b then None else index_in kind (items ++ new ∷ []) new) (first_stays new less ∙ other)
-          ∙ indexes_more none new
-          ∙ ap (λ b. cond b (Some (told (length_of kind items))) (index_in kind items new)) (itself new))
-          ∙ ap (λ b. cond b (Some (told (length_of kind items))) (other_index kind items item)) (sym is)
-      by false differ = other_stays item none differ
-          ∙ ap (λ b. cond b (Some (told (length_of kind items))) (other_index kind items item)) (sym differ)
-
-  -- ---- the first of each mark
-
-  pub firsts_more : position_or_len (has_mark (mark new)) items ≡ length items → (number : ℕ)
-      → first_with (items ++ new ∷ []) number ≡ cond (nat_eq (mark new) number) (Some (length items)) (first_with items number)
-  firsts_more none number = by (nat_eq (mark new) number) refl
-    where
-      by : (b : Bool) → nat_eq (mark new) number ≡ b
-          → first_with (items ++ new ∷ []) number ≡ cond (nat_eq (mark new) number) (Some (length items)) (first_with items number)
-      by true is =
-          position_new (has_mark number) items new (ap (λ n. position_or_len (has_mark n) items) (sym (eqb-true (mark new) number is)) ∙ none) is
-          ∙ ap (λ b. cond b (Some (length items)) (first_with items number)) (sym is)
-      by false differ = position_other (has_mark number) items new differ
-          ∙ ap (λ b. cond b (Some (length items)) (first_with items number)) (sym differ)
-
-  pub firsts_stay : position_or_len (has_mark (mark new)) items < length items → (number : ℕ) → first_with (items ++ new ∷ []) number ≡ first_with items number
-  firsts_stay less number = by (nat_eq (mark new) number) refl
-    where
-      by : (b : Bool) → nat_eq (mark new) number ≡ b → first_with (items ++ new ∷ []) number ≡ first_with items number
-      by true is = position_stays (has_mark number) items new
-          (subst (λ n. position_or_len (has_mark n) items < length items) (eqb-true (mark new) number is) less)
-      by false differ = position_other (has_mark number) items new differ
-
 -- numbers are ordered by themselves
 pub number_same : (a b : ℕ) → is_eq (nat_cmp a b) ≡ nat_eq a b
 number_same a b = grind (arith, nat_tests)
 
--- where some item has a mark
-pub some_found : (p : List ℕ → Bool) (xs : List (List ℕ)) → IsSome (position p xs) → position_or_len p xs < length xs
-some_found p xs is = by (nat_lt (position_or_len p xs) (length xs)) refl is
-  where
-    by : (b : Bool) → nat_lt (position_or_len p xs) (length xs) ≡ b → IsSome (cond b (Some (position_or_len p xs)) None) → position_or_len p xs < length xs
-    by true less some = ltb-true (position_or_len p xs) (length xs) less
-    by false not_less some = absurd (true≢false (sym some))
+-- ---- items and marks
 
--- an item without an index, whose mark another one has first, is not there
-pub none_other : (kind : HeapKind) (items : List (List ℕ)) (item : List ℕ) → is_first items item ≡ false → other_index kind items item ≡ None
-    → list_any (bytes_eq item) items ≡ false
-none_other kind items item other none =
-    by (list_any (bytes_eq item) items) refl (sym (ap (λ b. if b then None else index_in kind items item) other) ∙ none)
-  where
-    by : (b : Bool) → list_any (bytes_eq item) items ≡ b → (if b then Some (told (index_of (spelled kind) items item)) else None) ≡ None
-        → list_any (bytes_eq item) items ≡ false
-    by true is e = absurd (cc (e))
-    by false is e = is
+module _ (mark : List ℕ → ℕ) where
 
--- an item with an index, whose mark another one has first, is there
-pub found_other : (kind : HeapKind) (items : List (List ℕ)) (item : List ℕ) (index : ℕ) → is_first items item ≡ false → other_index kind items item ≡ Some index
-    → (with_use items item ≡ items) × (index ≡ told (index_of (spelled kind) items item))
-found_other kind items item index other is =
-    by (list_any (bytes_eq item) items) refl (sym (ap (λ b. if b then None else index_in kind items item) other) ∙ is)
-  where
-    by : (b : Bool) → list_any (bytes_eq item) items ≡ b → (if b then Some (told (index_of (spelled kind) items item)) else None) ≡ Some index
-        → (with_use items item ≡ items) × (index ≡ told (index_of (spelled kind) items item))
-    by true there e = (ap (λ b. if b then items else items ++ item ∷ []) there, sym (cc (e)))
-    by false none e = absurd (cc (e))
+  marked : (item : List ℕ) → has_mark mark (mark item) item ≡ true
+  marked item = eq-eqb (mark item) (mark item) refl
 
--- what was put in and taken out again
-pub undone : (b : Bool) (index : ℕ) (was : Option ℕ) → (b ≡ true → was ≡ None) → cond b None (cond b (Some index) was) ≡ was
-undone true index was none = sym (none refl)
-undone false index was none = refl
+  -- before the first place nothing passes
+  earlier : (p : List ℕ → Bool) (xs : List (List ℕ)) (k : ℕ) → k < position_or_len p xs → p (get_or xs k []) ≡ false
+  earlier p xs k less = by (p (get_or xs k [])) refl
+    where
+      by : (b : Bool) → p (get_or xs k []) ≡ b → b ≡ false
+      by true is = absurd (true≢false (sym (prefix_len_passes (λ x. not (p x)) xs k [] less) ∙ ap not is))
+      by false is = refl
 
-pub new_used : (items : List (List ℕ)) (item : List ℕ) → list_any (bytes_eq item) items ≡ false → items ++ item ∷ [] ≡ with_use items item
-new_used items item none = sym (ap (λ b. if b then items else items ++ item ∷ []) none)
+  -- at the first place something passes
+  at_place : (p : List ℕ → Bool) (xs : List (List ℕ)) → position_or_len p xs < length xs → p (get_or xs (position_or_len p xs) []) ≡ true
+  at_place p xs less = by (p (get_or xs (position_or_len p xs) [])) refl
+    where
+      by : (b : Bool) → p (get_or xs (position_or_len p xs) []) ≡ b → b ≡ true
+      by true is = refl
+      by false is = absurd (true≢false (sym (ap not is) ∙ prefix_len_stops (λ x. not (p x)) xs [] less))
 
--- an item that is not there has no index
-pub none_there : (kind : HeapKind) (items : List (List ℕ)) (item other : List ℕ) → list_any (bytes_eq item) items ≡ false → bytes_eq item other ≡ true
-    → other_index kind items other ≡ None
-none_there kind items item other none is = subst (λ one. other_index kind items one ≡ None) ((bytes_decides item other).0 is)
-    (by (is_first items item) (ap (λ b. if b then Some (told (index_of (spelled kind) items item)) else None) none))
-  where
-    by : (b : Bool) → index_in kind items item ≡ None → (if b then None else index_in kind items item) ≡ None
-    by true at = refl
-    by false at = at
+  module _ (items : List (List ℕ)) (item : List ℕ) where
+    -- an item of a mark that no item has is not there
+    pub not_there : position_or_len (has_mark mark (mark item)) items ≡ length items → list_any (bytes_eq item) items ≡ false
+    not_there none = by (list_any (bytes_eq item) items) refl
+      where
+        by : (b : Bool) → list_any (bytes_eq item) items ≡ b → b ≡ false
+        by true is =
+            let n = position_or_len (bytes_eq item) items in
+            let less : n < length items = counted items item is in
+            let same : item ≡ get_or items n [] = (bytes_decides item (get_or items n [])).0 (at_place (bytes_eq item) items less) in
+            absurd (true≢false (sym (ap (has_mark mark (mark item)) (sym same) ∙ marked item)
+            ∙ earlier (has_mark mark (mark item)) items n (omega (arith, none, less))))
+        by false is = refl
+
+    -- the first item of its mark is there, at that place
+    module _ (less : position_or_len (has_mark mark (mark item)) items < length items) (is : is_first mark items item ≡ true) where
+      same : get_or items (position_or_len (has_mark mark (mark item)) items) [] ≡ item
+      same = (bytes_decides (get_or items (position_or_len (has_mark mark (mark item)) items) []) item).0 is
+
+      pub first_there : list_any (bytes_eq item) items ≡ true
+      first_there = list_any_at (bytes_eq item) items (position_or_len (has_mark mark (mark item)) items) [] less
+          (ap (bytes_eq item) same ∙ itself item)
+
+      pub first_place : position_or_len (bytes_eq item) items ≡ position_or_len (has_mark mark (mark item)) items
+      first_place = position_or_len_is (bytes_eq item) items (position_or_len (has_mark mark (mark item)) items) [] (omega (arith, less))
+          (λ k before. other k before (bytes_eq item (get_or items k [])) refl) (λ within. ap (bytes_eq item) same ∙ itself item)
+        where
+          other : (k : ℕ) → k < position_or_len (has_mark mark (mark item)) items → (b : Bool) → bytes_eq item (get_or items k []) ≡ b → b ≡ false
+          other k before true e = absurd (true≢false (sym (ap (has_mark mark (mark item)) (sym ((bytes_decides item (get_or items k [])).0 e)) ∙ marked item)
+              ∙ earlier (has_mark mark (mark item)) items k before))
+          other k before false e = refl
+
+      pub first_index : (kind : HeapKind) → length_of kind (take (position_or_len (has_mark mark (mark item)) items) items) ≡ index_of (spelled kind) items item
+      first_index kind = ap (λ n. length_of kind (take n items)) (sym first_place)
+
+      pub first_used : with_use items item ≡ items
+      first_used = ap (λ b. if b then items else items ++ item ∷ []) first_there
+
+  -- ---- one more item
+
+  module _ (kind : HeapKind) (items : List (List ℕ)) (new : List ℕ) where
+    -- the index of each item, with one more
+    indexes_more : list_any (bytes_eq new) items ≡ false → (item : List ℕ)
+        → index_in kind (items ++ new ∷ []) item ≡ cond (bytes_eq new item) (Some (told (length_of kind items))) (index_in kind items item)
+    indexes_more none item = said_more (λ all one. told (index_of (spelled kind) all one)) items new item (told (length_of kind items))
+        (λ there. ap told (index-stable (spelled kind) items (new ∷ []) item there))
+        (ap told (index-new (spelled kind) items new none))
+
+    none_in : (item : List ℕ) → position_or_len (has_mark mark (mark item)) items ≡ length items → index_in kind items item ≡ None
+    none_in item none = ap (λ b. if b then Some (told (index_of (spelled kind) items item)) else None) (not_there items item none)
+
+    abbrev no_index : Option ℕ
+    no_index = None
+
+    none_always : (b : Bool) → (if b then None else None) ≡ no_index
+    none_always true = refl
+    none_always false = refl
+
+    first_stays : (item : List ℕ) → position_or_len (has_mark mark (mark item)) items < length items → is_first mark (items ++ new ∷ []) item ≡ is_first mark items item
+    first_stays item less =
+        let n = position_or_len (has_mark mark (mark item)) items in
+        ap (λ i. bytes_eq (get_or (items ++ new ∷ []) i []) item) (place_stays (has_mark mark (mark item)) items new less)
+        ∙ ap (λ one. bytes_eq one item) (get_or_append_left items (new ∷ []) [] n less)
+
+    -- an item that differs keeps what it has
+    other_stays : (item : List ℕ) → list_any (bytes_eq new) items ≡ false → bytes_eq new item ≡ false
+        → other_index mark kind (items ++ new ∷ []) item ≡ other_index mark kind items item
+    other_stays item none differ = by (nat_lt (position_or_len (has_mark mark (mark item)) items) (length items)) refl
+      where
+        n : ℕ
+        n = position_or_len (has_mark mark (mark item)) items
+
+        same_index : index_in kind (items ++ new ∷ []) item ≡ index_in kind items item
+        same_index = indexes_more none item ∙ ap (λ b. cond b (Some (told (length_of kind items))) (index_in kind items item)) differ
+
+        by : (b : Bool) → nat_lt (position_or_len (has_mark mark (mark item)) items) (length items) ≡ b
+            → other_index mark kind (items ++ new ∷ []) item ≡ other_index mark kind items item
+        by true less =
+            ap (λ i. if is_first mark (items ++ new ∷ []) item then None else i) same_index
+            ∙ ap (λ b. if b then None else index_in kind items item)
+            (first_stays item (ltb-true (position_or_len (has_mark mark (mark item)) items) (length items) less))
+        by false not_less =
+            let past : position_or_len (has_mark mark (mark item)) items ≡ length items = omega (
+              arith,
+              prefix_len-le-length (λ x. not (has_mark mark (mark item) x)) items,
+              ltb-false (position_or_len (has_mark mark (mark item)) items) (length items) not_less,
+            ) in
+            ap (λ i. if is_first mark (items ++ new ∷ []) item then None else i) (same_index ∙ none_in item past)
+            ∙ none_always (is_first mark (items ++ new ∷ []) item)
+            ∙ sym (none_always (is_first mark items item))
+            ∙ ap (λ i. if is_first mark items item then None else i) (sym (none_in item past))
+
+    -- a new item of a new mark is the first of its mark
+    pub others_first : position_or_len (has_mark mark (mark new)) items ≡ length items → (item : List ℕ)
+        → other_index mark kind (items ++ new ∷ []) item ≡ other_index mark kind items item
+    others_first none item = by (bytes_eq new item) refl
+      where
+        by : (b : Bool) → bytes_eq new item ≡ b → other_index mark kind (items ++ new ∷ []) item ≡ other_index mark kind items item
+        by true is = subst (λ one. other_index mark kind (items ++ new ∷ []) one ≡ other_index mark kind items one) ((bytes_decides new item).0 is)
+            (ap (λ i. if bytes_eq (get_or (items ++ new ∷ []) i []) new then None else index_in kind (items ++ new ∷ []) new)
+            (place_new (has_mark mark (mark new)) items new none (marked new))
+            ∙ ap (λ one. if bytes_eq one new then None else index_in kind (items ++ new ∷ []) new) (get_or-append_seam items new [] [])
+            ∙ ap (λ b. if b then None else index_in kind (items ++ new ∷ []) new) (itself new)
+            ∙ sym (none_always (is_first mark items new))
+            ∙ ap (λ i. if is_first mark items new then None else i) (sym (none_in new none)))
+        by false differ = other_stays item (not_there items new none) differ
+
+    -- a new item of a mark that another has
+    pub others_more : list_any (bytes_eq new) items ≡ false → position_or_len (has_mark mark (mark new)) items < length items → is_first mark items new ≡ false
+        → (item : List ℕ) → other_index mark kind (items ++ new ∷ []) item ≡ cond (bytes_eq new item) (Some (told (length_of kind items))) (other_index mark kind items item)
+    others_more none less other item = by (bytes_eq new item) refl
+      where
+        by : (b : Bool) → bytes_eq new item ≡ b
+            → other_index mark kind (items ++ new ∷ []) item ≡ cond (bytes_eq new item) (Some (told (length_of kind items))) (other_index mark kind items item)
+        by true is =
+            subst (λ one. other_index mark kind (items ++ new ∷ []) one ≡ Some (told (length_of kind items))) ((bytes_decides new item).0 is)
+            (ap (λ b. if b then None else index_in kind (items ++ new ∷ []) new) (first_stays new less ∙ other)
+            ∙ indexes_more none new
+            ∙ ap (λ b. cond b (Some (told (length_of kind items))) (index_in kind items new)) (itself new))
+            ∙ ap (λ b. cond b (Some (told (length_of kind items))) (other_index mark kind items item)) (sym is)
+        by false differ = other_stays item none differ
+            ∙ ap (λ b. cond b (Some (told (length_of kind items))) (other_index mark kind items item)) (sym differ)
+
+    -- ---- the first of each mark
+
+    pub firsts_more : position_or_len (has_mark mark (mark new)) items ≡ length items → (number : ℕ)
+        → first_with mark (items ++ new ∷ []) number ≡ cond (nat_eq (mark new) number) (Some (length items)) (first_with mark items number)
+    firsts_more none number = by (nat_eq (mark new) number) refl
+      where
+        by : (b : Bool) → nat_eq (mark new) number ≡ b
+            → first_with mark (items ++ new ∷ []) number ≡ cond (nat_eq (mark new) number) (Some (length items)) (first_with mark items number)
+        by true is =
+            position_new (has_mark mark number) items new (ap (λ n. position_or_len (has_mark mark n) items) (sym (eqb-true (mark new) number is)) ∙ none) is
+            ∙ ap (λ b. cond b (Some (length items)) (first_with mark items number)) (sym is)
+        by false differ = position_other (has_mark mark number) items new differ
+            ∙ ap (λ b. cond b (Some (length items)) (first_with mark items number)) (sym differ)
+
+    pub firsts_stay : position_or_len (has_mark mark (mark new)) items < length items → (number : ℕ) → first_with mark (items ++ new ∷ []) number ≡ first_with mark items number
+    firsts_stay less number = by (nat_eq (mark new) number) refl
+      where
+        by : (b : Bool) → nat_eq (mark new) number ≡ b → first_with mark (items ++ new ∷ []) number ≡ first_with mark items number
+        by true is = position_stays (has_mark mark number) items new
+            (subst (λ n. position_or_len (has_mark mark n) items < length items) (eqb-true (mark new) number is) less)
+        by false differ = position_other (has_mark mark number) items new differ
+
+  -- where some item has a mark
+  pub some_found : (p : List ℕ → Bool) (xs : List (List ℕ)) → IsSome (position p xs) → position_or_len p xs < length xs
+  some_found p xs is = by (nat_lt (position_or_len p xs) (length xs)) refl is
+    where
+      by : (b : Bool) → nat_lt (position_or_len p xs) (length xs) ≡ b → IsSome (cond b (Some (position_or_len p xs)) None) → position_or_len p xs < length xs
+      by true less some = ltb-true (position_or_len p xs) (length xs) less
+      by false not_less some = absurd (true≢false (sym some))
+
+  -- an item without an index, whose mark another one has first, is not there
+  pub none_other : (kind : HeapKind) (items : List (List ℕ)) (item : List ℕ) → is_first mark items item ≡ false → other_index mark kind items item ≡ None
+      → list_any (bytes_eq item) items ≡ false
+  none_other kind items item other none =
+      by (list_any (bytes_eq item) items) refl (sym (ap (λ b. if b then None else index_in kind items item) other) ∙ none)
+    where
+      by : (b : Bool) → list_any (bytes_eq item) items ≡ b → (if b then Some (told (index_of (spelled kind) items item)) else None) ≡ None
+          → list_any (bytes_eq item) items ≡ false
+      by true is e = absurd (cc (e))
+      by false is e = is
+
+  -- an item with an index, whose mark another one has first, is there
+  pub found_other : (kind : HeapKind) (items : List (List ℕ)) (item : List ℕ) (index : ℕ) → is_first mark items item ≡ false → other_index mark kind items item ≡ Some index
+      → IsIn items item × (index ≡ told (index_of (spelled kind) items item))
+  found_other kind items item index other is =
+      by (list_any (bytes_eq item) items) refl (sym (ap (λ b. if b then None else index_in kind items item) other) ∙ is)
+    where
+      by : (b : Bool) → list_any (bytes_eq item) items ≡ b → (if b then Some (told (index_of (spelled kind) items item)) else None) ≡ Some index
+          → IsIn items item × (index ≡ told (index_of (spelled kind) items item))
+      by true there e = (there, sym (cc (e)))
+      by false none e = absurd (cc (e))
+
+  pub new_used : (items : List (List ℕ)) (item : List ℕ) → list_any (bytes_eq item) items ≡ false → items ++ item ∷ [] ≡ with_use items item
+  new_used items item none = sym (ap (λ b. if b then items else items ++ item ∷ []) none)

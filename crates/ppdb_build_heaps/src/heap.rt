@@ -1,10 +1,11 @@
 // The items of a heap, each of which is kept once.
-use crate::mark::mark_of;
+use crate::firsts::Firsts;
+use crate::search::{find, note};
 use crate::spelled::Spelled;
 use ppdb_base::{Bytes, Memory};
-use std::alloc::{AllocFailed, Global};
+use std::alloc::Global;
 use std::collections::BTreeMap;
-use std::collections::btree_map::Entry;
+use std::hash::RandomState;
 use std::marker::Model;
 
 /// What a heap holds.
@@ -19,40 +20,39 @@ pub enum HeapKind {
 pub struct Heap {
     alloc: Global,
     items: Spelled,
-    /// The number of the first item with each mark, from 0.
-    firsts: BTreeMap<u64, u64>,
+    /// The number of the first item with each mark.
+    firsts: Firsts,
     /// The index of each item whose mark an earlier item has.
     others: BTreeMap<Vec<u8>, u64>,
 }
 
 impl Model for Heap {
+    ghost use Rattle.std.specs.Prelude.{◌≡◌, true};
     ghost use Rattle.ppdb_build_heaps.specs.Interned.{Contents};
-    ghost use Rattle.ppdb_build_heaps.specs.Marks.{AreFirsts, AreOthers};
+    ghost use Rattle.ppdb_build_heaps.specs.Marks.{is_open, AreNoted};
 
     ghost Value = { Contents };
 
     ghost view = { λ h. h.items };
 
-    ghost invariant = { λ h. AreFirsts h.items.items h.firsts × AreOthers h.items.kind h.items.items h.others };
+    ghost invariant = { λ h. is_open h.firsts ≡ true → AreNoted h.firsts h.others h.items };
 }
 
 impl Heap {
-    ghost use Rattle.std.specs.Prelude.{◌≡◌, [], ◌++◌, flat_map, bytes_eq, false, OnOk, OnErr, IfOk, IsSome};
-    ghost use Rattle.std.specs.List.{list_any};
+    ghost use Rattle.std.specs.Prelude.{◌≡◌, [], ◌++◌, flat_map, OnOk, OnErr, IfOk};
     ghost use Rattle.ppdb_base.specs.Told.{told};
     ghost use Rattle.ppdb_build_heaps.specs.Kinds.{spelled};
     ghost use Rattle.ppdb_build_heaps.specs.Interned.{length_of};
     ghost use Rattle.ppdb_build_heaps.specs.Items.{with_use, index_of};
-    ghost use Rattle.ppdb_build_heaps.specs.Marks.{mark, first_with, is_first};
 
-    /// A heap without items.
-    pub fn new(alloc: Global, kind: HeapKind) -> Heap
+    /// A heap without items. Under a random key its items are found in a hash table, and without one in an ordered map.
+    pub fn new(alloc: Global, kind: HeapKind, key: Option<RandomState>) -> Heap
         ensures { result ≡ record { kind = kind; items = [] } }
     {
         Heap {
             alloc,
             items: Spelled::new(alloc, kind),
-            firsts: BTreeMap::new(alloc),
+            firsts: Firsts::new(alloc, key),
             others: BTreeMap::new(alloc),
         }
     }
@@ -64,38 +64,12 @@ impl Heap {
         self.items.len()
     }
 
-    /// Adds an item that is not there, whose mark another item has, and answers its index.
-    fn add_other(&mut self, key: Vec<u8>, item: &[u8]) -> Result<u64, Memory>
-        requires key { key.items ≡ item.now }
-        requires new { list_any (bytes_eq item.now) self.old.items ≡ false }
-        requires some { IsSome (first_with self.old.items (mark item.now)) }
-        requires other { is_first self.old.items item.now ≡ false }
-        ensures items { OnOk result (self.new ≡ record self.old { items = with_use self.old.items item.now }) }
-        ensures index { IfOk result (λ index. index ≡ told (index_of (spelled self.old.kind) (with_use self.old.items item.now) item.now)) }
-        ensures err { OnErr result (self.new ≡ self.old) }
+    /// Frees what items are found by. No more items can be used: there is no memory for them.
+    pub fn close(&mut self)
+        ensures { self.new ≡ self.old }
     {
-        let index = self.items.len();
-        self.others.insert(key, index)?;
-        if self.items.push(item).is_err() {
-            let _index = self.others.remove(item);
-            return Err(Memory);
-        }
-        Ok(index)
-    }
-
-    /// Notes a use of an item that is not the first with its mark, and answers its index.
-    fn use_other(&mut self, item: &[u8]) -> Result<u64, Memory>
-        requires some { IsSome (first_with self.old.items (mark item.now)) }
-        requires other { is_first self.old.items item.now ≡ false }
-        ensures items { OnOk result (self.new ≡ record self.old { items = with_use self.old.items item.now }) }
-        ensures index { IfOk result (λ index. index ≡ told (index_of (spelled self.old.kind) (with_use self.old.items item.now) item.now)) }
-        ensures err { OnErr result (self.new ≡ self.old) }
-    {
-        let key = Vec::from_slice(self.alloc, item)?;
-        match self.others.get(&key).copied() {
-            Some(index) => Ok(index),
-            None => self.add_other(key, item),
-        }
+        self.firsts = Firsts::Closed;
+        self.others = BTreeMap::new(self.alloc);
     }
 
     /// Notes a use of an item, and answers its index.
@@ -104,20 +78,29 @@ impl Heap {
         ensures index { IfOk result (λ index. index ≡ told (index_of (spelled self.old.kind) (with_use self.old.items item.now) item.now)) }
         ensures err { OnErr result (self.new ≡ self.old) }
     {
-        let first = match self.firsts.entry(mark_of(item))? {
-            Entry::Occupied(entry) => *entry.get(),
-            Entry::Vacant(entry) => {
-                let index = self.items.len();
-                let number = self.items.count();
-                self.items.push(item)?;
-                entry.insert(number);
-                return Ok(index);
-            }
-        };
-        if self.items.item(first) == item {
-            return Ok(self.items.index(first));
+        if !self.firsts.is_open() {
+            return Err(Memory);
         }
-        self.use_other(item)
+        let mark = self.firsts.mark_of(item);
+        let missing = match find(&self.items, &self.firsts, &self.others, mark, item) {
+            Ok(index) => return Ok(index),
+            Err(missing) => missing,
+        };
+        let index = self.items.len();
+        let noted = note(
+            self.alloc,
+            &self.items,
+            &mut self.firsts,
+            &mut self.others,
+            mark,
+            item,
+            missing,
+        );
+        if noted.is_err() || self.items.push(item).is_err() {
+            self.close();
+            return Err(Memory);
+        }
+        Ok(index)
     }
 
     /// Appends the items as they are spelled.

@@ -2,13 +2,15 @@
 #![tactic(auto)]
 
 mod draft;
+mod firsts;
 mod guids;
 mod heap;
 mod laws;
-mod mark;
 mod number;
 mod put;
+mod search;
 mod spelled;
+mod starts;
 
 pub use draft::{BlobPiece, put_index, use_pieces};
 pub use guids::GuidHeap;

@@ -4,6 +4,7 @@ use cli_ints::spell_unsigned;
 use ppdb_base::{Bytes, Memory};
 use ppdb_build_heaps::{Heap, HeapKind, put_shortest};
 use std::alloc::Global;
+use std::hash::RandomState;
 use std::marker::Model;
 
 /// The blobs that were noted, each kept once, the length of all uses, and a buffer in which the next blob is made.
@@ -37,11 +38,11 @@ impl BlobHeap {
     ghost use Rattle.ppdb_build_items.specs.Interned.{none_interned, with_blob, blob_place, cell};
     ghost use Rattle.ppdb_build_items.specs.Making.{interned_of, begun, with_piece, made};
 
-    /// The empty blob alone, which no use has counted.
-    pub fn new(alloc: Global) -> Result<BlobHeap, Memory>
+    /// The empty blob alone, which no use has counted. Blobs are hashed under the key, if there is one.
+    pub fn new(alloc: Global, key: Option<RandomState>) -> Result<BlobHeap, Memory>
         ensures { IfOk result (λ blobs. interned_of blobs ≡ none_interned) }
     {
-        let mut heap = Heap::new(alloc, HeapKind::Blobs);
+        let mut heap = Heap::new(alloc, HeapKind::Blobs, key);
         heap.use_item(&[])?;
         Ok(BlobHeap {
             heap,
@@ -114,6 +115,13 @@ impl BlobHeap {
         ensures { result ≡ self.now.total }
     {
         self.total
+    }
+
+    /// Frees what blobs are found by, once no more come.
+    pub fn close(&mut self)
+        ensures { self.new ≡ self.old }
+    {
+        self.heap.close();
     }
 
     /// Appends the blobs as the heap has them.

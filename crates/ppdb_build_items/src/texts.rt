@@ -3,6 +3,7 @@ use crate::cells::cell_of;
 use ppdb_base::{Bytes, Memory};
 use ppdb_build_heaps::{Heap, HeapKind};
 use std::alloc::Global;
+use std::hash::RandomState;
 use std::marker::Model;
 
 /// The texts that were noted, each kept once, and the length of all uses.
@@ -32,11 +33,11 @@ impl TextHeap {
     ghost use Rattle.ppdb_build_heaps.specs.Items.{as_text};
     ghost use Rattle.ppdb_build_items.specs.Interned.{none_interned, with_text, text_place, cell};
 
-    /// The empty text alone, which no use has counted.
-    pub fn new(alloc: Global) -> Result<TextHeap, Memory>
+    /// The empty text alone, which no use has counted. Texts are hashed under the key, if there is one.
+    pub fn new(alloc: Global, key: Option<RandomState>) -> Result<TextHeap, Memory>
         ensures { IfOk result (λ texts. texts ≡ none_interned) }
     {
-        let mut heap = Heap::new(alloc, HeapKind::Texts);
+        let mut heap = Heap::new(alloc, HeapKind::Texts, key);
         heap.use_item(&[])?;
         Ok(TextHeap { heap, total: 0 })
     }
@@ -63,6 +64,13 @@ impl TextHeap {
         ensures { result ≡ self.now.total }
     {
         self.total
+    }
+
+    /// Frees what texts are found by, once no more come.
+    pub fn close(&mut self)
+        ensures { self.new ≡ self.old }
+    {
+        self.heap.close();
     }
 
     /// Appends the texts as the heap has them.

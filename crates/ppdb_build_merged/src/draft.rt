@@ -158,12 +158,15 @@ pub fn draft_of_inputs<L: Ledger>(
     ensures draft { IfOk result (λ draft. IfSome draft (λ draft. draft ≡ drafted (joined_inputs (moved_inputs inputs.now)))) }
     ensures points { IfOk result (λ draft. IfSome draft (λ draft. Each HasForms (joined_inputs (moved_inputs inputs.now)).methods)) }
 {
-    let mut draft = match Drafting::new(alloc) {
+    let mut draft = match Drafting::new(alloc, steps.key()) {
         Ok(draft) => draft,
         Err(error) => return Err(error),
     };
     match add_parts(alloc, inputs, &mut draft, steps) {
-        Ok(()) => Ok(Some(draft)),
+        Ok(()) => {
+            draft.close();
+            Ok(Some(draft))
+        }
         Err(Stopped::Memory) => Err(Memory),
         Err(Stopped::Limit) => Ok(None),
     }
