@@ -254,14 +254,6 @@ module _ (mark : List ℕ → ℕ) where
             (subst (λ n. position_or_len (has_mark mark n) items < length items) (eqb-true (mark new) number is) less)
         by false differ = position_other (has_mark mark number) items new differ
 
-  -- where some item has a mark
-  pub some_found : (p : List ℕ → Bool) (xs : List (List ℕ)) → IsSome (position p xs) → position_or_len p xs < length xs
-  some_found p xs is = by (nat_lt (position_or_len p xs) (length xs)) refl is
-    where
-      by : (b : Bool) → nat_lt (position_or_len p xs) (length xs) ≡ b → IsSome (cond b (Some (position_or_len p xs)) None) → position_or_len p xs < length xs
-      by true less some = ltb-true (position_or_len p xs) (length xs) less
-      by false not_less some = absurd (true≢false (sym some))
-
   -- an item without an index, whose mark another one has first, is not there
   pub none_other : (kind : HeapKind) (items : List (List ℕ)) (item : List ℕ) → is_first mark items item ≡ false → other_index mark kind items item ≡ None
       → list_any (bytes_eq item) items ≡ false
@@ -284,5 +276,6 @@ module _ (mark : List ℕ → ℕ) where
       by true there e = (there, sym (cc (e)))
       by false none e = absurd (cc (e))
 
-  pub new_used : (items : List (List ℕ)) (item : List ℕ) → list_any (bytes_eq item) items ≡ false → items ++ item ∷ [] ≡ with_use items item
-  new_used items item none = sym (ap (λ b. if b then items else items ++ item ∷ []) none)
+-- a new item is added
+pub new_used : (items : List (List ℕ)) (item : List ℕ) → list_any (bytes_eq item) items ≡ false → items ++ item ∷ [] ≡ with_use items item
+new_used items item none = sym (ap (λ b. if b then items else items ++ item ∷ []) none)

@@ -1,6 +1,6 @@
 -- What the code keeps to find items: the first item of each mark, and the index of each other item.
 use Rattle.std.specs.Prelude.{◌≡◌, ℕ, ◌%◌, ◌<◌, Bool, true, false, List, [], length, nat_eq, bytes_eq, get_or, if◌then◌else◌, Option, None}
-use Rattle.std.specs.{List.{list_any, position, position_or_len}, BTreeMap.{BTreeMap, get}, Cmp.Lexicographic.slice_cmp, Ordering.nat_cmp}
+use Rattle.std.specs.{List.{list_any, position, position_or_len}, BTreeMap.{BTreeMap, get, get_by}, Cmp.Lexicographic.slice_cmp, Ordering.nat_cmp}
 use Rattle.std.specs.Hash.DefaultHasher.{initial, write, finish}
 use Rattle.std.specs.RandomState.{initial_hasher}
 use Rattle.std.specs.{declared.vec.Vec.Vec, declared.alloc.Global.Global}
@@ -51,8 +51,8 @@ other_index mark kind items item = if is_first mark items item then None else in
 -- the first item of each mark is noted, and nothing else; likewise the index of each other item
 pub record AreNoted (firsts : Firsts) (others : BTreeMap (Vec ℕ Global) ℕ) (heap : Contents) : Type 0 where
   pub first_items : (marked : ℕ) → number_in firsts marked ≡ first_with (mark_in firsts) heap.items marked
-  pub other_items : (item : Vec ℕ Global) → get (λ (x y : Vec ℕ Global). slice_cmp nat_cmp x.items y.items) others item
-      ≡ other_index (mark_in firsts) heap.kind heap.items item.items
+  pub other_items : (item : List ℕ) → get_by (λ (key : Vec ℕ Global). slice_cmp nat_cmp item key.items) others
+      ≡ other_index (mark_in firsts) heap.kind heap.items item
 
 -- an item that is not there: no item has its mark, or another one has
 abbrev pub IsMissing : (List ℕ → ℕ) → List (List ℕ) → List ℕ → Missing → Type 0

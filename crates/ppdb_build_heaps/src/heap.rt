@@ -97,7 +97,7 @@ impl Heap {
             missing,
         );
         if noted.is_err() || self.items.push(item).is_err() {
-            self.close();
+            self.firsts = Firsts::Closed;
             return Err(Memory);
         }
         Ok(index)
