@@ -1,4 +1,5 @@
 // A file that is drafted part by part.
+use crate::drafted::Drafted;
 use crate::notes::{fill_rows, next_row, note_guid, put_row};
 use custom_info::Range;
 use ppdb_base::{List, Memory};
@@ -20,9 +21,9 @@ use type_blobs::{Constant, Modifier};
 #[derive(Drop)]
 pub struct Drafting {
     alloc: Global,
-    pub(crate) texts: TextHeap,
-    pub(crate) guids: GuidHeap,
-    pub(crate) blobs: BlobHeap,
+    texts: TextHeap,
+    guids: GuidHeap,
+    blobs: BlobHeap,
     rows: Rows,
     /// How many constants the scopes own that have their rows.
     owned: u64,
@@ -250,18 +251,16 @@ impl Drafting {
         Ok(())
     }
 
-    /// Frees what items of the heaps are found by, once all parts are there.
-    pub fn close(&mut self)
-        ensures { self.new ≡ self.old }
+    /// The draft once all parts are there. What items of its heaps were found by is freed.
+    pub fn close(self) -> Drafted
+        ensures { result ≡ self }
     {
-        self.texts.close();
-        self.blobs.close();
-    }
-
-    /// The rows so far.
-    pub fn rows(&self) -> &Rows
-        ensures { result.now ≡ self.now.rows }
-    {
-        &self.rows
+        Drafted {
+            texts: self.texts.close(),
+            guids: self.guids,
+            blobs: self.blobs.close(),
+            rows: self.rows,
+            owned: self.owned,
+        }
     }
 }

@@ -16,7 +16,7 @@ pub(crate) enum Firsts {
     Keyed(RandomState, IndexMap<u32, u32>),
     /// Marks without a key, in an ordered map: whatever their marks are, a search compares as many as the logarithm of their number.
     Ordered(BTreeMap<u32, u32>),
-    /// Nothing any more, since no more items come.
+    /// Nothing any more, since there was no memory to add an item.
     Closed,
 }
 

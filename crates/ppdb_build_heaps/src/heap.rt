@@ -2,7 +2,7 @@
 use crate::firsts::Firsts;
 use crate::search::{find, note};
 use crate::spelled::Spelled;
-use ppdb_base::{Bytes, Memory};
+use ppdb_base::Memory;
 use std::alloc::Global;
 use std::collections::BTreeMap;
 use std::hash::RandomState;
@@ -39,10 +39,9 @@ impl Model for Heap {
 }
 
 impl Heap {
-    ghost use Rattle.std.specs.Prelude.{◌≡◌, [], ◌++◌, flat_map, OnOk, OnErr, IfOk};
+    ghost use Rattle.std.specs.Prelude.{◌≡◌, [], OnOk, OnErr, IfOk};
     ghost use Rattle.ppdb_base.specs.Told.{told};
     ghost use Rattle.ppdb_build_heaps.specs.Kinds.{spelled};
-    ghost use Rattle.ppdb_build_heaps.specs.Interned.{length_of};
     ghost use Rattle.ppdb_build_heaps.specs.Items.{with_use, index_of};
 
     /// A heap without items. Under a random key its items are found in a hash table, and without one in an ordered map.
@@ -55,21 +54,6 @@ impl Heap {
             firsts: Firsts::new(alloc, key),
             others: BTreeMap::new(alloc),
         }
-    }
-
-    /// How many bytes the items take.
-    pub fn len(&self) -> u64
-        ensures { result ≡ told (length_of self.now.kind self.now.items) }
-    {
-        self.items.len()
-    }
-
-    /// Frees what items are found by. No more items can be used: there is no memory for them.
-    pub fn close(&mut self)
-        ensures { self.new ≡ self.old }
-    {
-        self.firsts = Firsts::Closed;
-        self.others = BTreeMap::new(self.alloc);
     }
 
     /// Notes a use of an item, and answers its index.
@@ -103,10 +87,10 @@ impl Heap {
         Ok(index)
     }
 
-    /// Appends the items as they are spelled.
-    pub fn put(&self, into: &mut Bytes) -> Result<(), Memory>
-        ensures { OnOk result (into.new ≡ into.old ++ flat_map (spelled self.now.kind) self.now.items) }
+    /// The items alone. What they were found by is freed, since no more come.
+    pub fn close(self) -> Spelled
+        ensures { result ≡ self }
     {
-        into.append(self.items.as_slice())
+        self.items
     }
 }

@@ -20,3 +20,4 @@ pub use laws::{
     written_items_are_read,
 };
 pub use number::put_shortest;
+pub use spelled::Spelled;

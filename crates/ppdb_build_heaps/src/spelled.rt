@@ -41,7 +41,7 @@ fn part_of<'a>(bytes: &'a [u8], starts: &Starts, number: u64) -> &'a [u8]
 
 /// The items of a heap as the heap spells them, one after another. Contracts see it as the heap's kind and items.
 #[derive(Drop)]
-pub(crate) struct Spelled {
+pub struct Spelled {
     kind: HeapKind,
     bytes: Bytes,
     /// Where each item begins.
@@ -84,7 +84,7 @@ impl Spelled {
     }
 
     /// How many bytes the items take.
-    pub(crate) fn len(&self) -> u64
+    pub fn len(&self) -> u64
         ensures { result ≡ told (length_of self.now.kind self.now.items) }
     {
         self.bytes.len() as u64
@@ -126,7 +126,7 @@ impl Spelled {
     }
 
     /// Lends the items as they are spelled.
-    pub(crate) fn as_slice(&self) -> &[u8]
+    pub fn as_slice(&self) -> &[u8]
         ensures { result.now ≡ flat_map (spelled self.now.kind) self.now.items }
     {
         self.bytes.as_slice()

@@ -1,5 +1,6 @@
 // The blobs of a file, and the one that is being made.
 use crate::cells::cell_of;
+use crate::noted::Noted;
 use cli_ints::spell_unsigned;
 use ppdb_base::{Bytes, Memory};
 use ppdb_build_heaps::{Heap, HeapKind, put_shortest};
@@ -103,31 +104,13 @@ impl BlobHeap {
         Ok(index)
     }
 
-    /// How many bytes the blobs take in the heap.
-    pub fn len(&self) -> u64
-        ensures { result ≡ told (length_of Blobs self.now.items) }
+    /// The blobs alone. What they were found by is freed, since no more come.
+    pub fn close(self) -> Noted
+        ensures { result ≡ record { items = record { kind = Blobs; items = self.items }; total = self.total } }
     {
-        self.heap.len()
-    }
-
-    /// The length of all uses.
-    pub fn total(&self) -> u64
-        ensures { result ≡ self.now.total }
-    {
-        self.total
-    }
-
-    /// Frees what blobs are found by, once no more come.
-    pub fn close(&mut self)
-        ensures { self.new ≡ self.old }
-    {
-        self.heap.close();
-    }
-
-    /// Appends the blobs as the heap has them.
-    pub fn put_all(&self, into: &mut Bytes) -> Result<(), Memory>
-        ensures { OnOk result (into.new ≡ into.old ++ flat_map as_blob self.now.items) }
-    {
-        self.heap.put(into)
+        Noted {
+            items: self.heap.close(),
+            total: self.total,
+        }
     }
 }

@@ -1,5 +1,6 @@
 // The texts of a file.
 use crate::cells::cell_of;
+use crate::noted::Noted;
 use ppdb_base::{Bytes, Memory};
 use ppdb_build_heaps::{Heap, HeapKind};
 use std::alloc::Global;
@@ -52,31 +53,13 @@ impl TextHeap {
         Ok(cell_of(index))
     }
 
-    /// How many bytes the texts take in the heap.
-    pub fn len(&self) -> u64
-        ensures { result ≡ told (length_of Texts self.now.items) }
+    /// The texts alone. What they were found by is freed, since no more come.
+    pub fn close(self) -> Noted
+        ensures { result ≡ record { items = record { kind = Texts; items = self.items }; total = self.total } }
     {
-        self.heap.len()
-    }
-
-    /// The length of all uses.
-    pub fn total(&self) -> u64
-        ensures { result ≡ self.now.total }
-    {
-        self.total
-    }
-
-    /// Frees what texts are found by, once no more come.
-    pub fn close(&mut self)
-        ensures { self.new ≡ self.old }
-    {
-        self.heap.close();
-    }
-
-    /// Appends the texts as the heap has them.
-    pub fn put(&self, into: &mut Bytes) -> Result<(), Memory>
-        ensures { OnOk result (into.new ≡ into.old ++ flat_map as_text self.now.items) }
-    {
-        self.heap.put(into)
+        Noted {
+            items: self.heap.close(),
+            total: self.total,
+        }
     }
 }

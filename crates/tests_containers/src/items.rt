@@ -20,7 +20,7 @@ fn use_zeros(heap: &mut Heap) -> Result<[u64; 5], Memory> {
 fn indexes(alloc: Global, key: Option<RandomState>) -> Result<([u64; 5], u64), Memory> {
     let mut heap = Heap::new(alloc, HeapKind::Blobs, key);
     match use_zeros(&mut heap) {
-        Ok(indexes) => Ok((indexes, heap.len())),
+        Ok(indexes) => Ok((indexes, heap.close().len())),
         Err(error) => Err(error),
     }
 }
@@ -58,22 +58,19 @@ fn guids_are_numbered_from_one(rt: HostRuntime) {
     assert!(rt; are_numbered(rt.alloc(), RandomState::new(&rt).ok()));
 }
 
-/// The indexes of some texts, whose bytes are put.
-fn use_texts(heap: &mut Heap, bytes: &mut Bytes) -> Result<[u64; 3], Memory> {
+/// The indexes of some texts.
+fn use_texts(heap: &mut Heap) -> Result<[u64; 3], Memory> {
     let none = heap.use_item(b"")?;
     let long = heap.use_item(b"xy")?;
     let short = heap.use_item(b"y")?;
-    heap.put(bytes)?;
     Ok([none, long, short])
 }
 
 #[test]
 fn texts_end_with_a_zero(rt: HostRuntime) {
-    let mut heap = Heap::new(rt.alloc(), HeapKind::Texts, None);
-    let mut bytes = Bytes::new(rt.alloc());
-    assert!(rt; use_texts(&mut heap, &mut bytes) == Ok([0, 1, 4]));
-    assert!(rt; bytes.as_slice() == b"\x00xy\x00y\x00".as_slice());
-    assert!(rt; heap.len() == 6);
+    let mut heap = Heap::new(rt.alloc(), HeapKind::Texts, RandomState::new(&rt).ok());
+    assert!(rt; use_texts(&mut heap) == Ok([0, 1, 4]));
+    assert!(rt; heap.close().as_slice() == b"\x00xy\x00y\x00".as_slice());
 }
 
 /// The indexes of two texts whose SipHash-1-3 without a key ends with the same four bytes, twice.
@@ -89,15 +86,4 @@ fn use_alike(heap: &mut Heap) -> Result<[u64; 4], Memory> {
 fn items_of_one_mark_are_told_apart(rt: HostRuntime) {
     let mut heap = Heap::new(rt.alloc(), HeapKind::Texts, None);
     assert!(rt; use_alike(&mut heap) == Ok([0, 5, 5, 0]));
-}
-
-#[test]
-fn a_closed_heap_is_kept_and_takes_no_more(rt: HostRuntime) {
-    let mut heap = Heap::new(rt.alloc(), HeapKind::Texts, RandomState::new(&rt).ok());
-    let mut bytes = Bytes::new(rt.alloc());
-    assert!(rt; heap.use_item(b"xy") == Ok(0));
-    heap.close();
-    assert!(rt; heap.use_item(b"xy") == Err(Memory));
-    assert!(rt; heap.put(&mut bytes) == Ok(()));
-    assert!(rt; bytes.as_slice() == b"xy\x00".as_slice());
 }
