@@ -89,7 +89,6 @@ number_same a b = grind (arith, nat_tests)
 -- ---- items and marks
 
 module _ (mark : List ℕ → ℕ) where
-
   marked : (item : List ℕ) → has_mark mark (mark item) item ≡ true
   marked item = eq-eqb (mark item) (mark item) refl
 

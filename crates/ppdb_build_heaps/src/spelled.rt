@@ -96,8 +96,7 @@ impl Spelled {
         ensures { result.now ≡ get_or self.now.items number [] }
     {
         let bytes = self.bytes.as_slice();
-        self.kind
-            .item_of(part_of(bytes, &self.starts, number))
+        self.kind.item_of(part_of(bytes, &self.starts, number))
     }
 
     /// The index of the item of a number, from 0.

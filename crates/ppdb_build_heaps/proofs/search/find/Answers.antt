@@ -13,7 +13,7 @@ returns-then-eq-clause-found c =
     ap (λ one. bytes_eq one c.args.item.now) (sym c.item.ensures) ∙ sym c.eq.ensures ∙ c.if-eq.true in (
       is_there c.args.firsts.now c.args.others.now c.args.items.now c.args.item.now c.requires.noted c.args.mark c.requires.mark c.in-Some.first at equal,
       c.index.ensures
-      ∙ its_index c.args.firsts.now c.args.others.now c.args.items.now c.args.item.now c.requires.noted c.args.mark c.requires.mark c.in-Some.first at equal,
+          ∙ its_index c.args.firsts.now c.args.others.now c.args.items.now c.args.item.now c.requires.noted c.args.mark c.requires.mark c.in-Some.first at equal,
     )
 
 pub returns-in-Some-copied-clause-found : goal.returns-in-Some-copied-clause-found

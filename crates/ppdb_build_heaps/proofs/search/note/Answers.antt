@@ -13,6 +13,6 @@ pub returns-in_ok-insert-in-Item : goal.returns-in_ok-insert-in-Item
 returns-in_ok-insert-in-Item c =
     let missing = subst (IsMissing (mark_in c.args.firsts.now) c.args.items.now.items c.args.item.now) c.in-Item.is c.requires.missing in
     other_noted c.args.firsts.now c.args.others.now c.args.items.now c.args.item.now c.requires.noted c.insert-in-Item.new.self missing (λ one.
-        put_index c.args.others.now c.insert-in-Item.new.self c.in_ok-key-in-Item.key.items c.len.result c.in_ok-insert-in-Item.ensures.updates one
-        ∙ ap (λ item. cond (bytes_eq item one) (Some c.len.result) (index_at c.args.others.now one)) c.in_ok-key-in-Item.ensures.items
-        ∙ ap (λ n. cond (bytes_eq c.args.item.now one) (Some n) (index_at c.args.others.now one)) c.len.ensures)
+    put_index c.args.others.now c.insert-in-Item.new.self c.in_ok-key-in-Item.key.items c.len.result c.in_ok-insert-in-Item.ensures.updates one
+    ∙ ap (λ item. cond (bytes_eq item one) (Some c.len.result) (index_at c.args.others.now one)) c.in_ok-key-in-Item.ensures.items
+    ∙ ap (λ n. cond (bytes_eq c.args.item.now one) (Some n) (index_at c.args.others.now one)) c.len.ensures)
