@@ -4,11 +4,12 @@ ghost use Rattle.ppdb_base.specs.First.{IsAccepted};
 ghost use Rattle.ppdb_values.specs.RawFile.{RawFile};
 ghost use Rattle.ppdb_verify.specs.Files.{FileFaults, IsRawOf};
 ghost use Rattle.ppdb_verify.specs.Views.{raw_file};
+ghost use Rattle.ppdb_queries.specs.Known.{AreNoted};
 ghost use Rattle.ppdb_library.specs.Lines.{line_of, point_line};
 
 use crate::status::{DONE, MEMORY, REFUSED, TOO_LONG, USAGE};
 use ppdb_base::{CounterPermit, MAX_FILE_BYTES, Steps};
-use ppdb_queries::{NoMethod, point_at};
+use ppdb_queries::{MethodPoints, NoMethod, noted_point_at};
 use ppdb_verify::{Verified, verify};
 use ppdb_verify_rules::VerifyError;
 use sequence_points::{Point, Span};
@@ -103,7 +104,7 @@ fn verified_lines<L: Ledger>(
     let mut steps = Steps::<L>::new(permit, steps);
     match verify(alloc, file, &mut steps) {
         Ok(file) => {
-            put_lines(&file, frames, lines, &mut steps);
+            put_lines(alloc, &file, frames, lines, &mut steps);
             DONE
         }
         Err(VerifyError::Fault(_)) => REFUSED,
@@ -113,6 +114,7 @@ fn verified_lines<L: Ledger>(
 
 /// Puts the lines of the frames.
 fn put_lines<L: Ledger>(
+    alloc: Global,
     file: &Verified<'_>,
     frames: &[PpdbFrame],
     lines: &mut [PpdbLine],
@@ -121,16 +123,25 @@ fn put_lines<L: Ledger>(
     requires { length frames.now ≤ length lines.old }
     ensures { lines.new ≡ map (line_of (raw_file file.now)) frames.now ++ drop (length frames.now) lines.old }
 {
+    let mut noted = None;
     for (i, frame) in frames.iter().enumerate() {
-        lines[i] = line(file, frame, steps);
+        lines[i] = line(alloc, file, frame, &mut noted, steps);
     }
 }
 
-/// The line of a frame.
-fn line<L: Ledger>(file: &Verified<'_>, frame: &PpdbFrame, steps: &mut Steps<L>) -> PpdbLine
-    ensures { result ≡ line_of (raw_file file.now) frame.now }
+/// The line of a frame, by what the frames before it noted of the same file.
+fn line<'a, L: Ledger>(
+    alloc: Global,
+    file: &Verified<'a>,
+    frame: &PpdbFrame,
+    noted: &mut Option<MethodPoints<'a>>,
+    steps: &mut Steps<L>,
+) -> PpdbLine
+    requires noted { AreNoted (raw_file file.now) noted.old }
+    ensures noted { AreNoted (raw_file file.now) noted.new }
+    ensures line { result ≡ line_of (raw_file file.now) frame.now }
 {
-    match point_at(file, frame.method, frame.offset, steps) {
+    match noted_point_at(alloc, file, frame.method, frame.offset, noted, steps) {
         Ok(Some(found)) => of_point(found.point),
         Ok(None) => bare(NO_POINT),
         Err(NoMethod) => bare(NO_METHOD),

@@ -5,6 +5,7 @@
 
 mod hoisted;
 mod imports;
+mod known;
 mod laws;
 mod machines;
 mod method;
@@ -15,9 +16,10 @@ mod search;
 
 pub use hoisted::{Hoisted, HoistedCursor, hoisted_at};
 pub use imports::{ImportChain, ImportLink, imports_of};
+pub use known::MethodPoints;
 pub use laws::{lists_are_values, rows_are_values, views_are_there};
 pub use machines::{KickoffOrder, kickoff_of, move_next_by, move_next_of};
 pub use method::NoMethod;
-pub use points::{PointAt, point_at};
+pub use points::{PointAt, noted_point_at, point_at};
 pub use run::{Run, customs_of, scope_run};
 pub use scopes::{ScopeCursor, ScopeView, scopes_at};

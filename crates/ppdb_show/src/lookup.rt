@@ -44,16 +44,16 @@ pub fn put_no_method<O: Sink>(
 }
 
 /// Puts what is asked, and the lines of the query or that there is no such method.
-fn put_one<O: Sink, L: Ledger>(
+fn put_one<'a, O: Sink, L: Ledger>(
     printer: Printer<'_>,
-    file: &Verified<'_>,
+    file: &Verified<'a>,
     at: MethodOffset,
-    notes: &mut Notes,
+    notes: &mut Notes<'a>,
     out: &mut O,
     steps: &mut Steps<L>,
 ) -> Result<(), WriteError>
-    requires known { AreNotes printer.form (raw_file file.now).tables notes.old }
-    ensures known { AreNotes printer.entry.form (raw_file file.now).tables notes.new }
+    requires known { AreNotes printer.form (raw_file file.now) notes.old }
+    ensures known { AreNotes printer.entry.form (raw_file file.now) notes.new }
     ensures puts { PutsInto O.written O.faults result out.old out.new
         (lines_as printer.entry.form (answer_lines (raw_file file.now) at)) }
     ensures cost { steps.new ≤ steps.old + query_rows (raw_file file.now).tables at.method at.offset }

@@ -1,6 +1,6 @@
 -- The points of a method of a valid file are whole, and are those of the value.
 use Rattle.std.proofs.Common.{◌≡◌, ℕ, ◌<◌, List, [], ◌∷◌, ap, subst, ◌∙◌, arith, inl, inr}
-use Rattle.std.specs.Prelude.{Option, Some, None, All, length}
+use Rattle.std.specs.Prelude.{Option, Some, None, All, AllPairs, length}
 use Rattle.std.specs.Option.{option_map}
 use Rattle.ppdb_base.specs.declared.BlobFault.{BlobFault}
 use Rattle.sequence_points.specs.declared.point.Point.{Point}
@@ -51,7 +51,7 @@ PointsOf raw row shown fault = PointsReading row.document (point_limits raw) (bl
 pub points_begun : (raw : RawFile) (m : ℕ) (row : MethodDebugRow) (shown : Shown)
     → row_at raw.tables.methods m ≡ Some row → IsMethod raw.tables row → 0 < length (blob raw.tables row.points)
     → PointsOf raw.tables row shown shown.left.fault
-    → (PointsOf raw.tables row shown None → All (λ p. HasRow raw.tables 0x30 p.document) shown.left.items)
+    → (PointsOf raw.tables row shown None → All (λ p. HasRow raw.tables 0x30 p.document) shown.left.items × AllPairs (λ p q. p.offset < q.offset) shown.left.items)
     → PointsAre raw m (Some shown)
 points_begun raw m row shown there keeps some reading rows =
     let content = blob raw.tables row.points in

@@ -17,7 +17,7 @@ pub fn point_limits(file: &Verified<'_>) -> PointLimits
     ppdb_verify_rules::point_limits(file.tables())
 }
 
-/// The points of a method, from the first; None where its blob is nil. They have no fault.
+/// The points of a method, from the first; None where its blob is nil. They have no fault, and their offsets rise.
 pub fn points_of<'a>(
     file: &Verified<'a>,
     method: u32,

@@ -65,6 +65,18 @@ impl<'a> PointCursor<'a> {
         self.signature
     }
 
+    /// A second cursor at the same place.
+    pub fn copied(&self) -> PointCursor<'a>
+        ensures { result ≡ self.now }
+    {
+        PointCursor {
+            blob: self.blob,
+            limits: self.limits,
+            signature: self.signature,
+            place: self.place,
+        }
+    }
+
     /// The next point; None at the end of a whole blob.
     #[inline(always)]
     pub fn next(&mut self) -> Result<Option<Point>, BlobFault>

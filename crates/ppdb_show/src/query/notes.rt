@@ -1,9 +1,9 @@
 // What the answer to one question notes for the next about the same file.
-ghost use Rattle.std.specs.Prelude.{◌≡◌, [], ◌⊎◌};
+ghost use Rattle.std.specs.Prelude.{◌≡◌, [], ◌⊎◌, None};
 ghost use Rattle.ppdb_queries.specs.declared.machines.KickoffOrder.TheVariants.{Unread};
 
 use ppdb_base::{Bytes, List};
-use ppdb_queries::KickoffOrder;
+use ppdb_queries::{KickoffOrder, MethodPoints};
 use std::alloc::Global;
 
 /// How many bytes of lines are noted at most, so that the notes need little memory.
@@ -44,19 +44,22 @@ impl NotedText {
 
 /// What one answer notes for the next.
 #[derive(Drop)]
-pub(crate) struct Notes {
+pub(crate) struct Notes<'a> {
+    pub(crate) points: Option<MethodPoints<'a>>,
     pub(crate) kickoffs: KickoffOrder,
     pub(crate) imports: NotedText,
 }
 
-impl Notes {
+impl<'a> Notes<'a> {
     /// Nothing.
-    pub(crate) fn new(alloc: Global) -> Notes
+    pub(crate) fn new(alloc: Global) -> Notes<'a>
+        ensures points { result.points ≡ None }
         ensures kickoffs { result.kickoffs ≡ Unread }
         ensures import { result.imports.import ≡ 0 }
         ensures text { result.imports.text ≡ [] }
     {
         Notes {
+            points: None,
             kickoffs: KickoffOrder::Unread,
             imports: NotedText::new(alloc),
         }

@@ -41,7 +41,7 @@ returns c =
     points_begun (raw_file c.args.file.now) c.args.method c.args.row.now c.in-Ok.cursor c.requires keeps
     (subst (λ (content : List ℕ). 0 < length content) c.blob-content.ensures.content held)
     (rw c.point_limits.ensures at (rw c.blob-content.ensures.content at c.in-Ok.ensures.ok))
-    (λ reading. (c.read_points_can_be_written.ensures c.args.row.now.document (point_limits raw)
+    (λ reading. let written = c.read_points_can_be_written.ensures c.args.row.now.document (point_limits raw)
     (blob raw c.args.row.now.points) c.in-Ok.cursor.signature c.in-Ok.cursor.left.items
     keeps.document (let few = c.keeps.ensures.rules.shape.small 0x30 in omega (arith, few)) (let few = c.keeps.ensures.rules.shape.small 0x11 in
-    omega (arith, few)) reading).2)
+    omega (arith, few)) reading in (written.2, written.0.rise))
