@@ -1,6 +1,6 @@
 -- The texts of three samples have the samples' maps.
-use Rattle.std.proofs.Common.{◌≡◌, ℕ, Bool, true, false, [], ◌∷◌, Some, None, refl, arith}
-use Rattle.std.specs.Prelude.{codes, cond, nat_eq, ◌&&◌}
+use Rattle.std.proofs.Common.{◌≡◌, ℕ, Bool, true, false, [], ◌∷◌, Option, Some, None, refl, sym, ap, arith}
+use Rattle.std.specs.Prelude.{codes, cond, nat_eq, ◌&&◌, is_some, option_and_then}
 use Rattle.std.specs.Option.{option_map}
 use Rattle.std.proofs.lemmas.Bool.Decides.{nat_tests}
 use Rattle.ppdb_maps.specs.Map.{MethodLine, count_of}
@@ -10,9 +10,11 @@ use Rattle.ppdb_maps.specs.Sample.{sample_map_of}
 use Rattle.ppdb_maps.specs.Forms.{IsHead, Tells}
 use Rattle.ppdb_maps.specs.Text.{Read, start, further, HoldsWhat}
 use Rattle.ppdb_maps.specs.SampleTexts.{SampleTexts}
-use Rattle.ppdb_maps.specs.declared.line.Line.TheVariants.{Rows, Row, Method, Kept}
+use Rattle.ppdb_maps.specs.declared.line.Line.{Line, TheVariants.{Rows, Row, Method, Kept}}
 use Rattle.ppdb_maps.proofs.SampleMap.{sample_readable}
 use Rattle.ppdb_maps.proofs.TextSteps.{tells_rows, tells_row, tells_method, keeps_rows, keeps_row, keeps_method, with_runs}
+use Rattle.ppdb_maps.proofs.Telling.{not_said}
+use Rattle.ppdb_maps.specs.Before.{count_in, rows_said, row_said, cross_said, gone_said}
 use Rattle.ppdb_maps.proofs.TextSteps.{number_of_digit, row_of_digit, prefix_run, back_run}
 use Rattle.ppdb_base.specs.declared.limits.TheConstants.{MAX_ROWS}
 
@@ -51,10 +53,11 @@ method_2 = tells_method (codes "method 2 16 20") (codes "2") 2 refl (λ e. omega
 read_0 : Read 1 (codes "rows 06 0" ∷ []) (Rows 6 0 ∷ [])
 read_0 = further start rows_0 (keeps_rows [] (codes "rows 06 0") 6 0 rows_0 refl)
 
-one_count : (n table : ℕ) → count_of (sample_map_of n) table ≡ cond (nat_eq 6 table) (Some n) None
+one_count : (n table : ℕ) → count_of (sample_map_of n) table ≡ count_in (Rows 6 n ∷ []) table
 one_count n table = of (nat_eq 6 table)
   where
-    of : (b : Bool) → option_map (λ (c : Count). c.rows) (cond b (Some (record { table = 6; rows = n })) None) ≡ cond b (Some n) None
+    of : (b : Bool) → option_map (λ (c : Count). c.rows) (cond b (Some (record { table = 6; rows = n })) None)
+        ≡ option_and_then rows_said (cond (b && true) (Some (Rows 6 n)) None)
     of true = refl
     of false = refl
 
@@ -80,24 +83,25 @@ holds_0 = record {
 read_rows_1 : Read 1 (codes "rows 06 1" ∷ codes "row 06 1 1" ∷ []) (Row 6 1 1 ∷ Rows 6 1 ∷ [])
 read_rows_1 =
     further (further start rows_1 (keeps_rows [] (codes "rows 06 1") 6 1 rows_1 refl)) row_1_1
-    (keeps_row (Rows 6 1 ∷ []) (codes "row 06 1 1") 6 1 1 1 row_1_1 refl refl refl)
+    (keeps_row (Rows 6 1 ∷ []) (codes "row 06 1 1") 1 1 row_1_1 refl refl refl)
 
 read_1 : Read 1 (codes "rows 06 1" ∷ codes "row 06 1 1" ∷ codes "method 1 16 20" ∷ codes "run 0 0 4" ∷ codes "run 8 10 8" ∷ [])
     (Kept back_run ∷ Kept prefix_run ∷ Method 1 16 20 ∷ Row 6 1 1 ∷ Rows 6 1 ∷ [])
 read_1 = with_runs (codes "rows 06 1" ∷ codes "row 06 1 1" ∷ codes "method 1 16 20" ∷ []) (Row 6 1 1 ∷ Rows 6 1 ∷ []) 1
     (further read_rows_1 method_1 (keeps_method (Row 6 1 1 ∷ Rows 6 1 ∷ []) (codes "method 1 16 20") 1 16 20 method_1 refl refl))
 
-one_row : (b : Bool) (old new : ℕ) → let r : RowLine =
-    record { table = 6; old = old; new = new } in option_map (λ (x : RowLine). x.new) (cond b (Some r) None) ≡ cond b (Some new) None
-one_row true old new = refl
-one_row false old new = refl
+one_row : (x y : Bool) (old new : ℕ) → let r : RowLine = record { table = 6; old = old; new = new } in
+    option_map (λ (z : RowLine). z.new) (cond (x && y) (Some r) None) ≡ option_and_then row_said (cond (x && (y && true)) (Some (Row 6 old new)) None)
+one_row true true old new = refl
+one_row true false old new = refl
+one_row false y old new = refl
 
 holds_1 : HoldsWhat (Kept back_run ∷ Kept prefix_run ∷ Method 1 16 20 ∷ Row 6 1 1 ∷ Rows 6 1 ∷ []) (sample_map_of 1)
 holds_1 = record {
   counts = one_count 1;
-  rows = λ t o. one_row (nat_eq 6 t && nat_eq 1 o) 1 1;
-  crossed = λ t o. refl;
-  gone = λ t o. refl;
+  rows = λ t o. one_row (nat_eq 6 t) (nat_eq 1 o) 1 1;
+  crossed = λ t o. sym (not_said cross_said (nat_eq 6 t && (nat_eq 1 o && true)) (Row 6 1 1) None refl refl);
+  gone = λ t o. sym (ap is_some (not_said gone_said (nat_eq 6 t && (nat_eq 1 o && true)) (Row 6 1 1) None refl refl));
   methods = λ m. refl;
   drops = λ m. refl;
   slotted = λ m. refl;
@@ -114,8 +118,8 @@ holds_1 = record {
 read_rows_2 : Read 1 (codes "rows 06 2" ∷ codes "row 06 1 2" ∷ codes "row 06 2 1" ∷ []) (Row 6 2 1 ∷ Row 6 1 2 ∷ Rows 6 2 ∷ [])
 read_rows_2 =
     further (further (further start rows_2 (keeps_rows [] (codes "rows 06 2") 6 2 rows_2 refl)) row_1_2
-    (keeps_row (Rows 6 2 ∷ []) (codes "row 06 1 2") 6 1 2 2 row_1_2 refl refl refl)) row_2_1
-    (keeps_row (Row 6 1 2 ∷ Rows 6 2 ∷ []) (codes "row 06 2 1") 6 2 1 2 row_2_1 refl refl refl)
+    (keeps_row (Rows 6 2 ∷ []) (codes "row 06 1 2") 1 2 row_1_2 refl refl refl)) row_2_1
+    (keeps_row (Row 6 1 2 ∷ Rows 6 2 ∷ []) (codes "row 06 2 1") 2 1 row_2_1 refl refl refl)
 
 read_first : Read 1 (codes "rows 06 2" ∷ codes "row 06 1 2" ∷ codes "row 06 2 1" ∷ codes "method 1 16 20" ∷ codes "run 0 0 4" ∷ codes "run 8 10 8" ∷ [])
     (Kept back_run ∷ Kept prefix_run ∷ Method 1 16 20 ∷ Row 6 2 1 ∷ Row 6 1 2 ∷ Rows 6 2 ∷ [])
@@ -138,13 +142,17 @@ apart n a b = grind (arith, nat_tests)
 
 two_rows : (b first second : Bool) → (first ≡ true → second ≡ true → ⊥)
     → let r : RowLine = record { table = 6; old = 1; new = 2 } in let s : RowLine = record { table = 6; old = 2; new = 1 } in
-    option_map (λ (x : RowLine). x.new) (cond (b && first) (Some r) (cond (b && second) (Some s) None)) ≡ cond (b && second) (Some 1)
-    (cond (b && first) (Some 2) None)
+    option_map (λ (x : RowLine). x.new) (cond (b && first) (Some r) (cond (b && second) (Some s) None))
+    ≡ option_and_then row_said (cond (b && (second && true)) (Some (Row 6 2 1)) (cond (b && (first && true)) (Some (Row 6 1 2)) None))
 two_rows true true true apart = absurd (apart refl refl)
 two_rows true true false apart = refl
 two_rows true false true apart = refl
 two_rows true false false apart = refl
 two_rows false first second apart = refl
+
+none_of_two : {A : Type 0} (said : Line → Option A) (x y z : Bool) → said (Row 6 2 1) ≡ None → said (Row 6 1 2) ≡ None
+    → option_and_then said (cond (x && (y && true)) (Some (Row 6 2 1)) (cond (x && (z && true)) (Some (Row 6 1 2)) None)) ≡ None
+none_of_two said x y z first second = not_said said (x && (y && true)) (Row 6 2 1) _ first (not_said said (x && (z && true)) (Row 6 1 2) None second refl)
 
 two_methods : (first second : Bool) (x y : MethodLine) → (first ≡ true → second ≡ true → ⊥)
     → cond first (Some x) (cond second (Some y) None) ≡ cond second (Some y) (cond first (Some x) None)
@@ -158,8 +166,8 @@ holds_2 : HoldsWhat (Kept back_run ∷ Kept prefix_run ∷ Method 2 16 20 ∷ Ke
 holds_2 = record {
   counts = one_count 2;
   rows = λ t o. two_rows (nat_eq 6 t) (nat_eq 1 o) (nat_eq 2 o) (apart o);
-  crossed = λ t o. refl;
-  gone = λ t o. refl;
+  crossed = λ t o. sym (none_of_two cross_said (nat_eq 6 t) (nat_eq 2 o) (nat_eq 1 o) refl refl);
+  gone = λ t o. sym (ap is_some (none_of_two gone_said (nat_eq 6 t) (nat_eq 2 o) (nat_eq 1 o) refl refl));
   methods = λ m. two_methods (nat_eq 1 m) (nat_eq 2 m) (record { method = 1; old_size = 16; new_size = 20; runs = prefix_run ∷ back_run ∷ [] })
       (record { method = 2; old_size = 16; new_size = 20; runs = prefix_run ∷ back_run ∷ [] }) (apart m);
   drops = λ m. refl;

@@ -16,9 +16,8 @@ use Rattle.std.proofs.lemmas.Bool.{cases_lt}
 use Rattle.std.proofs.lemmas.List.{length-take-le}
 use Rattle.ppdb_maps.specs.Cuts.{AreWordsOf}
 use Rattle.ppdb_maps.specs.Reading.{FitsForm, values_of}
-use Rattle.ppdb_maps.specs.Rules.{kind_of, Breaks, BreaksLine, BreaksFirst, no_form, no_value, by_lines, second_rows, second_row, second_method, second_drop}
-use Rattle.ppdb_maps.specs.Rules.{second_slots, second_slot, second_signature, row_alone, slot_alone, run_alone, run_early, run_long, drop_named, dropped_method, dropped_row}
-use Rattle.ppdb_maps.specs.Rules.{dropped_slots, dropped_signature, second_document, second_link, second_cross, second_gone, second_shares, cross_alone, gone_alone}
+use Rattle.ppdb_maps.specs.Rules.{kind_of, Breaks, BreaksLine, BreaksFirst, no_form, no_value, by_lines, second, alone, run_alone, run_early, run_long}
+use Rattle.ppdb_maps.specs.Rules.{drop_named, names_dropped}
 use Rattle.ppdb_maps.specs.declared.rule.Rule.{Rule}
 use Rattle.ppdb_maps.specs.declared.rule.Rule.TheVariants.{UnknownForm, NumberFaults}
 use Rattle.ppdb_maps.specs.declared.words.Words.{Words}
@@ -231,30 +230,13 @@ tells_form line words version form says loud are fits values =
 
 -- the rules on what lines say have the numbers from 4 on
 pub from_four : (before : List Line) (rule : Rule) (line : Line) → Breaks before rule line → 4 ≤ kind_of rule
-from_four before rule line (second_rows h) = lit≤ tt
-from_four before rule line (second_row h) = lit≤ tt
-from_four before rule line (second_method h) = lit≤ tt
-from_four before rule line (second_drop h) = lit≤ tt
-from_four before rule line (second_slots h) = lit≤ tt
-from_four before rule line (second_slot h) = lit≤ tt
-from_four before rule line (second_signature h) = lit≤ tt
-from_four before rule line (second_document h) = lit≤ tt
-from_four before rule line (second_link h) = lit≤ tt
-from_four before rule line (second_cross h) = lit≤ tt
-from_four before rule line (second_gone h) = lit≤ tt
-from_four before rule line (second_shares h) = lit≤ tt
-from_four before rule line (cross_alone h) = lit≤ tt
-from_four before rule line (gone_alone h) = lit≤ tt
-from_four before rule line (row_alone h) = lit≤ tt
-from_four before rule line (slot_alone h) = lit≤ tt
+from_four before rule line (second at is there) = lit≤ tt
+from_four before rule line (alone at is none) = lit≤ tt
 from_four before rule line (run_alone h) = lit≤ tt
 from_four before rule line (run_early h k) = lit≤ tt
 from_four before rule line (run_long h k) = lit≤ tt
 from_four before rule line (drop_named h) = lit≤ tt
-from_four before rule line (dropped_method h) = lit≤ tt
-from_four before rule line (dropped_row h k) = lit≤ tt
-from_four before rule line (dropped_slots h) = lit≤ tt
-from_four before rule line (dropped_signature h) = lit≤ tt
+from_four before rule line (names_dropped m is there) = lit≤ tt
 
 -- a line without a form
 pub breaks_form : (line : List ℕ) (words : Words) (version : ℕ) (before : List Line) → (IsSilent line → ⊥) → AreWordsOf line words
