@@ -1,10 +1,9 @@
--- A file has few variables and records.
+-- A file has few variables.
 use Rattle.std.proofs.Common.{◌≡◌, ◌+◌, ◌≤◌, List, [], ◌∷◌, length, flat_map, refl, sym, ◌∙◌, ap, subst, arith}
 use Rattle.std.specs.List.{sum_by}
 use Rattle.std.proofs.lemmas.List.{length-map, length-append}
 use Rattle.std.proofs.lemmas.List.Sums.{sum_by-cons}
 use Rattle.ppdb_values_sound_laws.proofs.Counts.{variables_counted}
-use Rattle.ppdb_values.specs.Customs.{custom_of}
 use Rattle.ppdb_values.specs.RawFile.{RawFile}
 use Rattle.ppdb_values.specs.Rules.{KeepsRules}
 use Rattle.ppdb_values.specs.Value.{value_of}
@@ -21,9 +20,3 @@ slots_of (s ∷ ss) =
 
 pub few_slots : (raw : RawFile) → KeepsRules raw → length (variable_slots (value_of raw)) ≤ 16777215
 few_slots raw keeps = subst (λ n. n ≤ 16777215) (sym (slots_of (value_of raw).scopes ∙ variables_counted raw keeps)) (keeps.shape.small 0x33)
-
-pub few_customs : (raw : RawFile) → KeepsRules raw → length (value_of raw).customs ≤ 16777215
-few_customs raw keeps =
-    let many = length-map raw.tables.customs (custom_of raw.tables) in
-    let counted = keeps.shape.customs in
-    let small = keeps.shape.small 0x37 in omega (arith, many, counted, small)
