@@ -1,5 +1,6 @@
 // A file that is drafted part by part.
 use crate::notes::{fill_rows, next_row, note_guid, put_row};
+use crate::parts::Parts;
 use custom_info::Range;
 use ppdb_base::{List, Memory};
 use ppdb_build_heaps::GuidHeap;
@@ -41,9 +42,7 @@ impl Drafting {
     ghost use Rattle.type_blobs.specs.Types.{IsToken};
     ghost use Rattle.type_blobs.specs.ConstantReading.{shown};
     ghost use Rattle.type_blobs.specs.Spelling.{IsBody, constant_spelling};
-    ghost use Rattle.sequence_points.specs.Points.{common_document};
-    ghost use Rattle.sequence_points.specs.Written.{CanBeWritten, large_steps, points_blob, IsRefused};
-    ghost use Rattle.ppdb_values.specs.declared.file.MethodValue.{MethodValue};
+    ghost use Rattle.sequence_points.specs.Written.{CanBeWritten, large_steps, IsRefused};
     ghost use Rattle.ppdb_values_sound_laws.specs.Writing.{HasSpelling, IsWritable};
     ghost use Rattle.ppdb_build_draft.specs.Draft.{empty_draft, with_document, with_method, with_all_methods, with_variable, with_scope_row};
     ghost use Rattle.ppdb_build_draft.specs.Draft.{with_signature, with_import, with_machine, with_custom};
@@ -122,22 +121,6 @@ impl Drafting {
             Ok(()) => Ok(()),
             Err(Memory) => Err(PointError::Memory),
         }
-    }
-
-    /// Adds the points of a method as their blob and the Document column of its row; methods come in the order of their rows.
-    #[tactic(auto, unfolding(crate::specs::Draft::with_method))]
-    pub fn method_blob(&mut self, method: u32, document: u32, blob: &[u8]) -> Result<(), Memory>
-        requires { 1 ≤ method }
-        ensures { (value : MethodValue) → value.method ≡ method → document ≡ common_document value.points → blob.now ≡ points_blob value.signature value.points
-            → OnOk result (self.new ≡ with_method self.old value) }
-    {
-        let points = self.blobs.note(blob)?;
-        put_row(
-            &mut self.rows.methods,
-            method as usize - 1,
-            MethodDebugRow { document, points },
-        )?;
-        Ok(())
     }
 
     /// Adds the rows of the methods without points, up to so many rows; of no method where none has points.
@@ -254,5 +237,22 @@ impl Drafting {
         ensures { result.now ≡ self.now.rows }
     {
         &self.rows
+    }
+}
+
+impl Parts for Drafting {
+    ghost use Rattle.ppdb_build_draft.specs.Draft.{with_method};
+
+    ghost added_method = { with_method };
+
+    #[tactic(auto, unfolding(crate::specs::Draft::with_method))]
+    fn method_blob(&mut self, method: u32, document: u32, blob: &[u8]) -> Result<(), Memory> {
+        let points = self.blobs.note(blob)?;
+        put_row(
+            &mut self.rows.methods,
+            method as usize - 1,
+            MethodDebugRow { document, points },
+        )?;
+        Ok(())
     }
 }

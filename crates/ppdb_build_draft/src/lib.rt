@@ -6,7 +6,9 @@ mod heap_bytes;
 mod laws;
 mod lent;
 mod notes;
+mod parts;
 
 pub use drafting::Drafting;
 pub use laws::drafts_are_canonical;
 pub use lent::lent_body;
+pub use parts::Parts;

@@ -2,7 +2,6 @@ use Rattle.std.proofs.Common.{◌≤◌, Option, refl, subst, slice_get}
 use Rattle.std.specs.Option.{option_and_then, option_to_list}
 use Rattle.ppdb_values.specs.declared.file.MethodValue.{MethodValue}
 use Rattle.ppdb_merge_items.specs.Each.{Each}
-use Rattle.ppdb_build_draft.specs.Draft.{with_method}
 use Rattle.ppdb_build_merged.specs.declared.inputs.Placed.{Placed}
 use Rattle.ppdb_merge_rows.specs.Methods.{HasForms, method_after}
 use Rattle.ppdb_build_merged.specs.Inputs.{IsReady, raw_of}
@@ -21,7 +20,7 @@ add_row-requires-clause-there g c =
 
 pub returns-then-index-placed-clause-added : goal.returns-then-index-placed-clause-added
 returns-then-index-placed-clause-added g c =
-    no_row_put (λ (p : Placed). method_after (raw_of p) p.input.now.map p.documents c.args.key.row) with_method c.args.draft.now (slice_get c.args.placed.now c.args.key.input)
+    no_row_put (λ (p : Placed). method_after (raw_of p) p.input.now.map p.documents c.args.key.row) g.P.Parts.added_method c.args.draft.now (slice_get c.args.placed.now c.args.key.input)
     (no_item c.args.placed.now c.args.key.input c.if-index-placed.true)
 
 pub returns-then-index-placed-clause-forms : goal.returns-then-index-placed-clause-forms
@@ -33,7 +32,7 @@ pub returns-clause-added : goal.returns-clause-added
 returns-clause-added g c =
     let there = item_there c.args.placed.now c.args.key.input c.index-placed-index.result c.if-index-placed.false c.index-placed-index.is in
     let put = λ (p : Placed). method_after (raw_of p) p.input.now.map p.documents c.args.key.row in
-    row_put put with_method c.args.draft.now c.add_row.new.draft (slice_get c.args.placed.now c.args.key.input) c.index-placed-index.result
+    row_put put g.P.Parts.added_method c.args.draft.now c.add_row.new.draft (slice_get c.args.placed.now c.args.key.input) c.index-placed-index.result
     (put c.index-placed-index.result) there refl c.in_ok-add_row.ensures.added
 
 pub returns-clause-forms : goal.returns-clause-forms

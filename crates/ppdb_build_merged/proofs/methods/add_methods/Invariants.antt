@@ -1,6 +1,5 @@
 use Rattle.std.proofs.Common.{◌≡◌, take, fold}
 use Rattle.std.specs.List.{filter_map}
-use Rattle.ppdb_build_draft.specs.Draft.{with_method}
 use Rattle.ppdb_merge_items.specs.Each.{Each}
 use Rattle.ppdb_merge_rows.specs.Methods.{HasForms}
 use Rattle.ppdb_build_merged.specs.Keyed.{method_of}
@@ -8,6 +7,6 @@ use Rattle.ppdb_build_merged.proofs.methods.add_methods.Given as goal
 
 abbrev pub invariant-loop-key : goal.invariant-loop-key
 invariant-loop-key g l = record {
-  added : l.draft ≡ fold with_method l.fn.draft (filter_map (method_of l.placed) (take l.key-index l.keys));
+  added : l.draft ≡ fold g.P.Parts.added_method l.fn.draft (filter_map (method_of l.placed) (take l.key-index l.keys));
   forms : Each HasForms (filter_map (method_of l.placed) (take l.key-index l.keys));
 }

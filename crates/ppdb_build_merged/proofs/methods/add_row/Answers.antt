@@ -1,7 +1,6 @@
 use Rattle.std.proofs.Common.{◌≤◌, Option, fold, sym, ap, subst, ◌∙◌, arith}
 use Rattle.std.specs.Option.{option_map, option_to_list}
 use Rattle.ppdb_values.specs.declared.file.MethodValue.{MethodValue}
-use Rattle.ppdb_build_draft.specs.Draft.{with_method}
 use Rattle.ppdb_merge_items.specs.Each.{Each}
 use Rattle.ppdb_merge_joined.specs.Joined.{row_in, renumbered_method}
 use Rattle.ppdb_merge_moved.specs.Moved.{moved_method}
@@ -15,7 +14,7 @@ pub returns-then-not-has_row-clause-added : goal.returns-then-not-has_row-clause
 returns-then-not-has_row-clause-added g c =
     let p = c.args.placed.now in
     let raw = raw_of p in
-    no_row_put (λ (method : MethodValue). option_map (renumbered_method (row_in p.documents)) (moved_method p.input.now.map method)) with_method c.args.draft.now _
+    no_row_put (λ (method : MethodValue). option_map (renumbered_method (row_in p.documents)) (moved_method p.input.now.map method)) g.P.Parts.added_method c.args.draft.now _
     (no_method raw c.keeps.ensures.rules.shape c.args.row (λ there. let yes = c.has_row.ensures.1 there in let no = c.if-not-has_row.true in absurd cc))
 
 pub returns-then-not-has_row-clause-forms : goal.returns-then-not-has_row-clause-forms
@@ -33,7 +32,7 @@ returns-in-Gone-clause-forms g c =
 pub returns-in-Gone-clause-added : goal.returns-in-Gone-clause-added
 returns-in-Gone-clause-added g c =
     let gone = rw c.as_slice-documents.ensures at (rw c.in-Gone.is at c.in_ok-moved.ensures.moved) in
-    ap (λ (o : Option MethodValue). fold with_method c.args.draft.now (option_to_list o)) (sym gone.0)
+    ap (λ (o : Option MethodValue). fold g.P.Parts.added_method c.args.draft.now (option_to_list o)) (sym gone.0)
 
 pub method_blob-requires : goal.method_blob-requires
 method_blob-requires g c =
@@ -56,4 +55,4 @@ returns-in_ok-method_blob-in-Blob-clause-added g c =
     let m : MethodValue = blob.0 in
     let own = c.methods_have_their_rows.ensures (raw_of p) p.input.now.map p.documents c.args.row m blob.1 in
     c.in_ok-method_blob-in-Blob.ensures m (own ∙ sym c.moved_row-method.ensures) blob.2.column_is (c.as_slice.ensures ∙ rw c.clear.ensures at blob.2.blob)
-    ∙ ap (λ (o : Option MethodValue). fold with_method c.args.draft.now (option_to_list o)) (sym blob.1)
+    ∙ ap (λ (o : Option MethodValue). fold g.P.Parts.added_method c.args.draft.now (option_to_list o)) (sym blob.1)
