@@ -43,6 +43,7 @@ class Case:
     title: str
     files: dict[str, bytes] = field(default_factory=dict)
     since: tuple[int, ...] = ()
+    is_outside: bool = False
     has_failing_call: bool = False
     runs: list[Run] = field(default_factory=list)
 
@@ -73,6 +74,12 @@ def number(text: str) -> int:
     return int(text)
 
 
+def status(text: str) -> int:
+    if not text.isascii() or not text.isdigit() or int(text) > 255:
+        raise Misspelled("no status")
+    return int(text)
+
+
 def number_and_rest(text: str) -> tuple[int, str]:
     first, _, rest = text.partition(" ")
     return number(first), rest
@@ -80,8 +87,11 @@ def number_and_rest(text: str) -> tuple[int, str]:
 
 def hex_bytes(text: str) -> bytes:
     words = text.split()
-    if any(len(word) % 2 or not HEX_DIGITS.issuperset(word.encode()) for word in words):
-        raise Misspelled("no hexadecimal digits")
+    for word in words:
+        if len(word) % 2:
+            raise Misspelled("no two hexadecimal digits")
+        if not HEX_DIGITS.issuperset(word.encode()):
+            raise Misspelled("no hexadecimal digit")
     return bytes.fromhex("".join(words))
 
 
@@ -173,6 +183,8 @@ class Reader:
             return
         word, _, rest = text.partition(" ")
         if self.put_part(word, rest):
+            if not self.head:
+                raise Misspelled("bytes of nothing")
             return
         self.close()
         if word not in SECTIONS:
@@ -227,8 +239,6 @@ class Reader:
     def close(self) -> None:
         told, self.told = bytes(self.told), bytearray()
         if not self.head:
-            if told:
-                raise Misspelled("bytes of nothing")
             return
         line, word, rest = self.head
         self.head = None
@@ -252,13 +262,15 @@ class Reader:
             self.close_of_run(word, rest, told)
 
     def close_silent(self, word: str, rest: str) -> None:
-        """Ends a line that has no bytes. `use` and `outside` say nothing to a program that runs the cases from outside."""
+        """Ends a line that has no bytes. `use` says nothing more: the files are read before the cases."""
         if word == "pdb":
             self.debug_file = DebugFile(rest)
         elif word == "case":
             self.file.cases.append(Case(rest))
         elif word == "since":
             self.last_case().since = version_of(rest)
+        elif word == "outside":
+            self.last_case().is_outside = True
         elif word == "fail":
             number(rest)
             self.last_case().has_failing_call = True
@@ -288,7 +300,7 @@ class Reader:
             times, text = number_and_rest(rest)
             run.words += [text] * times
         elif word == "status":
-            run.status = number(rest)
+            run.status = status(rest)
         elif word == "end":
             run.is_end = True
         elif word == "begin":
