@@ -1,13 +1,7 @@
-//! Tests over several crates: values that are sound or not, and what values are written as.
+//! Tests over several crates: what values are written as, and the limits that they pass.
 #![tactic(auto)]
 
 #[cfg(test)]
 mod limits;
 #[cfg(test)]
 mod parts;
-#[cfg(test)]
-mod samples;
-#[cfg(test)]
-mod soundness;
-#[cfg(test)]
-mod worked;

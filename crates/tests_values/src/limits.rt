@@ -162,6 +162,10 @@ fn points_that_have_no_form(rt: HostRuntime) -> Result<(), Memory> {
     let points = [(0, 1), (2, 0x1ffffff0), (0x20000000, 1)];
     assert!(rt; points_pass(alloc, &points[..2], step)?);
     assert!(rt; points_pass(alloc, &points, offset)?);
+    for (offset, is_sound) in [(0x7fffffff, true), (0x80000000, false)] {
+        let limit = Limit::PointOffset { method: 1, offset };
+        assert!(rt; points_pass(alloc, &[(offset, 1)], limit)? == is_sound);
+    }
     Ok(())
 }
 
