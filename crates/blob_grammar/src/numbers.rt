@@ -3,6 +3,7 @@ ghost use Rattle.blob_grammar.specs.Grammar.{byte, number};
 ghost use Rattle.blob_grammar.specs.Reader.{placed, unsigned_at, signed_at, word_at, IsThere, IsMissing};
 
 use crate::fault::fault_at;
+use byteorder::{ByteOrder, LittleEndian};
 use cli_ints::{IntFault, read_signed, read_unsigned};
 use ppdb_base::BlobFault;
 
@@ -42,7 +43,7 @@ pub fn word_field(blob: &[u8], at: usize) -> Result<(u32, usize), BlobFault>
     ensures within { IfOk result (λ x. at + x.1 ≤ length blob.now) }
 {
     match &blob[at..] {
-        [a, b, c, d, ..] => Ok((u32::from_le_bytes([*a, *b, *c, *d]), 4)),
+        word @ [_, _, _, _, ..] => Ok((LittleEndian::read_u32(word), 4)),
         _ => Err(fault_at(IntFault::End, at)),
     }
 }

@@ -7,6 +7,7 @@ ghost use Rattle.blob_grammar.specs.Allowed.{is_row};
 ghost use Rattle.custom_info.specs.Fields.{is_offset, checked};
 
 use blob_grammar::{is_row, out_of_range, unsigned_field, word_field};
+use byteorder::{ByteOrder, LittleEndian};
 use ppdb_base::{BlobFault, Bytes, Code, Memory};
 
 /// The first offset that no method has.
@@ -55,5 +56,7 @@ pub fn word_into(number: u32, into: &mut Bytes) -> Result<(), Memory>
     ensures ok { OnOk result (into.new ≡ into.old ++ to_le_bytes w32 number) }
     ensures err { OnErr result (into.new ≡ into.old) }
 {
-    into.append(&number.to_le_bytes())
+    let mut spelled = [0; 4];
+    LittleEndian::write_u32(&mut spelled, number);
+    into.append(&spelled)
 }
