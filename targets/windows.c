@@ -117,33 +117,13 @@ static wchar_t *long_name(wchar_t *name, wchar_t *room)
     return wmemcpy(path - 4, L"\\\\?\\", 4);
 }
 
-/* The folder of the file that is opened for writing, up to its last separator. The program makes a new file in this folder and then
-   renames it; it takes / alone for a separator, so it may give this file the folder of another. Its name begins so. */
-static char target_folder[PATH_BYTES];
-static const char NEW_NAME[] = ".ppdb-";
-
-static void keep_folder(const char *path)
-{
-    size_t end = strlen(path);
-    while (end && !strchr("/\\:", path[end - 1]))
-        end--;
-    memcpy(target_folder, path, end);
-    target_folder[end] = 0;
-}
-
-/* The name for Windows, or null if it is no UTF-8 or too long. There are two rooms, since a call has at most two names. */
+/* The name for Windows, or null if it is no UTF-8 or too long. */
 static wchar_t *name_of(const char *path)
 {
-    static wchar_t rooms[2][2][PATH_UNITS];
-    static int turn;
-    char placed[2 * PATH_BYTES];
-    const char *last = strrchr(path, '/') ? strrchr(path, '/') + 1 : path;
-    if (!strncmp(last, NEW_NAME, sizeof NEW_NAME - 1) && strlen(last) < PATH_BYTES)
-        path = strcat(strcpy(placed, target_folder), last);
-    turn = !turn;
-    if (!MultiByteToWideChar(CP_UTF8, MB_ERR_INVALID_CHARS, path, -1, rooms[turn][0], PATH_UNITS))
+    static wchar_t rooms[2][PATH_UNITS];
+    if (!MultiByteToWideChar(CP_UTF8, MB_ERR_INVALID_CHARS, path, -1, rooms[0], PATH_UNITS))
         return 0;
-    return long_name(rooms[turn][0], rooms[turn][1]);
+    return long_name(rooms[0], rooms[1]);
 }
 
 /* The number of the standard stream for which Linux has a name, or -1. */
@@ -164,24 +144,98 @@ static int opened_stream(int stream)
 
 static const DWORD SHARED = FILE_SHARE_READ | FILE_SHARE_WRITE | FILE_SHARE_DELETE;
 
+/* OUT, behind its links: what the program last opened for writing. And the new file in its folder, which the program makes, gives the name
+   of OUT or removes, with the program's own name of it. */
+static wchar_t out_name[PATH_UNITS], new_rooms[2][PATH_UNITS], *new_name = L"";
+static char new_path[PATH_BYTES];
+
+/* A link that leads to a file leads to its name; any other name is as it was given. */
+static void keep_out_name(HANDLE file, const wchar_t *name)
+{
+    DWORD found = GetFileAttributesW(name), length = 0;
+    if (file != INVALID_HANDLE_VALUE && found != INVALID_FILE_ATTRIBUTES && found & FILE_ATTRIBUTE_REPARSE_POINT)
+        length = GetFinalPathNameByHandleW(file, out_name, PATH_UNITS, 0);
+    if (!length || length >= PATH_UNITS)
+        wcscpy(out_name, name);
+}
+
+/* The name of the new file: the program takes / alone for a separator, so it would have another folder after a \. */
+static int keep_new_name(const char *path)
+{
+    const char *own = strrchr(path, '/') ? strrchr(path, '/') + 1 : path;
+    size_t end = wcslen(out_name), length = strlen(path);
+    while (end && !wcschr(L"/\\:", out_name[end - 1]))
+        end--;
+    if (length >= PATH_BYTES)
+        return 0;
+    memcpy(new_path, path, length + 1);
+    wmemcpy(new_rooms[0], out_name, end);
+    if (!MultiByteToWideChar(CP_UTF8, MB_ERR_INVALID_CHARS, own, -1, new_rooms[0] + end, (int)(PATH_UNITS - end)))
+        return 0;
+    new_name = long_name(new_rooms[0], new_rooms[1]);
+    return 1;
+}
+
+typedef union { SECURITY_DESCRIPTOR own; char room[PATH_UNITS * 3]; } Rights;
+
+/* The access rights of a file, as Windows writes them, and how long they are; 0 if it does not say. */
+static DWORD rights_of(const wchar_t *name, Rights *rights)
+{
+    DWORD needed;
+    memset(rights, 0, sizeof *rights);
+    return GetFileSecurityW(name, DACL_SECURITY_INFORMATION, rights, sizeof *rights, &needed) ? needed : 0;
+}
+
+/* Gives the new file the access rights of OUT, also those that OUT inherited, as far as the system allows. */
+static void copy_rights(void)
+{
+    static Rights of_out, of_new;
+    DWORD length = rights_of(out_name, &of_out), revision;
+    SECURITY_DESCRIPTOR_CONTROL control;
+    if (!length || (length == rights_of(new_name, &of_new) && !memcmp(&of_out, &of_new, length)))
+        return;
+    if (GetSecurityDescriptorControl(&of_out.own, &control, &revision) && control & SE_DACL_AUTO_INHERITED)
+        SetSecurityDescriptorControl(&of_out.own, SE_DACL_AUTO_INHERIT_REQ, SE_DACL_AUTO_INHERIT_REQ);
+    SetFileSecurityW(new_name, DACL_SECURITY_INFORMATION, &of_out);
+}
+
+/* Makes the new file, with the attributes and access rights of OUT before it has a byte. */
+static int opened_new(const char *path)
+{
+    static const DWORD KEPT = FILE_ATTRIBUTE_HIDDEN | FILE_ATTRIBUTE_SYSTEM | FILE_ATTRIBUTE_ARCHIVE | FILE_ATTRIBUTE_ENCRYPTED |
+                              FILE_ATTRIBUTE_NOT_CONTENT_INDEXED;
+    if (!keep_new_name(path))
+        return failed(IS_INVALID);
+    DWORD found = GetFileAttributesW(out_name), kept = found == INVALID_FILE_ATTRIBUTES ? 0 : found & KEPT;
+    HANDLE file = CreateFileW(new_name, GENERIC_WRITE, SHARED, 0, CREATE_NEW, kept ? kept : FILE_ATTRIBUTE_NORMAL, 0);
+    if (file == INVALID_HANDLE_VALUE)
+        return failed_here();
+    if (found != INVALID_FILE_ATTRIBUTES)
+        copy_rights();
+    return descriptor_of(file, new_name);
+}
+
 int ppdb_open(const char *path, int flags, ...)
 {
     int stream = stream_named(path), writes = flags & (FOR_WRITING | FOR_BOTH);
     if (stream >= 0)
         return opened_stream(stream);
-    if (writes && !(flags & MUST_MAKE) && strlen(path) < PATH_BYTES)
-        keep_folder(path);
+    if (flags & MUST_MAKE)
+        return opened_new(path);
     wchar_t *name = name_of(path);
     if (!name)
         return failed(IS_INVALID);
     DWORD access = FILE_READ_ATTRIBUTES | (flags & FOR_WRITING ? 0 : GENERIC_READ) | (writes ? GENERIC_WRITE : 0);
     if (writes && flags & APPENDS)
         access = (access & ~GENERIC_WRITE) | FILE_APPEND_DATA | SYNCHRONIZE;
-    DWORD how = flags & MUST_MAKE ? CREATE_NEW : flags & MAY_MAKE ? OPEN_ALWAYS : OPEN_EXISTING;
     /* A folder is opened for reading, as on Linux, and is then not read. */
-    HANDLE file = CreateFileW(name, access, SHARED, 0, how, writes ? FILE_ATTRIBUTE_NORMAL : FILE_FLAG_BACKUP_SEMANTICS, 0);
+    HANDLE file = CreateFileW(name, access, SHARED, 0, flags & MAY_MAKE ? OPEN_ALWAYS : OPEN_EXISTING,
+                              writes ? FILE_ATTRIBUTE_NORMAL : FILE_FLAG_BACKUP_SEMANTICS, 0);
+    DWORD error = GetLastError();
+    if (writes)
+        keep_out_name(file, name);
     if (file == INVALID_HANDLE_VALUE)
-        return why_not(name, GetLastError());
+        return why_not(name, error);
     if (flags & CUTS && GetFileType(file) == FILE_TYPE_DISK)
         SetEndOfFile(file);
     return descriptor_of(file, name);
@@ -241,7 +295,7 @@ int ppdb_ftruncate(int descriptor, long long length)
     return SetFileInformationByHandle(handle_of(descriptor), FileEndOfFileInfo, &end, sizeof end) ? 0 : failed_here();
 }
 
-/* ppdb_rename keeps who may do what with a file. */
+/* The new file has its rights from the moment when it is made. */
 int ppdb_fchmod(int descriptor, unsigned mode) { (void)descriptor, (void)mode; return 0; }
 int ppdb_fchown(int descriptor, unsigned owner, unsigned group) { (void)descriptor, (void)owner, (void)group; return 0; }
 /* ppdb locks no file. */
@@ -249,41 +303,27 @@ int ppdb_flock(int descriptor, int how) { (void)descriptor, (void)how; return fa
 
 int ppdb_getpid(void) { return (int)GetCurrentProcessId(); }
 
-/* The name to which the links of a name lead, or the name. */
-static wchar_t *behind_links(wchar_t *name)
-{
-    static wchar_t room[PATH_UNITS];
-    HANDLE file = CreateFileW(name, 0, SHARED, 0, OPEN_EXISTING, FILE_FLAG_BACKUP_SEMANTICS, 0);
-    if (file == INVALID_HANDLE_VALUE)
-        return name;
-    DWORD length = GetFinalPathNameByHandleW(file, room, PATH_UNITS, 0);
-    CloseHandle(file);
-    return length && length < PATH_UNITS ? room : name;
-}
-
-/* Windows replaces no file that is open, so what the program still has open of it is closed first: it only closes it afterwards. The new
-   file gets the access rights and attributes of the old one. */
+/* Gives the new file the name of OUT, by one call: OUT is the old file before it and the new one after it. ReplaceFileW would do it in
+   steps, and may leave neither. Windows replaces no file that is open, so what the program still has open of OUT is closed first: it
+   only closes it afterwards. */
 int ppdb_rename(const char *from, const char *to)
 {
-    wchar_t *old = name_of(from), *new = name_of(to);
-    if (!old || !new)
+    wchar_t *name = name_of(to);
+    if (!name || strcmp(from, new_path))
         return failed(IS_INVALID);
     for (int at = 3; at < MOST_FILES; at++) {
-        if (files[at].handle && files[at].name && !wcscmp(files[at].name, new)) {
+        if (files[at].handle && files[at].name && !wcscmp(files[at].name, name)) {
             CloseHandle(files[at].handle);
             files[at].handle = 0;
         }
     }
-    new = behind_links(new);
-    if (ReplaceFileW(new, old, 0, REPLACEFILE_IGNORE_MERGE_ERRORS, 0, 0) || MoveFileExW(old, new, MOVEFILE_REPLACE_EXISTING | MOVEFILE_WRITE_THROUGH))
-        return 0;
-    return failed_here();
+    return MoveFileExW(new_name, out_name, MOVEFILE_REPLACE_EXISTING | MOVEFILE_WRITE_THROUGH) ? 0 : failed_here();
 }
 
+/* The program removes no file but the new one. */
 int ppdb_unlink(const char *path)
 {
-    wchar_t *name = name_of(path);
-    return !name ? failed(IS_INVALID) : DeleteFileW(name) ? 0 : failed_here();
+    return strcmp(path, new_path) ? failed(IS_INVALID) : DeleteFileW(new_name) ? 0 : failed_here();
 }
 
 int ppdb_unlinkat(int folder, const char *path, int flags) { (void)folder, (void)flags; return ppdb_unlink(path); }

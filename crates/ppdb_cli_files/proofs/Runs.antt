@@ -1,5 +1,5 @@
 -- What may be found during each run of a replacement.
-use Rattle.std.proofs.Common.{ℕ, ◌≡◌, ◌⊎◌, ◌<◌, Bool, true, false, List, [], ◌∷◌, ◌++◌, Option, refl, ap, ◌∙◌, sym, subst, inl, inr, lit<}
+use Rattle.std.proofs.Common.{ℕ, ◌≡◌, ◌⊎◌, Bool, true, false, List, [], ◌∷◌, ◌++◌, Option, refl, ap, ◌∙◌, sym, subst, inl, inr, lit<}
 use Rattle.std.specs.Prelude.{All, Any, Contains, Result, Ok, Err, is_ok, option_map}
 use Rattle.std.proofs.lemmas.List.Elements.{All-nil, All-cons, All-tail, All-append, All-push, All-weaker, All-contains_itself}
 use Rattle.std.specs.declared.io.Error.{Error}
