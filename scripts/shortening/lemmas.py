@@ -1,0 +1,161 @@
+"""The lemmas of a proof file, by its layout: an item begins in the first column, and what is indented or closes a bracket goes on with it."""
+import re
+from dataclasses import dataclass
+from enum import Enum, auto
+from pathlib import Path
+from typing import NamedTuple
+
+HEADS = frozenset("record data mutual section variable infix infixl infixr syntax ruleset open end".split())
+VISIBILITY = re.compile(r"(?:(?:pub|abbrev|unfoldable)\s+)+")
+SIGNATURE = re.compile(r"\S+ :(?:\s|$)")
+# What is a file of lemmas no more: a list of modules, or the proof of a function.
+NO_LEMMAS = frozenset(("Lib.antt", "Answers.antt", "Invariants.antt", "Proof.antt"))
+
+
+class Kind(Enum):
+    """What an item of a file is."""
+
+    BLANK = auto()
+    COMMENT = auto()
+    IMPORT = auto()
+    MODULE = auto()
+    HEAD = auto()
+    UNFOLDING = auto()
+    SIGNATURE = auto()
+    CLAUSE = auto()
+
+
+class Lines(NamedTuple):
+    """The lines from the first on, up to the end, which is not one of them."""
+
+    first: int
+    end: int
+
+    def count(self) -> int:
+        return self.end - self.first
+
+    def of(self, lines: list[str]) -> list[str]:
+        return lines[self.first:self.end]
+
+    def text(self, lines: list[str]) -> str:
+        return "\n".join(self.of(lines))
+
+
+class Item(NamedTuple):
+    """An item: its lines, its first word after `pub` and the like, and these."""
+
+    kind: Kind
+    lines: Lines
+    name: str
+    visibility: str
+
+
+@dataclass
+class Lemma:
+    """A statement with the clauses that prove it."""
+
+    name: str
+    visibility: str
+    signature: Lines
+    unfolding: Lines | None
+    clauses: list[Lines]
+    end: int
+
+    def body_lines(self) -> int:
+        return sum(it.count() for it in self.clauses)
+
+    def is_public(self) -> bool:
+        return bool(self.visibility)
+
+
+def kind_of(text: str, word: str) -> Kind:
+    if word == "use":
+        return Kind.IMPORT
+    if word == "mod":
+        return Kind.MODULE
+    if word in HEADS:
+        return Kind.HEAD
+    if word == "unfolding":
+        return Kind.UNFOLDING
+    return Kind.SIGNATURE if SIGNATURE.match(text) else Kind.CLAUSE
+
+
+def items(lines: list[str]) -> list[Item]:
+    found: list[Item] = []
+    at = 0
+    while at < len(lines):
+        line = lines[at]
+        if not line.strip() or line.startswith("--"):
+            kind = Kind.COMMENT if line.strip() else Kind.BLANK
+            found.append(Item(kind, Lines(at, at + 1), "", ""))
+            at += 1
+            continue
+        end = at + 1
+        while end < len(lines) and lines[end][:1] in (" ", ")", "}", "]"):
+            end += 1
+        shown = VISIBILITY.match(line)
+        visibility = shown[0] if shown else ""
+        text = line[len(visibility):]
+        word = (text.split() or [""])[0]
+        found.append(Item(kind_of(text, word), Lines(at, end), word, visibility))
+        at = end
+    return found
+
+
+def followed_by_clause(found: list[Item], at: int) -> int | None:
+    """Where the next clause stands behind blank lines and comments, if it is next."""
+    while at < len(found) and found[at].kind in (Kind.BLANK, Kind.COMMENT):
+        at += 1
+    return at if at < len(found) and found[at].kind is Kind.CLAUSE else None
+
+
+def lemmas(lines: list[str]) -> list[Lemma]:
+    """The lemmas of a file in its order: what has a statement, and clauses that begin with its name. Definitions are none."""
+    found, got, at = items(lines), [], 0
+    while at < len(found):
+        head = found[at]
+        at += 1
+        if head.kind is not Kind.SIGNATURE:
+            continue
+        lemma = Lemma(head.name, head.visibility, head.lines, None, [], head.lines.end)
+        while at < len(found):
+            it = found[at]
+            if it.kind is Kind.UNFOLDING:
+                lemma.unfolding = it.lines
+            elif it.kind is Kind.CLAUSE and it.name == lemma.name:
+                lemma.clauses.append(it.lines)
+            else:
+                behind = followed_by_clause(found, at) if it.kind in (Kind.BLANK, Kind.COMMENT) else None
+                if behind is None or found[behind].name != lemma.name:
+                    break
+                at = behind
+                continue
+            lemma.end = it.lines.end
+            at += 1
+        if lemma.clauses and lemma.visibility.strip() in ("", "pub"):
+            got.append(lemma)
+    return got
+
+
+def read_lines(path: Path) -> list[str]:
+    return path.read_text(encoding="utf-8").split("\n")
+
+
+def write_lines(path: Path, lines: list[str]) -> None:
+    path.write_text("\n".join(lines), encoding="utf-8")
+
+
+def has_mutual(lines: list[str]) -> bool:
+    """Whether lemmas of the file name each other by turns."""
+    return any(it.startswith("mutual") for it in lines)
+
+
+def lemma_files(crate: Path) -> list[Path]:
+    """The files of lemmas of a crate."""
+    every = sorted((crate / "proofs").rglob("*.antt"))
+    return [it for it in every if it.name not in NO_LEMMAS and lemmas(read_lines(it))]
+
+
+def answer_files(crate: Path) -> list[Path]:
+    """The files of answers to the open goals of functions."""
+    return sorted((crate / "proofs").rglob("Answers.antt"))
