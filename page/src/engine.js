@@ -1,6 +1,7 @@
 /** The proved library: the wasm module that is in the page, compiled once. */
 import {Ppdb} from "../../bindings/js/ppdb.mjs";
 import {inflated} from "./sources.js";
+import {NO_MEMORY} from "./text.js";
 
 /**
  * @param {{length: number, packed: string}} module the bytes of the module, deflated and in base64, and how many they are
@@ -11,7 +12,7 @@ export async function startEngine({length, packed}) {
   const library = new Ppdb(await WebAssembly.compile(bytes));
   return {run(words, files) {
     const {status, text, made} = library.runBytes(words, files.map(it => [it.name, it.bytes]));
-    if (status === 5) throw new Error("The memory of the page is too small for this file: use the program ppdb");
+    if (status === 5) throw new Error(NO_MEMORY);
     return {status, text, out: made ?? new Uint8Array()};
   }};
 }

@@ -1,8 +1,9 @@
 /** Files that are dropped, chosen, or in the page itself. */
 import {$} from "./dom.js";
+import {LONGEST_FILE} from "./text.js";
 
-/** The most files of a folder that are looked at, and the longest one that is read. */
-const MOST_FILES = 20000, LONGEST_GIVEN = 134217728;
+/** The most files of a folder that are looked at. */
+const MOST_FILES = 20000;
 /** Ends of names that are worth reading from a folder: debug files, assemblies, maps and sources. */
 const ENDS = /\.(?:pdb|dll|exe|netmodule|map|ppdbmap|cs|vb|fs|fsi|fsx|razor|cshtml|il|txt|g|cpp|h|js)$/i;
 
@@ -11,6 +12,8 @@ const FIRST = /\.(?:pdb|dll|exe|netmodule|map|ppdbmap)$/i;
 const MOST_BYTES = 536870912;
 
 /** @typedef {{name: string, bytes: Uint8Array}} Given */
+/** What was read of some files: of how many there was no room, and the names of those that are longer than `ppdb` reads.
+ * @typedef {Given[] & {left: number, long: string[]}} Read */
 
 /** The files below an entry that was dropped, each with its path. @returns {Promise<{file: File, path: string}[]>} */
 async function below(entry, found) {
@@ -28,15 +31,16 @@ async function below(entry, found) {
   }
   return found;
 }
-/** @param {{file: File, path: string}[]} files @param {boolean} isFolder @returns {Promise<Given[] & {left: number}>} */
+/** @param {{file: File, path: string}[]} files @param {boolean} isFolder @returns {Promise<Read>} */
 async function read(files, isFolder) {
-  const wanted = files.filter(({file, path}) => file.size <= LONGEST_GIVEN + 1 && (!isFolder || ENDS.test(path)));
+  const named = files.filter(({path}) => !isFolder || ENDS.test(path)), isLong = ({file}) => file.size > LONGEST_FILE;
+  const wanted = named.filter(it => !isLong(it)), long = named.filter(isLong).map(it => it.path);
   // Sources come last: there may be many.
   wanted.sort((one, other) => Number(FIRST.test(other.path)) - Number(FIRST.test(one.path)));
   let room = MOST_BYTES;
   const some = wanted.filter(({file}) => (room -= file.size) >= 0);
   const given = await Promise.all(some.map(async ({file, path}) => ({name: path, bytes: new Uint8Array(await file.arrayBuffer())})));
-  return Object.assign(given, {left: wanted.length - some.length});
+  return Object.assign(given, {left: wanted.length - some.length, long});
 }
 /** @param {DataTransfer} data */
 export async function dropped(data) {

@@ -67,7 +67,7 @@ class Reading {
   all() {
     const {bytes} = this;
     while (this.at < bytes.length) {
-      if (bytes[this.at] === LOWER_P && bytes[this.at + 1] === LOWER_O) { this.at += 6; this.point(); continue; }
+      if (bytes[this.at] === LOWER_P && bytes[this.at + 1] === LOWER_O) { this.pointLines(); continue; }
       this.end = bytes.indexOf(NEW_LINE, this.at);
       if (this.end < 0) this.end = bytes.length;
       this.line();
@@ -76,29 +76,32 @@ class Reading {
     const lists = ["points", "methods", "scopes", "variables", "constants", "machines", "customs", "heap"].map(name => [name, this[name].done()]);
     return {...this.found, ...Object.fromEntries(lists)};
   }
-  /** `O D hidden` or `O D SL:SC EL:EC`, and the end of the line. */
-  point() {
-    const {bytes, points} = this, {length} = bytes;
-    points.room(WIDTH);
-    const {data} = points, first = points.length;
-    let at = this.at, column = 0;
-    for (; column < WIDTH && bytes[at] !== HIDDEN; column++) {
-      let value = 0, byte = 0;
-      // A number ends at a space, a colon or the end of the line.
-      while (at < length && (byte = bytes[at++]) >= ZERO && byte <= NINE) value = value * 10 + byte - ZERO;
-      data[first + column] = value;
+  /** The lines of points that follow each other: `point O D hidden` or `point O D SL:SC EL:EC`. Most lines are such ones. */
+  pointLines() {
+    const {bytes, points} = this, end = bytes.length - 1;
+    let {at} = this, {data, length} = points;
+    while (at < end && bytes[at] === LOWER_P && bytes[at + 1] === LOWER_O) {
+      if (length + WIDTH > data.length) { points.length = length; points.room(WIDTH); ({data} = points); }
+      at += "point ".length;
+      let column = 0;
+      for (; column < WIDTH && bytes[at] !== HIDDEN; column++) {
+        let value = 0, digit = 0;
+        // A number ends at a space, a colon or the end of the line.
+        while (at <= end && (digit = bytes[at++] - ZERO) >= 0 && digit <= 9) value = value * 10 + digit;
+        data[length + column] = value;
+      }
+      if (column < WIDTH) { data.fill(-1, length + 2, length + WIDTH); at += "hidden\n".length; }
+      length += WIDTH;
     }
-    if (column < WIDTH) { data[first + 2] = data[first + 3] = data[first + 4] = data[first + 5] = -1; at += "hidden\n".length; }
-    points.length += WIDTH;
+    points.length = length;
     this.at = at;
   }
   /** The next number of the line: it skips the words before it, which have no digits. */
   number() {
-    const {bytes} = this;
-    const {end} = this;
-    let at = this.at, value = 0, byte = 0;
+    const {bytes, end} = this;
+    let {at} = this, value = 0, digit = 0;
     while (at < end && (bytes[at] < ZERO || bytes[at] > NINE)) at++;
-    for (; at < end && (byte = bytes[at]) >= ZERO && byte <= NINE; at++) value = value * 10 + byte - ZERO;
+    for (; at < end && (digit = bytes[at] - ZERO) >= 0 && digit <= 9; at++) value = value * 10 + digit;
     this.at = at;
     return value;
   }

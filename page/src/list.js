@@ -2,8 +2,8 @@
 import {$, button, fill, isThere, make} from "./dom.js";
 import {addressOf, go} from "./place.js";
 import {rawName, sourceOf, state} from "./state.js";
-import {bodyOf, documentOf, firstLines, placeOf, sideOf, subjectAt, textOf, titleAt, titleWords, totals} from "./subjects.js";
-import {baseName, cutFront, folderOf, plural, tokenOf} from "./text.js";
+import {bodyOf, documentOf, isNamed, placeOf, sideOf, subjectAt, textOf, titleAt, titleWords, totals} from "./subjects.js";
+import {baseName, cutFront, folderOf, plural, spelled, tokenOf} from "./text.js";
 import {VirtualList} from "./virtual.js";
 
 const ENTRY_TALL = 28;
@@ -31,7 +31,7 @@ export function startList(searches) {
       if (want === list.want) { list.hits = hits; fillList(); }
     }, 150);
   };
-  $("find-form").onsubmit = event => { event.preventDefault(); const first = list.entries.find(it => it.place && !it.head); if (first) go(first.place); };
+  $("find-form").onsubmit = event => { event.preventDefault(); const first = list.entries.find(isChoice); if (first) go(first.place); };
   $("list").onkeydown = onListKey;
   for (const tab of ["methods", "documents"]) $(`tab-${tab}`).onclick = () => { list.tab = tab; fillList(); bringToList(); };
 }
@@ -48,9 +48,18 @@ function isWanted(subject) {
   return `${titleWords(side, method)} ${raw} ${guessed}`.toLowerCase().includes(want);
 }
 /** The heading under which a subject is: its type, or its document. */
-function groupOf(subject, key) {
-  const {type, space, isKnown} = titleAt(subject);
-  return isKnown ? `type ${space}.${type}` : key ?? "none";
+function groupOf(subject, key, isKnown) {
+  if (!isKnown) return key;
+  const {type, space} = titleAt(subject);
+  return `type ${space}.${type}`;
+}
+/** The entry of a method; of one with code in several documents each of its entries leads to its own. */
+class Entry {
+  constructor(subject, line, key) { this.subject = subject; this.line = line; this.key = key; }
+  get place() {
+    const {subject, key} = this, isOne = subject.lines.length < 2 || !key.startsWith("before:") || isNamed(subject);
+    return {...placeOf(subject), ...isOne ? {} : {d: +key.slice(7)}};
+  }
 }
 function methodEntries() {
   const groups = new Map(), put = (group, entry) => (groups.get(group) ?? groups.set(group, []).get(group)).push(entry);
@@ -58,13 +67,9 @@ function methodEntries() {
   for (const subject of state.subjects) {
     if (!ONLY[list.only](subject) || !isWanted(subject)) continue;
     if (--left < 0) { more++; continue; }
-    subject.lines ??= firstLines(subject);
-    const {isKnown} = titleAt(subject), lines = isKnown ? subject.lines.slice(0, 1) : subject.lines;
-    for (const [key, line] of lines.length ? lines : [[undefined, 0]]) {
-      // Of a method with code in several documents each entry leads to its own.
-      const its = subject.lines.length > 1 && !isKnown && key?.startsWith("before:") ? {d: +key.slice(7)} : {};
-      put(groupOf(subject, key), {subject, line, key, place: {...placeOf(subject), ...its}});
-    }
+    const isKnown = isNamed(subject), {lines} = subject;
+    if (!lines.length) put(groupOf(subject, "none", isKnown), new Entry(subject, 0, undefined));
+    for (const [key, line] of isKnown ? lines.slice(0, 1) : lines) put(groupOf(subject, key, isKnown), new Entry(subject, line, key));
   }
   const order = key => key === "none" ? 2 : key.startsWith("after") ? 1 : 0;
   const listed = [...groups].sort(([one], [other]) => order(one) - order(other) || docOrder(one) - docOrder(other)).flatMap(([key, found]) =>
@@ -93,7 +98,6 @@ class Head {
 function documentEntries() {
   const counts = new Map(), found = [];
   for (const subject of state.subjects) {
-    subject.lines ??= firstLines(subject);
     for (const [key] of subject.lines) counts.set(key, (counts.get(key) ?? 0) + 1);
   }
   for (const side of ["before", "after"]) for (const it of state[side]?.documents.values() ?? []) {
@@ -109,7 +113,7 @@ function hitEntries() {
   if (!list.hits || !list.want) return [];
   const {hits, count} = list.hits;
   if (!hits.length) return [];
-  const found = [{head: "In sources", dim: count > hits.length ? `the first ${hits.length} of ${count.toLocaleString("en")} lines` : plural(count, "line")}];
+  const found = [{head: "In sources", dim: count > hits.length ? `the first ${hits.length} of ${spelled(count)} lines` : plural(count, "line")}];
   let last = null;
   for (const hit of hits) {
     const name = textOf(state.before.documents.get(hit.row));
@@ -195,6 +199,8 @@ function documentBody({document, side, name, folder, count}) {
 
 // ---- Moving in the list.
 
+/** Whether an entry leads to a place, and is no heading. */
+const isChoice = it => Boolean(it.subject ?? it.document ?? it.hit);
 export function bringToList() {
   const index = activeIndex();
   list.view.active = index;
@@ -203,7 +209,7 @@ export function bringToList() {
 }
 /** Goes to an entry so many after the chosen one. @param {number} by */
 export function stepEntry(by) {
-  const places = list.entries.map((it, index) => it.place && !it.head ? index : -1).filter(it => it >= 0);
+  const places = list.entries.map((it, index) => isChoice(it) ? index : -1).filter(it => it >= 0);
   if (!places.length) return;
   const at = places.indexOf(activeIndex()), to = places[Math.min(places.length - 1, Math.max(0, at < 0 ? 0 : at + by))];
   go(list.entries[to].place, true);

@@ -12,7 +12,7 @@ import {Port} from "./port.js";
 import {startSplitters} from "./splitters.js";
 import {sourceOf, state, take} from "./state.js";
 import {bodyOf, documentOf, placeOf, sideOf, subjectAt, totals} from "./subjects.js";
-import {baseName, nameOf, plural, seen, sizeWords} from "./text.js";
+import {baseName, nameOf, plural, seen, sizeWords, spelled, tooLong} from "./text.js";
 
 /** The script of the worker and the rules of the format, which the build puts here. */
 const BUILT = /** @type {{worker: string, rules: Record<string, string>, version: string}} */ (PPDB_BUILT);
@@ -27,13 +27,13 @@ function busy(words) {
   fill("busy-words", words);
   document.body.toggleAttribute("data-busy", Boolean(words));
 }
-/** @param {import("./files.js").Given[]} files @param {string[]} [shows] the debug files that are to be shown, if not all */
+/** @param {import("./files.js").Given[] & {left?: number, long?: string[]}} files @param {string[]} [shows] the debug files that are to be shown,
+ if not all */
 async function give(files, shows) {
-  if (!files.length) return;
-  const size = files.reduce((sum, it) => sum + it.bytes.length, 0);
-  busy(files.length === 1 ? `Reading ${baseName(files[0].name)}, ${sizeWords(size)}` : `Reading ${plural(files.length, "file")}, ${sizeWords(size)}`);
-  await settle(() => port.ask("add", files, shows));
+  const size = files.reduce((sum, it) => sum + it.bytes.length, 0), what = files.length === 1 ? baseName(files[0].name) : plural(files.length, "file");
+  if (files.length) { busy(`Reading ${what}, ${sizeWords(size)}`); await settle(() => port.ask("add", files, shows)); }
   if (files.left) trouble(`${plural(files.left, "file")} left out: together they are too long for a page.`);
+  if (files.long?.length) trouble(files.long.map(tooLong).join("; "));
 }
 /** Asks the session, and draws what it then has. @param {() => Promise<any>} asks */
 async function settle(asks) {
@@ -108,7 +108,7 @@ function drawHead() {
 }
 /** What a rewrite changed, counted. */
 function changes() {
-  const sum = totals(), {told} = state, words = [`${sum.changed.toLocaleString("en")} of ${plural(sum.all, "method")} changed`,
+  const sum = totals(), {told} = state, words = [`${spelled(sum.changed)} of ${plural(sum.all, "method")} changed`,
     `${plural(sum.lost, "point")} lost`, `${sum.fresh} new`,
     sum.dropped && `${sum.dropped} dropped`, sum.added && `${sum.added} added`].filter(it => it);
   const by = told.map ? `by ${baseName(told.mapName)}` : state.rewriting?.isByName ? "by name" : "by row";

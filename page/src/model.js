@@ -69,9 +69,9 @@ function firstWith(numbers, width, column, key) {
 }
 
 export class DebugFile {
-  /** @param {import("./lines.js").Columns} columns @param {string} name */
-  constructor(columns, name) {
-    this.name = name; this.columns = columns; this.id = columns.id; this.entry = columns.entry; this.counts = new Map(columns.counts);
+  /** @param {import("./lines.js").Columns} columns @param {string} name @param {number} [key] what the session calls it */
+  constructor(columns, name, key = 0) {
+    this.name = name; this.key = key; this.columns = columns; this.id = columns.id; this.entry = columns.entry; this.counts = new Map(columns.counts);
       this.numbers = columns.points;
     this.documents = new Map(columns.documents.map(it => [it.row, Object.assign(it, {text: nameOf(it.name)})]));
     this.imports = new Map(columns.imports.map(it => [it.row, it]));
@@ -85,7 +85,7 @@ export class DebugFile {
       method.signature = methods[at + 1]; method.first = methods[at + 2];
       method.count = (at + 3 < methods.length ? methods[at + 5] : this.pointCount) - method.first;
     }
-    for (let at = 0; at < scopes.length; at += SCOPE.width) this.method(scopes[at]);
+    for (let at = 0; at < scopes.length; at += SCOPE.width) if (scopes[at] !== scopes[at - SCOPE.width]) this.method(scopes[at]);
     for (let at = 0; at < machines.length; at += 2) { this.method(machines[at]).kickoff = machines[at + 1]; this.method(machines[at + 1]).move = machines[at]; }
     for (let at = 0; at < customs.length; at += CUSTOM.width) {
       const key = ownerKey(customs[at], customs[at + 1]), known = this.owned.get(key);
@@ -137,18 +137,20 @@ export class DebugFile {
     }
     return found;
   }
-  /** The first visible line of a method in each of its documents, Infinity if all its points there are hidden. @param {Method} method */
+  /** The documents of a method, each with its first visible line there, Infinity if all its points there are hidden.
+   @param {Method} method @returns {[number, number][]} */
   firstLines(method) {
-    const {numbers} = this, found = new Map();
-    let document = -1, first = Infinity;
+    const {numbers} = this;
+    let document = -1, first = Infinity, found = null;
     for (let at = method.first * WIDTH, left = method.count; left > 0; left--, at += WIDTH) {
       if (numbers[at + 1] !== document) {
-        if (document >= 0) found.set(document, first);
-        document = numbers[at + 1]; first = found.get(document) ?? Infinity;
+        if (document >= 0) (found ??= new Map()).set(document, first);
+        document = numbers[at + 1]; first = found?.get(document) ?? Infinity;
       }
       if (numbers[at + 2] >= 0 && numbers[at + 2] < first) first = numbers[at + 2];
     }
-    return document < 0 ? found : found.set(document, first);
+    if (found) return [...found.set(document, first)];
+    return document < 0 ? [] : [[document, first]];
   }
   /** Whether a point of a method covers a line of any document. @param {Method} method @param {number} line */
   hasLine(method, line) {

@@ -7,7 +7,7 @@ import {addressOf, go} from "./place.js";
 import {lineCount, lineOf, sourceOf, state} from "./state.js";
 import {cameFrom, isLost, subjectAt, textOf, titleWords} from "./subjects.js";
 import {MOST_LINES} from "./sources.js";
-import {baseName, cutFront, folderOf, hex} from "./text.js";
+import {baseName, cutFront, folderOf, hex, spelled} from "./text.js";
 import {VirtualList} from "./virtual.js";
 
 const LINE_TALL = 20, GUTTER = 76;
@@ -68,7 +68,7 @@ function rowOf(index) {
     href: addressOf(linePlace(line))}, line);
   return make("div", {class: `row${isOn ? " on" : ""}${source?.lines ? "" : " bare"}`, role: "option", "aria-selected": String(isOn), "data-l": line}, number,
     make("span", {class: "text"}, piecesOf(text.slice(0, WIDE), line, over, coloursOf(source, text, line)),
-      text.length > WIDE && make("span", {class: "dim"}, ` \u2026 ${(text.length - WIDE).toLocaleString("en")} more characters`)));
+      text.length > WIDE && make("span", {class: "dim"}, ` \u2026 ${spelled(text.length - WIDE)} more characters`)));
 }
 const linePlace = line => ({[pane.side === "before" ? "d" : "e"]: pane.row, l: line});
 const barsWidth = (over, line) => over.reduce((most, {point}) => Math.max(most, (point.end_line === line ? point.end_column : point.start_column + 8) - 1), 0);

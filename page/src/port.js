@@ -1,5 +1,6 @@
 /** The worker, and questions to it. */
 import {isThere} from "./dom.js";
+import {NO_MEMORY} from "./text.js";
 
 let policy, current = "";
 /** Made from a blob, since the page is one file. A browser with Trusted Types accepts it from this policy alone. @param {string} source */
@@ -20,11 +21,14 @@ export class Port {
     this.worker = started(this.source);
     this.worker.onmessage = ({data}) => {
       if (isThere(data.event)) { this.hears(data); return; }
-      const {done, fail} = this.open.get(data.id);
+      const {done, fail} = this.open.get(data.id) ?? {};
+      if (!done) return;
       this.open.delete(data.id);
       if (data.wrong === undefined) done(data.value); else fail(new Error(data.wrong));
     };
-    this.worker.onerror = event => { for (const {fail} of this.open.values()) fail(new Error(event.message || "the worker ended")); };
+    this.worker.onerror = event => this.failed(event.message || "the worker ended");
+    // A message for which the page has no memory.
+    this.worker.onmessageerror = () => this.failed(NO_MEMORY);
   }
   /** @param {string} name @param {...any} words @returns {Promise<any>} */
   ask(name, ...words) {
@@ -34,8 +38,12 @@ export class Port {
   /** Ends all work, and begins again with a new worker. */
   stop() {
     this.worker.terminate();
-    for (const {fail} of this.open.values()) fail(new Error("stopped"));
-    this.open.clear();
+    this.failed("stopped");
     this.begin();
+  }
+  /** Nothing that is asked for comes any more. @param {string} why */
+  failed(why) {
+    for (const {fail} of this.open.values()) fail(new Error(why));
+    this.open.clear();
   }
 }

@@ -5,13 +5,13 @@ import {guess} from "./guesses.js";
 import {LANGUAGES} from "./kinds.js";
 import {readLines, WIDTH} from "./lines.js";
 import {decoded, inflated, linesOf, LONGEST, sharedParts, stateOf, unpacked, unpackedLength} from "./sources.js";
-import {baseName, nameOf} from "./text.js";
+import {baseName, LONGEST_FILE, nameOf, tooLong} from "./text.js";
 
 /** @typedef {{status: number, text: Uint8Array, out: Uint8Array}} Answer the exit status, standard output and the file that is written */
 /** @typedef {{run: (words: string[], files: {name: string, bytes: Uint8Array}[]) => Answer}} Engine */
 /** @typedef {"pdb" | "windows" | "assembly" | "map" | "source"} Kind */
 
-const LONGEST_FILE = 134217728, MOST_HITS = 300, MOST_PRINTED = 400000, KEPT = 1.5e8;
+const MOST_HITS = 300, MOST_PRINTED = 400000, KEPT = 1.5e8;
 /** Embedded sources may unpack together to so many bytes, and some more for each byte of the file. */
 const UNPACKED = 134217728, UNPACKED_EACH = 64;
 const ASCII = new TextDecoder("latin1"), WORDS = new TextDecoder();
@@ -39,11 +39,12 @@ class Input {
   get file() { return {name: this.word, bytes: this.bytes}; }
 }
 
+let sideCount = 0;
 /** One debug file of the session: before a rewrite (or the only one), or after it. */
 class Side {
   /** @param {Input} input @param {Answer} answer what `show` said */
   constructor(input, answer) {
-    this.input = input; this.status = answer.status;
+    this.input = input; this.status = answer.status; this.key = ++sideCount; this.isHeard = false;
     this.line = answer.status ? WORDS.decode(answer.text).trim() : "accepted";
     const read = answer.status ? null : readLines(answer.text);
     this.columns = read?.columns ?? null; this.embedded = read?.embedded ?? new Map();
@@ -78,7 +79,7 @@ export class Session {
     this.inner = [];
     /** @type {{before: Side | null, after: Side | null}} */
     this.sides = {before: null, after: null};
-    this.map = null; this.chosen = []; this.made = null; this.problem = "";
+    this.map = null; this.mapLine = ""; this.chosen = []; this.made = null; this.problem = "";
   }
   /** What the engine answers. @param {string[]} words @param {...Input} inputs @returns {Answer} */
   ask(words, ...inputs) { return this.engine.run(words, inputs.map(it => it.file)); }
@@ -87,16 +88,17 @@ export class Session {
 
   /** @param {{name: string, bytes: Uint8Array}[]} files @param {string[]} [shows] the names of the debug files that are to be before and after */
   async add(files, shows = []) {
-    const had = this.debugFiles();
+    const had = this.debugFiles(), {inputs, inner, chosen, map, mapLine, made} = this;
     for (const {name, bytes} of files) {
       const input = bytes.length > LONGEST_FILE ? null : new Input(name, bytes);
-      if (!input) { this.problem = `${name} has more than ${LONGEST_FILE.toLocaleString("en")} bytes, which is the most that ppdb reads`; continue; }
+      if (!input) { this.problem = tooLong(name); continue; }
       this.inputs = this.inputs.filter(it => it.name !== name || it.kind !== input.kind);
       this.inputs.push(input);
       if (input.assembly) await this.takeInner(input);
     }
     if (shows.length) this.chosen = shows; else this.chooseAlso(this.debugFiles().filter(it => !had.includes(it)).map(it => it.name));
-    return this.arrange();
+    // Where memory ends, the files that were there stay.
+    try { return this.arrange(); } catch (wrong) { Object.assign(this, {inputs, inner, chosen, map, mapLine, made}); throw wrong; }
   }
   /** A debug file that comes when one was chosen is compared with it; of more than two, one is to be chosen again. @param {string[]} names */
   chooseAlso(names) {
@@ -183,14 +185,16 @@ export class Session {
       inputs: this.inputs.map(it => ({name: it.name, size: it.bytes.length, kind: it.kind, isRead: it.kind !== "assembly" || it.assembly !== null,
         path: it.assembly?.debug.path ?? "", hasInner: Boolean(it.assembly?.debug.embedded), fits: this.isUsed(it)}))};
   }
+  /** What was told has come to the page. */
+  heard() { for (const side of [this.sides.before, this.sides.after]) if (side) side.isHeard = true; }
   /** What `verify` says of a file, of several to choose from. @param {Input} input */
   verdict(input) { return input.line ??= WORDS.decode(this.ask(["verify", input.word], input).text).trim(); }
   isUsed(input) { return [this.sides.before, this.sides.after].some(side => side && (side.input === input || side.assembly === input)); }
-  /** @param {Side | null} side */
+  /** What the page is told of a side: its columns only once, since they are long. @param {Side | null} side */
   tellSide(side) {
     if (!side) return null;
-    const {input: {name, note, bytes, kind}, line, status, columns, assembly, embedded} = side;
-    return {name, note, size: bytes.length, kind, line, status, columns, names: assembly?.assembly.names ?? null, assembly: assembly?.name ?? null,
+    const {input: {name, note, bytes, kind}, key, line, status, assembly, embedded} = side, columns = side.isHeard ? null : side.columns;
+    return {name, note, size: bytes.length, kind, key, line, status, columns, names: assembly?.assembly.names ?? null, assembly: assembly?.name ?? null,
       embedded: [...embedded.keys()], isOne: side === this.sides.after && this.sides.before?.input === side.input};
   }
 

@@ -1,5 +1,6 @@
 /** The sources of documents: unpacked, decoded, cut into lines, and compared with the hash that the debug file has of them. */
 import {HASHES} from "./kinds.js";
+import {spelled} from "./text.js";
 
 /** The longest source that is shown, in bytes, and the most lines: no browser draws a taller page. */
 export const LONGEST = 33554432, MOST_LINES = 800000;
@@ -36,7 +37,7 @@ export async function unpacked(value) {
   if (value.length < 4) return {note: "The embedded source is damaged"};
   const length = lengthBefore(value), rest = value.subarray(4);
   if (Math.max(length, rest.length) > LONGEST)
-    return {note: `The embedded source says that it has ${unpackedLength(value).toLocaleString("en")} bytes: more than the page shows`};
+    return {note: `The embedded source says that it has ${spelled(unpackedLength(value))} bytes: more than the page shows`};
   const bytes = length ? await inflated(rest, length) : rest;
   return bytes ? {bytes} : {note: "The embedded source is damaged"};
 }

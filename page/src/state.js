@@ -28,6 +28,10 @@ export const state = {
   age: 0,
   /** The guessed names by side. */
   guesses: {before: new Map(), after: new Map()},
+  /** The documents of before by the names that they have after. @type {Map<string, number> | null} */
+  named: null,
+  /** How the list calls the documents of a side. */
+  keys: {before: new Map(), after: new Map()},
   /** The chosen place: a method before (m) or only after (n), an offset before (o) or after (a), a document before (d) or after (e), a line. */
   place: {m: null, n: null, o: null, a: null, d: null, e: null, l: null},
   zoom: 1};
@@ -35,20 +39,26 @@ export const state = {
 /** The debug file of a side. @param {SideName} side @returns {DebugFile | null} */
 export const fileOf = side => state[side];
 
-/** Takes what the session says. @param {any} told */
+/** Takes what the session says. It sends the columns of a debug file once, and then only its key. @param {any} told */
 export function take(told) {
+  const files = [state.before, state.after];
   const kept = side => {
-    const columns = told[side]?.columns;
-    if (!columns) return null;
-    return new DebugFile(columns, told[side].name);
+    const said = told[side];
+    if (!said || said.status) return null;
+    const file = said.columns ? new DebugFile(said.columns, said.name, said.key) : files.find(it => it?.key === said.key);
+    files.unshift(file);
+    return file;
   };
-  Object.assign(state, {told, before: kept("before"), after: kept("after"), sources: new Map(), guesses: {before: new Map(), after: new Map()}});
+  const [before, after] = [kept("before"), kept("after")], maps = () => ({before: new Map(), after: new Map()});
+  Object.assign(state, {told, before, after, sources: new Map(), guesses: maps(), keys: maps(), named: null, byOld: new Map(), byNow: new Map()});
   state.age++;
   state.rewriting = rewritingOf(told);
-  state.subjects = state.before ? subjectsOf() : [];
-  state.byOld = new Map(state.subjects.filter(it => it.old).map(it => [it.old.row, it]));
-  state.byNow = new Map(state.subjects.filter(it => it.now).map(it => [it.now.row, it]));
-  for (const it of state.subjects) it.change = changeOf(it);
+  state.subjects = before ? subjectsOf() : [];
+  for (const it of state.subjects) {
+    if (it.old) state.byOld.set(it.old.row, it);
+    if (it.now) state.byNow.set(it.now.row, it);
+  }
+  if (state.rewriting) for (const it of state.subjects) it.change = changeOf(it);
 }
 function rewritingOf(told) {
   const {before, after} = state;

@@ -4,16 +4,34 @@ import {lineOf, sourceOf, state} from "./state.js";
 import {nameOf, plural} from "./text.js";
 
 /** @typedef {import("./model.js").Method} Method */
-/** @typedef {{old: Method | null, now: Method | null, change?: {kind: string, words: string, lost: number, fresh: number}}} Subject */
+/** @typedef {{kind: string, words: string, lost: number, fresh: number}} Change */
 /** @typedef {{name: string, tag: string, type: string, space: string, isGuess: boolean, isKnown: boolean}} Title */
+
+/** @type {Change} */
+const SAME = Object.freeze({kind: "same", words: "", lost: 0, fresh: 0});
+
+/** A method before, after, or both. There may be many: what is known of one is made when it is asked for. */
+export class Subject {
+  /** @param {Method | null} old @param {Method | null} now */
+  constructor(old, now) {
+    this.old = old; this.now = now; this.change = SAME;
+    /** @type {[string, number][] | null} */
+    this.madeLines = null;
+    /** @type {Title | null} */
+    this.title = null;
+    this.age = -1;
+  }
+  /** The lines on which it begins, by document. */
+  get lines() { return this.madeLines ??= firstLines(this); }
+}
 
 /** @returns {Subject[]} */
 export function subjectsOf() {
-  const {before, after, rewriting} = state, found = before.sorted
-    .map(old => ({old, now: (rewriting && after.methods.get(rewriting.image(old.row))) ?? null}));
+  const {before, after, rewriting} = state;
+  const found = before.sorted.map(old => new Subject(old, (rewriting && after.methods.get(rewriting.image(old.row))) ?? null));
   if (!after) return found;
   const known = new Set(found.map(it => it.now));
-  return [...found, ...after.sorted.filter(it => !known.has(it)).map(now => ({old: null, now}))];
+  return [...found, ...after.sorted.filter(it => !known.has(it)).map(now => new Subject(null, now))];
 }
 export const sideOf = subject => subject.old ? "before" : "after";
 /** @param {Subject} subject @returns {Method} */
@@ -56,7 +74,12 @@ export function titleOf(side, method) {
   const bare = method.kickoff ? `MoveNext of method ${method.kickoff}` : `method ${method.row}`;
   return {name: guessed?.name || guessed?.text || bare, tag: guessed ? tag : "", type: "", space: "", isGuess: Boolean(guessed), isKnown: false};
 }
-/** The title of a subject, made again only if other names have come. @param {Subject & {title?: Title, age?: number}} subject @returns {Title} */
+/** Whether an assembly has the name of a subject. @param {Subject} subject */
+export function isNamed(subject) {
+  const side = sideOf(subject), method = bodyOf(subject);
+  return known(side, method.kickoff || method.row) !== null;
+}
+/** The title of a subject, made again only if other names have come. @param {Subject} subject @returns {Title} */
 export function titleAt(subject) {
   if (subject.age !== state.age) { subject.title = titleOf(sideOf(subject), bodyOf(subject)); subject.age = state.age; }
   return subject.title;
@@ -81,10 +104,10 @@ export function cameFrom({old}) {
   }
   return found;
 }
-/** @param {Subject} subject */
+/** @param {Subject} subject @returns {Change} */
 export function changeOf(subject) {
   const {old, now} = subject, {rewriting} = state, none = {lost: 0, fresh: 0};
-  if (!rewriting) return {kind: "same", words: "", ...none};
+  if (!rewriting) return SAME;
   if (!old) return {kind: "added", words: "new", ...none};
   if (rewriting.image(old.row) === null) return {kind: "dropped", words: "dropped", lost: old.count, fresh: 0};
   const from = cameFrom(subject);
@@ -93,7 +116,7 @@ export function changeOf(subject) {
   for (let index = 0; now && index < now.count; index++) fresh += Number(!from.has(now.offsetAt(index)));
   const words = [lost && `${lost} lost`, fresh && `${fresh} new`].filter(it => it).join(", ");
   if (words) return {kind: lost ? "lost" : "changed", words, lost, fresh};
-  return rewriting.isChanged(old, now) ? {kind: "changed", words: "changed", ...none} : {kind: "same", words: "", ...none};
+  return rewriting.isChanged(old, now) ? {kind: "changed", words: "changed", ...none} : SAME;
 }
 /** What the header counts. */
 export function totals() {
@@ -107,16 +130,23 @@ export function totals() {
 /** The document before a rewrite for one of a side: another tool may number the documents otherwise. @returns {number | null} */
 export function documentOf(side, row) {
   if (side === "before") return row;
-  const name = state.after.documents.get(row)?.text;
-  for (const it of state.before.documents.values()) if (state.rewriting.documentName(it.text) === name) return it.row;
-  return null;
+  // Of several documents with one name the first counts.
+  state.named ??= new Map([...state.before.documents.values()].reverse().map(it => [state.rewriting.documentName(it.text), it.row]));
+  return state.named.get(state.after.documents.get(row)?.text) ?? null;
 }
-/** The lines on which a method begins, by document: `before:ROW`, or `after:ROW` of a document that is only there. @param {Subject} subject */
-export function firstLines(subject) {
-  const side = sideOf(subject), method = bodyOf(subject), found = [...method.file.firstLines(method)].map(([document, line]) => {
-    const row = documentOf(side, document);
-    return [row === null ? `after:${document}` : `before:${row}`, line];
-  });
+/** How the list calls a document of a side: `before:ROW`, or `after:ROW` of one that is only there. */
+function keyOf(side, document) {
+  const keys = state.keys[side];
+  if (keys.has(document)) return keys.get(document);
+  const row = documentOf(side, document), key = row === null ? `after:${document}` : `before:${row}`;
+  keys.set(document, key);
+  return key;
+}
+/** The lines on which a method begins, by the keys of documents. @param {Subject} subject @returns {[string, number][]} */
+function firstLines(subject) {
+  const side = sideOf(subject), method = bodyOf(subject);
+  const found = method.file.firstLines(method).map(([document, line]) => /** @type {[string, number]} */ ([keyOf(side, document), line]));
+  if (found.length < 2) return found;
   // A hidden point alone does not bring a method to a document if it has others elsewhere.
   const seen = found.filter(([, line]) => line < Infinity);
   return seen.length ? seen : found.slice(0, 1);

@@ -31,8 +31,17 @@ export function seen(text) {
   });
 }
 
+/** A count with commas between thousands. @param {number} count */
+export const spelled = count => String(count).replace(/\B(?=(?:\d{3})+$)/g, ",");
 /** @param {number} count @param {string} word */
-export const plural = (count, word) => `${count.toLocaleString("en")} ${word}${count === 1 ? "" : "s"}`;
+export const plural = (count, word) => `${spelled(count)} ${word}${count === 1 ? "" : "s"}`;
+
+/** The longest file that `ppdb` reads, and what it says of a longer one. */
+export const LONGEST_FILE = 134217728;
+/** @param {string} name */
+export const tooLong = name => `too long ${name}: the file is longer than ${LONGEST_FILE} bytes`;
+/** Where memory ends. */
+export const NO_MEMORY = "The memory of the page is too small for this file: use the program ppdb";
 
 /** @param {number} offset */
 export const hex = offset => `IL_${offset.toString(16).padStart(4, "0")}`;

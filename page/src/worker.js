@@ -1,6 +1,7 @@
 /** The worker of the page: it holds the files and the engine, so that long work never stops the page. It answers messages one by one. */
 import {startEngine} from "./engine.js";
 import {Session} from "./session.js";
+import {NO_MEMORY} from "./text.js";
 
 /** @type {Session} */
 let session;
@@ -24,9 +25,18 @@ const DOES = {
     }
   }};
 
+/** Whether memory ended: for an array, for the module, or for the copy of a message. */
+const isMemory = wrong => wrong instanceof RangeError || wrong?.cause instanceof RangeError || wrong?.name === "DataCloneError";
+/** What is handed over and not copied: the worker has no more use for these columns. */
+const HANDED = ["scopes", "variables", "constants", "machines", "customs", "heap"];
+const handed = value => [value?.before?.columns, value?.after?.columns].flatMap(it => it ? HANDED.map(name => it[name].buffer) : []);
 async function answer({id, name, words}) {
-  try { postMessage({id, value: await DOES[name](...words)}); }
-  catch (wrong) { postMessage({id, wrong: String(wrong?.message ?? wrong)}); }
+  try {
+    const value = await DOES[name](...words);
+    postMessage({id, value}, handed(value));
+    if (value?.inputs) session.heard();
+  }
+  catch (wrong) { postMessage({id, wrong: isMemory(wrong) ? NO_MEMORY : String(wrong?.message ?? wrong)}); }
 }
 onmessage = ({data}) => {
   // Names are guessed beside the other work; everything else keeps its order.

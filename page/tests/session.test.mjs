@@ -1,13 +1,16 @@
 /** Assemblies, and what a session makes of the files that it is given. */
 import assert from "node:assert/strict";
-import {deflateRawSync} from "node:zlib";
+import {mkdtempSync, rmSync, truncateSync, writeFileSync} from "node:fs";
+import {tmpdir} from "node:os";
+import {join} from "node:path";
 import test from "node:test";
+import {deflateRawSync} from "node:zlib";
 import {readAssembly} from "../src/assembly.js";
 import {isVisible} from "../src/model.js";
 import {Session} from "../src/session.js";
 import {rawName, state, take} from "../src/state.js";
 import {titleWords} from "../src/subjects.js";
-import {bytesOf, chance, engine, lines} from "./program.mjs";
+import {bytesOf, chance, engine, lines, ppdb} from "./program.mjs";
 
 const throwing = bytesOf("examples/throw/Throw.exe");
 const given = (...names) => names.map(name => ({name: name.split("/").pop(), bytes: bytesOf(name)}));
@@ -106,6 +109,37 @@ test("a map makes the file after, or says why not", async () => {
   // The file that the map is for may come second.
   const swapped = await new Session(engine).add(given("examples/throw/Throw.pdb", "examples/throw/before.pdb", "examples/throw/throw.map"));
   assert.ok(swapped.map, swapped.mapLine);
+});
+test("a file that is too long is called what the program calls it", async () => {
+  const folder = mkdtempSync(join(tmpdir(), "page-test-")), length = 134217729;
+  try {
+    writeFileSync(join(folder, "long.pdb"), "");
+    truncateSync(join(folder, "long.pdb"), length);
+    const {status, text} = ppdb(["verify", "long.pdb"], {cwd: folder});
+    assert.deepEqual([status, lines(text)], [7, ["too long long.pdb"]]);
+  } finally { rmSync(folder, {recursive: true}); }
+  const {problem, before} = await new Session(engine).add([{name: "long.pdb", bytes: new Uint8Array(length)}]);
+  assert.deepEqual([problem, before], ["too long long.pdb: the file is longer than 134217728 bytes", null]);
+});
+test("where memory ends, the files that were there stay", async () => {
+  const session = new Session({run: (words, files) => { if (files.some(it => it.name === "large.pdb")) throw new RangeError("no memory");
+    return engine.run(words, files); }}), [large] = given("examples/throw/Throw.pdb");
+  await session.add(given("examples/async_iter.pdb"));
+  await assert.rejects(session.add([{...large, name: "large.pdb"}]), RangeError);
+  const told = await session.add(given("examples/async_iter.cs"));
+  assert.deepEqual([told.before.name, told.after, told.inputs.map(it => it.name)], ["async_iter.pdb", null, ["async_iter.pdb", "async_iter.cs"]]);
+});
+test("the columns of a file are told until they were heard", async () => {
+  const session = new Session(engine), first = await session.add(given("examples/async_iter.pdb"));
+  take(first);
+  const file = state.before;
+  session.heard();
+  const second = await session.add(given("examples/async_iter.cs"));
+  assert.equal(second.before.columns, null);
+  take(second);
+  assert.equal(state.before, file);
+  take(await session.add(given("examples/throw/Throw.pdb")));
+  assert.deepEqual([state.before, state.after.name], [file, "Throw.pdb"]);
 });
 test("damaged debug files are refused with their line, and others are no debug files", async () => {
   const pdb = bytesOf("examples/async_iter.pdb"), cut = await new Session(engine).add([{name: "cut.pdb", bytes: pdb.slice(0, 100)}]);

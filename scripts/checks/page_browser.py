@@ -1,9 +1,12 @@
 """The half of check-page that opens the page in a browser: Chromium without a window. It gives files to the page as a user does, uses it by
 mouse and keys, and compares what it shows and saves with what the program prints and writes."""
+import base64
 import functools
 import hashlib
 import http.server
+import json
 import re
+import subprocess
 import threading
 import time
 import uuid
@@ -225,6 +228,20 @@ def check_names(user: User) -> None:
     user.new(throw / "Throw.exe")
     user.that("debug file beside it" in user.text("#found") and "Throw.pdb" in user.text("#found"), f"an assembly alone: {user.text('#found')}")
     user.console("names")
+    # Names in an assembly are text, whatever they are. The first is that of a type, the second that of a method.
+    data = (throw / "Throw.exe").read_bytes()
+    for name, other in ((b"<>c__DisplayClass2_0\0", b"<img/onerror=a src=>\0"), (b"Mapped\0", "\u202e<b>\0".encode())):
+        user.that(data.count(name) == 1 and len(name) == len(other), f"{name} is not once in Throw.exe")
+        data = data.replace(name, other)
+    hostile = user.check.work / "Throw.exe"
+    hostile.write_bytes(data)
+    user.new(throw / "Throw.pdb", hostile)
+    user.go("#m=%d" % user.run("return [...state.before.methods.keys()].find(row => rawName('before', row).includes('<img'))"))
+    user.that("<img/onerror=a src=>" in user.text("#said"), f"a type of a hostile name is shown as {user.text('#said')}")
+    user.that("⟨U+202E⟩<b>" in user.text("#list"), f"a method of a hostile name is shown as {user.text('#list')}")
+    user.that(user.run("return document.querySelectorAll('img, #list b, #said b').length") == 0, "a name of an assembly became an element")
+    user.that("\u202e" not in user.run("return document.body.textContent"), "a mark of direction in an assembly is in the page")
+    user.console("hostile names of an assembly")
 
 
 def check_rewrite(user: User) -> None:
@@ -374,6 +391,59 @@ def check_large(user: User) -> None:
     user.console("large files")
 
 
+def number_at(data: bytes, at: int) -> tuple[int, int]:
+    """A number of a module (WebAssembly 5.2.2), and where it ends."""
+    value = shift = 0
+    while True:
+        value |= (data[at] & 0x7f) << shift
+        shift += 7
+        at += 1
+        if data[at - 1] < 0x80:
+            return value, at
+
+
+def number(value: int) -> bytes:
+    return bytes([value]) if value < 0x80 else bytes([value & 0x7f | 0x80]) + number(value >> 7)
+
+
+def with_memory(module: bytes, pages: int) -> bytes:
+    """A module whose memory grows by so many pages of 64 KiB and no more (WebAssembly 5.5.8)."""
+    at = 8
+    while module[at] != 5:
+        size, begin = number_at(module, at + 1)
+        at = begin + size
+    size, begin = number_at(module, at + 1)
+    least, _ = number_at(module, begin + 2)
+    memory = b"\1\1" + number(least) + number(least + pages)
+    return module[:at] + b"\5" + number(len(memory)) + memory + module[begin + size:]
+
+
+def check_memory(user: User) -> None:
+    """A file that is longer than the program reads is called so, and not read. Where memory ends the page says so, and keeps what it has."""
+    work, browser, example = user.check.work, user.browser, user.root / "examples/async_iter.pdb"
+    trouble = "!document.querySelector('#trouble').hidden"
+    with (work / "long.pdb").open("wb") as long:
+        long.truncate((128 << 20) + 1)
+    user.new(example)
+    browser.give(work / "long.pdb")
+    browser.wait(trouble, PATIENCE)
+    user.that("too long long.pdb: the file is longer than 134217728 bytes" in user.text("#trouble"), f"a file that is too long: {user.text('#trouble')}")
+    user.that(user.run("return [state.before.name, state.after]") == ["async_iter.pdb", None], "a file that is too long is taken")
+    engine = json.loads(re.search(r'id="engine">([^<]*)<', user.page)[1])
+    (work / "little.wasm").write_bytes(with_memory(zlib.decompress(base64.b64decode(engine["packed"])), 64))
+    subprocess.run([user.root / "page/build", "--wasm", work / "little.wasm", work / "little.html"], check=True)
+    (work / "large.pdb").write_bytes(pdbfile.write(pdbfile.made(20000)))
+    browser.open((work / "little.html").as_uri())
+    browser.settled()
+    user.more(example)
+    browser.give(work / "large.pdb")
+    browser.wait(trouble, PATIENCE)
+    user.that("memory of the page is too small" in user.text("#trouble"), f"where memory ends: {user.text('#trouble')}")
+    user.more(user.root / "examples/async_iter.cs")
+    user.that("source verified" in user.text("#bar") and user.run("return state.after") is None, f"after that the page shows {user.text('#bar')}")
+    user.console("the end of memory")
+
+
 CONTRAST_OF = """
   const canvas = document.createElement("canvas").getContext("2d", {willReadFrequently: true}), known = new Map();
   const rgba = text => { if (!known.has(text)) { canvas.clearRect(0, 0, 1, 1); canvas.fillStyle = text; canvas.fillRect(0, 0, 1, 1);
@@ -414,6 +484,10 @@ def check_looks(user: User) -> None:
     browser.size(1024, 768)
     user.new(root / "examples/woven/async_iter.before.pdb", root / "examples/woven/async_iter.map")
     user.that(user.run("return document.querySelector('#axis').clientWidth") > 0.7 * 1024, "at 1024 pixels little of the code is to be seen")
+    user.that(user.run("""const [{right, width}, {left}] = ["#about-file .counts", "#actions"].map(it => document.querySelector(it).getBoundingClientRect());
+        const box = document.querySelector("#about-file");
+        return width > 100 && right <= left && box.scrollWidth <= box.clientWidth"""),
+              "at 1024 pixels the counts of the head are cut")
     for width, height in ((390, 844), (640, 400), (320, 640)):
         browser.size(width, height, mobile=width < 640)
         user.new(root / "examples/async_iter.pdb", root / "examples/async_iter.cs", place="#m=24&o=300")
@@ -493,7 +567,7 @@ def pictures(user: User, writes: bool) -> None:
 
 
 CHECKS = (check_start, check_clicks, check_keys, check_search, check_names, check_rewrite, check_refused, check_sources, check_inside, check_hostile_files,
-          check_large, check_looks)
+          check_large, check_memory, check_looks)
 
 
 def look(check: Any, root: Path, page: str, writes: bool) -> None:
