@@ -8,7 +8,7 @@ from pathlib import Path
 from threading import Event, Thread
 
 ROOT = Path(__file__).resolve().parents[2]
-PATIENCE = 900
+PATIENCE = 3600
 PAGE = """<!doctype html><meta charset="utf-8"><script type="module">
 const send = (path, body) => fetch(path, {{ method: "POST", body }});
 async function answer() {{
