@@ -1,10 +1,8 @@
 -- A UTF-8 character at the start of some bytes: what character_len finds is one, and each one is found.
-use Rattle.std.proofs.Common.{◌≡◌, ℕ, zero, suc, ◌<◌, ◌≤◌, Bool, true, false, List, [], ◌∷◌, ◌++◌, length, take, refl, sym, ap, subst}
-use Rattle.std.proofs.Common.{arith, if◌then◌else◌, Result, Ok}
-use Rattle.std.proofs.lemmas.List.{length-take}
+use Rattle.std.proofs.Common.{◌≡◌, ℕ, zero, suc, ◌<◌, ◌≤◌, Bool, true, false, List, [], ◌∷◌, ◌++◌, length, take, refl, sym, ap, subst, arith, if◌then◌else◌, Result}
+use Rattle.std.proofs.{Common.{Ok}, lemmas.List.{length-take}}
 use Rattle.ppdb_base.specs.declared.Code.{Code}
-use Rattle.blob_grammar.specs.Grammar.{Value, octets, is_character}
-use Rattle.blob_grammar.specs.Reader.{character_len, character_of}
+use Rattle.blob_grammar.specs.{Grammar.{Value, octets, is_character}, Reader.{character_len, character_of}}
 
 -- the first of four tests that holds
 chosen : (t u v w : Bool) (P : ℕ → Type 0) → P 0 → (t ≡ true → P 1) → (t ≡ false → u ≡ true → P 2) → (u ≡ false → v ≡ true → P 3) → (v ≡ false → w ≡ true → P 4)

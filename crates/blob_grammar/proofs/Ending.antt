@@ -1,14 +1,10 @@
 -- Where BlobEnd is reported, the bytes end inside a field or before it.
-use Rattle.std.proofs.Common.{◌≡◌, ◌≢◌, ℕ, zero, suc, ◌+◌, ◌-◌, ◌*◌, ◌^◌, ◌<◌, ◌≤◌, List, [], ◌∷◌, ◌++◌, length, take, drop, replicate}
-use Rattle.std.proofs.Common.{append-nil, Some, None, refl, sym, arith, ◌⊎◌, inl, inr, length-append}
-use Rattle.std.specs.Prelude.{All}
-use Rattle.std.specs.Int.{w32, from_le_bytes}
-use Rattle.std.proofs.lemmas.List.{length-replicate, length-take-le, take-append-drop}
-use Rattle.std.proofs.lemmas.Bool.{cases_lt}
+use Rattle.std.proofs.Common.{◌≡◌, ◌≢◌, ℕ, zero, suc, ◌+◌, ◌-◌, ◌*◌, ◌^◌, ◌<◌, ◌≤◌, List, [], ◌∷◌, ◌++◌, length, take, drop, replicate, append-nil, Some, None, refl}
+use Rattle.std.{proofs.Common.{sym, arith, ◌⊎◌, inl, inr, length-append}, specs.Prelude.{All}, specs.Int.{w32, from_le_bytes}, proofs.lemmas.List.{length-replicate}}
+use Rattle.std.proofs.lemmas.{List.{length-take-le, take-append-drop}, Bool.{cases_lt}}
 use Rattle.cli_ints.specs.Compressed.{SpellsUnsigned, bits_of, unrotated}
 use Rattle.ppdb_base.specs.declared.Code.TheVariants.{BlobEnd}
-use Rattle.blob_grammar.specs.Grammar.{number, integer, octets, Form, unsigned, signed, byte, word, fixed, rest, character}
-use Rattle.blob_grammar.specs.Reading.{IsFieldThere, IsFaultOf}
+use Rattle.blob_grammar.specs.{Grammar.{number, integer, octets, Form, unsigned, signed, byte, word, fixed, rest, character}, Reading.{IsFieldThere, IsFaultOf}}
 use Rattle.blob_grammar.specs.Ending.{EndsInside}
 
 -- A number stands at the start of the bytes, or would with some more bytes.

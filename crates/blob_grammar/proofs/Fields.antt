@@ -1,20 +1,14 @@
 -- A field at the start of some bytes: what field_at finds is one, and each one is found.
-use Rattle.std.proofs.Common.{◌≡◌, ◌≢◌, ℕ, zero, suc, ◌+◌, ◌-◌, ◌*◌, ◌^◌, ◌<◌, ◌≤◌, Bool, true, false, ◌&&◌, ltb, if◌then◌else◌, List}
-use Rattle.std.proofs.Common.{[], ◌∷◌, ◌++◌, length, take, drop, Some, Result, Ok, Err, refl, sym, ap, subst, ◌∙◌, append-nil, arith}
-use Rattle.std.proofs.Common.{inl, inr, ℤ, length-append}
-use Rattle.std.proofs.lemmas.List.{length-take, take-append-drop}
-use Rattle.std.proofs.Math.Seq.{drop-length, take-append_seam}
-use Rattle.std.specs.{Int.{w32, from_le_bytes}, Result.result_map_both}
-use Rattle.std.proofs.lemmas.Bool.{cases_lt, ltb-true, and_parts}
-use Rattle.cli_ints.specs.declared.IntFault.{IntFault}
-use Rattle.cli_ints.specs.declared.IntFault.TheVariants.{End, Form as NoForm}
-use Rattle.cli_ints.specs.Compressed.{SpellsUnsigned, SpellsSigned, bits_of, unrotated}
-use Rattle.blob_grammar.proofs.Characters.{CharacterAt, character-at, character-all}
-use Rattle.ppdb_base.specs.declared.Code.{Code}
-use Rattle.ppdb_base.specs.declared.Code.TheVariants.{BlobEnd, IntegerForm, ValueRange}
-use Rattle.blob_grammar.specs.Grammar.{Value, number, integer, octets, Form, unsigned, signed, byte, word, fixed, rest, character, is_character, Spells}
-use Rattle.blob_grammar.specs.Reading.{BeginsNoNumber}
-use Rattle.blob_grammar.specs.Reader.{field_at, as_value, word_at, unsigned_at, two_at, four_at, signed_at, character_of, character_len}
+use Rattle.std.proofs.Common.{◌≡◌, ◌≢◌, ℕ, zero, suc, ◌+◌, ◌-◌, ◌*◌, ◌^◌, ◌<◌, ◌≤◌, Bool, true, false, ◌&&◌, ltb, if◌then◌else◌, List, [], ◌∷◌, ◌++◌, length, take}
+use Rattle.std.proofs.{Common.{drop, Some, Result, Ok, Err, refl, sym, ap, subst, ◌∙◌, append-nil, arith, inl, inr, ℤ, length-append}, lemmas.List.{length-take}}
+use Rattle.std.{proofs.lemmas.List.{take-append-drop}, proofs.Math.Seq.{drop-length, take-append_seam}, specs.Int.{w32, from_le_bytes}}
+use Rattle.std.{specs.Result.{result_map_both}, proofs.lemmas.Bool.{cases_lt, ltb-true, and_parts}}
+use Rattle.cli_ints.specs.{declared.IntFault.{IntFault}, declared.IntFault.TheVariants.{End, Form as NoForm}, Compressed.{SpellsUnsigned, SpellsSigned, bits_of}}
+use Rattle.cli_ints.specs.Compressed.{unrotated}
+use Rattle.blob_grammar.{proofs.Characters.{CharacterAt, character-at, character-all}, specs.Grammar.{Value, number, integer, octets, Form, unsigned, signed, byte}}
+use Rattle.blob_grammar.specs.{Grammar.{word, fixed, rest, character, is_character, Spells}, Reading.{BeginsNoNumber}, Reader.{field_at, as_value, word_at}}
+use Rattle.blob_grammar.specs.Reader.{unsigned_at, two_at, four_at, signed_at, character_of, character_len}
+use Rattle.ppdb_base.specs.declared.{Code.{Code}, Code.TheVariants.{BlobEnd, IntegerForm, ValueRange}}
 
 -- What stands at the start: some bytes, and then the rest.
 pub record Prefix (P : List ℕ → Type 0) (bytes : List ℕ) (len : ℕ) : Type 0 where

@@ -1,11 +1,8 @@
 -- What a number that was read at a place says of the bytes there.
 use Rattle.std.proofs.Common.{◌≡◌, ℕ, ◌≤◌, List, length, Result, Ok, Err, refl, sym, ap, arith}
-use Rattle.cli_ints.specs.declared.IntFault.{IntFault}
-use Rattle.cli_ints.specs.Compressed.{SpellsUnsigned}
-use Rattle.ppdb_base.specs.declared.BlobFault.{BlobFault}
-use Rattle.blob_grammar.specs.Reader.{placed, code_of, word_at, as_value, field_at, unsigned_at}
-use Rattle.blob_grammar.specs.Grammar.{number, Form, unsigned, word}
-use Rattle.ppdb_base.specs.declared.Code.{Code}
+use Rattle.cli_ints.specs.{declared.IntFault.{IntFault}, Compressed.{SpellsUnsigned}}
+use Rattle.ppdb_base.specs.declared.{BlobFault.{BlobFault}, Code.{Code}}
+use Rattle.blob_grammar.specs.{Reader.{placed, code_of, word_at, as_value, field_at, unsigned_at}, Grammar.{number, Form, unsigned, word}}
 use Rattle.blob_grammar.proofs.Fields.{IntFound, unsigned-is}
 
 pub placed_ok : {V : Type 0} (at : ℕ) (r : Result (V × ℕ) IntFault) (x : V × ℕ) → placed at r ≡ Ok x → r ≡ Ok x

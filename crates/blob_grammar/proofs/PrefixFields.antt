@@ -1,21 +1,12 @@
 -- The fields that the plain reader takes are those of the longest valid prefix.
-use Rattle.std.proofs.Common.{◌≡◌, ℕ, zero, suc, ◌+◌, ◌<◌, Bool, true, false, ◌&&◌, List, [], ◌∷◌, ◌++◌, length, take, drop, Option}
-use Rattle.std.proofs.Common.{Some, None, Result, Ok, Err, refl, sym, ap, subst, ◌∙◌, append_assoc, append-nil, arith, length-append}
-use Rattle.std.specs.Prelude.{◌↔◌, if◌then◌else◌}
-use Rattle.std.specs.List.{flat_map}
-use Rattle.std.specs.Option.{option_map_or, option_and_then}
-use Rattle.std.proofs.Math.Seq.{take-append_seam}
-use Rattle.std.proofs.lemmas.List.{length-drop}
-use Rattle.ppdb_base.specs.declared.Code.{Code}
-use Rattle.ppdb_base.specs.declared.Code.TheVariants.{BlobEnd}
-use Rattle.ppdb_base.specs.declared.BlobFault.{BlobFault}
-use Rattle.blob_grammar.specs.Grammar.{Value, Form, Field, Grammar, Cut, with_value, cut, MayFollow, AtStart}
-use Rattle.blob_grammar.specs.Reading.{IsLongestPrefix, Reading}
-use Rattle.blob_grammar.specs.Places.{PlacedField, placed_of, HasFields}
-use Rattle.blob_grammar.specs.Reader.{field_at, is_empty, Step, field, stop, invalid, stop_or, if_allowed, step_at, step_in, step}
-use Rattle.blob_grammar.specs.Reader.{allowed_at, next_field, fields_for, fields_from, prefix_of, read_from, begun_from}
-use Rattle.blob_grammar.proofs.Prefixes.{cut-push, prefix-push, longest_where_stuck, prefix-unique}
-use Rattle.blob_grammar.proofs.Readers.{whole_of, begun_of, StepIs, step-is, read_from-reads}
+use Rattle.std.proofs.Common.{◌≡◌, ℕ, zero, suc, ◌+◌, ◌<◌, Bool, true, false, ◌&&◌, List, [], ◌∷◌, ◌++◌, length, take, drop, Option, Some, None, Result, Ok, Err}
+use Rattle.std.{proofs.Common.{refl, sym, ap, subst, ◌∙◌, append_assoc, append-nil, arith, length-append}, specs.Prelude.{◌↔◌, if◌then◌else◌}, specs.List.{flat_map}}
+use Rattle.std.{specs.Option.{option_map_or, option_and_then}, proofs.Math.Seq.{take-append_seam}, proofs.lemmas.List.{length-drop}}
+use Rattle.ppdb_base.specs.declared.{Code.{Code}, Code.TheVariants.{BlobEnd}, BlobFault.{BlobFault}}
+use Rattle.blob_grammar.specs.{Grammar.{Value, Form, Field, Grammar, Cut, with_value, cut, MayFollow, AtStart}, Reading.{IsLongestPrefix, Reading}}
+use Rattle.blob_grammar.specs.{Places.{PlacedField, placed_of, HasFields}, Reader.{field_at, is_empty, Step, field, stop, invalid, stop_or, if_allowed, step_at}}
+use Rattle.blob_grammar.{specs.Reader.{step_in, step, allowed_at, next_field, fields_for, fields_from, prefix_of, read_from, begun_from}, proofs.Prefixes.{cut-push}}
+use Rattle.blob_grammar.proofs.{Prefixes.{prefix-push, longest_where_stuck, prefix-unique}, Readers.{whole_of, begun_of, StepIs, step-is, read_from-reads}}
 use Rattle.blob_grammar.proofs.Steps.{Takes, takes_in}
 
 abbrev IsPrefix : {R : Type 0} → Grammar R → List ℕ → List Field → Type 0

@@ -1,11 +1,7 @@
 -- Lists of fields at a blob's prefix: of two, one is a prefix of the other, so that the longest is one.
-use Rattle.std.proofs.Common.{◌≡◌, ℕ, ◌<◌, ◌≤◌, List, [], ◌∷◌, ◌++◌, length, Option, Some, refl, sym, ap, subst, ◌∙◌, append_assoc}
-use Rattle.std.proofs.Common.{append-nil, arith, inl, inr, length-append}
-use Rattle.std.proofs.lemmas.List.Sums.{fold-append}
-use Rattle.std.proofs.lemmas.Grind.{flat_map-append}
-use Rattle.std.proofs.lemmas.Bool.{cases_lt}
-use Rattle.blob_grammar.specs.Grammar.{Value, Form, Spells, Field, Grammar, with_value, cut, bytes_of, MayFollow, EachFollows, AtStart}
-use Rattle.blob_grammar.specs.Reading.{IsLongestPrefix}
+use Rattle.std.proofs.Common.{◌≡◌, ℕ, ◌<◌, ◌≤◌, List, [], ◌∷◌, ◌++◌, length, Option, Some, refl, sym, ap, subst, ◌∙◌, append_assoc, append-nil, arith, inl, inr}
+use Rattle.std.proofs.{Common.{length-append}, lemmas.List.Sums.{fold-append}, lemmas.Grind.{flat_map-append}, lemmas.Bool.{cases_lt}}
+use Rattle.blob_grammar.specs.{Grammar.{Value, Form, Spells, Field, Grammar, with_value, cut, bytes_of, MayFollow, EachFollows, AtStart}, Reading.{IsLongestPrefix}}
 use Rattle.blob_grammar.proofs.Fields.{field-unique}
 
 -- ---- one more field

@@ -1,9 +1,7 @@
 -- What holds of the records that a blob is read as: it holds before the first field, and each allowed field keeps it.
 use Rattle.std.proofs.Common.{ℕ, List, [], ◌∷◌, ◌++◌, Option, sym, subst, append_assoc, append-nil}
 use Rattle.ppdb_base.specs.declared.BlobFault.{BlobFault}
-use Rattle.blob_grammar.specs.Grammar.{Field, Grammar, Cut, with_value, cut, bytes_of, IsAllowed, EachFollows}
-use Rattle.blob_grammar.specs.Reading.{Reading}
-use Rattle.blob_grammar.proofs.Prefixes.{cut-push}
+use Rattle.blob_grammar.{specs.Grammar.{Field, Grammar, Cut, with_value, cut, bytes_of, IsAllowed, EachFollows}, specs.Reading.{Reading}, proofs.Prefixes.{cut-push}}
 
 after_all : {R : Type 0} (g : Grammar R) (H : Cut R → Type 0) → ((c : Cut R) (f : Field) (after : List ℕ) → IsAllowed g c f after → H c
     → H (with_value g c f.value))

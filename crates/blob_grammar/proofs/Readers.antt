@@ -1,14 +1,11 @@
 -- The plain reader gives the reading of a blob, and there is one.
-use Rattle.std.proofs.Common.{◌≡◌, ℕ, zero, suc, ◌+◌, ◌<◌, Bool, true, false, ◌&&◌, List, [], ◌∷◌, ◌++◌, length, drop, Option, Some}
-use Rattle.std.proofs.Common.{None, Result, Ok, Err, refl, sym, ap, subst, ◌∙◌, append_assoc, append-nil, arith, length-append, inl, inr}
-use Rattle.ppdb_base.specs.declared.Code.{Code}
-use Rattle.ppdb_base.specs.declared.Code.TheVariants.{BlobEnd, IntegerForm, ValueRange}
+use Rattle.std.proofs.Common.{◌≡◌, ℕ, zero, suc, ◌+◌, ◌<◌, Bool, true, false, ◌&&◌, List, [], ◌∷◌, ◌++◌, length, drop, Option, Some, None, Result, Ok, Err, refl}
+use Rattle.std.proofs.Common.{sym, ap, subst, ◌∙◌, append_assoc, append-nil, arith, length-append, inl, inr}
+use Rattle.ppdb_base.specs.declared.{Code.{Code}, Code.TheVariants.{BlobEnd, IntegerForm, ValueRange}}
 use Rattle.blob_grammar.specs.Grammar.{Value, Form, character, Spells, Field, Grammar, Cut, closed, with_value, cut, bytes_of, MayFollow, AtStart}
-use Rattle.blob_grammar.specs.Reading.{IsFaultOf, IsOutOfRange, EndsWhole, Reading}
-use Rattle.blob_grammar.specs.Reader.{Left, field_at, is_empty, Step, field, stop, invalid, stop_or, if_allowed, step_at, step_in, step}
-use Rattle.blob_grammar.specs.Reader.{close_and, take_step, read_for, read_from}
-use Rattle.blob_grammar.proofs.Fields.{Prefix, FieldFound, field-is, field-all}
-use Rattle.blob_grammar.proofs.Prefixes.{cut-push, bytes-push, prefix-push, IsStuck, longest_where_stuck}
+use Rattle.blob_grammar.specs.{Reading.{IsFaultOf, IsOutOfRange, EndsWhole, Reading}, Reader.{Left, field_at, is_empty, Step, field, stop, invalid, stop_or}}
+use Rattle.blob_grammar.{specs.Reader.{if_allowed, step_at, step_in, step, close_and, take_step, read_for, read_from}, proofs.Fields.{Prefix, FieldFound, field-is}}
+use Rattle.blob_grammar.proofs.{Fields.{field-all}, Prefixes.{cut-push, bytes-push, prefix-push, IsStuck, longest_where_stuck}}
 
 abbrev pub whole_of : {R : Type 0} → Grammar R → List Field → List R
 whole_of g fs = (cut g fs).whole

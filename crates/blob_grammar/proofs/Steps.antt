@@ -1,14 +1,10 @@
 -- The plain reader a step at a time, and the records before a place seen through what the grammar asks of them.
-use Rattle.std.proofs.Common.{◌≡◌, ℕ, zero, suc, ◌+◌, ◌<◌, ◌≤◌, Bool, true, false, ◌&&◌, List, [], ◌∷◌, ◌++◌, length, drop, Option, Some}
-use Rattle.std.proofs.Common.{None, Result, Ok, Err, ltb, refl, ap, ◌∙◌, arith}
-use Rattle.ppdb_base.specs.declared.Code.{Code}
-use Rattle.ppdb_base.specs.declared.Code.TheVariants.{BlobEnd, ValueRange}
-use Rattle.std.proofs.lemmas.List.{length-drop, drop-drop, drop_all}
-use Rattle.ppdb_base.specs.declared.BlobFault.{BlobFault}
-use Rattle.blob_grammar.specs.Grammar.{Value, Form, unsigned, signed, byte, word, fixed, rest, character, Grammar}
-use Rattle.blob_grammar.specs.Reader.{Left, field_at, unsigned_at, signed_at, is_empty, Step, field, stop, invalid, stop_or, if_allowed}
-use Rattle.blob_grammar.specs.Reader.{step_at, step_in, step, push, close_and, take_step, read_for, read_from}
-use Rattle.blob_grammar.proofs.Fields.{Prefix, FieldFound, field-is}
+use Rattle.std.proofs.Common.{◌≡◌, ℕ, zero, suc, ◌+◌, ◌<◌, ◌≤◌, Bool, true, false, ◌&&◌, List, [], ◌∷◌, ◌++◌, length, drop, Option, Some, None, Result, Ok, Err, ltb}
+use Rattle.std.proofs.{Common.{refl, ap, ◌∙◌, arith}, lemmas.List.{length-drop, drop-drop, drop_all}}
+use Rattle.ppdb_base.specs.declared.{Code.{Code}, Code.TheVariants.{BlobEnd, ValueRange}, BlobFault.{BlobFault}}
+use Rattle.blob_grammar.specs.{Grammar.{Value, Form, unsigned, signed, byte, word, fixed, rest, character, Grammar}, Reader.{Left, field_at, unsigned_at, signed_at}}
+use Rattle.blob_grammar.specs.Reader.{is_empty, Step, field, stop, invalid, stop_or, if_allowed, step_at, step_in, step, push, close_and, take_step, read_for}
+use Rattle.blob_grammar.{specs.Reader.{read_from}, proofs.Fields.{Prefix, FieldFound, field-is}}
 
 -- ---- the turns do not matter, if there are enough
 

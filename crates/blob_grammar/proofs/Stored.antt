@@ -1,15 +1,10 @@
 -- What is known of a compressed number at a place of a blob, as what stands at the start of the bytes from there.
-use Rattle.std.proofs.Common.{◌≡◌, ℕ, suc, ◌+◌, ◌<◌, ◌≤◌, true, false, ltb, List, [], ◌∷◌, ◌++◌, length, take, drop, Result, Ok, Err}
-use Rattle.std.proofs.Common.{refl, sym, ap, ◌∙◌, arith, ℤ, inl, inr}
-use Rattle.std.specs.Prelude.{◌↔◌, slice_index}
-use Rattle.std.proofs.Math.Seq.{drop-cons}
-use Rattle.std.proofs.lemmas.List.{take-append-drop, length-take-le, length-drop, drop_all}
-use Rattle.std.proofs.lemmas.Bool.{cases_lt}
-use Rattle.cli_ints.specs.declared.IntFault.{IntFault}
-use Rattle.cli_ints.specs.declared.IntFault.TheVariants.{End, Form as NoForm}
-use Rattle.cli_ints.specs.Compressed.{SpellsUnsigned, SpellsSigned, StandsAt, HasNoForm, IsCutOff, len_named}
-use Rattle.blob_grammar.specs.Reader.{unsigned_at, two_at, four_at, signed_at}
-use Rattle.blob_grammar.proofs.Fields.{unsigned-all, signed-all, signed_of}
+use Rattle.std.proofs.Common.{◌≡◌, ℕ, suc, ◌+◌, ◌<◌, ◌≤◌, true, false, ltb, List, [], ◌∷◌, ◌++◌, length, take, drop, Result, Ok, Err, refl, sym, ap, ◌∙◌, arith, ℤ}
+use Rattle.std.{proofs.Common.{inl, inr}, specs.Prelude.{◌↔◌, slice_index}, proofs.Math.Seq.{drop-cons}, proofs.lemmas.List.{take-append-drop, length-take-le}}
+use Rattle.std.proofs.lemmas.{List.{length-drop, drop_all}, Bool.{cases_lt}}
+use Rattle.cli_ints.specs.{declared.IntFault.{IntFault}, declared.IntFault.TheVariants.{End, Form as NoForm}, Compressed.{SpellsUnsigned, SpellsSigned, StandsAt}}
+use Rattle.cli_ints.specs.Compressed.{HasNoForm, IsCutOff, len_named}
+use Rattle.blob_grammar.{specs.Reader.{unsigned_at, two_at, four_at, signed_at}, proofs.Fields.{unsigned-all, signed-all, signed_of}}
 
 lt-true : (a b : ℕ) → a < b → ltb a b ≡ true
 lt-true a b h = grind arith

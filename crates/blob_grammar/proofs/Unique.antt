@@ -1,15 +1,10 @@
 -- A blob has one reading.
 use Rattle.std.proofs.Common.{◌≡◌, ℕ, List, [], ◌∷◌, ◌++◌, Option, Some, None, refl, sym, ap, subst, ◌∙◌, arith, inl, inr}
 use Rattle.cli_ints.specs.Compressed.{SpellsUnsigned}
-use Rattle.ppdb_base.specs.declared.Code.{Code}
-use Rattle.ppdb_base.specs.declared.Code.TheVariants.{BlobEnd, IntegerForm, ValueRange}
-use Rattle.ppdb_base.specs.declared.BlobFault.{BlobFault}
+use Rattle.ppdb_base.specs.declared.{Code.{Code}, Code.TheVariants.{BlobEnd, IntegerForm, ValueRange}, BlobFault.{BlobFault}}
 use Rattle.blob_grammar.specs.Grammar.{Value, number, integer, octets, Form, unsigned, signed, byte, word, fixed, rest, character, Spells, Field, Grammar, cut}
-use Rattle.blob_grammar.specs.Reading.{BeginsNoNumber, IsOutOfRange, IsFaultOf, Ends, Reading, IsReadOnce}
-use Rattle.blob_grammar.specs.Reader.{read_from}
-use Rattle.blob_grammar.proofs.Fields.{BeginsNone}
-use Rattle.blob_grammar.proofs.Prefixes.{prefix-unique}
-use Rattle.blob_grammar.proofs.Readers.{read_from-reads}
+use Rattle.blob_grammar.{specs.Reading.{BeginsNoNumber, IsOutOfRange, IsFaultOf, Ends, Reading, IsReadOnce}, specs.Reader.{read_from}, proofs.Fields.{BeginsNone}}
+use Rattle.blob_grammar.proofs.{Prefixes.{prefix-unique}, Readers.{read_from-reads}}
 
 no_number : (text : List ℕ) (v : ℕ) (left : List ℕ) → SpellsUnsigned text v → BeginsNone (text ++ left) → ⊥
 no_number [] v left h n = h

@@ -1,17 +1,11 @@
 -- A walk over the fields of a blob, a field at a time.
-use Rattle.std.proofs.Common.{◌≡◌, ℕ, zero, suc, ◌+◌, ◌<◌, Bool, true, false, ◌&&◌, List, [], ◌∷◌, ◌++◌, length, take, drop, Option}
-use Rattle.std.proofs.Common.{Some, None, Result, Ok, Err, refl, sym, ap, subst, ◌∙◌, arith}
-use Rattle.std.specs.List.{flat_map}
-use Rattle.std.proofs.lemmas.List.{length-drop, length-take-le}
-use Rattle.ppdb_base.specs.declared.Code.{Code}
-use Rattle.ppdb_base.specs.declared.Code.TheVariants.{ValueRange, BlobEnd}
-use Rattle.blob_grammar.specs.Grammar.{Value, Form, Grammar, Cut, closed, with_value}
-use Rattle.blob_grammar.specs.Places.{PlacedField, placed_from, HasFields, HasEnd}
-use Rattle.blob_grammar.specs.Reader.{Left, field_at, is_empty, Step, field, stop, invalid, stop_or, if_allowed, step_at, step_in, step}
-use Rattle.blob_grammar.specs.Reader.{close_and, take_step, read_from, fields_from, fields_left}
-use Rattle.blob_grammar.proofs.PrefixFields.{take_field, fields_from-step, prefix_of-fields}
-use Rattle.blob_grammar.proofs.Readers.{read_from-reads}
-use Rattle.blob_grammar.proofs.Steps.{Takes, takes_in, read_from-step, nothing_left, Alike}
+use Rattle.std.proofs.Common.{◌≡◌, ℕ, zero, suc, ◌+◌, ◌<◌, Bool, true, false, ◌&&◌, List, [], ◌∷◌, ◌++◌, length, take, drop, Option, Some, None, Result, Ok, Err}
+use Rattle.std.{proofs.Common.{refl, sym, ap, subst, ◌∙◌, arith}, specs.List.{flat_map}, proofs.lemmas.List.{length-drop, length-take-le}}
+use Rattle.ppdb_base.specs.declared.{Code.{Code}, Code.TheVariants.{ValueRange, BlobEnd}}
+use Rattle.blob_grammar.specs.{Grammar.{Value, Form, Grammar, Cut, closed, with_value}, Places.{PlacedField, placed_from, HasFields, HasEnd}, Reader.{Left}}
+use Rattle.blob_grammar.specs.Reader.{field_at, is_empty, Step, field, stop, invalid, stop_or, if_allowed, step_at, step_in, step, close_and, take_step, read_from}
+use Rattle.blob_grammar.{specs.Reader.{fields_from, fields_left}, proofs.PrefixFields.{take_field, fields_from-step, prefix_of-fields}}
+use Rattle.blob_grammar.proofs.{Readers.{read_from-reads}, Steps.{Takes, takes_in, read_from-step, nothing_left, Alike}}
 
 -- some items more
 abbrev pub push_all : {X : Type 0} → List X → Left X → Left X

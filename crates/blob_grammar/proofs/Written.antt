@@ -1,19 +1,11 @@
 -- Records that are written one after the other, each allowed after those before it, are read again.
-use Rattle.std.proofs.Common.{◌≡◌, ℕ, ◌+◌, ◌^◌, ◌<◌, true, List, [], ◌∷◌, ◌++◌, length, length-append, Some, None, refl, sym, ap, subst}
-use Rattle.std.proofs.Common.{◌∙◌, append_assoc, append-nil, arith}
-use Rattle.std.specs.List.{flat_map}
-use Rattle.std.proofs.lemmas.List.Sums.{fold-append}
-use Rattle.std.proofs.lemmas.Grind.{flat_map-append}
-use Rattle.blob_grammar.specs.Grammar.{number, unsigned, Field, Grammar, Cut, with_value, cut, bytes_of, IsAllowed, EachFollows}
-use Rattle.blob_grammar.specs.Reading.{IsLongestPrefix, Reading}
-use Rattle.blob_grammar.specs.Places.{PlacedField, placed_from, placed_of, HasFields}
-use Rattle.blob_grammar.specs.Reader.{field_at}
+use Rattle.std.proofs.Common.{◌≡◌, ℕ, ◌+◌, ◌^◌, ◌<◌, true, List, [], ◌∷◌, ◌++◌, length, length-append, Some, None, refl, sym, ap, subst, ◌∙◌, append_assoc}
+use Rattle.std.{proofs.Common.{append-nil, arith}, specs.List.{flat_map}, proofs.lemmas.List.Sums.{fold-append}, proofs.lemmas.Grind.{flat_map-append}}
+use Rattle.blob_grammar.specs.{Grammar.{number, unsigned, Field, Grammar, Cut, with_value, cut, bytes_of, IsAllowed, EachFollows}, Reading.{IsLongestPrefix}}
+use Rattle.blob_grammar.specs.{Reading.{Reading}, Places.{PlacedField, placed_from, placed_of, HasFields}, Reader.{field_at}}
 pub use Rattle.blob_grammar.specs.Reader.{cut_from}
-use Rattle.cli_ints.specs.Compressed.{SpellsUnsigned}
-use Rattle.cli_ints.specs.Shortest.{short_unsigned}
-use Rattle.cli_ints.proofs.Shortest.{short_unsigned-shortest}
-use Rattle.blob_grammar.proofs.Fields.{FieldFound, field-is, field-all}
-use Rattle.blob_grammar.proofs.Prefixes.{cut-push, IsStuck, longest_where_stuck}
+use Rattle.cli_ints.{specs.Compressed.{SpellsUnsigned}, specs.Shortest.{short_unsigned}, proofs.Shortest.{short_unsigned-shortest}}
+use Rattle.blob_grammar.proofs.{Fields.{FieldFound, field-is, field-all}, Prefixes.{cut-push, IsStuck, longest_where_stuck}}
 
 -- the fields are allowed after a place
 abbrev pub FollowFrom : {R : Type 0} → Grammar R → Cut R → List Field → List ℕ → Type 0

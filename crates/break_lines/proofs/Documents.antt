@@ -1,20 +1,10 @@
 -- The first document with a name.
-use Rattle.std.proofs.Common.{◌≡◌, ℕ, zero, suc, ◌+◌, ◌<◌, ◌∙◌, Bool, true, false, cond, List}
-use Rattle.std.proofs.Common.{[], ◌∷◌, length, get_or, refl, sym, ap, arith, Some, None, ltb, ltb-true}
-use Rattle.std.specs.Prelude.{position}
-use Rattle.std.specs.List.{position_or_len}
-use Rattle.std.specs.Option.{option_map}
-use Rattle.std.specs.Str.{bytes_eq}
-use Rattle.std.proofs.lemmas.Bool.{lt-ltb, le-ltb, ltb-false}
-use Rattle.std.proofs.lemmas.List.{get_or-map, length-map}
-use Rattle.std.proofs.lemmas.List.Sums.{position_or_len_is}
-use Rattle.std.proofs.lemmas.Option.{get_or_from_slice_get, slice_get_within}
-use Rattle.ppdb_tables.specs.declared.rows.DocumentRow.{DocumentRow}
-use Rattle.ppdb_tables.specs.RawTables.{row_at}
-use Rattle.ppdb_values.specs.declared.file.DocumentValue.{DocumentValue}
-use Rattle.ppdb_values.specs.Documents.{document_of}
-use Rattle.ppdb_values.specs.RawFile.{RawFile}
-use Rattle.ppdb_values.specs.Value.{value_of}
+use Rattle.std.proofs.Common.{◌≡◌, ℕ, zero, suc, ◌+◌, ◌<◌, ◌∙◌, Bool, true, false, cond, List, [], ◌∷◌, length, get_or, refl, sym, ap, arith, Some, None, ltb}
+use Rattle.std.{proofs.Common.{ltb-true}, specs.Prelude.{position}, specs.List.{position_or_len}, specs.Option.{option_map}, specs.Str.{bytes_eq}}
+use Rattle.std.proofs.lemmas.{Bool.{lt-ltb, le-ltb, ltb-false}, List.{get_or-map, length-map}, List.Sums.{position_or_len_is}, Option.{get_or_from_slice_get}}
+use Rattle.std.proofs.lemmas.Option.{slice_get_within}
+use Rattle.ppdb_tables.specs.{declared.rows.DocumentRow.{DocumentRow}, RawTables.{row_at}}
+use Rattle.ppdb_values.specs.{declared.file.DocumentValue.{DocumentValue}, Documents.{document_of}, RawFile.{RawFile}, Value.{value_of}}
 use Rattle.break_lines.specs.Breaks.{document_named}
 
 passes_at : {A : Type 0} (p : A → Bool) (xs : List A) (i : ℕ) (d : A) → i < length xs → ((k : ℕ) → k < i → p (get_or xs k d) ≡ false)

@@ -1,23 +1,11 @@
 -- A walk over the methods, one after the other.
 use Rattle.std.proofs.Common.{◌≡◌, ℕ, zero, suc, ◌+◌, ◌<◌, ◌≤◌, ◌∙◌, List, [], ◌∷◌, ◌++◌, length, drop, refl, sym, ap, arith, Option, Some, None}
-use Rattle.std.specs.Prelude.{slice_get}
-use Rattle.std.specs.List.{enumerate_from, flat_map}
-use Rattle.std.proofs.lemmas.List.{drop_all}
-use Rattle.std.proofs.lemmas.List.FromFn.{length-enumerate_from}
-use Rattle.sequence_points.specs.declared.point.Point.{Point}
-use Rattle.ppdb_tables.specs.declared.rows.MethodDebugRow.{MethodDebugRow}
-use Rattle.ppdb_tables.specs.RawTables.{RawTables, numbered, row_at}
-use Rattle.ppdb_tables.proofs.NumberedRows.{row_there}
-use Rattle.ppdb_values.specs.Documents.{method_of}
-use Rattle.ppdb_values.specs.Parts.{method_at}
-use Rattle.ppdb_values.specs.RawFile.{RawFile}
-use Rattle.ppdb_values.specs.Rows.{method_in}
-use Rattle.ppdb_values.specs.Value.{value_of}
+use Rattle.std.{specs.Prelude.{slice_get}, specs.List.{enumerate_from, flat_map}, proofs.lemmas.List.{drop_all}, proofs.lemmas.List.FromFn.{length-enumerate_from}}
+use Rattle.sequence_points.specs.{declared.point.Point.{Point}, Written.{first_of}}
+use Rattle.ppdb_tables.{specs.declared.rows.MethodDebugRow.{MethodDebugRow}, specs.RawTables.{RawTables, numbered, row_at}, proofs.NumberedRows.{row_there}}
+use Rattle.ppdb_values.specs.{Documents.{method_of}, Parts.{method_at}, RawFile.{RawFile}, Rows.{method_in}, Value.{value_of}}
 use Rattle.ppdb_values.proofs.Rows.{method_is_row}
-use Rattle.sequence_points.specs.Written.{first_of}
-use Rattle.break_lines.specs.declared.item.Break.{Break}
-use Rattle.break_lines.specs.Walks.{breaks_of}
-use Rattle.break_lines.specs.Walks.{breaks_by, breaks_at_row, breaks_now, breaks_left}
+use Rattle.break_lines.specs.{declared.item.Break.{Break}, Walks.{breaks_of, breaks_by, breaks_at_row, breaks_now, breaks_left}}
 
 method_is : (raw : RawFile) (m : ℕ) (row : MethodDebugRow) → row_at raw.tables.methods m ≡ Some row
     → method_of raw.tables (m, row) ≡ method_at (value_of raw) m

@@ -1,12 +1,7 @@
 -- A name compared part by part.
-use Rattle.std.proofs.Common.{◌≡◌, ℕ, ◌+◌, ◌∙◌, Bool, true, false, Option, Some, None, Bor}
-use Rattle.std.proofs.Common.{List, [], ◌∷◌, ◌++◌, length, take, drop, refl, sym, ap, subst, append_assoc}
-use Rattle.std.specs.Prelude.{nat_eq, ◌&&◌, MatchOption}
-use Rattle.std.specs.Cmp.Lexicographic.{pointwise}
-use Rattle.std.specs.List.{flat_map}
-use Rattle.std.specs.Str.{bytes_eq}
-use Rattle.std.proofs.lemmas.Bool.Decides.{nat_tests}
-use Rattle.std.proofs.Common.{arith}
+use Rattle.std.proofs.Common.{◌≡◌, ℕ, ◌+◌, ◌∙◌, Bool, true, false, Option, Some, None, Bor, List, [], ◌∷◌, ◌++◌, length, take, drop, refl, sym, ap, subst}
+use Rattle.std.{proofs.Common.{append_assoc, arith}, specs.Prelude.{nat_eq, ◌&&◌, MatchOption}, specs.Cmp.Lexicographic.{pointwise}, specs.List.{flat_map}}
+use Rattle.std.{specs.Str.{bytes_eq}, proofs.lemmas.Bool.Decides.{nat_tests}}
 use Rattle.break_lines.specs.Laws.{parts_after, NamesArePartsAfter}
 
 others_after : (separator : List ℕ) (parts : List (List ℕ)) → flat_map (λ part. separator ++ part) parts ≡ parts_after separator separator parts

@@ -1,13 +1,8 @@
 -- What is made of the items that are there is made of the rows that they stand for.
-use Rattle.std.proofs.Common.{◌≡◌, ℕ, List, [], ◌∷◌, ◌++◌, Option, Some, None, refl, ap, arith}
-use Rattle.std.specs.List.{filter_map, flat_map, cons_option}
-use Rattle.ppdb_tables.specs.declared.rows.MethodDebugRow.{MethodDebugRow}
-use Rattle.ppdb_tables.specs.RawTables.{RawTables, numbered}
-use Rattle.ppdb_values.specs.declared.file.MethodValue.{MethodValue}
-use Rattle.ppdb_values.specs.Documents.{method_of}
-use Rattle.break_lines.specs.Walks.{breaks_of}
-use Rattle.break_lines.specs.Walks.{breaks_by, breaks_at_row}
-use Rattle.break_lines.specs.Laws.{BreaksAreRows}
+use Rattle.std.{proofs.Common.{◌≡◌, ℕ, List, [], ◌∷◌, ◌++◌, Option, Some, None, refl, ap, arith}, specs.List.{filter_map, flat_map, cons_option}}
+use Rattle.ppdb_tables.specs.{declared.rows.MethodDebugRow.{MethodDebugRow}, RawTables.{RawTables, numbered}}
+use Rattle.ppdb_values.specs.{declared.file.MethodValue.{MethodValue}, Documents.{method_of}}
+use Rattle.break_lines.specs.{Walks.{breaks_of, breaks_by, breaks_at_row}, Laws.{BreaksAreRows}}
 
 by_rows : (raw : RawTables) (document line : ℕ) (rows : List (ℕ × MethodDebugRow))
     → flat_map (breaks_at_row raw document line) rows

@@ -1,11 +1,8 @@
 -- The shortest spelling as a function: it spells its number, and no spelling has fewer bytes.
 use Rattle.std.proofs.Common.{◌≡◌, ℕ, ◌-◌, ◌*◌, ◌^◌, ◌<◌, ◌≤◌, true, false, ltb, List, [], ◌∷◌, length, refl, arith, inl, inr, ℤ, pos, negsuc}
-use Rattle.std.specs.Prelude.{◌≤ℤ◌, ◌<ℤ◌, neg_ℤ}
-use Rattle.std.proofs.lemmas.Bool.{cases_lt, cases_Bool}
-use Rattle.std.proofs.lemmas.Int.{ints}
-use Rattle.std.proofs.lemmas.Grind.{common_steps}
-use Rattle.cli_ints.specs.Compressed.{SpellsUnsigned, SpellsSigned, IsShortest, unrotated, bits_of}
-use Rattle.cli_ints.specs.Shortest.{in_two_bytes, in_four_bytes, short_unsigned, fits_half, rotated, short_signed}
+use Rattle.std.{specs.Prelude.{◌≤ℤ◌, ◌<ℤ◌, neg_ℤ}, proofs.lemmas.Bool.{cases_lt, cases_Bool}, proofs.lemmas.Int.{ints}, proofs.lemmas.Grind.{common_steps}}
+use Rattle.cli_ints.specs.{Compressed.{SpellsUnsigned, SpellsSigned, IsShortest, unrotated, bits_of}, Shortest.{in_two_bytes, in_four_bytes, short_unsigned}}
+use Rattle.cli_ints.specs.Shortest.{fits_half, rotated, short_signed}
 
 lt-true : (a b : ℕ) → a < b → ltb a b ≡ true
 lt-true a b h = grind arith

@@ -1,11 +1,9 @@
 -- What a checked number says of the field there.
 use Rattle.std.proofs.Common.{◌≡◌, ℕ, ◌+◌, Bool, true, false, ◌&&◌, List, [], ◌∷◌, ◌++◌, drop, Some, Result, Ok, Err, refl, ap, subst, ◌∙◌}
 use Rattle.std.specs.Prelude.{if◌then◌else◌}
-use Rattle.ppdb_base.specs.declared.BlobFault.{BlobFault}
-use Rattle.ppdb_base.specs.declared.Code.TheVariants.{ValueRange}
+use Rattle.ppdb_base.specs.declared.{BlobFault.{BlobFault}, Code.TheVariants.{ValueRange}}
 use Rattle.cli_ints.specs.declared.IntFault.{IntFault}
-use Rattle.blob_grammar.specs.Grammar.{Value, number, Form, Grammar}
-use Rattle.blob_grammar.specs.Reader.{placed, as_value, code_of, field_at, is_empty, close_and}
+use Rattle.blob_grammar.specs.{Grammar.{Value, number, Form, Grammar}, Reader.{placed, as_value, code_of, field_at, is_empty, close_and}}
 use Rattle.blob_grammar.proofs.Steps.{nothing_left, left_at, left-field, left-out, left-none}
 use Rattle.custom_info.specs.Fields.{checked}
 

@@ -1,11 +1,9 @@
 -- A grammar whose records are those of another one under another name: what is left by the one is what is left by the other.
 use Rattle.std.proofs.Common.{◌≡◌, ℕ, zero, suc, ◌+◌, ◌&&◌, List, [], ◌∷◌, ◌++◌, length, drop, map, Option, Some, None, Result, Ok, Err, refl, ap, ◌∙◌}
 use Rattle.std.specs.Option.{option_map}
-use Rattle.ppdb_base.specs.declared.Code.{Code}
-use Rattle.ppdb_base.specs.declared.Code.TheVariants.{BlobEnd}
-use Rattle.blob_grammar.specs.Grammar.{Value, Form, Grammar}
-use Rattle.blob_grammar.specs.Reader.{Left, field_at, is_empty, Step, field, stop, invalid, stop_or, if_allowed, step_at, step_in, step}
-use Rattle.blob_grammar.specs.Reader.{push, close_and, take_step, read_for, read_from}
+use Rattle.ppdb_base.specs.declared.{Code.{Code}, Code.TheVariants.{BlobEnd}}
+use Rattle.blob_grammar.specs.{Grammar.{Value, Form, Grammar}, Reader.{Left, field_at, is_empty, Step, field, stop, invalid, stop_or, if_allowed, step_at, step_in}}
+use Rattle.blob_grammar.specs.Reader.{step, push, close_and, take_step, read_for, read_from}
 
 -- what is left, each item under its other name
 abbrev pub renamed : {R S : Type 0} → (S → R) → Left S → Left R

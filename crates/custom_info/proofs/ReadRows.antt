@@ -1,16 +1,11 @@
 -- The rows that a blob is read as are there, and have a spelling.
-use Rattle.std.proofs.Common.{◌≡◌, ℕ, ◌≤◌, true, false, List, [], ◌∷◌, Option, Some, sym, subst}
-use Rattle.std.specs.Prelude.{All, nat_le}
-use Rattle.std.proofs.lemmas.Bool.{and_parts, leb-true}
-use Rattle.std.proofs.lemmas.List.Elements.{All-push, All-nil}
+use Rattle.std.{proofs.Common.{◌≡◌, ℕ, ◌≤◌, true, false, List, [], ◌∷◌, Option, Some, sym, subst}, specs.Prelude.{All, nat_le}, proofs.lemmas.Bool.{and_parts}}
+use Rattle.std.proofs.lemmas.{Bool.{leb-true}, List.Elements.{All-push, All-nil}}
 use Rattle.ppdb_base.specs.declared.BlobFault.{BlobFault}
-use Rattle.cli_ints.specs.Compressed.{SpellsUnsigned}
-use Rattle.cli_ints.proofs.Shortest.{unsigned-below}
-use Rattle.blob_grammar.specs.Grammar.{Value, number, integer, octets, Form, unsigned, Spells, Field, Cut, with_value, IsAllowed}
-use Rattle.blob_grammar.specs.Reading.{Reading}
-use Rattle.blob_grammar.specs.Allowed.{is_row}
+use Rattle.cli_ints.{specs.Compressed.{SpellsUnsigned}, proofs.Shortest.{unsigned-below}}
+use Rattle.blob_grammar.specs.{Grammar.{Value, number, integer, octets, Form, unsigned, Spells, Field, Cut, with_value, IsAllowed}, Reading.{Reading}}
+use Rattle.blob_grammar.{specs.Allowed.{is_row}, proofs.ReadRecords.{of_reading}}
 use Rattle.custom_info.specs.TypeDocuments.{type_documents, IsRowNumber}
-use Rattle.blob_grammar.proofs.ReadRecords.{of_reading}
 
 pub row-there : (rows row : ℕ) → is_row rows row ≡ true → (1 ≤ row) × (row ≤ rows)
 row-there rows row e = let p = and_parts (nat_le 1 row) (nat_le row rows) e in (leb-true 1 row p.0, leb-true row rows p.1)

@@ -1,14 +1,9 @@
 -- The slots that a blob is read as are slots that can be written.
-use Rattle.std.proofs.Common.{◌≡◌, ℕ, zero, suc, ◌+◌, ◌<◌, Bool, true, false, ◌||◌, List, [], ◌∷◌, Option, sym, ap, subst, ◌∙◌, arith}
-use Rattle.std.specs.Prelude.{All, nat_lt, ◌==◌}
-use Rattle.std.proofs.lemmas.Bool.{ltb-true}
-use Rattle.std.proofs.lemmas.List.Elements.{All-push, All-nil}
+use Rattle.std.{proofs.Common.{◌≡◌, ℕ, zero, suc, ◌+◌, ◌<◌, Bool, true, false, ◌||◌, List, [], ◌∷◌, Option, sym, ap, subst, ◌∙◌, arith}, specs.Prelude.{All, nat_lt}}
+use Rattle.std.{specs.Prelude.{◌==◌}, proofs.lemmas.Bool.{ltb-true}, proofs.lemmas.List.Elements.{All-push, All-nil}}
 use Rattle.ppdb_base.specs.declared.BlobFault.{BlobFault}
-use Rattle.blob_grammar.specs.Grammar.{Value, number, integer, octets, Field, Cut, with_value, IsAllowed}
-use Rattle.blob_grammar.specs.Reading.{Reading}
-use Rattle.custom_info.specs.declared.slots.Slot.{Slot}
-use Rattle.custom_info.specs.HoistedScopes.{hoisted_scopes, IsSlot, is_length, slot_with}
-use Rattle.blob_grammar.proofs.ReadRecords.{of_reading}
+use Rattle.blob_grammar.{specs.Grammar.{Value, number, integer, octets, Field, Cut, with_value, IsAllowed}, specs.Reading.{Reading}, proofs.ReadRecords.{of_reading}}
+use Rattle.custom_info.specs.{declared.slots.Slot.{Slot}, HoistedScopes.{hoisted_scopes, IsSlot, is_length, slot_with}}
 
 not-zero : (len : ℕ) → (suc len == 0) ≡ false
 not-zero len = grind arith

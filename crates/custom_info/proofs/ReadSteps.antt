@@ -1,17 +1,11 @@
 -- The handler and the steps that a blob is read as can be written, and the methods are there.
-use Rattle.std.proofs.Common.{◌≡◌, ℕ, zero, suc, ◌<◌, ◌≤◌, true, false, List, [], ◌∷◌, map, Option, sym, subst, arith}
-use Rattle.std.specs.Prelude.{All}
-use Rattle.std.proofs.lemmas.Bool.{ltb-true, leb-true}
-use Rattle.std.proofs.lemmas.List.Elements.{All-push, All-nil, All-head, All-tail, All-cons}
+use Rattle.std.{proofs.Common.{◌≡◌, ℕ, zero, suc, ◌<◌, ◌≤◌, true, false, List, [], ◌∷◌, map, Option, sym, subst, arith}, specs.Prelude.{All}}
+use Rattle.std.proofs.lemmas.{Bool.{ltb-true, leb-true}, List.Elements.{All-push, All-nil, All-head, All-tail, All-cons}}
 use Rattle.ppdb_base.specs.declared.BlobFault.{BlobFault}
 use Rattle.cli_ints.proofs.Shortest.{unsigned-below}
-use Rattle.blob_grammar.specs.Grammar.{Value, number, integer, octets, Field, Cut, with_value, IsAllowed}
-use Rattle.blob_grammar.specs.Reading.{Reading}
-use Rattle.custom_info.specs.declared.stepping.AsyncStep.{AsyncStep}
-use Rattle.custom_info.specs.AsyncStepping.{async_stepping, Entry, catch_handler, await_step, entries_of, handler_of, is_stored, IsHandler, IsStep}
-use Rattle.custom_info.specs.Fields.{is_offset}
-use Rattle.blob_grammar.proofs.ReadRecords.{of_reading}
-use Rattle.custom_info.proofs.ReadRows.{row-there, unsigned-spelled}
+use Rattle.blob_grammar.{specs.Grammar.{Value, number, integer, octets, Field, Cut, with_value, IsAllowed}, specs.Reading.{Reading}, proofs.ReadRecords.{of_reading}}
+use Rattle.custom_info.specs.{declared.stepping.AsyncStep.{AsyncStep}, AsyncStepping.{async_stepping, Entry, catch_handler, await_step, entries_of, handler_of}}
+use Rattle.custom_info.{specs.AsyncStepping.{is_stored, IsHandler, IsStep}, specs.Fields.{is_offset}, proofs.ReadRows.{row-there, unsigned-spelled}}
 
 abbrev IsRead : ℕ → Entry → Type 0
 IsRead methods (catch_handler handler) = IsHandler handler

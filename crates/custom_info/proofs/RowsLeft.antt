@@ -1,16 +1,9 @@
 -- What a cursor of type documents has left, a row at a time.
 use Rattle.std.proofs.Common.{◌≡◌, ℕ, ◌+◌, ◌<◌, true, ◌&&◌, List, [], ◌∷◌, length, drop, Some, None, Ok, Err, refl, ap, ◌∙◌}
-use Rattle.blob_grammar.specs.Reader.{unsigned_at}
+use Rattle.blob_grammar.{specs.Reader.{unsigned_at, placed, push}, specs.Grammar.{unsigned}, specs.Reading.{Reading}, proofs.Readers.{read_from-reads}}
+use Rattle.blob_grammar.{proofs.Steps.{Alike, read_from-alike, nothing_left, left-end, not_empty}, specs.Allowed.{is_row}}
 use Rattle.ppdb_base.specs.declared.BlobFault.{BlobFault}
-use Rattle.blob_grammar.specs.Grammar.{unsigned}
-use Rattle.blob_grammar.specs.Reading.{Reading}
-use Rattle.blob_grammar.specs.Reader.{placed, push}
-use Rattle.blob_grammar.proofs.Readers.{read_from-reads}
-use Rattle.blob_grammar.proofs.Steps.{Alike, read_from-alike, nothing_left, left-end, not_empty}
-use Rattle.blob_grammar.specs.Allowed.{is_row}
-use Rattle.custom_info.specs.Fields.{checked}
-use Rattle.custom_info.specs.TypeDocuments.{type_documents, rows_left}
-use Rattle.custom_info.proofs.Checked.{left-kept, left-refused}
+use Rattle.custom_info.{specs.Fields.{checked}, specs.TypeDocuments.{type_documents, rows_left}, proofs.Checked.{left-kept, left-refused}}
 
 Any : List ℕ → List ℕ → Type 0
 Any a b = Unit {0}

@@ -1,17 +1,11 @@
 -- What a cursor of hoisted scopes has left, a field at a time.
 use Rattle.std.proofs.Common.{◌≡◌, ℕ, zero, suc, ◌+◌, ◌<◌, true, ◌&&◌, List, [], ◌∷◌, length, drop, Some, None, Ok, Err, refl, sym, ap, ◌∙◌}
 use Rattle.ppdb_base.specs.declared.BlobFault.{BlobFault}
-use Rattle.blob_grammar.specs.Grammar.{number, word}
-use Rattle.blob_grammar.specs.Reading.{Reading}
-use Rattle.blob_grammar.specs.Reader.{placed, word_at, push, is_empty}
-use Rattle.blob_grammar.proofs.Placed.{word_there, word_not_there}
-use Rattle.blob_grammar.proofs.Readers.{read_from-reads}
-use Rattle.blob_grammar.proofs.Steps.{Alike, read_from-alike, nothing_left, left_at, left-field, left-none, left-end, not_empty}
-use Rattle.custom_info.specs.declared.slots.Slot.{Slot}
-use Rattle.custom_info.specs.declared.slots.Slot.TheVariants.{Held}
-use Rattle.custom_info.specs.Fields.{checked}
-use Rattle.custom_info.specs.HoistedScopes.{hoisted_scopes, slots_left, slot_with, is_length}
-use Rattle.custom_info.proofs.Checked.{left-kept, left-refused, and-false}
+use Rattle.blob_grammar.{specs.Grammar.{number, word}, specs.Reading.{Reading}, specs.Reader.{placed, word_at, push, is_empty}, proofs.Placed.{word_there}}
+use Rattle.blob_grammar.proofs.{Placed.{word_not_there}, Readers.{read_from-reads}, Steps.{Alike, read_from-alike, nothing_left, left_at, left-field, left-none}}
+use Rattle.blob_grammar.proofs.Steps.{left-end, not_empty}
+use Rattle.custom_info.specs.{declared.slots.Slot.{Slot}, declared.slots.Slot.TheVariants.{Held}, Fields.{checked}, HoistedScopes.{hoisted_scopes, slots_left}}
+use Rattle.custom_info.{specs.HoistedScopes.{slot_with, is_length}, proofs.Checked.{left-kept, left-refused, and-false}}
 
 Any : List Slot → List Slot → Type 0
 Any a b = Unit {0}

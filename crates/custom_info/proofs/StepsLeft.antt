@@ -1,18 +1,11 @@
 -- What a cursor of async stepping information has left, a field at a time.
 use Rattle.std.proofs.Common.{◌≡◌, ℕ, ◌+◌, ◌<◌, true, ◌&&◌, List, [], ◌∷◌, ◌++◌, length, drop, Some, None, Ok, Err, refl, ap, subst, ◌∙◌, zero-add}
-use Rattle.blob_grammar.specs.Reader.{unsigned_at}
-use Rattle.ppdb_base.specs.declared.BlobFault.{BlobFault}
 use Rattle.std.specs.Option.{option_map}
-use Rattle.blob_grammar.specs.Grammar.{Value, number, unsigned, word}
-use Rattle.blob_grammar.specs.Reading.{Reading}
-use Rattle.blob_grammar.specs.Reader.{Left, placed, word_at, push, is_empty}
-use Rattle.blob_grammar.proofs.Readers.{read_from-reads}
-use Rattle.blob_grammar.proofs.Steps.{Alike, read_from-alike, nothing_left, left_at, left-end, not_empty}
-use Rattle.custom_info.specs.declared.stepping.AsyncStep.{AsyncStep}
-use Rattle.blob_grammar.specs.Allowed.{is_row}
-use Rattle.custom_info.specs.Fields.{is_offset, checked}
-use Rattle.custom_info.specs.AsyncStepping.{async_steps, steps_left, async_stepping, Entry, catch_handler, await_step, is_stored, handler_of, entries_of}
-use Rattle.custom_info.proofs.Checked.{left-kept, left-refused, and-false}
+use Rattle.blob_grammar.specs.{Reader.{unsigned_at, Left, placed, word_at, push, is_empty}, Grammar.{Value, number, unsigned, word}, Reading.{Reading}}
+use Rattle.blob_grammar.{proofs.Readers.{read_from-reads}, proofs.Steps.{Alike, read_from-alike, nothing_left, left_at, left-end, not_empty}, specs.Allowed.{is_row}}
+use Rattle.ppdb_base.specs.declared.BlobFault.{BlobFault}
+use Rattle.custom_info.specs.{declared.stepping.AsyncStep.{AsyncStep}, Fields.{is_offset, checked}, AsyncStepping.{async_steps, steps_left, async_stepping, Entry}}
+use Rattle.custom_info.{specs.AsyncStepping.{catch_handler, await_step, is_stored, handler_of, entries_of}, proofs.Checked.{left-kept, left-refused, and-false}}
 use Rattle.custom_info.proofs.Mapped.{Renames, renamed, read_from-renamed}
 
 Any : List AsyncStep → List AsyncStep → Type 0

@@ -1,12 +1,8 @@
 -- What rows_into writes is read again.
-use Rattle.std.proofs.Common.{◌≡◌, ℕ, ◌≤◌, true, ◌&&◌, List, [], ◌∷◌, ◌++◌, None, refl, ap, subst, arith}
-use Rattle.std.specs.Prelude.{All, nat_le, flat_map}
+use Rattle.std.{proofs.Common.{◌≡◌, ℕ, ◌≤◌, true, ◌&&◌, List, [], ◌∷◌, ◌++◌, None, refl, ap, subst, arith}, specs.Prelude.{All, nat_le, flat_map}}
 use Rattle.std.proofs.lemmas.List.Elements.{All-head, All-tail}
-use Rattle.cli_ints.specs.Shortest.{short_unsigned}
-use Rattle.cli_ints.proofs.Shortest.{short_unsigned-shortest}
-use Rattle.blob_grammar.specs.Grammar.{number, unsigned, Field, bytes_of}
-use Rattle.blob_grammar.specs.Reading.{Reading}
-use Rattle.blob_grammar.proofs.Written.{Writes, EachMayAdd, fields_after, records_read}
+use Rattle.cli_ints.{specs.Shortest.{short_unsigned}, proofs.Shortest.{short_unsigned-shortest}}
+use Rattle.blob_grammar.{specs.Grammar.{number, unsigned, Field, bytes_of}, specs.Reading.{Reading}, proofs.Written.{Writes, EachMayAdd, fields_after, records_read}}
 use Rattle.custom_info.specs.TypeDocuments.{type_documents, IsRowNumber}
 
 abbrev fields_of : List ℕ → ℕ → List Field

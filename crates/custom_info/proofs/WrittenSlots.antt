@@ -1,16 +1,9 @@
 -- What slots_into writes is read again.
-use Rattle.std.proofs.Common.{◌≡◌, ℕ, ◌+◌, ◌-◌, ◌<◌, true, List, [], ◌∷◌, ◌++◌, None, refl, sym, ap, subst, ◌∙◌, arith}
-use Rattle.std.specs.Prelude.{All, flat_map}
-use Rattle.std.specs.Int.{w32, to_le_bytes}
-use Rattle.std.proofs.lemmas.List.Elements.{All-head, All-tail}
-use Rattle.std.proofs.lemmas.Nat.{from_le_bytes-to_le_bytes_4}
-use Rattle.blob_grammar.specs.Grammar.{number, word, Field, bytes_of}
-use Rattle.blob_grammar.specs.Reading.{Reading}
-use Rattle.blob_grammar.proofs.Written.{Writes, EachMayAdd, fields_after, records_read}
-use Rattle.custom_info.specs.declared.slots.Slot.{Slot}
-use Rattle.custom_info.specs.declared.slots.Slot.TheVariants.{Empty, Held}
-use Rattle.custom_info.specs.HoistedScopes.{hoisted_scopes, IsSlot, is_length, slot_with, slot_spelling}
-use Rattle.custom_info.proofs.SlotsLeft.{held}
+use Rattle.std.{proofs.Common.{◌≡◌, ℕ, ◌+◌, ◌-◌, ◌<◌, true, List, [], ◌∷◌, ◌++◌, None, refl, sym, ap, subst, ◌∙◌, arith}, specs.Prelude.{All, flat_map}}
+use Rattle.std.{specs.Int.{w32, to_le_bytes}, proofs.lemmas.List.Elements.{All-head, All-tail}, proofs.lemmas.Nat.{from_le_bytes-to_le_bytes_4}}
+use Rattle.blob_grammar.{specs.Grammar.{number, word, Field, bytes_of}, specs.Reading.{Reading}, proofs.Written.{Writes, EachMayAdd, fields_after, records_read}}
+use Rattle.custom_info.specs.{declared.slots.Slot.{Slot}, declared.slots.Slot.TheVariants.{Empty, Held}, HoistedScopes.{hoisted_scopes, IsSlot, is_length}}
+use Rattle.custom_info.{specs.HoistedScopes.{slot_with, slot_spelling}, proofs.SlotsLeft.{held}}
 
 -- the start and the length of a slot, as they are written
 abbrev start_of : Slot → ℕ

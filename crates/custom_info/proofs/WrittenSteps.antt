@@ -1,21 +1,13 @@
 -- What async_into writes is read again.
-use Rattle.std.proofs.Common.{◌≡◌, ℕ, ◌<◌, ◌≤◌, true, List, [], ◌∷◌, ◌++◌, map, Option, Some, None, refl, sym, ap, subst, arith}
-use Rattle.std.specs.Prelude.{All}
-use Rattle.std.specs.List.{flat_map}
-use Rattle.std.specs.Int.{w32, to_le_bytes}
-use Rattle.std.proofs.lemmas.List.Elements.{All-head, All-tail}
+use Rattle.std.{proofs.Common.{◌≡◌, ℕ, ◌<◌, ◌≤◌, true, List, [], ◌∷◌, ◌++◌, map, Option, Some, None, refl, sym, ap, subst, arith}, specs.Prelude.{All}}
+use Rattle.std.{specs.List.{flat_map}, specs.Int.{w32, to_le_bytes}, proofs.lemmas.List.Elements.{All-head, All-tail}}
 use Rattle.std.proofs.lemmas.Nat.{from_le_bytes-to_le_bytes_4}
-use Rattle.cli_ints.specs.Shortest.{short_unsigned}
-use Rattle.cli_ints.proofs.Shortest.{short_unsigned-shortest}
-use Rattle.blob_grammar.specs.Grammar.{number, word, unsigned, Field, bytes_of}
-use Rattle.blob_grammar.specs.Reading.{Reading}
-use Rattle.blob_grammar.proofs.Written.{Writes, FollowFrom, cut_from, EachMayAdd, fields_after, records_read}
-use Rattle.custom_info.specs.declared.stepping.AsyncStep.{AsyncStep}
-use Rattle.custom_info.specs.Fields.{is_offset}
-use Rattle.custom_info.specs.AsyncStepping.{async_stepping, Entry, catch_handler, await_step, entries_of, IsHandler, IsStep, is_stored}
-use Rattle.custom_info.specs.AsyncStepping.{stored_of, handler_of, step_spelling, async_spelling}
-use Rattle.custom_info.proofs.WrittenRows.{inside}
-use Rattle.custom_info.proofs.WrittenSlots.{word_field}
+use Rattle.cli_ints.{specs.Shortest.{short_unsigned}, proofs.Shortest.{short_unsigned-shortest}}
+use Rattle.blob_grammar.{specs.Grammar.{number, word, unsigned, Field, bytes_of}, specs.Reading.{Reading}, proofs.Written.{Writes, FollowFrom, cut_from, EachMayAdd}}
+use Rattle.blob_grammar.proofs.Written.{fields_after, records_read}
+use Rattle.custom_info.specs.{declared.stepping.AsyncStep.{AsyncStep}, Fields.{is_offset}, AsyncStepping.{async_stepping, Entry, catch_handler, await_step}}
+use Rattle.custom_info.specs.AsyncStepping.{entries_of, IsHandler, IsStep, is_stored, stored_of, handler_of, step_spelling, async_spelling}
+use Rattle.custom_info.proofs.{WrittenRows.{inside}, WrittenSlots.{word_field}}
 
 abbrev fields_of : List Entry → Entry → List Field
 fields_of whole (catch_handler handler) = word_field (stored_of handler) ∷ []

@@ -1,15 +1,9 @@
 -- How many lines of a kind a readable map may have.
-use Rattle.std.proofs.Common.{ℕ, ◌+◌, ◌≤◌, List, [], ◌∷◌, length, map, arith}
-use Rattle.std.specs.List.{AllByRecursion}
-use Rattle.std.specs.List.Sorted.{IsStrictlySortedBy}
+use Rattle.std.{proofs.Common.{ℕ, ◌+◌, ◌≤◌, List, [], ◌∷◌, length, map, arith}, specs.List.{AllByRecursion}, specs.List.Sorted.{IsStrictlySortedBy}}
 use Rattle.std.proofs.lemmas.List.{length-map}
-use Rattle.ppdb_maps.specs.declared.entries.SlotImage.{SlotImage}
-use Rattle.ppdb_maps.specs.Forms.{MAX_SLOT}
-use Rattle.ppdb_maps.specs.Map.{Map, slots_of}
-use Rattle.ppdb_maps.specs.Readable.{IsReadable}
-use Rattle.map_compose.specs.Composed.{slot_sources}
+use Rattle.ppdb_maps.specs.{declared.entries.SlotImage.{SlotImage}, Forms.{MAX_SLOT}, Map.{Map, slots_of}, Readable.{IsReadable}}
+use Rattle.map_compose.{specs.Composed.{slot_sources}, proofs.Readable.{slot_source_fits, slot_sources_up, slots_up, slots_hold}}
 use Rattle.ppdb_maps_text.proofs.Orders.{Up, Above, less}
-use Rattle.map_compose.proofs.Readable.{slot_source_fits, slot_sources_up, slots_up, slots_hold}
 
 above_few : (n most : ℕ) (ns : List ℕ) → n ≤ most → Above n ns → Up ns → AllByRecursion (λ k. k ≤ most) ns → n + length ns ≤ most
 unfolding IsStrictlySortedBy

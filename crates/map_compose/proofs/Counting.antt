@@ -1,25 +1,12 @@
 -- The whole text of the map of two maps is counted, and kept where it is not too long.
-use Rattle.std.proofs.Common.{ℕ, ◌≡◌, ◌<◌, ◌≤◌, ◌||◌, ◌++◌, Bool, true, false, cond, List, [], length, sym, ap, ◌∙◌, arith, subst}
-use Rattle.std.specs.List.{flat_map}
-use Rattle.ppdb_maps.specs.Map.{Map}
-use Rattle.ppdb_maps.specs.Readable.{IsReadable}
-use Rattle.ppdb_maps_text.specs.declared.counted.Counted.{Counted}
-use Rattle.ppdb_maps_text.specs.MapTexts.{ended, map_text, version_of, head_text}
-use Rattle.ppdb_maps_text.specs.Putting.{Puts}
-use Rattle.map_compose.specs.declared.part.Part.{Part}
-use Rattle.map_compose.specs.declared.part.Part.TheVariants.{Drops, Slots, Signatures, Methods}
-use Rattle.map_compose.specs.Composed.{tables, composed, composed_link}
-use Rattle.map_compose.specs.Fits.{NamesFit}
-use Rattle.map_compose.specs.Parts.{part_says, all_numbers}
-use Rattle.map_compose.specs.Refused.{Counts}
-use Rattle.map_compose.specs.Says.{lines_text, table_says, documents_say, PutsLines}
-use Rattle.map_compose.specs.Sizes.{SizesAgree}
-use Rattle.map_compose.proofs.Lengths.{text_short}
-use Rattle.map_compose.proofs.Named.{composed_fits}
-use Rattle.map_compose.proofs.Readable.{composed_is_readable}
-use Rattle.map_compose.proofs.Saying.{text_is}
-use Rattle.ppdb_maps_text.proofs.Parts.{link_says, shares_says, has_newer}
-use Rattle.ppdb_maps_text.proofs.Putting.{puts_then}
+use Rattle.std.{proofs.Common.{ℕ, ◌≡◌, ◌<◌, ◌≤◌, ◌||◌, ◌++◌, Bool, true, false, cond, List, [], length, sym, ap, ◌∙◌, arith, subst}, specs.List.{flat_map}}
+use Rattle.ppdb_maps.specs.{Map.{Map}, Readable.{IsReadable}}
+use Rattle.ppdb_maps_text.specs.{declared.counted.Counted.{Counted}, MapTexts.{ended, map_text, version_of, head_text}, Putting.{Puts}}
+use Rattle.ppdb_maps_text.proofs.{Parts.{link_says, shares_says, has_newer}, Putting.{puts_then}}
+use Rattle.map_compose.specs.{declared.part.Part.{Part}, declared.part.Part.TheVariants.{Drops, Slots, Signatures, Methods}, Composed.{tables, composed}}
+use Rattle.map_compose.specs.{Composed.{composed_link}, Fits.{NamesFit}, Parts.{part_says, all_numbers}, Refused.{Counts}, Says.{lines_text, table_says}}
+use Rattle.map_compose.{specs.Says.{documents_say, PutsLines}, specs.Sizes.{SizesAgree}, proofs.Lengths.{text_short}, proofs.Named.{composed_fits}}
+use Rattle.map_compose.proofs.{Readable.{composed_is_readable}, Saying.{text_is}}
 
 counts_text : (start end : Counted) (text : List ℕ) → start.length ≡ 0 → start.text ≡ [] → length text < 0xffffffffffffffff → Puts start end text
     → Counts end text

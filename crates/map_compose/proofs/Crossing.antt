@@ -1,22 +1,13 @@
 -- The map of two maps has lines of rows that leave their table exactly where some row leaves it by both.
-use Rattle.std.proofs.Common.{ℕ, zero, suc, ◌≡◌, ◌+◌, ◌<◌, ◌≤◌, ◌&&◌, ◌||◌, ◌++◌, Bool, true, false, cond, List, [], ◌∷◌, Option, Some, None, refl, sym, ap, ◌∙◌, subst, arith}
-use Rattle.std.proofs.Common.{inl, inr}
-use Rattle.std.specs.Prelude.{not, nat_eq, is_some}
-use Rattle.std.specs.List.{cons_option, filter_map, find, flat_map, list_any, range_with_len, slice_get}
-use Rattle.std.specs.Option.{option_or}
-use Rattle.std.proofs.lemmas.Bool.{false≢true, eq-eqb, eqb-true}
-use Rattle.ppdb_maps.specs.declared.entries.CrossLine.{CrossLine}
-use Rattle.ppdb_maps.specs.declared.image.RowImage.{RowImage}
-use Rattle.ppdb_maps.specs.declared.image.RowImage.TheVariants.{Row, Gone, Missing}
-use Rattle.ppdb_maps.specs.Map.{Map, count_of, row_line, has_gone_line, told_image, line_image, row_image, is_dropped}
-use Rattle.ppdb_maps.proofs.OneMap.{same_or_apart}
+use Rattle.std.proofs.Common.{ℕ, zero, suc, ◌≡◌, ◌+◌, ◌<◌, ◌≤◌, ◌&&◌, ◌||◌, ◌++◌, Bool, true, false, cond, List, [], ◌∷◌, Option, Some, None, refl, sym, ap, ◌∙◌}
+use Rattle.std.{proofs.Common.{subst, arith, inl, inr}, specs.Prelude.{not, nat_eq, is_some}, specs.List.{cons_option, filter_map, find, flat_map, list_any}}
+use Rattle.std.{specs.List.{range_with_len, slice_get}, specs.Option.{option_or}, proofs.lemmas.Bool.{false≢true, eq-eqb, eqb-true}}
+use Rattle.ppdb_maps.specs.declared.{entries.CrossLine.{CrossLine}, image.RowImage.{RowImage}, image.RowImage.TheVariants.{Row, Gone, Missing}}
+use Rattle.ppdb_maps.{specs.Map.{Map, count_of, row_line, has_gone_line, told_image, line_image, row_image, is_dropped}, proofs.OneMap.{same_or_apart}}
 use Rattle.ppdb_maps_text.specs.MapTexts.{has_items, olds_of}
 use Rattle.map_compose.specs.Composed.{tables, composed, composed_count, image_then, own_assembly, composed_image, sources, sources_of, cross_lined, gone_lined}
-use Rattle.map_compose.specs.Composed.{cross_entries, gone_entries}
-use Rattle.map_compose.specs.Leaving.{has_leaving, leaves, rows_leave}
-use Rattle.map_compose.specs.Parts.{source}
-use Rattle.map_compose.proofs.Imaging.{by_image}
-use Rattle.map_compose.proofs.Putting.{range_more}
+use Rattle.map_compose.specs.{Composed.{cross_entries, gone_entries}, Leaving.{has_leaving, leaves, rows_leave}, Parts.{source}}
+use Rattle.map_compose.proofs.{Imaging.{by_image}, Putting.{range_more}}
 
 -- ---- lists that are made
 

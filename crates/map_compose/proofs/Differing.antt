@@ -1,17 +1,9 @@
 -- The first method whose sizes differ.
-use Rattle.std.proofs.Common.{ℕ, zero, suc, ◌≡◌, ◌⊎◌, inl, inr, ◌+◌, ◌<◌, ◌≤◌, Bool, true, false, cond, List, [], ◌∷◌, length, map, refl, sym, ap, ◌∙◌, arith}
-use Rattle.std.proofs.Common.{subst}
-use Rattle.std.proofs.Common.{Option, Some, None}
-use Rattle.std.specs.Prelude.{nat_eq}
-use Rattle.std.specs.List.{find, slice_get}
-use Rattle.std.specs.List.Sorted.{IsStrictlySortedBy}
-use Rattle.std.specs.Option.{option_map}
-use Rattle.std.proofs.lemmas.Bool.{cases_lt, eqb-true}
-use Rattle.ppdb_maps.specs.Map.{Map, MethodLine, method_line}
-use Rattle.ppdb_maps.specs.Readable.{IsReadable}
-use Rattle.ppdb_maps.proofs.OneMap.{same_or_apart}
-use Rattle.map_compose.specs.Composed.{has_image, second_line}
-use Rattle.map_compose.specs.Sizes.{SizesDiffer, SizesAgree, IsFirstDiffering, FirstDiffering, SizesAreJudged}
+use Rattle.std.proofs.Common.{ℕ, zero, suc, ◌≡◌, ◌⊎◌, inl, inr, ◌+◌, ◌<◌, ◌≤◌, Bool, true, false, cond, List, [], ◌∷◌, length, map, refl, sym, ap, ◌∙◌, arith, subst}
+use Rattle.std.{proofs.Common.{Option, Some, None}, specs.Prelude.{nat_eq}, specs.List.{find, slice_get}, specs.List.Sorted.{IsStrictlySortedBy}}
+use Rattle.std.{specs.Option.{option_map}, proofs.lemmas.Bool.{cases_lt, eqb-true}}
+use Rattle.ppdb_maps.{specs.Map.{Map, MethodLine, method_line}, specs.Readable.{IsReadable}, proofs.OneMap.{same_or_apart}}
+use Rattle.map_compose.specs.{Composed.{has_image, second_line}, Sizes.{SizesDiffer, SizesAgree, IsFirstDiffering, FirstDiffering, SizesAreJudged}}
 use Rattle.ppdb_maps_text.proofs.Orders.{Up, Above, less}
 
 abbrev number : MethodLine → ℕ

@@ -1,12 +1,8 @@
 -- How many digits numbers have, by the powers of ten that they reach.
-use Rattle.std.proofs.Common.{ℕ, zero, suc, ◌≡◌, ◌+◌, ◌-◌, ◌*◌, ◌/◌, ◌%◌, ◌^◌, ◌<◌, ◌≤◌, Bool, true, false, cond, List, [], ◌∷◌, length, refl, ap, arith}
-use Rattle.std.proofs.Common.{min, length-append, slice_index_or}
-use Rattle.std.specs.Prelude.{nat_lt}
-use Rattle.std.specs.Fmt.{decimal}
-use Rattle.std.specs.List.{AllByRecursion}
-use Rattle.std.proofs.Math.Nat.{le-div_iff_mul-le, one-le-pow, pow-suc}
-use Rattle.std.proofs.lemmas.Bool.{ltb-true, ltb-false}
-use Rattle.std.proofs.lemmas.Fmt.{decimal_step, decimal_nonempty, length-decimal-le}
+use Rattle.std.proofs.Common.{ℕ, zero, suc, ◌≡◌, ◌+◌, ◌-◌, ◌*◌, ◌/◌, ◌%◌, ◌^◌, ◌<◌, ◌≤◌, Bool, true, false, cond, List, [], ◌∷◌, length, refl, ap, arith, min}
+use Rattle.std.{proofs.Common.{length-append, slice_index_or}, specs.Prelude.{nat_lt}, specs.Fmt.{decimal}, specs.List.{AllByRecursion}}
+use Rattle.std.proofs.{Math.Nat.{le-div_iff_mul-le, one-le-pow, pow-suc}, lemmas.Bool.{ltb-true, ltb-false}, lemmas.Fmt.{decimal_step, decimal_nonempty}}
+use Rattle.std.proofs.lemmas.Fmt.{length-decimal-le}
 use Rattle.ppdb_base.specs.declared.offsets.Run.{Run}
 use Rattle.map_compose.specs.Lengths.{taken_on, old_digits, not_less}
 

@@ -1,41 +1,23 @@
 -- The composed map answers each question as the second map does of what the first answers.
-use Rattle.std.proofs.Common.{◌≡◌, ℕ, ◌+◌, ◌<◌, ◌≤◌, ◌⊎◌, ◌&&◌, ◌||◌, ◌++◌, ◌≢◌, Bool, true, false, cond, List, [], ◌∷◌, Option, Some, None, refl, sym, ◌∙◌}
-use Rattle.std.proofs.Common.{ap, arith, inl, inr, map, subst, zero, suc}
-use Rattle.std.specs.Prelude.{nat_eq, is_some, ◌↔◌}
-use Rattle.std.specs.List.{filter_map, find, range_with_len, cons_option}
-use Rattle.std.specs.Option.{option_map, option_and_then, option_or}
-use Rattle.std.proofs.lemmas.Bool.{cases_lt, eq-eqb, ne_eqb, eqb-true, and_parts}
+use Rattle.std.proofs.Common.{◌≡◌, ℕ, ◌+◌, ◌<◌, ◌≤◌, ◌⊎◌, ◌&&◌, ◌||◌, ◌++◌, ◌≢◌, Bool, true, false, cond, List, [], ◌∷◌, Option, Some, None, refl, sym, ◌∙◌, ap}
+use Rattle.std.{proofs.Common.{arith, inl, inr, map, subst, zero, suc}, specs.Prelude.{nat_eq, is_some, ◌↔◌}, specs.List.{filter_map, find, range_with_len}}
+use Rattle.std.{specs.List.{cons_option, AllByRecursion}, specs.Option.{option_map, option_and_then, option_or}, proofs.lemmas.Bool.{cases_lt, eq-eqb, ne_eqb}}
+use Rattle.std.proofs.lemmas.Bool.{eqb-true, and_parts}
 use Rattle.ppdb_base.specs.Offsets.{every, gone, Moves, Kept, kept_runs, all_offsets}
-use Rattle.ppdb_maps.specs.declared.entries.Count.{Count}
-use Rattle.ppdb_maps.specs.declared.entries.RowLine.{RowLine}
-use Rattle.ppdb_maps.specs.declared.entries.CrossLine.{CrossLine}
-use Rattle.ppdb_maps.specs.declared.entries.GoneLine.{GoneLine}
-use Rattle.ppdb_maps.specs.declared.image.RowImage.{RowImage}
-use Rattle.ppdb_maps.specs.declared.image.RowImage.TheVariants.{Row as RowOf, Gone, Missing}
-use Rattle.ppdb_maps.specs.declared.entries.SlotImage.{SlotImage}
-use Rattle.ppdb_maps.specs.declared.entries.SignatureImage.{SignatureImage}
-use Rattle.ppdb_maps.specs.Map.{Map, MethodLine, count_of, row_line, cross_line, has_gone_line, told_image, line_image, row_within, row_image, method_line, is_dropped}
-use Rattle.ppdb_maps.specs.Map.{has_slots, slot_line, slot_image, offsets_in}
-use Rattle.ppdb_maps.specs.Map.{rows_of, slots_of, signature_line}
-use Rattle.std.specs.List.{AllByRecursion}
-use Rattle.map_compose.specs.Runs.{met, longest}
-use Rattle.map_compose.specs.Composed.{tables, composed_count, count_entry, image_then, own_assembly, composed_image, sources, sources_of, row_lined, cross_lined}
-use Rattle.map_compose.specs.Composed.{gone_lined, row_entries, cross_entries, gone_entries, spoken_of, of_image, drops_one}
-use Rattle.map_compose.specs.Composed.{has_image, second_line, composed_runs, sized, composed_line, has_slot_lines, composed_slot, slot_sources, slot_entry}
-use Rattle.map_compose.specs.Composed.{slot_entries, slotted_methods, composed, signature_then, composed_signature, signature_entry, signed}
-use Rattle.ppdb_maps.specs.Readable.{IsReadable, IsCount}
-use Rattle.ppdb_maps.specs.Says.{sizes_of}
-use Rattle.map_compose.specs.Composition.{Follows, ComposedComposes, sizes_then}
-use Rattle.map_compose.specs.Laws.{Apart, MovesOn}
-use Rattle.ppdb_maps_text.proofs.Found.{has, given, made_found, filter_map_map, flat_found, has_append, has_filter, has_ascending, has_key, find_filter}
-use Rattle.ppdb_maps_text.specs.MapTexts.{olds_of}
-use Rattle.ppdb_maps_text.proofs.Starting.{olds_have as lines_have}
-use Rattle.map_compose.proofs.Imaging.{within, by_image, within_lined, told_lined, image_within, lineless, own_itself, may_cross, image_kept}
-use Rattle.map_compose.proofs.Meeting.{runs_compose}
-use Rattle.map_compose.proofs.Named.{names_are, named_are}
-use Rattle.ppdb_maps.proofs.Parts.{line_offsets}
-use Rattle.ppdb_maps.proofs.OneList.{any_is}
+use Rattle.ppdb_maps.specs.declared.entries.{Count.{Count}, RowLine.{RowLine}, CrossLine.{CrossLine}, GoneLine.{GoneLine}}
+use Rattle.ppdb_maps.specs.declared.{image.RowImage.{RowImage}, image.RowImage.TheVariants.{Row as RowOf, Gone, Missing}, entries.SlotImage.{SlotImage}}
+use Rattle.ppdb_maps.specs.{declared.entries.SignatureImage.{SignatureImage}, Map.{Map, MethodLine, count_of, row_line, cross_line, has_gone_line, told_image}}
+use Rattle.ppdb_maps.specs.Map.{line_image, row_within, row_image, method_line, is_dropped, has_slots, slot_line, slot_image, offsets_in, rows_of, slots_of}
+use Rattle.ppdb_maps.{specs.Map.{signature_line}, specs.Readable.{IsReadable, IsCount}, specs.Says.{sizes_of}, proofs.Parts.{line_offsets}, proofs.OneList.{any_is}}
 use Rattle.ppdb_maps.proofs.OneMap.{same_or_apart}
+use Rattle.map_compose.specs.{Runs.{met, longest}, Composed.{tables, composed_count, count_entry, image_then, own_assembly, composed_image, sources, sources_of}}
+use Rattle.map_compose.specs.Composed.{row_lined, cross_lined, gone_lined, row_entries, cross_entries, gone_entries, spoken_of, of_image, drops_one, has_image}
+use Rattle.map_compose.specs.Composed.{second_line, composed_runs, sized, composed_line, has_slot_lines, composed_slot, slot_sources, slot_entry, slot_entries}
+use Rattle.map_compose.specs.{Composed.{slotted_methods, composed, signature_then, composed_signature, signature_entry, signed}, Composition.{Follows}}
+use Rattle.map_compose.{specs.Composition.{ComposedComposes, sizes_then}, specs.Laws.{Apart, MovesOn}, proofs.Imaging.{within, by_image, within_lined, told_lined}}
+use Rattle.map_compose.proofs.{Imaging.{image_within, lineless, own_itself, may_cross, image_kept}, Meeting.{runs_compose}, Named.{names_are, named_are}}
+use Rattle.ppdb_maps_text.proofs.Found.{has, given, made_found, filter_map_map, flat_found, has_append, has_filter, has_ascending, has_key, find_filter}
+use Rattle.ppdb_maps_text.{specs.MapTexts.{olds_of}, proofs.Starting.{olds_have as lines_have}}
 
 -- ---- small things
 

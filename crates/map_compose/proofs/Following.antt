@@ -1,11 +1,7 @@
 -- What is known of a method that is there after both maps.
-use Rattle.std.proofs.Common.{ℕ, ◌≡◌, Bool, true, false, cond, Some, None, refl, sym, ap, ◌∙◌}
-use Rattle.std.specs.Prelude.{is_some}
-use Rattle.std.specs.Option.{option_and_then}
+use Rattle.std.{proofs.Common.{ℕ, ◌≡◌, Bool, true, false, cond, Some, None, refl, sym, ap, ◌∙◌}, specs.Prelude.{is_some}, specs.Option.{option_and_then}}
 use Rattle.ppdb_maps.specs.Map.{Map, row_within, slot_image}
-use Rattle.map_compose.specs.Composed.{has_image, composed_slot, of_image}
-use Rattle.map_compose.specs.Composition.{Follows}
-use Rattle.map_compose.specs.Says.{followed, slot_after}
+use Rattle.map_compose.specs.{Composed.{has_image, composed_slot, of_image}, Composition.{Follows}, Says.{followed, slot_after}}
 
 -- it follows
 pub follows_image : (f s : Map) (method image : ℕ) → followed f s method ≡ Some image → Follows f s method image

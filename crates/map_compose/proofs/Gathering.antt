@@ -1,16 +1,10 @@
 -- Runs that are taken one by one, by their indexes.
 use Rattle.std.proofs.Common.{ℕ, zero, suc, ◌≡◌, ◌+◌, ◌≤◌, ◌++◌, List, [], ◌∷◌, length, take, refl, sym, ap, ◌∙◌, arith, subst, Option, Some, None}
-use Rattle.std.specs.Prelude.{option_to_list}
-use Rattle.std.specs.List.{filter_map, slice_get, AllByRecursion}
-use Rattle.std.proofs.lemmas.List.{append_assoc, append-nil}
-use Rattle.ppdb_base.specs.declared.offsets.Run.{Run}
-use Rattle.ppdb_base.specs.Offsets.{RiseFrom, end_of, new_end_of}
+use Rattle.std.{specs.Prelude.{option_to_list}, specs.List.{filter_map, slice_get, AllByRecursion}, proofs.lemmas.List.{append_assoc, append-nil}}
+use Rattle.ppdb_base.specs.{declared.offsets.Run.{Run}, Offsets.{RiseFrom, end_of, new_end_of}, declared.limits.TheConstants.{MAX_OFFSET}}
 use Rattle.ppdb_maps_text.specs.declared.counted.Counted.{Counted}
-use Rattle.map_compose.specs.Runs.{meet, met, longest}
-use Rattle.map_compose.specs.Joining.{IsShort, AreRuns, Holding, JoinsRuns, JoinsOne, Joins}
-use Rattle.map_compose.proofs.JoinedRuns.{joins_same, joins_then, holding_same}
-use Rattle.map_compose.proofs.Putting.{take_more, take_past, flat_join}
-use Rattle.ppdb_base.specs.declared.limits.TheConstants.{MAX_OFFSET}
+use Rattle.map_compose.{specs.Runs.{meet, met, longest}, specs.Joining.{IsShort, AreRuns, Holding, JoinsRuns, JoinsOne, Joins}, proofs.JoinedRuns.{joins_same}}
+use Rattle.map_compose.proofs.{JoinedRuns.{joins_then, holding_same}, Putting.{take_more, take_past, flat_join}}
 
 -- ---- bounds
 

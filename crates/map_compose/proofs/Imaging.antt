@@ -1,15 +1,9 @@
 -- The image of a row, and what a second map makes of it.
-use Rattle.std.proofs.Common.{ℕ, ◌≡◌, ◌&&◌, ◌||◌, Bool, true, false, cond, Option, Some, None, refl, sym, ap, ◌∙◌, subst, arith, inl, inr}
-use Rattle.std.specs.Prelude.{not, nat_eq, is_some}
-use Rattle.std.specs.Option.{option_map, option_and_then}
-use Rattle.std.proofs.lemmas.Bool.{false≢true, eq-eqb, ne_eqb, eqb-true}
-use Rattle.ppdb_maps.specs.declared.entries.RowLine.{RowLine}
-use Rattle.ppdb_maps.specs.declared.entries.CrossLine.{CrossLine}
-use Rattle.ppdb_maps.specs.declared.image.RowImage.{RowImage}
-use Rattle.ppdb_maps.specs.declared.image.RowImage.TheVariants.{Row, Gone, Missing}
-use Rattle.ppdb_maps.specs.Forms.{Crosses}
-use Rattle.ppdb_maps.specs.Map.{Map, count_of, row_line, cross_line, has_gone_line, told_image, line_image, row_within, row_image, is_dropped}
-use Rattle.ppdb_maps.specs.Readable.{IsReadable, IsRow}
+use Rattle.std.{proofs.Common.{ℕ, ◌≡◌, ◌&&◌, ◌||◌, Bool, true, false, cond, Option, Some, None, refl, sym, ap, ◌∙◌, subst, arith, inl, inr}, specs.Prelude.{not}}
+use Rattle.std.{specs.Prelude.{nat_eq, is_some}, specs.Option.{option_map, option_and_then}, proofs.lemmas.Bool.{false≢true, eq-eqb, ne_eqb, eqb-true}}
+use Rattle.ppdb_maps.specs.declared.{entries.RowLine.{RowLine}, entries.CrossLine.{CrossLine}, image.RowImage.{RowImage}, image.RowImage.TheVariants.{Row, Gone}}
+use Rattle.ppdb_maps.specs.{declared.image.RowImage.TheVariants.{Missing}, Forms.{Crosses}, Map.{Map, count_of, row_line, cross_line, has_gone_line, told_image}}
+use Rattle.ppdb_maps.specs.{Map.{line_image, row_within, row_image, is_dropped}, Readable.{IsReadable, IsRow}}
 use Rattle.ppdb_maps_text.proofs.OneLine.{has_line, cross_found, gone_found, leaves_table}
 use Rattle.map_compose.specs.Composed.{image_then, own_assembly, composed_image, row_lined, cross_lined, gone_lined}
 

@@ -1,30 +1,15 @@
 -- Runs that lie inside the images of one run, and what is counted of them.
-use Rattle.std.proofs.Common.{ℕ, zero, suc, ◌≡◌, ◌+◌, ◌-◌, ◌^◌, ◌<◌, ◌≤◌, ◌++◌, ◌&&◌, Bool}
-use Rattle.std.proofs.Common.{true, false, cond, List, [], ◌∷◌, length, take, drop, map, refl, sym, ap}
-use Rattle.std.proofs.Common.{◌∙◌, arith, subst, Option, Some, None, min, max, slice_index_or}
-use Rattle.std.specs.Prelude.{nat_eq, nat_lt, option_to_list}
-use Rattle.std.specs.List.{filter_map, cons_option, AllByRecursion}
-use Rattle.std.specs.List.Sorted.{IsNonDecreasingBy, IsPartitionPoint}
-use Rattle.std.proofs.lemmas.Bool.{false≢true, eqb-true, eq-eqb, and_parts, lt-ltb, le-ltb, ltb-true, ltb-false}
-use Rattle.std.proofs.lemmas.List.{take-append-drop, map-append}
-use Rattle.ppdb_base.specs.declared.offsets.Run.{Run}
-use Rattle.ppdb_base.specs.Offsets.{RiseFrom, end_of, new_end_of}
-use Rattle.ppdb_maps.specs.declared.line.Line.{Line}
-use Rattle.ppdb_maps.specs.declared.line.Line.TheVariants.{Kept}
-use Rattle.ppdb_maps_text.specs.declared.counted.Counted.{Counted}
-use Rattle.ppdb_maps_text.specs.MapTexts.{ended, line_text}
-use Rattle.ppdb_maps_text.specs.Putting.{Puts}
-use Rattle.map_compose.specs.Joining.{IsShort, AreRuns, EndsAlike, HoldsEnd, JoinsRuns, Joins}
-use Rattle.map_compose.specs.Laws.{Apart}
-use Rattle.map_compose.specs.Lengths.{IsPast, Inside, EndsAfter, taken_on, not_less, runs_length}
-use Rattle.map_compose.specs.Runs.{goes_on, meet, part}
-use Rattle.map_compose.specs.Says.{lines_text, PutsLines}
-use Rattle.map_compose.proofs.Digits.{Small, parted_count}
-use Rattle.map_compose.proofs.Prefixes.{all_drop, rise_drop, rest_is}
-use Rattle.map_compose.proofs.JoinedRuns.{joins_apart, joins_same, joins_then, runs_then}
-use Rattle.map_compose.proofs.Making.{made_join}
-use Rattle.map_compose.proofs.Putting.{says_one, says_then, says_same, take_at, take_over}
-use Rattle.map_compose.proofs.Rising.{run_same}
+use Rattle.std.proofs.Common.{ℕ, zero, suc, ◌≡◌, ◌+◌, ◌-◌, ◌^◌, ◌<◌, ◌≤◌, ◌++◌, ◌&&◌, Bool, true, false, cond, List, [], ◌∷◌, length, take, drop, map, refl, sym, ap}
+use Rattle.std.{proofs.Common.{◌∙◌, arith, subst, Option, Some, None, min, max, slice_index_or}, specs.Prelude.{nat_eq, nat_lt, option_to_list}}
+use Rattle.std.{specs.List.{filter_map, cons_option, AllByRecursion}, specs.List.Sorted.{IsNonDecreasingBy, IsPartitionPoint}, proofs.lemmas.Bool.{false≢true}}
+use Rattle.std.proofs.lemmas.{Bool.{eqb-true, eq-eqb, and_parts, lt-ltb, le-ltb, ltb-true, ltb-false}, List.{take-append-drop, map-append}}
+use Rattle.ppdb_base.specs.{declared.offsets.Run.{Run}, Offsets.{RiseFrom, end_of, new_end_of}}
+use Rattle.ppdb_maps.specs.declared.line.{Line.{Line}, Line.TheVariants.{Kept}}
+use Rattle.ppdb_maps_text.specs.{declared.counted.Counted.{Counted}, MapTexts.{ended, line_text}, Putting.{Puts}}
+use Rattle.map_compose.specs.{Joining.{IsShort, AreRuns, EndsAlike, HoldsEnd, JoinsRuns, Joins}, Laws.{Apart}, Lengths.{IsPast, Inside, EndsAfter, taken_on}}
+use Rattle.map_compose.{specs.Lengths.{not_less, runs_length}, specs.Runs.{goes_on, meet, part}, specs.Says.{lines_text, PutsLines}, proofs.Digits.{Small}}
+use Rattle.map_compose.proofs.{Digits.{parted_count}, Prefixes.{all_drop, rise_drop, rest_is}, JoinedRuns.{joins_apart, joins_same, joins_then, runs_then}}
+use Rattle.map_compose.proofs.{Making.{made_join}, Putting.{says_one, says_then, says_same, take_at, take_over}, Rising.{run_same}}
 
 -- ---- pieces of a list
 

@@ -1,17 +1,11 @@
 -- Runs that come one after the other, joined as they come.
 use Rattle.std.proofs.Common.{◌≡◌, ◌+◌, ◌++◌, ◌&&◌, Bool, true, false, cond, List, [], ◌∷◌, Option, Some, None, refl, sym, ◌∙◌, ap, arith, subst, map}
-use Rattle.std.specs.Prelude.{nat_eq, option_to_list}
-use Rattle.std.proofs.lemmas.Bool.{eqb-true, and_parts}
-use Rattle.std.proofs.lemmas.List.{append_assoc, append-nil, map-append}
-use Rattle.ppdb_base.specs.declared.offsets.Run.{Run}
-use Rattle.ppdb_base.specs.Offsets.{end_of, new_end_of}
+use Rattle.std.{specs.Prelude.{nat_eq, option_to_list}, proofs.lemmas.Bool.{eqb-true, and_parts}, proofs.lemmas.List.{append_assoc, append-nil, map-append}}
+use Rattle.ppdb_base.specs.{declared.offsets.Run.{Run}, Offsets.{end_of, new_end_of}}
 use Rattle.ppdb_maps.specs.declared.line.Line.TheVariants.{Kept}
 use Rattle.ppdb_maps_text.specs.declared.counted.Counted.{Counted}
-use Rattle.map_compose.specs.Runs.{goes_on, before, longest}
-use Rattle.map_compose.specs.Joining.{Holding, JoinsRuns, JoinsOne, Joins, EndsAlike}
-use Rattle.map_compose.specs.Says.{PutsLines}
-use Rattle.map_compose.proofs.Putting.{says_then, says_none, says_same}
-use Rattle.map_compose.proofs.Rising.{run_same}
+use Rattle.map_compose.specs.{Runs.{goes_on, before, longest}, Joining.{Holding, JoinsRuns, JoinsOne, Joins, EndsAlike}, Says.{PutsLines}}
+use Rattle.map_compose.proofs.{Putting.{says_then, says_none, says_same}, Rising.{run_same}}
 
 abbrev pub both : Run → Run → Run
 both r q = record r { length = r.length + q.length }

@@ -1,38 +1,19 @@
 -- The text of a readable map has fewer than 2 ^ 64 bytes.
-use Rattle.std.proofs.Common.{ℕ, zero, suc, ◌+◌, ◌*◌, ◌<◌, ◌≤◌, ◌++◌, Bool, true, false, ◌≡◌, ◌∙◌, refl, sym, ap, subst, List, [], ◌∷◌, length, map}
-use Rattle.std.proofs.Common.{arith, length-append, Option, Some, None}
-use Rattle.std.specs.Prelude.{nat_eq, codes, is_some, IfSome, if◌then◌else◌}
-use Rattle.std.specs.Fmt.{decimal}
-use Rattle.std.specs.List.{AllByRecursion, flat_map}
-use Rattle.std.proofs.lemmas.List.{length-map}
-use Rattle.ppdb_maps.specs.declared.entries.Count.{Count}
-use Rattle.ppdb_maps.specs.declared.entries.SlotImage.{SlotImage}
-use Rattle.ppdb_maps.specs.declared.entries.SignatureImage.{SignatureImage}
-use Rattle.ppdb_maps.specs.declared.entries.NameLine.{NameLine}
-use Rattle.ppdb_base.specs.Escaped.{is_plain, code_of, escaped_byte, escaped}
-use Rattle.ppdb_maps.specs.declared.line.Line.{Line}
-use Rattle.ppdb_maps.specs.declared.line.Line.TheVariants.{Silent, Rows, Row, Cross, Gone, Method, Kept, Dropped, Slots, Slot, Signature, Document, Link, Shares}
-use Rattle.ppdb_maps.specs.Forms.{MAX_SLOT}
-use Rattle.ppdb_maps.specs.Map.{Map, MethodLine, count_of, line_image, slots_of}
-use Rattle.ppdb_maps.specs.Readable.{IsReadable, IsRow, IsCount, IsLineOf, IsSlottedOf, IsSlotOf, IsSignatureOf}
-use Rattle.ppdb_maps.proofs.Numbers.{may_spell_decimal, length_may_spell}
-use Rattle.ppdb_maps.proofs.Spelled.{code_is}
-use Rattle.ppdb_maps_text.specs.MapTexts.{spaced, table_word, line_text, ended, count_says, slots_say, method_says, map_says, map_text}
-use Rattle.ppdb_maps_text.specs.MapTexts.{version_of, head_text, image_says, olds_of}
-use Rattle.map_compose.proofs.Putting.{lines_join}
-use Rattle.map_compose.specs.Says.{lines_text}
-use Rattle.std.proofs.lemmas.Bool.{eqb-true}
-use Rattle.map_compose.specs.Joining.{IsShort as IsShortRun}
-use Rattle.map_compose.specs.Fits.{IsShort, IsShortLine, NamesFit}
-use Rattle.map_compose.proofs.Bounds.{few}
-use Rattle.map_compose.proofs.Gathering.{few_runs}
-use Rattle.ppdb_maps_text.proofs.OneLine.{has_line, OneLine, by_row, by_cross, by_gone, one_line, says_row, says_cross, says_gone}
-use Rattle.ppdb_maps_text.proofs.Orders.{Up}
-use Rattle.ppdb_maps_text.proofs.Starting.{olds_lined, olds_up}
-use Rattle.map_compose.proofs.Places.{line_runs}
-use Rattle.map_compose.proofs.Readable.{line_numbers, olds_rows, slots_up, slots_hold, slotted_rows, signed_rows, filter_hold}
-use Rattle.ppdb_base.specs.declared.limits.TheConstants.{MAX_ROWS, MAX_OFFSET}
-use Rattle.ppdb_maps_text.proofs.Parts.{slot_says, signature_says, link_says, shares_says}
+use Rattle.std.proofs.Common.{ℕ, zero, suc, ◌+◌, ◌*◌, ◌<◌, ◌≤◌, ◌++◌, Bool, true, false, ◌≡◌, ◌∙◌, refl, sym, ap, subst, List, [], ◌∷◌, length, map, arith}
+use Rattle.std.{proofs.Common.{length-append, Option, Some, None}, specs.Prelude.{nat_eq, codes, is_some, IfSome, if◌then◌else◌}, specs.Fmt.{decimal}}
+use Rattle.std.{specs.List.{AllByRecursion, flat_map}, proofs.lemmas.List.{length-map}, proofs.lemmas.Bool.{eqb-true}}
+use Rattle.ppdb_maps.specs.declared.entries.{Count.{Count}, SlotImage.{SlotImage}, SignatureImage.{SignatureImage}, NameLine.{NameLine}}
+use Rattle.ppdb_maps.specs.declared.line.{Line.{Line}, Line.TheVariants.{Silent, Rows, Row, Cross, Gone, Method, Kept, Dropped, Slots, Slot, Signature, Document}}
+use Rattle.ppdb_maps.specs.{declared.line.Line.TheVariants.{Link, Shares}, Forms.{MAX_SLOT}, Map.{Map, MethodLine, count_of, line_image, slots_of}}
+use Rattle.ppdb_maps.{specs.Readable.{IsReadable, IsRow, IsCount, IsLineOf, IsSlottedOf, IsSlotOf, IsSignatureOf}, proofs.Numbers.{may_spell_decimal}}
+use Rattle.ppdb_maps.proofs.{Numbers.{length_may_spell}, Spelled.{code_is}}
+use Rattle.ppdb_base.specs.{Escaped.{is_plain, code_of, escaped_byte, escaped}, declared.limits.TheConstants.{MAX_ROWS, MAX_OFFSET}}
+use Rattle.ppdb_maps_text.specs.MapTexts.{spaced, table_word, line_text, ended, count_says, slots_say, method_says, map_says, map_text, version_of, head_text}
+use Rattle.ppdb_maps_text.{specs.MapTexts.{image_says, olds_of}, proofs.OneLine.{has_line, OneLine, by_row, by_cross, by_gone, one_line, says_row, says_cross}}
+use Rattle.ppdb_maps_text.proofs.{OneLine.{says_gone}, Orders.{Up}, Starting.{olds_lined, olds_up}, Parts.{slot_says, signature_says, link_says, shares_says}}
+use Rattle.map_compose.{proofs.Putting.{lines_join}, specs.Says.{lines_text}, specs.Joining.{IsShort as IsShortRun}, specs.Fits.{IsShort, IsShortLine, NamesFit}}
+use Rattle.map_compose.proofs.{Bounds.{few}, Gathering.{few_runs}, Places.{line_runs}, Readable.{line_numbers, olds_rows, slots_up, slots_hold, slotted_rows}}
+use Rattle.map_compose.proofs.Readable.{signed_rows, filter_hold}
 
 digits_few : (n : ℕ) → n ≤ MAX_OFFSET → length (decimal n) ≤ 10
 digits_few n le = length_may_spell (decimal n) (may_spell_decimal n (omega (arith, le)))

@@ -1,35 +1,14 @@
 -- The line of a method that is there after both maps.
-use Rattle.std.proofs.Common.{ℕ, ◌≡◌, ◌*◌, ◌^◌, ◌≤◌, cond, List, [], ◌∷◌, Option, Some, None, refl, sym, ap, ◌∙◌}
-use Rattle.std.proofs.Common.{arith, subst, map, length, length-append, inl, inr}
-use Rattle.std.proofs.lemmas.List.{length-map}
-use Rattle.std.specs.List.{AllByRecursion, flat_map}
-use Rattle.std.specs.Prelude.{nat_eq}
-use Rattle.std.specs.Option.{option_map}
-use Rattle.ppdb_base.specs.declared.offsets.Run.{Run}
-use Rattle.ppdb_base.specs.Offsets.{lined, Rise, kept_runs}
-use Rattle.ppdb_base.proofs.Moved.{rise_prefix}
-use Rattle.ppdb_maps.specs.declared.line.Line.TheVariants.{Method, Kept}
-use Rattle.ppdb_maps.specs.Map.{Map, MethodLine, method_line, offsets_in}
-use Rattle.ppdb_maps.specs.Readable.{IsReadable, IsLineOf}
-use Rattle.ppdb_maps.specs.Says.{sizes_of}
-use Rattle.map_compose.specs.Runs.{met, longest}
-use Rattle.map_compose.specs.Composed.{composed_line, composed_runs, second_line, sized, of_image}
-use Rattle.map_compose.specs.Composition.{Follows, sizes_then}
-use Rattle.map_compose.specs.declared.joined.JoinedRuns.{JoinedRuns}
-use Rattle.map_compose.specs.declared.part.Part.TheVariants.{Methods}
-use Rattle.map_compose.specs.Joining.{AreRuns, AreJoinedOf, runs_of, runs_after}
-use Rattle.map_compose.specs.Laws.{Apart}
-use Rattle.map_compose.specs.Says.{lined_says, line_of_both}
-use Rattle.map_compose.specs.Sizes.{SizesAgree}
-use Rattle.map_compose.proofs.Equations.{there, first_offsets, second_are, runs_are}
-use Rattle.map_compose.proofs.Gathering.{few_runs}
-use Rattle.map_compose.proofs.Meeting.{runs_compose}
-use Rattle.map_compose.proofs.Merging.{few_own}
-use Rattle.map_compose.proofs.Places.{long, line_short, no_runs}
-use Rattle.map_compose.proofs.Readable.{found_holds, met_all, all_met}
-use Rattle.map_compose.proofs.Rising.{met_rises, longest_rises, longest_apart, one_longest, size_run}
-use Rattle.ppdb_maps.proofs.Parts.{line_offsets}
-use Rattle.ppdb_maps.proofs.OneMap.{same_or_apart}
+use Rattle.std.proofs.Common.{ℕ, ◌≡◌, ◌*◌, ◌^◌, ◌≤◌, cond, List, [], ◌∷◌, Option, Some, None, refl, sym, ap, ◌∙◌, arith, subst, map, length, length-append, inl, inr}
+use Rattle.std.{proofs.lemmas.List.{length-map}, specs.List.{AllByRecursion, flat_map}, specs.Prelude.{nat_eq}, specs.Option.{option_map}}
+use Rattle.ppdb_base.{specs.declared.offsets.Run.{Run}, specs.Offsets.{lined, Rise, kept_runs}, proofs.Moved.{rise_prefix}}
+use Rattle.ppdb_maps.specs.{declared.line.Line.TheVariants.{Method, Kept}, Map.{Map, MethodLine, method_line, offsets_in}, Readable.{IsReadable, IsLineOf}}
+use Rattle.ppdb_maps.{specs.Says.{sizes_of}, proofs.Parts.{line_offsets}, proofs.OneMap.{same_or_apart}}
+use Rattle.map_compose.specs.{Runs.{met, longest}, Composed.{composed_line, composed_runs, second_line, sized, of_image}, Composition.{Follows, sizes_then}}
+use Rattle.map_compose.specs.{declared.joined.JoinedRuns.{JoinedRuns}, declared.part.Part.TheVariants.{Methods}, Joining.{AreRuns, AreJoinedOf, runs_of, runs_after}}
+use Rattle.map_compose.{specs.Laws.{Apart}, specs.Says.{lined_says, line_of_both}, specs.Sizes.{SizesAgree}, proofs.Equations.{there, first_offsets, second_are}}
+use Rattle.map_compose.proofs.{Equations.{runs_are}, Gathering.{few_runs}, Meeting.{runs_compose}, Merging.{few_own}, Places.{long, line_short, no_runs}}
+use Rattle.map_compose.proofs.{Readable.{found_holds, met_all, all_met}, Rising.{met_rises, longest_rises, longest_apart, one_longest, size_run}}
 
 -- ---- longest runs
 

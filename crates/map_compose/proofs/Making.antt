@@ -1,16 +1,10 @@
 -- What is put in a loop over the lines of a map: the lines of what is made from those that were passed.
-use Rattle.std.proofs.Common.{ℕ, ◌≡◌, ◌+◌, ◌<◌, ◌++◌, List, [], ◌∷◌, length, map, take, refl, sym, ap, ◌∙◌, Option, Some, None}
-use Rattle.std.specs.List.{filter_map, cons_option, slice_get}
-use Rattle.std.specs.Option.{option_map}
-use Rattle.std.proofs.lemmas.List.{map-append}
-use Rattle.ppdb_maps.specs.declared.line.Line.{Line}
-use Rattle.ppdb_maps.specs.declared.entries.SlotImage.{SlotImage}
-use Rattle.ppdb_maps.specs.Map.{Map}
-use Rattle.ppdb_maps_text.specs.declared.counted.Counted.{Counted}
-use Rattle.map_compose.specs.Composed.{slot_entry, composed_slot}
-use Rattle.map_compose.specs.Says.{PutsLines, slot_image_says}
-use Rattle.map_compose.proofs.Putting.{says_then, says_same, take_more, take_past, within}
-use Rattle.ppdb_maps_text.proofs.Parts.{slot_says}
+use Rattle.std.{proofs.Common.{ℕ, ◌≡◌, ◌+◌, ◌<◌, ◌++◌, List, [], ◌∷◌, length, map, take, refl, sym, ap, ◌∙◌, Option, Some, None}, specs.List.{filter_map}}
+use Rattle.std.{specs.List.{cons_option, slice_get}, specs.Option.{option_map}, proofs.lemmas.List.{map-append}}
+use Rattle.ppdb_maps.specs.{declared.line.Line.{Line}, declared.entries.SlotImage.{SlotImage}, Map.{Map}}
+use Rattle.ppdb_maps_text.{specs.declared.counted.Counted.{Counted}, proofs.Parts.{slot_says}}
+use Rattle.map_compose.{specs.Composed.{slot_entry, composed_slot}, specs.Says.{PutsLines, slot_image_says}, proofs.Putting.{says_then, says_same, take_more}}
+use Rattle.map_compose.proofs.Putting.{take_past, within}
 
 pub made_join : {X Y : Type 0} (make : X → Option Y) (xs ys : List X) → filter_map make (xs ++ ys) ≡ filter_map make xs ++ filter_map make ys
 made_join make [] ys = refl

@@ -1,15 +1,10 @@
 -- What two rewritings keep of a method's offsets, one after the other.
 use Rattle.std.proofs.Common.{◌≡◌, ℕ, ◌+◌, ◌-◌, ◌<◌, ◌≤◌, ◌⊎◌, ◌++◌, Bool, true, false, cond, List, [], ◌∷◌, Option, Some, None, refl, arith, inl, inr}
-use Rattle.std.specs.Prelude.{min, max, nat_lt}
-use Rattle.std.specs.List.{filter_map, cons_option}
-use Rattle.std.proofs.Math.Nat.{le-max_left, le-max_right, min-le_left, min-le_right}
+use Rattle.std.{specs.Prelude.{min, max, nat_lt}, specs.List.{filter_map, cons_option}, proofs.Math.Nat.{le-max_left, le-max_right, min-le_left, min-le_right}}
 use Rattle.std.proofs.lemmas.Bool.{cases_lt, lt-ltb, eqb-true, and_parts}
-use Rattle.ppdb_base.specs.declared.offsets.Run.{Run}
-use Rattle.ppdb_base.specs.Offsets.{Takes, Moves, end_of, new_end_of}
-use Rattle.ppdb_base.proofs.Moved.{moves_left, moves_right}
-use Rattle.map_compose.specs.Runs.{part, meet, met, goes_on, before, longest}
-use Rattle.map_compose.specs.Laws.{MovesOn, RunsCompose}
-use Rattle.map_compose.proofs.Rising.{longest_apart, met_rises, one_longest}
+use Rattle.ppdb_base.{specs.declared.offsets.Run.{Run}, specs.Offsets.{Takes, Moves, end_of, new_end_of}, proofs.Moved.{moves_left, moves_right}}
+use Rattle.map_compose.{specs.Runs.{part, meet, met, goes_on, before, longest}, specs.Laws.{MovesOn, RunsCompose}, proofs.Rising.{longest_apart, met_rises}}
+use Rattle.map_compose.proofs.Rising.{one_longest}
 
 -- ---- one run and another
 

@@ -1,25 +1,13 @@
 -- Two lists of numbers that ascend, merged: what is left after the least of their first numbers.
-use Rattle.std.proofs.Common.{ℕ, zero, suc, ◌≡◌, ◌+◌, ◌<◌, ◌≤◌, ◌⊎◌, ◌++◌, ◌||◌, Bool, true, false, cond, List, [], ◌∷◌, length, drop, refl, sym, ap, ◌∙◌}
-use Rattle.std.proofs.Common.{arith, subst, inl, inr, Some, None}
-use Rattle.std.specs.Prelude.{nat_eq, is_some}
-use Rattle.std.specs.List.{AllByRecursion, slice_get}
-use Rattle.std.specs.List.Sorted.{IsStrictlySortedBy}
-use Rattle.std.specs.Ordering.{nat_cmp}
-use Rattle.std.specs.declared.cmp.Ordering.TheVariants.{Less}
-use Rattle.std.proofs.lemmas.Bool.{eq-eqb, ne_eqb, eqb-true, false≢true}
-use Rattle.ppdb_maps.specs.Map.{Map, count_of}
-use Rattle.ppdb_maps.specs.Readable.{IsReadable, IsRow}
-use Rattle.ppdb_maps.proofs.OneMap.{same_or_apart}
-use Rattle.map_compose.specs.declared.part.Part.{Part}
-use Rattle.map_compose.specs.declared.part.Part.TheVariants.{Drops, Slots, Signatures, Methods}
-use Rattle.ppdb_maps_text.specs.Ascending.{ascending}
-use Rattle.map_compose.specs.Parts.{part_numbers, other_numbers}
-use Rattle.ppdb_maps_text.proofs.Found.{has, has_append, has_ascending}
-use Rattle.ppdb_maps_text.proofs.Orders.{Up, Above, less, is_less, ascending_up}
-use Rattle.map_compose.proofs.Bounds.{few}
-use Rattle.map_compose.proofs.Putting.{drop_at, drop_past}
-use Rattle.map_compose.proofs.Equations.{olds}
-use Rattle.map_compose.proofs.Readable.{ascending_hold, row_olds, line_numbers, slotted_rows, signed_rows, rows_up}
+use Rattle.std.proofs.Common.{ℕ, zero, suc, ◌≡◌, ◌+◌, ◌<◌, ◌≤◌, ◌⊎◌, ◌++◌, ◌||◌, Bool, true, false, cond, List, [], ◌∷◌, length, drop, refl, sym, ap, ◌∙◌, arith}
+use Rattle.std.{proofs.Common.{subst, inl, inr, Some, None}, specs.Prelude.{nat_eq, is_some}, specs.List.{AllByRecursion, slice_get}}
+use Rattle.std.{specs.List.Sorted.{IsStrictlySortedBy}, specs.Ordering.{nat_cmp}, specs.declared.cmp.Ordering.TheVariants.{Less}, proofs.lemmas.Bool.{eq-eqb}}
+use Rattle.std.proofs.lemmas.Bool.{ne_eqb, eqb-true, false≢true}
+use Rattle.ppdb_maps.{specs.Map.{Map, count_of}, specs.Readable.{IsReadable, IsRow}, proofs.OneMap.{same_or_apart}}
+use Rattle.map_compose.specs.{declared.part.Part.{Part}, declared.part.Part.TheVariants.{Drops, Slots, Signatures, Methods}, Parts.{part_numbers, other_numbers}}
+use Rattle.map_compose.proofs.{Bounds.{few}, Putting.{drop_at, drop_past}, Equations.{olds}, Readable.{ascending_hold, row_olds, line_numbers, slotted_rows}}
+use Rattle.map_compose.proofs.Readable.{signed_rows, rows_up}
+use Rattle.ppdb_maps_text.{specs.Ascending.{ascending}, proofs.Found.{has, has_append, has_ascending}, proofs.Orders.{Up, Above, less, is_less, ascending_up}}
 use Rattle.ppdb_base.specs.declared.limits.TheConstants.{MAX_ROWS}
 
 -- ---- lists that ascend are determined by their numbers

@@ -1,37 +1,16 @@
 -- Which `document` line is that of a name, and how long the names of these lines are, spelled.
-use Rattle.std.proofs.Common.{ℕ, zero, suc, ◌≡◌, ◌+◌, ◌<◌, ◌++◌, ◌||◌, Bool, true, false, cond, List, [], ◌∷◌, Option, Some, None}
-use Rattle.std.proofs.Common.{length, take, drop, map, refl, sym, ap, ◌∙◌, subst, arith, add-one}
-use Rattle.std.specs.Prelude.{codes, is_some, unwrap_or, slice_index_or}
-use Rattle.std.specs.Str.{bytes_eq}
-use Rattle.std.specs.Cmp.Lexicographic.{nat_list_cmp_total}
-use Rattle.std.specs.List.{AllByRecursion, flat_map, slice_get}
-use Rattle.std.specs.List.Sorted.{IsStrictlySortedBy}
-use Rattle.std.specs.Option.{option_map}
-use Rattle.std.specs.Ordering.{is_eq, is_lt}
-use Rattle.std.specs.declared.cmp.Ordering.{Ordering}
-use Rattle.std.specs.declared.cmp.Ordering.TheVariants.{Less, Greater}
-use Rattle.std.proofs.lemmas.List.{length-append, map-append}
-use Rattle.std.proofs.lemmas.Map.Text.{is_eq-slice_cmp}
-use Rattle.std.proofs.lemmas.Option.{slice_get-map, get_or_from_slice_get}
+use Rattle.std.proofs.Common.{ℕ, zero, suc, ◌≡◌, ◌+◌, ◌<◌, ◌++◌, ◌||◌, Bool, true, false, cond, List, [], ◌∷◌, Option, Some, None, length, take, drop, map, refl}
+use Rattle.std.{proofs.Common.{sym, ap, ◌∙◌, subst, arith, add-one}, specs.Prelude.{codes, is_some, unwrap_or, slice_index_or}, specs.Str.{bytes_eq}}
+use Rattle.std.specs.{Cmp.Lexicographic.{nat_list_cmp_total}, List.{AllByRecursion, flat_map, slice_get}, List.Sorted.{IsStrictlySortedBy}, Option.{option_map}}
+use Rattle.std.specs.{Ordering.{is_eq, is_lt}, declared.cmp.Ordering.{Ordering}, declared.cmp.Ordering.TheVariants.{Less, Greater}}
+use Rattle.std.proofs.lemmas.{List.{length-append, map-append}, Map.Text.{is_eq-slice_cmp}, Option.{slice_get-map, get_or_from_slice_get}}
 use Rattle.ppdb_base.specs.Escaped.{is_plain, escaped_byte, escaped}
-use Rattle.ppdb_maps.specs.declared.entries.NameLine.{NameLine}
-use Rattle.ppdb_maps.specs.declared.line.Line.TheVariants.{Document}
-use Rattle.ppdb_maps.specs.Map.{Map, document_line, moved_name}
-use Rattle.ppdb_maps.specs.Readable.{IsReadable}
-use Rattle.ppdb_maps.proofs.Halving.{parted, at_there}
-use Rattle.ppdb_maps.proofs.Spelled.{plain_text, code_text}
+use Rattle.ppdb_maps.specs.{declared.entries.NameLine.{NameLine}, declared.line.Line.TheVariants.{Document}, Map.{Map, document_line, moved_name}}
+use Rattle.ppdb_maps.{specs.Readable.{IsReadable}, proofs.Halving.{parted, at_there}, proofs.Spelled.{plain_text, code_text}}
 use Rattle.ppdb_maps_text.specs.MapTexts.{ended, line_text}
-use Rattle.map_compose.specs.declared.part.Passed.{Passed}
-use Rattle.map_compose.specs.Composed.{named}
-use Rattle.map_compose.specs.Fits.{IsShort, NamesFit}
-use Rattle.map_compose.specs.Names.{name_cmp}
-use Rattle.map_compose.specs.Parts.{names_left}
-use Rattle.map_compose.specs.Spelled.{spelled_length, new_lengths}
-use Rattle.map_compose.proofs.Lengths.{two_words}
-use Rattle.map_compose.proofs.Named.{has_line, found_holds, olds_hold, both_hold}
-use Rattle.map_compose.proofs.Names.{Up, Above, below, above, same, eq_itself, has, ascending_hold}
-use Rattle.map_compose.proofs.Prefixes.{all_drop}
-use Rattle.map_compose.proofs.Putting.{take_more, within}
+use Rattle.map_compose.specs.{declared.part.Passed.{Passed}, Composed.{named}, Fits.{IsShort, NamesFit}, Names.{name_cmp}, Parts.{names_left}}
+use Rattle.map_compose.{specs.Spelled.{spelled_length, new_lengths}, proofs.Lengths.{two_words}, proofs.Named.{has_line, found_holds, olds_hold, both_hold}}
+use Rattle.map_compose.proofs.{Names.{Up, Above, below, above, same, eq_itself, has, ascending_hold}, Prefixes.{all_drop}, Putting.{take_more, within}}
 
 -- ---- one byte more
 

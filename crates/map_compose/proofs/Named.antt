@@ -1,23 +1,12 @@
 -- The names of documents and the value of Source Link records in the map of two maps.
-use Rattle.std.proofs.Common.{ℕ, ◌≡◌, ◌≤◌, ◌+◌, ◌||◌, ◌++◌, Bool, true, false, cond, List, [], ◌∷◌, Option, Some, None, length, map, refl, sym, ap, ◌∙◌}
-use Rattle.std.proofs.Common.{arith}
-use Rattle.std.specs.Prelude.{is_some, unwrap_or, IfSome}
-use Rattle.std.specs.Str.{bytes_eq}
-use Rattle.std.specs.List.{AllByRecursion, find, slice_get}
-use Rattle.std.specs.Option.{option_map, option_or}
-use Rattle.std.specs.Ordering.{match_ordering}
-use Rattle.std.specs.declared.cmp.Ordering.{Ordering}
-use Rattle.std.specs.declared.cmp.Ordering.TheVariants.{Less, Equal, Greater}
+use Rattle.std.proofs.Common.{ℕ, ◌≡◌, ◌≤◌, ◌+◌, ◌||◌, ◌++◌, Bool, true, false, cond, List, [], ◌∷◌, Option, Some, None, length, map, refl, sym, ap, ◌∙◌, arith}
+use Rattle.std.specs.{Prelude.{is_some, unwrap_or, IfSome}, Str.{bytes_eq}, List.{AllByRecursion, find, slice_get}, Option.{option_map, option_or}}
+use Rattle.std.specs.{Ordering.{match_ordering}, declared.cmp.Ordering.{Ordering}, declared.cmp.Ordering.TheVariants.{Less, Equal, Greater}}
 use Rattle.std.proofs.lemmas.List.{length-map, length-append}
-use Rattle.ppdb_maps.specs.declared.entries.NameLine.{NameLine}
-use Rattle.ppdb_maps.specs.Map.{Map, document_line, moved_name}
-use Rattle.ppdb_maps_text.specs.MapTexts.{has_items}
-use Rattle.map_compose.specs.Composed.{composed, named, document_entry, document_entries, composed_link}
-use Rattle.map_compose.specs.Fits.{IsShort, NamesFit}
-use Rattle.map_compose.specs.Names.{name_cmp, put_name, names_ascending}
-use Rattle.map_compose.specs.Says.{has_names}
-use Rattle.ppdb_maps_text.proofs.Found.{given}
-use Rattle.map_compose.proofs.Names.{has, has_append, has_ascending, has_key, made_found, ascending_hold}
+use Rattle.ppdb_maps.specs.{declared.entries.NameLine.{NameLine}, Map.{Map, document_line, moved_name}}
+use Rattle.ppdb_maps_text.{specs.MapTexts.{has_items}, proofs.Found.{given}}
+use Rattle.map_compose.specs.{Composed.{composed, named, document_entry, document_entries, composed_link}, Fits.{IsShort, NamesFit}, Names.{name_cmp, put_name}}
+use Rattle.map_compose.{specs.Names.{names_ascending}, specs.Says.{has_names}, proofs.Names.{has, has_append, has_ascending, has_key, made_found, ascending_hold}}
 
 -- ---- what the map answers
 

@@ -1,18 +1,10 @@
 -- Names in the order of their bytes: what is found among them, and two lists of them merged.
 use Rattle.std.proofs.Common.{ℕ, zero, suc, ◌≡◌, ◌+◌, ◌++◌, ◌||◌, Bool, true, false, cond, List, [], ◌∷◌, Some, None, drop, map, refl, sym, ap, ◌∙◌, subst}
-use Rattle.std.specs.Prelude.{is_some}
-use Rattle.std.specs.Str.{bytes_eq}
-use Rattle.std.specs.List.{AllByRecursion, find, list_any, slice_get}
-use Rattle.std.specs.List.Sorted.{IsStrictlySortedBy}
-use Rattle.std.specs.Ordering.{match_ordering, ordering_reverse, is_eq}
-use Rattle.std.specs.declared.cmp.Ordering.{Ordering}
-use Rattle.std.specs.declared.cmp.Ordering.TheVariants.{Less, Equal, Greater}
-use Rattle.std.proofs.lemmas.Cmp.{tied_itself, nat_list_cmp_total}
-use Rattle.std.proofs.lemmas.Map.Text.{is_eq-slice_cmp}
-use Rattle.std.proofs.lemmas.Slice.Eq.{bytes_eq-Decides}
-use Rattle.map_compose.specs.Names.{name_cmp, put_name, names_ascending}
+use Rattle.std.specs.{Prelude.{is_some}, Str.{bytes_eq}, List.{AllByRecursion, find, list_any, slice_get}, List.Sorted.{IsStrictlySortedBy}}
+use Rattle.std.specs.{Ordering.{match_ordering, ordering_reverse, is_eq}, declared.cmp.Ordering.{Ordering}, declared.cmp.Ordering.TheVariants.{Less, Equal, Greater}}
+use Rattle.std.proofs.lemmas.{Cmp.{tied_itself, nat_list_cmp_total}, Map.Text.{is_eq-slice_cmp}, Slice.Eq.{bytes_eq-Decides}}
+use Rattle.map_compose.{specs.Names.{name_cmp, put_name, names_ascending}, proofs.Putting.{drop_at, drop_past}}
 use Rattle.ppdb_maps_text.proofs.Found.{given}
-use Rattle.map_compose.proofs.Putting.{drop_at, drop_past}
 
 abbrev pub Up : List (List ℕ) → Type 0
 Up ns = IsStrictlySortedBy name_cmp ns

@@ -1,22 +1,13 @@
 -- The next image of the next image.
 use Rattle.std.proofs.Common.{◌≡◌, ℕ, ◌<◌, ◌≤◌, ◌++◌, ◌≢◌, ◌⊎◌, List, Option, Some, None, [], ◌∷◌, refl, sym, ◌∙◌, ap, arith, inl, inr, subst}
 use Rattle.std.proofs.lemmas.Bool.{cases_lt, lt-ltb}
-use Rattle.ppdb_base.specs.declared.offsets.Run.{Run}
-use Rattle.ppdb_base.specs.Offsets.{Offsets, every, gone, lined, Moves, Rise, RiseFrom, Kept, Stops, IsNextIn, stop_runs, old_size, moved, end_of, new_end_of}
-use Rattle.ppdb_base.proofs.Moved.{moves_left, moves_right, moved_is, moved_kept, has_next, kept_below}
+use Rattle.ppdb_base.specs.{declared.offsets.Run.{Run}, Offsets.{Offsets, every, gone, lined, Moves, Rise, RiseFrom, Kept, Stops, IsNextIn, stop_runs, old_size}}
+use Rattle.ppdb_base.{specs.Offsets.{moved, end_of, new_end_of}, proofs.Moved.{moves_left, moves_right, moved_is, moved_kept, has_next, kept_below}}
 use Rattle.ppdb_base.proofs.Stops.{is_next, moves_rise, moves_same}
-use Rattle.map_compose.specs.Runs.{met, longest}
-use Rattle.map_compose.specs.Composition.{NextComposes, Follows}
-use Rattle.ppdb_maps.specs.Map.{Map, MethodLine, method_line, offsets_in}
-use Rattle.ppdb_maps.specs.Readable.{IsReadable}
-use Rattle.map_compose.specs.Composed.{composed, composed_runs, sized}
-use Rattle.map_compose.specs.Sizes.{SizesAgree}
-use Rattle.map_compose.proofs.Meeting.{runs_compose, moves_split}
-use Rattle.map_compose.proofs.Rising.{size_run, met_rises, longest_rises}
-use Rattle.map_compose.proofs.Equations.{composed_composes, offsets_are, first_offsets, second_are}
-use Rattle.map_compose.proofs.Lined.{line_fits, runs_by}
-use Rattle.map_compose.proofs.Readable.{composed_is_readable, offsets_rise, met_all, all_met}
-use Rattle.ppdb_maps.proofs.Parts.{line_offsets}
+use Rattle.map_compose.specs.{Runs.{met, longest}, Composition.{NextComposes, Follows}, Composed.{composed, composed_runs, sized}, Sizes.{SizesAgree}}
+use Rattle.map_compose.proofs.{Meeting.{runs_compose, moves_split}, Rising.{size_run, met_rises, longest_rises}, Equations.{composed_composes, offsets_are}}
+use Rattle.map_compose.proofs.{Equations.{first_offsets, second_are}, Lined.{line_fits, runs_by}, Readable.{composed_is_readable, offsets_rise, met_all, all_met}}
+use Rattle.ppdb_maps.{specs.Map.{Map, MethodLine, method_line, offsets_in}, specs.Readable.{IsReadable}, proofs.Parts.{line_offsets}}
 
 -- a stop of a line is a kept offset, or the old size
 data StopIs (runs : List Run) (old new x y : ℕ) : Type 0 where

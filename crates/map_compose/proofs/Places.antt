@@ -1,36 +1,16 @@
 -- Where the runs of each method stand in one list, and that they are found there.
-use Rattle.std.proofs.Common.{ℕ, ◌≡◌, ◌+◌, ◌-◌, ◌≤◌, ◌++◌, Bool, true, false, cond, List, [], ◌∷◌, length, take, drop, map, refl, sym, ap, ◌∙◌, arith, subst}
-use Rattle.std.proofs.Common.{Option, Some, None, inl, inr, length-append}
-use Rattle.std.specs.Prelude.{nat_eq, nat_lt}
-use Rattle.std.specs.List.{flat_map, find, slice_get, AllByRecursion}
-use Rattle.std.specs.Option.{option_map}
-use Rattle.std.specs.List.Sorted.{IsStrictlySortedBy, IsPartitionedBy, IsPartitionPoint}
-use Rattle.std.specs.Ordering.{nat_cmp}
-use Rattle.std.proofs.lemmas.Bool.{eqb-true, eq-eqb}
-use Rattle.std.proofs.lemmas.Cmp.{nat_cmp_total}
-use Rattle.std.proofs.lemmas.List.{append_assoc, append-nil}
-use Rattle.ppdb_base.specs.declared.offsets.Run.{Run}
-use Rattle.ppdb_base.specs.Offsets.{gone, RiseFrom, end_of, new_end_of}
-use Rattle.ppdb_base.proofs.Moved.{rise_prefix}
-use Rattle.ppdb_maps.specs.Map.{Map, MethodLine, method_line, is_dropped, offsets_in}
-use Rattle.ppdb_maps.specs.Readable.{IsReadable, IsLineOf}
-use Rattle.ppdb_maps.specs.Says.{lined_runs}
-use Rattle.ppdb_maps.proofs.OneList.{each_found}
-use Rattle.ppdb_maps.proofs.Halving.{found_lent, by_number, if_passes}
-use Rattle.std.specs.Borrow.{Bor}
-use Rattle.std.specs.Option.{option_copied}
+use Rattle.std.proofs.Common.{ℕ, ◌≡◌, ◌+◌, ◌-◌, ◌≤◌, ◌++◌, Bool, true, false, cond, List, [], ◌∷◌, length, take, drop, map, refl, sym, ap, ◌∙◌, arith, subst, Option}
+use Rattle.std.{proofs.Common.{Some, None, inl, inr, length-append}, specs.Prelude.{nat_eq, nat_lt}, specs.List.{flat_map, find, slice_get, AllByRecursion}}
+use Rattle.std.specs.{Option.{option_map, option_copied}, List.Sorted.{IsStrictlySortedBy, IsPartitionedBy, IsPartitionPoint}, Ordering.{nat_cmp}}
+use Rattle.std.{proofs.lemmas.Bool.{eqb-true, eq-eqb}, proofs.lemmas.Cmp.{nat_cmp_total}, proofs.lemmas.List.{append_assoc, append-nil}, specs.Borrow.{Bor}}
 use Rattle.std.specs.Slice.{IsItemAt, IsGetRangeResult}
-use Rattle.map_compose.specs.declared.joined.JoinedLine.{JoinedLine}
-use Rattle.map_compose.specs.declared.joined.JoinedRuns.{JoinedRuns}
-use Rattle.map_compose.specs.Runs.{longest}
-use Rattle.map_compose.specs.Joining.{IsShort, AreRuns, AreJoinedOf, places, runs_of}
-use Rattle.map_compose.specs.Lengths.{AreSums, SumsOf, sums_from}
-use Rattle.map_compose.proofs.Gathering.{all_get}
-use Rattle.map_compose.proofs.Putting.{take_more, take_past, flat_join}
-use Rattle.map_compose.proofs.Readable.{found_holds}
-use Rattle.map_compose.proofs.Sums.{sums_range}
+use Rattle.ppdb_base.{specs.declared.offsets.Run.{Run}, specs.Offsets.{gone, RiseFrom, end_of, new_end_of}, proofs.Moved.{rise_prefix}}
 use Rattle.ppdb_base.specs.declared.limits.TheConstants.{MAX_OFFSET}
-use Rattle.ppdb_maps.proofs.Parts.{line_offsets}
+use Rattle.ppdb_maps.specs.{Map.{Map, MethodLine, method_line, is_dropped, offsets_in}, Readable.{IsReadable, IsLineOf}, Says.{lined_runs}}
+use Rattle.ppdb_maps.proofs.{OneList.{each_found}, Halving.{found_lent, by_number, if_passes}, Parts.{line_offsets}}
+use Rattle.map_compose.specs.{declared.joined.JoinedLine.{JoinedLine}, declared.joined.JoinedRuns.{JoinedRuns}, Runs.{longest}, Joining.{IsShort, AreRuns}}
+use Rattle.map_compose.{specs.Joining.{AreJoinedOf, places, runs_of}, specs.Lengths.{AreSums, SumsOf, sums_from}, proofs.Gathering.{all_get}}
+use Rattle.map_compose.proofs.{Putting.{take_more, take_past, flat_join}, Readable.{found_holds}, Sums.{sums_range}}
 
 abbrev pub long : MethodLine → List Run
 long line = longest line.runs

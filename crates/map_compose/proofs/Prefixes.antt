@@ -1,17 +1,9 @@
 -- Which of rising runs may meet a run: those from the first that does not end before it, up to the first that begins after it.
-use Rattle.std.proofs.Common.{ℕ, zero, suc, ◌≡◌, ◌+◌, ◌-◌, ◌<◌, ◌≤◌, ◌++◌, List, [], ◌∷◌, length, take, drop, refl, sym, ap, ◌∙◌, arith, subst, Option, Some}
-use Rattle.std.proofs.Common.{None, length-drop, slice_index_or}
-use Rattle.std.specs.Prelude.{min, max, option_to_list}
-use Rattle.std.specs.List.{filter_map, cons_option, AllByRecursion}
-use Rattle.std.proofs.lemmas.Bool.{le-ltb}
-use Rattle.std.proofs.lemmas.List.{append-nil}
-use Rattle.ppdb_base.specs.declared.offsets.Run.{Run}
-use Rattle.ppdb_base.specs.Offsets.{RiseFrom, end_of, new_end_of}
-use Rattle.map_compose.specs.Runs.{meet}
-use Rattle.map_compose.specs.Joining.{IsShort}
-use Rattle.map_compose.proofs.Making.{made_join}
-use Rattle.map_compose.proofs.Putting.{take_at, take_over}
-use Rattle.map_compose.proofs.Rising.{none_met, weaker}
+use Rattle.std.proofs.Common.{ℕ, zero, suc, ◌≡◌, ◌+◌, ◌-◌, ◌<◌, ◌≤◌, ◌++◌, List, [], ◌∷◌, length, take, drop, refl, sym, ap, ◌∙◌, arith, subst, Option, Some, None}
+use Rattle.std.{proofs.Common.{length-drop, slice_index_or}, specs.Prelude.{min, max, option_to_list}, specs.List.{filter_map, cons_option, AllByRecursion}}
+use Rattle.std.proofs.lemmas.{Bool.{le-ltb}, List.{append-nil}}
+use Rattle.ppdb_base.specs.{declared.offsets.Run.{Run}, Offsets.{RiseFrom, end_of, new_end_of}}
+use Rattle.map_compose.{specs.Runs.{meet}, specs.Joining.{IsShort}, proofs.Making.{made_join}, proofs.Putting.{take_at, take_over}, proofs.Rising.{none_met, weaker}}
 
 none_at : (r : Run) (c d : ℕ) (qs : List Run) → RiseFrom c d qs → new_end_of r ≤ c → filter_map (meet r) qs ≡ []
 none_at r c d qs rise past = none_met r c d qs [] (subst (RiseFrom c d) (sym (append-nil qs)) rise) past

@@ -1,15 +1,9 @@
 -- What is put one after the other is put as one text, and texts of lines.
 use Rattle.std.proofs.Common.{ℕ, zero, suc, ◌≡◌, ◌+◌, ◌<◌, ◌≤◌, ◌++◌, Bool, true, false, cond, List, [], ◌∷◌, length, map, take, drop, refl, sym, ap, ◌∙◌, arith}
-use Rattle.std.proofs.Common.{add-one, subst, Some, None, Result, Ok, Err, OnOk}
-use Rattle.std.specs.List.{flat_map, range_with_len, slice_get}
-use Rattle.std.specs.Prelude.{slice_index_or}
+use Rattle.std.{proofs.Common.{add-one, subst, Some, None, Result, Ok, Err, OnOk}, specs.List.{flat_map, range_with_len, slice_get}, specs.Prelude.{slice_index_or}}
 use Rattle.std.proofs.lemmas.List.{append_assoc, append-nil, map-append}
-use Rattle.ppdb_maps.specs.declared.line.Line.{Line, TheVariants.{Document}}
-use Rattle.ppdb_maps.specs.Map.{Map}
-use Rattle.ppdb_maps_text.specs.declared.counted.Counted.{Counted}
-use Rattle.ppdb_maps_text.specs.MapTexts.{ended, line_text}
-use Rattle.ppdb_maps_text.specs.Putting.{Puts}
-use Rattle.ppdb_maps_text.proofs.Putting.{puts_then}
+use Rattle.ppdb_maps.specs.{declared.line.Line.{Line}, declared.line.Line.TheVariants.{Document}, Map.{Map}}
+use Rattle.ppdb_maps_text.{specs.declared.counted.Counted.{Counted}, specs.MapTexts.{ended, line_text}, specs.Putting.{Puts}, proofs.Putting.{puts_then}}
 use Rattle.map_compose.specs.{Composed.{document_entry}, Says.{lines_text, PutsLines}}
 
 pub lines_join : (xs ys : List Line) → lines_text (xs ++ ys) ≡ lines_text xs ++ lines_text ys

@@ -1,50 +1,28 @@
 -- The map of two readable maps whose sizes agree is readable.
-use Rattle.std.proofs.Common.{◌≡◌, ℕ, ◌+◌, ◌<◌, ◌≤◌, ◌&&◌, ◌||◌, ◌++◌, Bool, true, false, cond, List, [], ◌∷◌, Option, Some, None, refl, sym, ◌∙◌, ap, arith}
-use Rattle.std.proofs.Common.{inl, inr, map, subst, zero, suc}
-use Rattle.std.specs.Prelude.{not, nat_eq, nat_lt, is_some, min, max, unwrap_or}
-use Rattle.std.specs.List.{filter, filter_map, flat_map, find, range_with_len, cons_option, AllByRecursion}
-use Rattle.std.specs.Option.{option_map, option_and_then, option_or}
-use Rattle.std.proofs.lemmas.Bool.{cases_lt, lt-ltb, eq-eqb, eqb-true, and_parts, false≢true}
-use Rattle.ppdb_base.specs.declared.offsets.Run.{Run}
-use Rattle.ppdb_base.specs.Offsets.{every, gone, lined, Rise, RiseFrom, kept_runs, all_offsets, end_of, new_end_of}
-use Rattle.ppdb_maps.specs.declared.entries.Count.{Count}
-use Rattle.ppdb_maps.specs.declared.entries.RowLine.{RowLine}
-use Rattle.ppdb_maps.specs.declared.entries.CrossLine.{CrossLine}
-use Rattle.ppdb_maps.specs.declared.entries.GoneLine.{GoneLine}
-use Rattle.ppdb_maps.specs.declared.image.RowImage.{RowImage}
-use Rattle.ppdb_maps.specs.declared.image.RowImage.TheVariants.{Row as RowOf, Gone, Missing}
-use Rattle.ppdb_maps.specs.declared.entries.SlotImage.{SlotImage}
-use Rattle.ppdb_maps.specs.declared.entries.SignatureImage.{SignatureImage}
-use Rattle.ppdb_maps.specs.Forms.{AreBytes, Crosses, IsTypeTable, MAX_SLOT}
-use Rattle.ppdb_maps.specs.Map.{Map, MethodLine, Ascends, count_of, row_line, cross_line, row_within, row_image, method_line, is_dropped, has_slots, slot_line, slot_image}
-use Rattle.ppdb_maps.specs.Map.{offsets_in, rows_of, slots_of, moved_row, signature_line, moved_signature}
-use Rattle.ppdb_maps.specs.Readable.{IsReadable, IsRow, IsCount, IsRowOf, IsCrossOf, IsGoneOf, IsLineOf, IsSlottedOf, IsSlotOf, IsSignatureOf}
-use Rattle.map_compose.specs.Runs.{meet, met, longest}
-use Rattle.ppdb_maps_text.specs.Ascending.{put_once, ascending}
-use Rattle.map_compose.specs.Composed.{tables, composed_count, count_entry, image_then, own_assembly, composed_image, sources, sources_of, row_lined, cross_lined, gone_lined}
-use Rattle.map_compose.specs.Composed.{row_entries, cross_entries, gone_entries, spoken_of, of_image, drops_one}
-use Rattle.map_compose.specs.Composed.{has_image, second_line, composed_runs, sized, composed_line, has_slot_lines, composed_slot, slot_sources, slot_entry}
-use Rattle.map_compose.specs.Composed.{slot_entries, slotted_methods, composed, signature_then, signature_entry, signed, named}
-use Rattle.map_compose.specs.Names.{name_cmp, names_ascending}
-use Rattle.std.specs.List.Sorted.{IsStrictlySortedBy}
-use Rattle.map_compose.specs.Composition.{ComposedIsReadable, IsTextOfBoth}
-use Rattle.map_compose.specs.Sizes.{SizesAgree}
-use Rattle.ppdb_maps_text.specs.MapTexts.{map_text, olds_of}
-use Rattle.ppdb_maps_text.proofs.Reading.{texts_are_read}
-use Rattle.ppdb_maps_text.proofs.Found.{given, has}
-use Rattle.ppdb_maps_text.proofs.OneLine.{OneLine, by_row, by_cross, by_gone, one_line, methods_stay}
-use Rattle.ppdb_maps_text.proofs.Starting.{olds_have, olds_up, all_has, line_counted}
-use Rattle.map_compose.proofs.Imaging.{within, Reaches, stayed, crossed, ended, missed, reaches, image_kept}
-use Rattle.ppdb_maps_text.proofs.Orders.{Up, ascending_up, range_up, made_up, filter_up, flat_pairs, key_up}
-use Rattle.map_compose.proofs.Rising.{run_same, met_rises, longest_rises}
-use Rattle.map_compose.proofs.Equations.{composed_composes, counts_are, tables_known, line_named, count_named, entries_named, cross_named, gone_named, slots_named}
-use Rattle.map_compose.proofs.Equations.{row_of_table, cross_of_table, gone_of_table, row_entry, cross_entry, gone_entry, rows_there, crossed_there}
-use Rattle.map_compose.proofs.Named.{entries_hold, link_holds, olds_are}
-use Rattle.map_compose.proofs.Names.{ascending_up as names_up}
-use Rattle.map_compose.proofs.Equations.{slot_named, signature_named, olds, numbers, came_by, live_image}
+use Rattle.std.proofs.Common.{◌≡◌, ℕ, ◌+◌, ◌<◌, ◌≤◌, ◌&&◌, ◌||◌, ◌++◌, Bool, true, false, cond, List, [], ◌∷◌, Option, Some, None, refl, sym, ◌∙◌, ap, arith, inl}
+use Rattle.std.{proofs.Common.{inr, map, subst, zero, suc}, specs.Prelude.{not, nat_eq, nat_lt, is_some, min, max, unwrap_or}, specs.List.{filter, filter_map}}
+use Rattle.std.specs.{List.{flat_map, find, range_with_len, cons_option, AllByRecursion}, Option.{option_map, option_and_then, option_or}}
+use Rattle.std.{proofs.lemmas.Bool.{cases_lt, lt-ltb, eq-eqb, eqb-true, and_parts, false≢true}, specs.List.Sorted.{IsStrictlySortedBy}}
+use Rattle.ppdb_base.specs.{declared.offsets.Run.{Run}, Offsets.{every, gone, lined, Rise, RiseFrom, kept_runs, all_offsets, end_of, new_end_of}}
 use Rattle.ppdb_base.specs.declared.limits.TheConstants.{MAX_ROWS, MAX_OFFSET}
-use Rattle.ppdb_maps.proofs.Parts.{line_offsets}
-use Rattle.ppdb_maps.proofs.OneMap.{same_or_apart}
+use Rattle.ppdb_maps.specs.declared.entries.{Count.{Count}, RowLine.{RowLine}, CrossLine.{CrossLine}, GoneLine.{GoneLine}}
+use Rattle.ppdb_maps.specs.declared.{image.RowImage.{RowImage}, image.RowImage.TheVariants.{Row as RowOf, Gone, Missing}, entries.SlotImage.{SlotImage}}
+use Rattle.ppdb_maps.specs.{declared.entries.SignatureImage.{SignatureImage}, Forms.{AreBytes, Crosses, IsTypeTable, MAX_SLOT}, Map.{Map, MethodLine, Ascends}}
+use Rattle.ppdb_maps.specs.Map.{count_of, row_line, cross_line, row_within, row_image, method_line, is_dropped, has_slots, slot_line, slot_image, offsets_in}
+use Rattle.ppdb_maps.specs.{Map.{rows_of, slots_of, moved_row, signature_line, moved_signature}, Readable.{IsReadable, IsRow, IsCount, IsRowOf, IsCrossOf, IsGoneOf}}
+use Rattle.ppdb_maps.{specs.Readable.{IsLineOf, IsSlottedOf, IsSlotOf, IsSignatureOf}, proofs.Parts.{line_offsets}, proofs.OneMap.{same_or_apart}}
+use Rattle.map_compose.specs.{Runs.{meet, met, longest}, Composed.{tables, composed_count, count_entry, image_then, own_assembly, composed_image, sources}}
+use Rattle.map_compose.specs.Composed.{sources_of, row_lined, cross_lined, gone_lined, row_entries, cross_entries, gone_entries, spoken_of, of_image, drops_one}
+use Rattle.map_compose.specs.Composed.{has_image, second_line, composed_runs, sized, composed_line, has_slot_lines, composed_slot, slot_sources, slot_entry}
+use Rattle.map_compose.specs.{Composed.{slot_entries, slotted_methods, composed, signature_then, signature_entry, signed, named}, Names.{name_cmp, names_ascending}}
+use Rattle.map_compose.{specs.Composition.{ComposedIsReadable, IsTextOfBoth}, specs.Sizes.{SizesAgree}, proofs.Imaging.{within, Reaches, stayed, crossed, ended}}
+use Rattle.map_compose.proofs.{Imaging.{missed, reaches, image_kept}, Rising.{run_same, met_rises, longest_rises}, Equations.{composed_composes, counts_are}}
+use Rattle.map_compose.proofs.Equations.{tables_known, line_named, count_named, entries_named, cross_named, gone_named, slots_named, row_of_table, cross_of_table}
+use Rattle.map_compose.proofs.Equations.{gone_of_table, row_entry, cross_entry, gone_entry, rows_there, crossed_there, slot_named, signature_named, olds, numbers}
+use Rattle.map_compose.proofs.{Equations.{came_by, live_image}, Named.{entries_hold, link_holds, olds_are}, Names.{ascending_up as names_up}}
+use Rattle.ppdb_maps_text.{specs.Ascending.{put_once, ascending}, specs.MapTexts.{map_text, olds_of}, proofs.Reading.{texts_are_read}, proofs.Found.{given, has}}
+use Rattle.ppdb_maps_text.proofs.{OneLine.{OneLine, by_row, by_cross, by_gone, one_line, methods_stay}, Starting.{olds_have, olds_up, all_has, line_counted}}
+use Rattle.ppdb_maps_text.proofs.Orders.{Up, ascending_up, range_up, made_up, filter_up, flat_pairs, key_up}
 
 -- ---- each item of a list
 

@@ -1,14 +1,9 @@
 -- Rising runs meet in rising runs, and so do the longest of them; what these move reports them.
 use Rattle.std.proofs.Common.{◌≡◌, ℕ, ◌+◌, ◌-◌, ◌<◌, ◌≤◌, ◌++◌, Bool, true, false, cond, List, [], ◌∷◌, refl, sym, ◌∙◌, ap, arith, inl, inr, subst}
-use Rattle.std.specs.Prelude.{min, max, nat_lt, nat_eq, ◌&&◌}
-use Rattle.std.specs.List.{filter_map}
-use Rattle.std.proofs.lemmas.Bool.{cases_lt, lt-ltb, le-ltb, eq-eqb, eqb-true, and_parts, false≢true}
-use Rattle.std.proofs.lemmas.List.{append_assoc}
-use Rattle.ppdb_base.specs.declared.offsets.Run.{Run}
-use Rattle.ppdb_base.specs.Offsets.{Moves, RiseFrom, Rise, lined, end_of, new_end_of}
-use Rattle.ppdb_base.proofs.Stops.{moves_from}
-use Rattle.map_compose.specs.Runs.{meet, met, goes_on, before, longest}
-use Rattle.map_compose.specs.Laws.{Apart, MoveAlike}
+use Rattle.std.{specs.Prelude.{min, max, nat_lt, nat_eq, ◌&&◌}, specs.List.{filter_map}, proofs.lemmas.Bool.{cases_lt, lt-ltb, le-ltb, eq-eqb, eqb-true, and_parts}}
+use Rattle.std.proofs.lemmas.{Bool.{false≢true}, List.{append_assoc}}
+use Rattle.ppdb_base.{specs.declared.offsets.Run.{Run}, specs.Offsets.{Moves, RiseFrom, Rise, lined, end_of, new_end_of}, proofs.Stops.{moves_from}}
+use Rattle.map_compose.specs.{Runs.{meet, met, goes_on, before, longest}, Laws.{Apart, MoveAlike}}
 
 abbrev pub size_run : ℕ → ℕ → Run
 size_run old new = record { old = old; new = new; length = 1 }

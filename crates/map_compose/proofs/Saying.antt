@@ -1,46 +1,24 @@
 -- What the text of the map of two maps says, table by table and part by part.
-use Rattle.std.proofs.Common.{ℕ, ◌≡◌, ◌⊎◌, ◌++◌, ◌||◌, ◌&&◌, Bool, true, false, cond, List, [], ◌∷◌, map, refl, sym, ap, ◌∙◌, arith, subst, inl, inr, Option}
-use Rattle.std.proofs.Common.{Some, None}
-use Rattle.std.specs.Prelude.{nat_eq, is_some}
-use Rattle.std.specs.List.{AllByRecursion, filter, filter_map, flat_map, cons_option}
-use Rattle.std.specs.List.Sorted.{IsStrictlySortedBy}
-use Rattle.std.specs.Option.{option_map, option_and_then}
-use Rattle.std.proofs.lemmas.Bool.{eq-eqb, ne_eqb, false≢true, and_parts}
+use Rattle.std.proofs.Common.{ℕ, ◌≡◌, ◌⊎◌, ◌++◌, ◌||◌, ◌&&◌, Bool, true, false, cond, List, [], ◌∷◌, map, refl, sym, ap, ◌∙◌, arith, subst, inl, inr, Option, Some}
+use Rattle.std.{proofs.Common.{None}, specs.Prelude.{nat_eq, is_some}, specs.List.{AllByRecursion, filter, filter_map, flat_map, cons_option}}
+use Rattle.std.{specs.List.Sorted.{IsStrictlySortedBy}, specs.Option.{option_map, option_and_then}, proofs.lemmas.Bool.{eq-eqb, ne_eqb, false≢true, and_parts}}
 use Rattle.std.proofs.lemmas.List.{append-nil}
-use Rattle.ppdb_maps.specs.declared.entries.Count.{Count}
-use Rattle.ppdb_maps.specs.declared.entries.RowLine.{RowLine}
-use Rattle.ppdb_maps.specs.declared.entries.CrossLine.{CrossLine}
-use Rattle.ppdb_maps.specs.declared.entries.GoneLine.{GoneLine}
-use Rattle.ppdb_maps.specs.declared.image.RowImage.TheVariants.{Missing}
-use Rattle.ppdb_maps.specs.declared.entries.SlotImage.{SlotImage}
-use Rattle.ppdb_maps.specs.declared.entries.SignatureImage.{SignatureImage}
-use Rattle.ppdb_maps.specs.declared.line.Line.{Line}
-use Rattle.ppdb_maps.specs.declared.line.Line.TheVariants.{Rows, Dropped, Slots}
-use Rattle.ppdb_maps.specs.Map.{Map, MethodLine, row_line, cross_line, has_gone_line, told_image, line_image, method_line, count_of, is_dropped, row_within, rows_of}
-use Rattle.ppdb_maps.specs.Map.{signature_line}
-use Rattle.ppdb_maps.specs.Readable.{IsReadable, IsRow}
+use Rattle.ppdb_maps.specs.declared.entries.{Count.{Count}, RowLine.{RowLine}, CrossLine.{CrossLine}, GoneLine.{GoneLine}}
+use Rattle.ppdb_maps.specs.declared.{image.RowImage.TheVariants.{Missing}, entries.SlotImage.{SlotImage}, entries.SignatureImage.{SignatureImage}, line.Line.{Line}}
+use Rattle.ppdb_maps.specs.{declared.line.Line.TheVariants.{Rows, Dropped, Slots}, Map.{Map, MethodLine, row_line, cross_line, has_gone_line, told_image}}
+use Rattle.ppdb_maps.specs.{Map.{line_image, method_line, count_of, is_dropped, row_within, rows_of, signature_line}, Readable.{IsReadable, IsRow}}
 use Rattle.ppdb_maps.proofs.OneMap.{same_or_apart}
-use Rattle.ppdb_maps_text.specs.MapTexts.{count_says, slots_say, method_says, map_text, ended, version_of, head_text}
-use Rattle.ppdb_maps_text.specs.MapTexts.{image_says, olds_of}
-use Rattle.map_compose.specs.declared.part.Part.{Part}
-use Rattle.map_compose.specs.declared.part.Part.TheVariants.{Drops, Slots as SlotLines, Signatures, Methods}
-use Rattle.map_compose.specs.Composed.{tables, composed_count, count_entry, composed_image, sources_of, composed_line, composed_runs, sized, second_line, has_image}
-use Rattle.map_compose.specs.Composed.{drops_one, of_image, has_slot_lines, slot_entries, slotted_methods, spoken_of, composed, signature_then}
-use Rattle.map_compose.specs.Composed.{composed_signature, signature_entry, signed, composed_link}
-use Rattle.map_compose.specs.Parts.{part_numbers, other_numbers, all_numbers, part_says}
-use Rattle.map_compose.specs.Says.{lines_text, rows_say, counted_says, table_says, drop_of_both, slots_of_both, signed_says, signature_of_both, lined_says, line_of_both}
-use Rattle.map_compose.specs.Says.{documents_say}
-use Rattle.map_compose.proofs.Equations.{olds, came_by, Came, moved, stayed, slots_named, spoken_has, rows_there, crossed_there, gone_there, lined_image, cross_entry}
-use Rattle.map_compose.proofs.Equations.{gone_entry}
-use Rattle.ppdb_maps_text.proofs.Found.{given, has, has_append, has_ascending, has_filter}
-use Rattle.map_compose.proofs.Merging.{one_up}
-use Rattle.ppdb_maps_text.proofs.Orders.{Up, Above, less, ascending_up, filter_up}
-use Rattle.map_compose.proofs.Putting.{lines_join}
-use Rattle.map_compose.proofs.Imaging.{within}
+use Rattle.ppdb_maps_text.{specs.MapTexts.{count_says, slots_say, method_says, map_text, ended, version_of, head_text, image_says, olds_of}, proofs.Found.{given}}
+use Rattle.ppdb_maps_text.proofs.{Found.{has, has_append, has_ascending, has_filter}, Orders.{Up, Above, less, ascending_up, filter_up}, OneLine.{has_line}}
+use Rattle.ppdb_maps_text.proofs.{Starting.{olds_have, olds_up}, Parts.{slot_says, signature_says, link_says, shares_says}}
+use Rattle.map_compose.specs.{declared.part.Part.{Part}, declared.part.Part.TheVariants.{Drops, Slots as SlotLines, Signatures, Methods}, Composed.{tables}}
+use Rattle.map_compose.specs.Composed.{composed_count, count_entry, composed_image, sources_of, composed_line, composed_runs, sized, second_line, has_image}
+use Rattle.map_compose.specs.Composed.{drops_one, of_image, has_slot_lines, slot_entries, slotted_methods, spoken_of, composed, signature_then, composed_signature}
+use Rattle.map_compose.specs.{Composed.{signature_entry, signed, composed_link}, Parts.{part_numbers, other_numbers, all_numbers, part_says}, Says.{lines_text}}
+use Rattle.map_compose.specs.Says.{rows_say, counted_says, table_says, drop_of_both, slots_of_both, signed_says, signature_of_both, lined_says, line_of_both}
+use Rattle.map_compose.{specs.Says.{documents_say}, proofs.Equations.{olds, came_by, Came, moved, stayed, slots_named, spoken_has, rows_there, crossed_there}}
+use Rattle.map_compose.proofs.{Equations.{gone_there, lined_image, cross_entry, gone_entry}, Merging.{one_up}, Putting.{lines_join}, Imaging.{within}}
 use Rattle.map_compose.proofs.Readable.{rows_hold, sources_up}
-use Rattle.ppdb_maps_text.proofs.OneLine.{has_line}
-use Rattle.ppdb_maps_text.proofs.Starting.{olds_have, olds_up}
-use Rattle.ppdb_maps_text.proofs.Parts.{slot_says, signature_says, link_says, shares_says}
 
 -- ---- those of one key
 

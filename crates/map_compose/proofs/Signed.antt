@@ -1,21 +1,11 @@
 -- The version of the text of the map of two maps, found method by method.
-use Rattle.std.proofs.Common.{ℕ, ◌≡◌, ◌||◌, ◌++◌, cond, List, [], ◌∷◌, Option, Some, None, Bool, true, false, map, refl, sym, ap, ◌∙◌}
-use Rattle.std.specs.Prelude.{nat_eq, is_some}
-use Rattle.std.specs.List.{flat_map, find, slice_get}
-use Rattle.std.specs.Option.{option_map}
-use Rattle.ppdb_maps.specs.declared.entries.SignatureImage.{SignatureImage}
-use Rattle.ppdb_maps.specs.declared.line.Line.{Line}
-use Rattle.ppdb_maps.specs.declared.line.Line.TheVariants.{Signature}
-use Rattle.ppdb_maps.specs.Map.{Map, row_within, signature_line}
-use Rattle.ppdb_maps.specs.Readable.{IsReadable}
-use Rattle.ppdb_maps_text.specs.MapTexts.{has_items, version_of}
-use Rattle.map_compose.specs.declared.part.Part.TheVariants.{Signatures}
-use Rattle.map_compose.specs.Composed.{composed, has_image, of_image, signature_then, composed_signature}
-use Rattle.map_compose.specs.Parts.{part_says, all_numbers}
-use Rattle.map_compose.specs.Says.{signed_says, has_names}
-use Rattle.map_compose.proofs.Named.{both_named}
-use Rattle.map_compose.proofs.Saying.{signatures_told}
-use Rattle.ppdb_maps_text.proofs.Parts.{signature_says}
+use Rattle.std.{proofs.Common.{ℕ, ◌≡◌, ◌||◌, ◌++◌, cond, List, [], ◌∷◌, Option, Some, None, Bool, true, false, map, refl, sym, ap, ◌∙◌}, specs.Prelude.{nat_eq}}
+use Rattle.std.specs.{Prelude.{is_some}, List.{flat_map, find, slice_get}, Option.{option_map}}
+use Rattle.ppdb_maps.specs.{declared.entries.SignatureImage.{SignatureImage}, declared.line.Line.{Line}, declared.line.Line.TheVariants.{Signature}, Map.{Map}}
+use Rattle.ppdb_maps.specs.{Map.{row_within, signature_line}, Readable.{IsReadable}}
+use Rattle.ppdb_maps_text.{specs.MapTexts.{has_items, version_of}, proofs.Parts.{signature_says}}
+use Rattle.map_compose.specs.{declared.part.Part.TheVariants.{Signatures}, Composed.{composed, has_image, of_image, signature_then, composed_signature}}
+use Rattle.map_compose.{specs.Parts.{part_says, all_numbers}, specs.Says.{signed_says, has_names}, proofs.Named.{both_named}, proofs.Saying.{signatures_told}}
 
 -- what the `signature` lines of these methods say
 abbrev pub signed_lines : Map → Map → List ℕ → List Line

@@ -1,36 +1,17 @@
 -- How long the lines of a method's slots are, and what is counted of them.
 use Rattle.std.proofs.Common.{ℕ, zero, suc, ◌≡◌, ◌+◌, ◌*◌, ◌<◌, ◌≤◌, ◌++◌, ◌||◌, Bool, true, false, cond, List, [], ◌∷◌, length, take, map, refl, sym, ap, ◌∙◌}
-use Rattle.std.proofs.Common.{arith, subst, inl, inr, length-append, Option, Some, None, Bor}
-use Rattle.std.specs.Prelude.{nat_eq, nat_lt}
-use Rattle.std.specs.Fmt.{decimal}
-use Rattle.std.specs.List.{AllByRecursion, filter_map, find, list_any, slice_get, cons_option}
-use Rattle.std.specs.List.Sorted.{IsStrictlySortedBy, IsPartitionedBy, IsPartitionPoint}
-use Rattle.std.specs.Option.{option_map, option_and_then, option_copied}
-use Rattle.std.specs.Ordering.{nat_cmp}
-use Rattle.std.specs.Slice.{IsItemAt}
-use Rattle.std.proofs.lemmas.Bool.{eqb-true, eq-eqb}
-use Rattle.std.proofs.lemmas.Cmp.{nat_cmp_total}
-use Rattle.std.proofs.lemmas.Fmt.{length-decimal-le}
-use Rattle.std.proofs.lemmas.List.{map-append}
-use Rattle.ppdb_maps.specs.declared.entries.SlotImage.{SlotImage}
-use Rattle.ppdb_maps.specs.declared.line.Line.TheVariants.{Slot}
-use Rattle.ppdb_maps.specs.Forms.{MAX_SLOT}
-use Rattle.ppdb_maps.specs.Map.{Map, row_within, has_slots, slot_line, slot_image, slots_of}
-use Rattle.ppdb_maps.specs.Readable.{IsReadable, IsSlotOf}
-use Rattle.ppdb_maps.proofs.Halving.{found_lent, by_number, if_passes}
+use Rattle.std.{proofs.Common.{arith, subst, inl, inr, length-append, Option, Some, None, Bor}, specs.Prelude.{nat_eq, nat_lt}, specs.Fmt.{decimal}}
+use Rattle.std.specs.{List.{AllByRecursion, filter_map, find, list_any, slice_get, cons_option}, List.Sorted.{IsStrictlySortedBy, IsPartitionedBy, IsPartitionPoint}}
+use Rattle.std.{specs.Option.{option_map, option_and_then, option_copied}, specs.Ordering.{nat_cmp}, specs.Slice.{IsItemAt}, proofs.lemmas.Bool.{eqb-true, eq-eqb}}
+use Rattle.std.proofs.lemmas.{Cmp.{nat_cmp_total}, Fmt.{length-decimal-le}, List.{map-append}}
+use Rattle.ppdb_maps.specs.{declared.entries.SlotImage.{SlotImage}, declared.line.Line.TheVariants.{Slot}, Forms.{MAX_SLOT}, Map.{Map, row_within, has_slots}}
+use Rattle.ppdb_maps.{specs.Map.{slot_line, slot_image, slots_of}, specs.Readable.{IsReadable, IsSlotOf}, proofs.Halving.{found_lent, by_number, if_passes}}
 use Rattle.ppdb_maps.proofs.OneList.{each_found}
-use Rattle.ppdb_maps_text.specs.MapTexts.{ended, line_text}
-use Rattle.map_compose.specs.declared.slot_blocks.SlotBlock.{SlotBlock}
-use Rattle.map_compose.specs.declared.slot_blocks.SlotBlocks.{SlotBlocks}
-use Rattle.map_compose.specs.Composed.{composed_slot, slot_entry, slot_sources, of_image}
-use Rattle.map_compose.specs.Says.{lines_text, followed, slot_images}
-use Rattle.map_compose.specs.Slots.{slot_digits, slots_length, block_of, AreBlocksOf}
-use Rattle.map_compose.proofs.Bounds.{few_slots_of}
-use Rattle.map_compose.proofs.Following.{follows_image, slot_follows}
-use Rattle.ppdb_maps_text.proofs.Found.{find_filter}
-use Rattle.map_compose.proofs.Putting.{take_more, take_past, within}
-use Rattle.map_compose.proofs.Readable.{filter_hold, slots_up}
-use Rattle.ppdb_maps_text.proofs.Parts.{slot_says}
+use Rattle.ppdb_maps_text.{specs.MapTexts.{ended, line_text}, proofs.Found.{find_filter}, proofs.Parts.{slot_says}}
+use Rattle.map_compose.specs.{declared.slot_blocks.SlotBlock.{SlotBlock}, declared.slot_blocks.SlotBlocks.{SlotBlocks}, Composed.{composed_slot, slot_entry}}
+use Rattle.map_compose.specs.{Composed.{slot_sources, of_image}, Says.{lines_text, followed, slot_images}, Slots.{slot_digits, slots_length, block_of, AreBlocksOf}}
+use Rattle.map_compose.proofs.{Bounds.{few_slots_of}, Following.{follows_image, slot_follows}, Putting.{take_more, take_past, within}, Readable.{filter_hold}}
+use Rattle.map_compose.proofs.Readable.{slots_up}
 
 -- ---- the length of lines
 

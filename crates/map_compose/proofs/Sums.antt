@@ -1,15 +1,10 @@
 -- The digits of runs before each, and the length of the lines of runs.
-use Rattle.std.proofs.Common.{ℕ, zero, suc, ◌≡◌, ◌+◌, ◌-◌, ◌*◌, ◌<◌, ◌≤◌, ◌++◌, List, [], ◌∷◌, length, take, drop, map, refl, sym, ap, ◌∙◌, arith}
-use Rattle.std.proofs.Common.{length-append, slice_index_or}
-use Rattle.std.specs.Fmt.{decimal}
-use Rattle.std.specs.List.{AllByRecursion}
-use Rattle.std.proofs.lemmas.Fmt.{length-decimal-le}
+use Rattle.std.proofs.Common.{ℕ, zero, suc, ◌≡◌, ◌+◌, ◌-◌, ◌*◌, ◌<◌, ◌≤◌, ◌++◌, List, [], ◌∷◌, length, take, drop, map, refl, sym, ap, ◌∙◌, arith, length-append}
+use Rattle.std.{proofs.Common.{slice_index_or}, specs.Fmt.{decimal}, specs.List.{AllByRecursion}, proofs.lemmas.Fmt.{length-decimal-le}}
 use Rattle.ppdb_base.specs.declared.offsets.Run.{Run}
 use Rattle.ppdb_maps.specs.declared.line.Line.TheVariants.{Kept}
 use Rattle.ppdb_maps_text.specs.MapTexts.{ended, line_text}
-use Rattle.map_compose.specs.Joining.{IsShort}
-use Rattle.map_compose.specs.Lengths.{taken_on, old_digits, new_digits, runs_length, sums_from, AreSums}
-use Rattle.map_compose.specs.Says.{lines_text}
+use Rattle.map_compose.specs.{Joining.{IsShort}, Lengths.{taken_on, old_digits, new_digits, runs_length, sums_from, AreSums}, Says.{lines_text}}
 use Rattle.map_compose.proofs.Putting.{take_at}
 
 abbrev pub weight : Run → ℕ

@@ -1,24 +1,12 @@
 -- The rows of which a map's lines speak, of three forms, merged: what is left after the least of their first numbers.
-use Rattle.std.proofs.Common.{ℕ, ◌≡◌, ◌+◌, ◌≤◌, ◌++◌, ◌&&◌, ◌||◌, Bool, true, false, cond, List, [], ◌∷◌, map, drop, min, refl, sym, ap, ◌∙◌, subst, arith}
-use Rattle.std.proofs.Common.{inl, inr, Option, Some, None}
-use Rattle.std.specs.Prelude.{nat_eq, is_some}
-use Rattle.std.specs.List.{AllByRecursion, slice_get}
-use Rattle.std.specs.List.Sorted.{IsStrictlySortedBy}
+use Rattle.std.proofs.Common.{ℕ, ◌≡◌, ◌+◌, ◌≤◌, ◌++◌, ◌&&◌, ◌||◌, Bool, true, false, cond, List, [], ◌∷◌, map, drop, min, refl, sym, ap, ◌∙◌, subst, arith, inl, inr}
+use Rattle.std.{proofs.Common.{Option, Some, None}, specs.Prelude.{nat_eq, is_some}, specs.List.{AllByRecursion, slice_get}, specs.List.Sorted.{IsStrictlySortedBy}}
 use Rattle.std.proofs.lemmas.Bool.{eq-eqb, ne_eqb, eqb-true, false≢true, cases_lt}
-use Rattle.ppdb_maps.specs.declared.entries.RowLine.{RowLine}
-use Rattle.ppdb_maps.specs.declared.entries.CrossLine.{CrossLine}
-use Rattle.ppdb_maps.specs.declared.entries.GoneLine.{GoneLine}
-use Rattle.ppdb_maps.specs.Map.{Map, rows_of, crossed_of, gone_of}
-use Rattle.ppdb_maps.specs.Readable.{IsReadable, IsRowOf, IsCrossOf, IsGoneOf}
-use Rattle.ppdb_maps.proofs.OneMap.{same_or_apart}
-use Rattle.ppdb_maps_text.specs.Ascending.{ascending}
-use Rattle.ppdb_maps_text.proofs.Found.{has, has_append}
-use Rattle.ppdb_maps_text.proofs.Orders.{Up, Above, is_less, key_up}
-use Rattle.map_compose.specs.Parts.{passed_on, least_of}
-use Rattle.map_compose.proofs.Bounds.{few}
-use Rattle.map_compose.proofs.Merging.{first_of, above_both, above_less, up_drop}
-use Rattle.map_compose.proofs.Putting.{drop_at, drop_past, within}
-use Rattle.map_compose.proofs.Readable.{map_hold, filter_hold}
+use Rattle.ppdb_maps.specs.{declared.entries.RowLine.{RowLine}, declared.entries.CrossLine.{CrossLine}, declared.entries.GoneLine.{GoneLine}, Map.{Map, rows_of}}
+use Rattle.ppdb_maps.{specs.Map.{crossed_of, gone_of}, specs.Readable.{IsReadable, IsRowOf, IsCrossOf, IsGoneOf}, proofs.OneMap.{same_or_apart}}
+use Rattle.ppdb_maps_text.{specs.Ascending.{ascending}, proofs.Found.{has, has_append}, proofs.Orders.{Up, Above, is_less, key_up}}
+use Rattle.map_compose.{specs.Parts.{passed_on, least_of}, proofs.Bounds.{few}, proofs.Merging.{first_of, above_both, above_less, up_drop}, proofs.Putting.{drop_at}}
+use Rattle.map_compose.proofs.{Putting.{drop_past, within}, Readable.{map_hold, filter_hold}}
 use Rattle.ppdb_base.specs.declared.limits.TheConstants.{MAX_ROWS}
 
 -- ---- the least

@@ -1,6 +1,5 @@
 -- The worked maps, by computation.
-use Rattle.std.proofs.Common.{refl, arith}
-use Rattle.std.specs.Fmt.{digits}
+use Rattle.std.{proofs.Common.{refl, arith}, specs.Fmt.{digits}}
 use Rattle.map_compose.specs.Worked.{WorkedComposed}
 
 pub worked_maps : WorkedComposed

@@ -1,25 +1,15 @@
 -- A composition answers each question of its lines in one way.
-use Rattle.std.proofs.Common.{◌≡◌, ℕ, suc, ◌&&◌, Bool, true, false, cond, List, [], ◌∷◌, Option, Some, None, refl, sym, ◌∙◌, ap, subst}
-use Rattle.std.specs.Prelude.{nat_eq, is_some, unwrap_or}
-use Rattle.std.specs.Option.{option_and_then}
-use Rattle.ppdb_base.specs.Offsets.{Kept, RiseFrom, lined, stop_runs}
-use Rattle.ppdb_base.proofs.Moved.{rise_prefix}
-use Rattle.ppdb_maps.specs.Forms.{MAX_SLOT}
-use Rattle.ppdb_maps.specs.Map.{Map, MethodLine, count_of, row_line, cross_line, has_gone_line, row_within, row_image, method_line, is_dropped, has_slots, slot_line}
-use Rattle.ppdb_maps.specs.Map.{slot_image, offsets_in}
-use Rattle.ppdb_maps.specs.Map.{signature_line, document_line}
-use Rattle.ppdb_maps.specs.Readable.{IsReadable}
-use Rattle.ppdb_maps.specs.Says.{sizes_of}
+use Rattle.std.{proofs.Common.{◌≡◌, ℕ, suc, ◌&&◌, Bool, true, false, cond, List, [], ◌∷◌, Option, Some, None, refl, sym, ◌∙◌, ap, subst}, specs.Prelude.{nat_eq}}
+use Rattle.std.specs.{Prelude.{is_some, unwrap_or}, Option.{option_and_then}}
+use Rattle.ppdb_base.{specs.Offsets.{Kept, RiseFrom, lined, stop_runs}, proofs.Moved.{rise_prefix}}
+use Rattle.ppdb_maps.specs.{Forms.{MAX_SLOT}, Map.{Map, MethodLine, count_of, row_line, cross_line, has_gone_line, row_within, row_image, method_line, is_dropped}}
+use Rattle.ppdb_maps.specs.{Map.{has_slots, slot_line, slot_image, offsets_in, signature_line, document_line}, Readable.{IsReadable}, Says.{sizes_of}}
 use Rattle.ppdb_maps.proofs.Readable.{maps_are_readable}
 use Rattle.ppdb_maps_text.specs.MapTexts.{map_text}
-use Rattle.map_compose.specs.Composed.{composed, has_image, cross_lined, gone_lined}
-use Rattle.map_compose.specs.Composition.{Follows, IsComposition, ComposedComposes, ComposedIsReadable}
-use Rattle.map_compose.specs.Laws.{MoveAlike}
-use Rattle.map_compose.proofs.Imaging.{within, within_is}
-use Rattle.map_compose.proofs.Rising.{one_longest}
-use Rattle.map_compose_determined_laws.specs.Determined.{CompositionsAreOne, ComposedIsTheOnlyOne, TextsOfBothAreOne}
-use Rattle.map_compose_determined_laws.proofs.Lines.{no_sizes, own_line, row_by, row_line_is, cross_line_is, gone_line_is, slot_line_is, slots_are_told}
-use Rattle.map_compose_determined_laws.proofs.Lists.{one_map}
+use Rattle.map_compose.specs.{Composed.{composed, has_image, cross_lined, gone_lined}, Composition.{Follows, IsComposition, ComposedComposes, ComposedIsReadable}}
+use Rattle.map_compose.{specs.Laws.{MoveAlike}, proofs.Imaging.{within, within_is}, proofs.Rising.{one_longest}}
+use Rattle.map_compose_determined_laws.{specs.Determined.{CompositionsAreOne, ComposedIsTheOnlyOne, TextsOfBothAreOne}, proofs.Lines.{no_sizes, own_line, row_by}}
+use Rattle.map_compose_determined_laws.proofs.{Lines.{row_line_is, cross_line_is, gone_line_is, slot_line_is, slots_are_told}, Lists.{one_map}}
 
 module _ (f s c d : Map) (readable : IsReadable c) (also : IsReadable d) (one : IsComposition f s c) (other : IsComposition f s d) where
   counts_alike : (table : ℕ) → count_of c table ≡ count_of d table

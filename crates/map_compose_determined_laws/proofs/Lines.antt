@@ -1,24 +1,14 @@
 -- The lines of a readable map, by what the map answers.
 use Rattle.std.proofs.Common.{◌≡◌, ◌⊎◌, ℕ, suc, ◌&&◌, Bool, true, false, cond, List, [], ◌∷◌, Option, Some, None, refl, sym, ◌∙◌, ap, arith, subst, inl, inr}
-use Rattle.std.specs.Prelude.{nat_eq, is_some, IsSome, IsTrue}
-use Rattle.std.specs.List.{find}
-use Rattle.std.specs.Option.{option_map}
-use Rattle.std.proofs.lemmas.Bool.{eqb-true, eq-eqb, and_parts, false≢true}
+use Rattle.std.{specs.Prelude.{nat_eq, is_some, IsSome, IsTrue}, specs.List.{find}, specs.Option.{option_map}, proofs.lemmas.Bool.{eqb-true, eq-eqb, and_parts}}
+use Rattle.std.proofs.lemmas.Bool.{false≢true}
 use Rattle.ppdb_base.specs.Offsets.{gone, lined}
-use Rattle.ppdb_maps.specs.declared.entries.RowLine.{RowLine}
-use Rattle.ppdb_maps.specs.declared.entries.CrossLine.{CrossLine}
-use Rattle.ppdb_maps.specs.declared.entries.SlotImage.{SlotImage}
-use Rattle.ppdb_maps.specs.Forms.{MAX_SLOT}
-use Rattle.ppdb_maps.specs.Map.{Map, MethodLine, count_of, row_line, cross_line, has_gone_line, told_image, line_image, row_within, row_image, method_line, is_dropped}
-use Rattle.ppdb_maps.specs.Map.{has_slots, slot_line, slot_image}
-use Rattle.ppdb_maps.specs.Map.{offsets_in}
-use Rattle.ppdb_maps.specs.Readable.{IsReadable, IsRowOf, IsLineOf, IsSlotOf}
-use Rattle.ppdb_maps.specs.Says.{sizes_of}
-use Rattle.ppdb_maps_text.proofs.OneLine.{cross_found, gone_found, cross_none, gone_none, gone_crossed, leaves_table, methods_stay}
-use Rattle.map_compose.specs.Composed.{cross_lined, gone_lined}
-use Rattle.map_compose.proofs.Imaging.{by_image}
-use Rattle.map_compose.proofs.Readable.{found_holds}
+use Rattle.ppdb_maps.specs.{declared.entries.RowLine.{RowLine}, declared.entries.CrossLine.{CrossLine}, declared.entries.SlotImage.{SlotImage}, Forms.{MAX_SLOT}}
+use Rattle.ppdb_maps.specs.Map.{Map, MethodLine, count_of, row_line, cross_line, has_gone_line, told_image, line_image, row_within, row_image, method_line}
+use Rattle.ppdb_maps.specs.{Map.{is_dropped, has_slots, slot_line, slot_image, offsets_in}, Readable.{IsReadable, IsRowOf, IsLineOf, IsSlotOf}, Says.{sizes_of}}
 use Rattle.ppdb_maps.proofs.Parts.{line_offsets}
+use Rattle.ppdb_maps_text.proofs.OneLine.{cross_found, gone_found, cross_none, gone_none, gone_crossed, leaves_table, methods_stay}
+use Rattle.map_compose.{specs.Composed.{cross_lined, gone_lined}, proofs.Imaging.{by_image}, proofs.Readable.{found_holds}}
 
 -- what is found passes
 found_passes : {X : Type 0} (p : X → Bool) (xs : List X) (x : X) → find p xs ≡ Some x → p x ≡ true

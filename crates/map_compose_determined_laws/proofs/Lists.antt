@@ -1,25 +1,10 @@
 -- Two maps are one whose lists ascend and answer alike.
-use Rattle.std.proofs.Common.{◌≡◌, ℕ, ◌&&◌, true, cond, List, [], ◌∷◌, Some, None, refl, sym, ◌∙◌, ap, inl, inr, map, subst}
-use Rattle.std.specs.Prelude.{nat_eq}
-use Rattle.std.specs.List.{find, list_any}
-use Rattle.std.specs.Str.{bytes_eq}
-use Rattle.std.specs.Cmp.Lexicographic.{slice_cmp}
-use Rattle.std.specs.List.Sorted.{IsStrictlySortedBy}
-use Rattle.std.specs.Option.{option_map}
-use Rattle.std.specs.Ordering.{nat_cmp}
-use Rattle.std.proofs.lemmas.Bool.{eq-eqb, ne_eqb, eqb-true, and_parts}
-use Rattle.std.proofs.lemmas.Cmp.{nat_cmp_total, nat_list_cmp_total}
-use Rattle.ppdb_maps.specs.declared.entries.Count.{Count}
-use Rattle.ppdb_maps.specs.declared.entries.RowLine.{RowLine}
-use Rattle.ppdb_maps.specs.declared.entries.CrossLine.{CrossLine}
-use Rattle.ppdb_maps.specs.declared.entries.SlotImage.{SlotImage}
-use Rattle.ppdb_maps.specs.declared.entries.SignatureImage.{SignatureImage}
-use Rattle.ppdb_maps.specs.declared.entries.NameLine.{NameLine}
-use Rattle.ppdb_maps.specs.Gathered.{same_pair}
-use Rattle.ppdb_maps.specs.Map.{Map, MethodLine, Ascends, pair_cmp, count_of, row_line, cross_line, has_gone_line, method_line, is_dropped, has_slots, slot_line}
-use Rattle.ppdb_maps.specs.Map.{signature_line}
-use Rattle.ppdb_maps.specs.Map.{document_line}
-use Rattle.ppdb_maps.proofs.OneList.{one_list}
+use Rattle.std.{proofs.Common.{◌≡◌, ℕ, ◌&&◌, true, cond, List, [], ◌∷◌, Some, None, refl, sym, ◌∙◌, ap, inl, inr, map, subst}, specs.Prelude.{nat_eq}}
+use Rattle.std.specs.{List.{find, list_any}, Str.{bytes_eq}, Cmp.Lexicographic.{slice_cmp}, List.Sorted.{IsStrictlySortedBy}, Option.{option_map}}
+use Rattle.std.{specs.Ordering.{nat_cmp}, proofs.lemmas.Bool.{eq-eqb, ne_eqb, eqb-true, and_parts}, proofs.lemmas.Cmp.{nat_cmp_total, nat_list_cmp_total}}
+use Rattle.ppdb_maps.specs.declared.entries.{Count.{Count}, RowLine.{RowLine}, CrossLine.{CrossLine}, SlotImage.{SlotImage}, SignatureImage.{SignatureImage}}
+use Rattle.ppdb_maps.specs.{declared.entries.NameLine.{NameLine}, Gathered.{same_pair}, Map.{Map, MethodLine, Ascends, pair_cmp, count_of, row_line, cross_line}}
+use Rattle.ppdb_maps.{specs.Map.{has_gone_line, method_line, is_dropped, has_slots, slot_line, signature_line, document_line}, proofs.OneList.{one_list}}
 use Rattle.ppdb_maps.proofs.OneMap.{same_number, number_same, pair_is, is_pair, pair_total, same_or_apart, alike, gone_one}
 use Rattle.map_compose.proofs.Names.{same as same_bytes, eq_itself as bytes_itself}
 

@@ -1,20 +1,11 @@
 -- Where the second map keeps nothing but images of the first, edges compose.
 use Rattle.std.proofs.Common.{◌≡◌, ◌≢◌, ℕ, ◌≤◌, ◌⊎◌, inl, inr, true, false, Option, Some, None, List, [], ◌∷◌, refl, sym, ◌∙◌, ap, subst, cond, Bool, arith}
-use Rattle.std.specs.Prelude.{is_some, nat_eq}
-use Rattle.std.specs.List.{AllByRecursion, find}
-use Rattle.std.specs.Option.{option_and_then}
-use Rattle.std.proofs.lemmas.Bool.{cases_lt}
+use Rattle.std.{specs.Prelude.{is_some, nat_eq}, specs.List.{AllByRecursion, find}, specs.Option.{option_and_then}, proofs.lemmas.Bool.{cases_lt}}
 use Rattle.ppdb_base.specs.Offsets.{Kept, Rise, kept_runs, lined, moved, old_size}
-use Rattle.ppdb_maps.specs.Map.{Map, MethodLine, method_line, offsets_in, row_within}
-use Rattle.ppdb_maps.specs.Readable.{IsReadable, IsLineOf}
-use Rattle.map_compose.specs.Composed.{composed, composed_runs, of_image, sized}
-use Rattle.map_compose.specs.Composition.{Follows}
-use Rattle.map_compose.specs.Runs.{met, longest}
-use Rattle.map_compose.specs.Sizes.{SizesAgree}
-use Rattle.map_compose.proofs.Equations.{first_offsets, offsets_are, runs_are, second_are}
-use Rattle.map_compose.proofs.Next.{next_composes}
+use Rattle.ppdb_maps.{specs.Map.{Map, MethodLine, method_line, offsets_in, row_within}, specs.Readable.{IsReadable, IsLineOf}, proofs.Parts.{line_offsets}}
+use Rattle.map_compose.specs.{Composed.{composed, composed_runs, of_image, sized}, Composition.{Follows}, Runs.{met, longest}, Sizes.{SizesAgree}}
+use Rattle.map_compose.proofs.{Equations.{first_offsets, offsets_are, runs_are, second_are}, Next.{next_composes}}
 use Rattle.map_compose_laws.specs.Images.{EdgeComposes, EdgesAreComposed, KeepsImages}
-use Rattle.ppdb_maps.proofs.Parts.{line_offsets}
 
 -- a line of a readable map rises within its sizes
 line_rises : (m : Map) (k : ℕ) (lines : List MethodLine) → AllByRecursion (IsLineOf m) lines → (line : MethodLine)

@@ -1,32 +1,17 @@
 -- What is known of a method that two steps and one name: it is there after both, and the slots of its variables have images.
 use Rattle.std.proofs.Common.{◌≡◌, ℕ, zero, suc, ◌&&◌, not, Bool, true, false, cond, List, [], ◌∷◌, Option, Some, None, refl, sym, ◌∙◌, ap, subst, map, arith}
-use Rattle.std.specs.Prelude.{nat_eq, is_some, unwrap_or}
-use Rattle.std.specs.List.{AllByRecursion, filter, find}
-use Rattle.std.specs.Option.{option_map, option_and_then}
+use Rattle.std.specs.{Prelude.{nat_eq, is_some, unwrap_or}, List.{AllByRecursion, filter, find}, Option.{option_map, option_and_then}}
 use Rattle.std.proofs.lemmas.Bool.{and_parts, eqb-true}
-use Rattle.ppdb_maps.specs.declared.entries.RowLine.{RowLine}
-use Rattle.ppdb_maps.specs.Map.{Map, row_within, row_line, count_of, moved_row, is_dropped, slot_image}
-use Rattle.ppdb_maps.specs.Readable.{IsReadable, IsRowOf}
-use Rattle.map_compose.specs.Composed.{composed}
-use Rattle.map_compose.specs.Composition.{Follows}
-use Rattle.map_compose.proofs.Equations.{composed_composes}
-use Rattle.ppdb_values.specs.declared.file.FileValue.{FileValue}
-use Rattle.ppdb_values.specs.declared.annotation.Annotation.{Annotation}
-use Rattle.ppdb_values.specs.declared.scope.VariableValue.{VariableValue}
+use Rattle.ppdb_maps.specs.{declared.entries.RowLine.{RowLine}, Map.{Map, row_within, row_line, count_of, moved_row, is_dropped, slot_image}, Readable.{IsReadable}}
+use Rattle.ppdb_maps.specs.Readable.{IsRowOf}
+use Rattle.map_compose.{specs.Composed.{composed}, specs.Composition.{Follows}, proofs.Equations.{composed_composes}}
+use Rattle.ppdb_values.specs.declared.{file.FileValue.{FileValue}, annotation.Annotation.{Annotation}, scope.VariableValue.{VariableValue}}
 use Rattle.ppdb_values.specs.Meaning.{ScopeMeaning, meaning}
-use Rattle.ppdb_merge_items.specs.declared.file.AnnotatedScope.{AnnotatedScope}
-use Rattle.ppdb_merge_items.specs.Each.{Each}
-use Rattle.ppdb_merge_items.specs.Laws.{MeaningsAreAnnotated}
-use Rattle.ppdb_merge_items.specs.NamedRows.{live_scope, names}
-use Rattle.ppdb_merge_items.specs.Annotated.{annotated_file}
-use Rattle.ppdb_merge_items.specs.AnnotatedMeaning.{held, scope_meaning}
-use Rattle.ppdb_merge_moved.specs.Fits.{HasSlot, IsImaged}
-use Rattle.ppdb_merge_moved.proofs.Elements.{in_each}
-use Rattle.ppdb_merge_moved.proofs.ImageRows.{within}
+use Rattle.ppdb_merge_items.specs.{declared.file.AnnotatedScope.{AnnotatedScope}, Each.{Each}, Laws.{MeaningsAreAnnotated}, NamedRows.{live_scope, names}}
+use Rattle.ppdb_merge_items.specs.{Annotated.{annotated_file}, AnnotatedMeaning.{held, scope_meaning}}
+use Rattle.ppdb_merge_moved.{specs.Fits.{HasSlot, IsImaged}, proofs.Elements.{in_each}, proofs.ImageRows.{within}}
 use Rattle.ppdb_merge_meaning_laws.specs.Kept.{FitsAlone, NamesMethod, named_by}
-use Rattle.map_compose_laws.specs.Images.{SlotsStay}
-use Rattle.map_compose_laws.specs.Steps.{moved_by}
-use Rattle.map_compose_laws.proofs.Images.{row_there}
+use Rattle.map_compose_laws.{specs.Images.{SlotsStay}, specs.Steps.{moved_by}, proofs.Images.{row_there}}
 
 -- ---- a method that is there after both
 

@@ -1,44 +1,24 @@
 -- A method that a moved file names and a second map does not drop is the image of one that the file names by the map of both.
-use Rattle.std.proofs.Common.{◌≡◌, ℕ, ◌≤◌, ◌||◌, Bool, true, false, cond, List, [], ◌∷◌, Option, Some, None, refl, sym, ◌∙◌, ap, subst}
-use Rattle.std.proofs.Common.{arith, map}
-use Rattle.std.specs.Prelude.{nat_eq, unwrap_or}
-use Rattle.std.specs.Option.{option_map}
-use Rattle.std.proofs.lemmas.Bool.{eqb-false, eqb-true, not-true, not_from_false, or_from, or_parts}
+use Rattle.std.proofs.Common.{◌≡◌, ℕ, ◌≤◌, ◌||◌, Bool, true, false, cond, List, [], ◌∷◌, Option, Some, None, refl, sym, ◌∙◌, ap, subst, arith, map}
+use Rattle.std.{specs.Prelude.{nat_eq, unwrap_or}, specs.Option.{option_map}, proofs.lemmas.Bool.{eqb-false, eqb-true, not-true, not_from_false, or_from, or_parts}}
 use Rattle.custom_info.specs.declared.stepping.AsyncStep.{AsyncStep}
-use Rattle.sequence_points.specs.declared.point.Point.{Point}
-use Rattle.sequence_points.specs.MovedPoints.{moved_points}
-use Rattle.ppdb_maps.specs.declared.image.RowImage.{RowImage}
-use Rattle.ppdb_maps.specs.declared.image.RowImage.TheVariants.{Row, Gone, Missing}
-use Rattle.ppdb_maps.specs.Map.{Map, is_dropped, moved_row, offsets_in, row_image, row_within}
-use Rattle.ppdb_maps.specs.Readable.{IsReadable}
-use Rattle.map_compose.specs.Composed.{composed, of_image}
-use Rattle.map_compose.specs.Composition.{IsComposition}
-use Rattle.ppdb_tables.specs.declared.parent.Parent.{Parent}
-use Rattle.ppdb_tables.specs.declared.rows.MachineRow.{MachineRow}
-use Rattle.ppdb_values.specs.declared.custom.CustomBody.{CustomBody}
-use Rattle.ppdb_values.specs.declared.custom.CustomBody.TheVariants.{Async, Hoisted, TypeDocuments, Unread}
-use Rattle.ppdb_values.specs.declared.custom.CustomValue.{CustomValue}
-use Rattle.ppdb_values.specs.declared.file.MethodValue.{MethodValue}
+use Rattle.sequence_points.specs.{declared.point.Point.{Point}, MovedPoints.{moved_points}}
+use Rattle.ppdb_maps.specs.{declared.image.RowImage.{RowImage}, declared.image.RowImage.TheVariants.{Row, Gone, Missing}, Map.{Map, is_dropped, moved_row}}
+use Rattle.ppdb_maps.specs.{Map.{offsets_in, row_image, row_within}, Readable.{IsReadable}}
+use Rattle.map_compose.specs.{Composed.{composed, of_image}, Composition.{IsComposition}}
+use Rattle.ppdb_tables.specs.declared.{parent.Parent.{Parent}, rows.MachineRow.{MachineRow}}
+use Rattle.ppdb_values.specs.declared.custom.{CustomBody.{CustomBody}, CustomBody.TheVariants.{Async, Hoisted, TypeDocuments, Unread}, CustomValue.{CustomValue}}
+use Rattle.ppdb_values.specs.{declared.file.MethodValue.{MethodValue}, Parts.{is_link}}
 use Rattle.ppdb_values_sound_laws.specs.Customs.{SoundCustom}
-use Rattle.ppdb_merge_items.specs.declared.file.AnnotatedScope.{AnnotatedScope}
-use Rattle.ppdb_merge_items.specs.declared.file.AnnotatedFile.{AnnotatedFile}
-use Rattle.ppdb_merge_items.specs.Each.{Each}
-use Rattle.ppdb_merge_items.specs.NamedRows.{Named, names, names_some, in_steps, live_machine, live_custom}
-use Rattle.ppdb_merge_items.specs.NamedRows.{live_signature}
-use Rattle.ppdb_merge_items.specs.SoundParts.{SoundMoved}
+use Rattle.ppdb_merge_items.specs.{declared.file.AnnotatedScope.{AnnotatedScope}, declared.file.AnnotatedFile.{AnnotatedFile}, Each.{Each}, NamedRows.{Named, names}}
+use Rattle.ppdb_merge_items.specs.{NamedRows.{names_some, in_steps, live_machine, live_custom, live_signature}, SoundParts.{SoundMoved}}
 use Rattle.ppdb_merge_items.specs.Unannotated.{value_of_annotated}
 use Rattle.ppdb_merge_joined.proofs.Each.{Each-with}
-use Rattle.ppdb_values.specs.Parts.{is_link}
-use Rattle.ppdb_merge_moved.specs.Moved.{is_empty, linked, moved_body, moved_custom, moved_record, moved_file, moved_parent, table_in, row_in}
-use Rattle.ppdb_merge_moved.specs.Moved.{moved_machine, moved_method, moved_scope, moved_step, scope_image, with_points}
-use Rattle.ppdb_merge_moved.proofs.Fitting.{moved_dropped}
-use Rattle.ppdb_merge_moved.proofs.ImageRows.{image_stays, within_is, never_method, method_moves, lives_on_method}
-use Rattle.ppdb_merge_moved.proofs.Lists.{Each-filter_map}
-use Rattle.ppdb_merge_moved.proofs.NamedParts.{NamedParts}
-use Rattle.ppdb_merge_moved.proofs.SoundItems.{most}
-use Rattle.map_compose_laws.proofs.Fitting.{image_is}
-use Rattle.map_compose_laws.proofs.Named.{of_signatures}
-use Rattle.map_compose_laws.proofs.Others.{IsNoMethod, constants_other, imports_other, no_drop, no_steps}
+use Rattle.ppdb_merge_moved.specs.Moved.{is_empty, linked, moved_body, moved_custom, moved_record, moved_file, moved_parent, table_in, row_in, moved_machine}
+use Rattle.ppdb_merge_moved.{specs.Moved.{moved_method, moved_scope, moved_step, scope_image, with_points}, proofs.Fitting.{moved_dropped}}
+use Rattle.ppdb_merge_moved.proofs.{ImageRows.{image_stays, within_is, never_method, method_moves, lives_on_method}, Lists.{Each-filter_map}}
+use Rattle.ppdb_merge_moved.proofs.{NamedParts.{NamedParts}, SoundItems.{most}}
+use Rattle.map_compose_laws.proofs.{Fitting.{image_is}, Named.{of_signatures}, Others.{IsNoMethod, constants_other, imports_other, no_drop, no_steps}}
 
 some_of : {A : Type 0} (a b : A) → Some a ≡ Some b → a ≡ b
 some_of a b e = cc

@@ -1,30 +1,17 @@
 -- The image of the image of a meaning is its image by the composed map.
-use Rattle.std.proofs.Common.{◌≡◌, ℕ, List, [], ◌∷◌, Option, Some, None, refl, sym, ◌∙◌, ap, arith, map, zero, suc}
-use Rattle.std.specs.Prelude.{unwrap_or}
-use Rattle.std.specs.Option.{option_map, option_and_then}
-use Rattle.std.proofs.lemmas.Bool.{ne_eqb}
+use Rattle.std.{proofs.Common.{◌≡◌, ℕ, List, [], ◌∷◌, Option, Some, None, refl, sym, ◌∙◌, ap, arith, map, zero, suc}, specs.Prelude.{unwrap_or}}
+use Rattle.std.{specs.Option.{option_map, option_and_then}, proofs.lemmas.Bool.{ne_eqb}}
 use Rattle.custom_info.specs.declared.slots.Range.{Range}
 use Rattle.ppdb_base.specs.Offsets.{moved}
-use Rattle.ppdb_maps.specs.Readable.{IsReadable}
-use Rattle.ppdb_maps.specs.Map.{Map, row_within, moved_row, moved_signature, signature_line, slot_image, offsets_in}
-use Rattle.ppdb_values.specs.declared.scope.VariableValue.{VariableValue}
-use Rattle.ppdb_values.specs.declared.import.ImportValue.{ImportValue}
-use Rattle.ppdb_values.specs.declared.annotation.Annotation.{Annotation}
+use Rattle.ppdb_maps.specs.{Readable.{IsReadable}, Map.{Map, row_within, moved_row, moved_signature, signature_line, slot_image, offsets_in}}
+use Rattle.ppdb_values.specs.declared.{scope.VariableValue.{VariableValue}, import.ImportValue.{ImportValue}, annotation.Annotation.{Annotation}}
 use Rattle.ppdb_values.specs.Meaning.{ScopeMeaning, SlotMeaning, PointMeaning, Meaning}
-use Rattle.ppdb_merge_items.specs.Each.{Each}
-use Rattle.ppdb_merge_items.specs.Annotated.{with_item}
-use Rattle.ppdb_merge_moved.specs.Images.{point_image, scope_image, slot_meaning_image, meaning_image}
-use Rattle.ppdb_merge_items.specs.NamedRows.{live_constants}
-use Rattle.ppdb_merge_moved.specs.Moved.{moved_constant, moved_import, moved_variable, moved_range, moved_document}
-use Rattle.map_compose.specs.Composed.{composed, signature_then}
-use Rattle.map_compose.specs.Composition.{Follows, IsComposition}
-use Rattle.map_compose.proofs.Equations.{composed_composes, kept_row}
-use Rattle.map_compose_laws.specs.Images.{no_range, without_edges, SlotsStay, RangeComposes, PointComposes, EdgesCompose, KeepsOwnAssembly}
-use Rattle.map_compose_laws.specs.Images.{ImagesCompose}
-use Rattle.map_compose_laws.proofs.Renamed.{documents_on}
-use Rattle.map_compose_laws.proofs.Rows.{KeepsRows, keeps_rows}
-use Rattle.map_compose_laws.proofs.RowsOn.{constants_on, imports_on}
-use Rattle.ppdb_merge_items.proofs.Parts.{live_imports}
+use Rattle.ppdb_merge_items.{specs.Each.{Each}, specs.Annotated.{with_item}, specs.NamedRows.{live_constants}, proofs.Parts.{live_imports}}
+use Rattle.ppdb_merge_moved.specs.{Images.{point_image, scope_image, slot_meaning_image, meaning_image}, Moved.{moved_constant, moved_import, moved_variable}}
+use Rattle.ppdb_merge_moved.specs.Moved.{moved_range, moved_document}
+use Rattle.map_compose.{specs.Composed.{composed, signature_then}, specs.Composition.{Follows, IsComposition}, proofs.Equations.{composed_composes, kept_row}}
+use Rattle.map_compose_laws.specs.Images.{no_range, without_edges, SlotsStay, RangeComposes, PointComposes, EdgesCompose, KeepsOwnAssembly, ImagesCompose}
+use Rattle.map_compose_laws.proofs.{Renamed.{documents_on}, Rows.{KeepsRows, keeps_rows}, RowsOn.{constants_on, imports_on}}
 
 -- ---- lists
 

@@ -1,45 +1,23 @@
 -- The offsets of async records that the map of both keeps compose; so links do.
 use Rattle.std.proofs.Common.{◌≡◌, ℕ, ◌≤◌, ◌&&◌, Bool, true, false, cond, List, [], ◌∷◌, Option, Some, None, refl, sym, ◌∙◌, ap, subst, map}
-use Rattle.std.specs.Prelude.{nat_eq, is_none, Contains, IfSome}
-use Rattle.std.specs.List.{find}
-use Rattle.std.specs.Option.{option_map}
-use Rattle.std.proofs.lemmas.Bool.{and_parts, eqb-true}
+use Rattle.std.{specs.Prelude.{nat_eq, is_none, Contains, IfSome}, specs.List.{find}, specs.Option.{option_map}, proofs.lemmas.Bool.{and_parts, eqb-true}}
 use Rattle.custom_info.specs.declared.stepping.AsyncStep.{AsyncStep}
-use Rattle.ppdb_base.specs.Offsets.{Kept, moved}
-use Rattle.ppdb_base.proofs.Moved.{moved_kept}
+use Rattle.ppdb_base.{specs.Offsets.{Kept, moved}, proofs.Moved.{moved_kept}}
 use Rattle.ppdb_maps.specs.Map.{Map, is_dropped, moved_row, offsets_in}
-use Rattle.map_compose.specs.Composed.{composed}
-use Rattle.map_compose.specs.Composition.{Follows}
-use Rattle.map_compose.proofs.Equations.{composed_composes}
+use Rattle.map_compose.{specs.Composed.{composed}, specs.Composition.{Follows}, proofs.Equations.{composed_composes}}
 use Rattle.ppdb_tables.specs.declared.rows.MachineRow.{MachineRow}
-use Rattle.ppdb_values.specs.declared.custom.CustomBody.{CustomBody}
-use Rattle.ppdb_values.specs.declared.custom.CustomBody.TheVariants.{Async, Hoisted, TypeDocuments, Unread}
-use Rattle.ppdb_values.specs.declared.custom.CustomValue.{CustomValue}
-use Rattle.ppdb_values.specs.declared.file.FileValue.{FileValue}
-use Rattle.ppdb_values.specs.declared.annotation.Custom.{Custom}
-use Rattle.ppdb_values.specs.Links.{Links, links, kickoff_of, move_next_of}
-use Rattle.ppdb_values.specs.Meaning.{without_parent}
-use Rattle.ppdb_values.specs.Parts.{slots_in}
-use Rattle.ppdb_merge_items.specs.declared.file.AnnotatedFile.{AnnotatedFile}
-use Rattle.ppdb_merge_items.specs.Each.{Each}
-use Rattle.ppdb_merge_items.specs.Laws.{SoundnessIsAnnotated}
-use Rattle.ppdb_merge_items.specs.NamedRows.{names, named_rows, in_steps, live_custom}
-use Rattle.ppdb_merge_items.specs.Annotated.{annotated_file}
-use Rattle.ppdb_merge_items.specs.AnnotatedMeaning.{on_method}
-use Rattle.ppdb_merge_items.specs.SoundParts.{SoundMoved}
-use Rattle.ppdb_merge_items.proofs.Lists.{Each-filter, Each-weaker}
-use Rattle.ppdb_merge_items.proofs.AnnotatedMeanings.{links_are}
+use Rattle.ppdb_values.specs.declared.custom.{CustomBody.{CustomBody}, CustomBody.TheVariants.{Async, Hoisted, TypeDocuments, Unread}, CustomValue.{CustomValue}}
+use Rattle.ppdb_values.specs.{declared.file.FileValue.{FileValue}, declared.annotation.Custom.{Custom}, Links.{Links, links, kickoff_of, move_next_of}}
+use Rattle.ppdb_values.specs.{Meaning.{without_parent}, Parts.{slots_in}}
+use Rattle.ppdb_merge_items.specs.{declared.file.AnnotatedFile.{AnnotatedFile}, Each.{Each}, Laws.{SoundnessIsAnnotated}, NamedRows.{names, named_rows, in_steps}}
+use Rattle.ppdb_merge_items.specs.{NamedRows.{live_custom}, Annotated.{annotated_file}, AnnotatedMeaning.{on_method}, SoundParts.{SoundMoved}}
+use Rattle.ppdb_merge_items.proofs.{Lists.{Each-filter, Each-weaker}, AnnotatedMeanings.{links_are}}
 use Rattle.ppdb_merge_joined.proofs.Each.{Each-with}
-use Rattle.ppdb_merge_moved.specs.Fits.{IsImaged, IsKept, KeepsAsync, KeepsStep}
-use Rattle.ppdb_merge_moved.proofs.Elements.{each_in, in_each}
-use Rattle.ppdb_merge_moved.proofs.Fitting.{offsets_rise}
-use Rattle.ppdb_merge_moved.proofs.ImageRows.{within, lives_on_method}
-use Rattle.ppdb_merge_moved.proofs.NamedParts.{NamedParts, named_parts}
+use Rattle.ppdb_merge_moved.{specs.Fits.{IsImaged, IsKept, KeepsAsync, KeepsStep}, proofs.Elements.{each_in, in_each}, proofs.Fitting.{offsets_rise}}
+use Rattle.ppdb_merge_moved.proofs.{ImageRows.{within, lives_on_method}, NamedParts.{NamedParts, named_parts}}
 use Rattle.ppdb_merge_meaning_laws.proofs.Inputs.{input_sound}
-use Rattle.map_compose_laws.specs.Images.{EdgeComposes}
-use Rattle.map_compose_laws.specs.Links.{StepComposes, HandlerComposes, BodyComposes, IsPartner, LinksMay}
-use Rattle.map_compose_laws.specs.Steps.{IsNamed, StepsFit, moved_by}
-use Rattle.map_compose_laws.proofs.Fitting.{each_shown, is_live, there_after}
+use Rattle.map_compose_laws.specs.{Images.{EdgeComposes}, Links.{StepComposes, HandlerComposes, BodyComposes, IsPartner, LinksMay}, Steps.{IsNamed, StepsFit}}
+use Rattle.map_compose_laws.{specs.Steps.{moved_by}, proofs.Fitting.{each_shown, is_live, there_after}}
 
 module _ (sound : SoundnessIsAnnotated) (f s : Map) (value : FileValue) (fit : StepsFit f s value) where
   abbrev c : Map

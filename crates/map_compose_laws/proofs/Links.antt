@@ -1,22 +1,15 @@
 -- The image of the image of what is linked to a method is its image by the map of both.
 use Rattle.std.proofs.Common.{◌≡◌, ℕ, ◌≤◌, ◌&&◌, ◌||◌, Bool, true, false, cond, Option, Some, None, refl, sym, ◌∙◌, ap, arith, map, zero, suc}
-use Rattle.std.specs.Prelude.{unwrap_or}
-use Rattle.std.specs.Option.{option_map, option_and_then}
+use Rattle.std.specs.{Prelude.{unwrap_or}, Option.{option_map, option_and_then}}
 use Rattle.custom_info.specs.declared.stepping.AsyncStep.{AsyncStep}
 use Rattle.ppdb_base.specs.Offsets.{moved}
 use Rattle.ppdb_maps.specs.Map.{Map, row_within, moved_row, offsets_in, is_dropped}
-use Rattle.map_compose.specs.Composed.{composed, drops_one, of_image}
-use Rattle.map_compose.specs.Composition.{IsComposition}
-use Rattle.map_compose.proofs.Equations.{composed_composes}
-use Rattle.ppdb_values.specs.declared.custom.CustomBody.{CustomBody}
-use Rattle.ppdb_values.specs.declared.custom.CustomBody.TheVariants.{Async, Hoisted, TypeDocuments, Unread}
-use Rattle.ppdb_values.specs.declared.annotation.Custom.{Custom}
-use Rattle.ppdb_values.specs.Links.{Links}
-use Rattle.ppdb_merge_moved.specs.Images.{partner_image, links_image}
-use Rattle.ppdb_merge_moved.specs.Moved.{moved_body, moved_step}
-use Rattle.map_compose_laws.specs.Links.{StepComposes, HandlerComposes, BodyComposes, IsPartner, LinksMay, LinksCompose}
-use Rattle.map_compose_laws.proofs.Images.{row_on, row_there, map_map_each}
-use Rattle.map_compose_laws.proofs.Rows.{KeepsRows, keeps_rows, drops_from_one}
+use Rattle.map_compose.{specs.Composed.{composed, drops_one, of_image}, specs.Composition.{IsComposition}, proofs.Equations.{composed_composes}}
+use Rattle.ppdb_values.specs.declared.custom.{CustomBody.{CustomBody}, CustomBody.TheVariants.{Async, Hoisted, TypeDocuments, Unread}}
+use Rattle.ppdb_values.specs.{declared.annotation.Custom.{Custom}, Links.{Links}}
+use Rattle.ppdb_merge_moved.specs.{Images.{partner_image, links_image}, Moved.{moved_body, moved_step}}
+use Rattle.map_compose_laws.{specs.Links.{StepComposes, HandlerComposes, BodyComposes, IsPartner, LinksMay, LinksCompose}, proofs.Images.{row_on, row_there}}
+use Rattle.map_compose_laws.proofs.{Images.{map_map_each}, Rows.{KeepsRows, keeps_rows, drops_from_one}}
 
 module _ (f s : Map) (composes : IsComposition f s (composed f s)) (keeps : KeepsRows f) (from_one : is_dropped s 0 ≡ false) where
   abbrev c : Map

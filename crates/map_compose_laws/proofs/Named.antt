@@ -1,34 +1,20 @@
 -- Which rows a file names, part by part; and whether it names a row.
-use Rattle.std.proofs.Common.{◌≡◌, ◌≢◌, ℕ, suc, ◌&&◌, ◌||◌, ◌⊎◌, inl, inr, Bool, true, false, cond, List, [], ◌∷◌, refl, ◌∙◌, ap, map}
-use Rattle.std.proofs.Common.{subst, arith, flat_map}
-use Rattle.std.specs.Prelude.{nat_eq, Contains}
-use Rattle.std.specs.List.{filter}
-use Rattle.std.proofs.lemmas.Bool.{and_from, and_parts, both_ways, eq-eqb, eqb-false, eqb-true, not-true, not_from_false, or_from, or_parts}
-use Rattle.ppdb_maps.specs.Map.{Map, is_dropped}
-use Rattle.ppdb_maps.specs.Readable.{IsReadable}
+use Rattle.std.proofs.Common.{◌≡◌, ◌≢◌, ℕ, suc, ◌&&◌, ◌||◌, ◌⊎◌, inl, inr, Bool, true, false, cond, List, [], ◌∷◌, refl, ◌∙◌, ap, map, subst, arith, flat_map}
+use Rattle.std.{specs.Prelude.{nat_eq, Contains}, specs.List.{filter}, proofs.lemmas.Bool.{and_from, and_parts, both_ways, eq-eqb, eqb-false, eqb-true, not-true}}
+use Rattle.std.proofs.lemmas.Bool.{not_from_false, or_from, or_parts}
+use Rattle.ppdb_maps.specs.{Map.{Map, is_dropped}, Readable.{IsReadable}}
 use Rattle.ppdb_tables.specs.declared.rows.MachineRow.{MachineRow}
-use Rattle.ppdb_values.specs.declared.custom.CustomValue.{CustomValue}
-use Rattle.ppdb_values.specs.declared.file.MethodValue.{MethodValue}
-use Rattle.ppdb_values.specs.declared.import.ImportScopeValue.{ImportScopeValue}
+use Rattle.ppdb_values.specs.declared.{custom.CustomValue.{CustomValue}, file.MethodValue.{MethodValue}, import.ImportScopeValue.{ImportScopeValue}}
 use Rattle.ppdb_values.specs.declared.annotation.Annotation.{Annotation}
-use Rattle.ppdb_merge_items.specs.declared.file.AnnotatedScope.{AnnotatedScope}
-use Rattle.ppdb_merge_items.specs.declared.file.AnnotatedFile.{AnnotatedFile}
-use Rattle.ppdb_merge_items.specs.Each.{Each}
-use Rattle.ppdb_merge_items.specs.NamedRows.{Named, names, names_some, named_rows, in_constant, in_import, in_steps, all_named, live_file}
-use Rattle.ppdb_merge_items.specs.NamedRows.{live_scope, live_machine, live_custom, live_signature}
-use Rattle.ppdb_merge_items.specs.NamedRows.{live_constants}
-use Rattle.ppdb_merge_items.specs.Annotated.{with_item}
-use Rattle.ppdb_merge_items.specs.SoundParts.{SoundMoved}
-use Rattle.ppdb_merge_items.specs.Unannotated.{value_of_annotated}
+use Rattle.ppdb_merge_items.specs.{declared.file.AnnotatedScope.{AnnotatedScope}, declared.file.AnnotatedFile.{AnnotatedFile}, Each.{Each}, NamedRows.{Named, names}}
+use Rattle.ppdb_merge_items.specs.NamedRows.{names_some, named_rows, in_constant, in_import, in_steps, all_named, live_file, live_scope, live_machine, live_custom}
+use Rattle.ppdb_merge_items.specs.{NamedRows.{live_signature, live_constants}, Annotated.{with_item}, SoundParts.{SoundMoved}, Unannotated.{value_of_annotated}}
+use Rattle.ppdb_merge_items.proofs.{Lists.{Each-append, Each-filter, Each-map, Each-weaker}, Parts.{live_method, with_live_signature, with_live_constants}}
+use Rattle.ppdb_merge_items.proofs.Parts.{with_live_imports, in_entry, live_imports}
 use Rattle.ppdb_values_sound_laws.specs.Customs.{SoundCustom}
-use Rattle.ppdb_merge_items.proofs.Lists.{Each-append, Each-filter, Each-map, Each-weaker}
 use Rattle.ppdb_merge_joined.proofs.Each.{Each-flat, Each-with}
-use Rattle.ppdb_merge_moved.proofs.ImageRows.{lives_on_method}
-use Rattle.ppdb_merge_moved.proofs.NamedParts.{NamedParts}
-use Rattle.ppdb_merge_moved.proofs.SoundItems.{most}
+use Rattle.ppdb_merge_moved.proofs.{ImageRows.{lives_on_method}, NamedParts.{NamedParts}, SoundItems.{most}}
 use Rattle.map_compose_laws.proofs.Others.{IsNoMethod, constants_other, imports_other, no_drop, no_steps}
-use Rattle.ppdb_merge_items.proofs.Parts.{live_method, with_live_signature, with_live_constants, with_live_imports, in_entry}
-use Rattle.ppdb_merge_items.proofs.Parts.{live_imports}
 
 -- ---- from the parts to the rows
 

@@ -1,46 +1,22 @@
 -- What a sound file names that is no method: types and assemblies, in constants and imports; and records that are on no method name none.
-use Rattle.std.proofs.Common.{◌≡◌, ◌≢◌, ◌&&◌, ◌||◌, ◌⊎◌, inl, inr, Bool, true, false, cond, List, [], ◌∷◌, map, arith}
-use Rattle.std.specs.Prelude.{nat_eq}
-use Rattle.std.specs.List.{filter}
+use Rattle.std.{proofs.Common.{◌≡◌, ◌≢◌, ◌&&◌, ◌||◌, ◌⊎◌, inl, inr, Bool, true, false, cond, List, [], ◌∷◌, map, arith}, specs.Prelude.{nat_eq}, specs.List.{filter}}
 use Rattle.std.proofs.lemmas.Bool.{eq-eqb, not-true, or_parts}
-use Rattle.type_blobs.specs.declared.types.TypeToken.{TypeToken}
-use Rattle.type_blobs.specs.declared.types.Modifier.{Modifier}
-use Rattle.type_blobs.specs.Spelling.{IsBody}
-use Rattle.type_blobs.specs.Types.{IsToken}
-use Rattle.custom_info.specs.Kinds.{kind_of}
-use Rattle.custom_info.specs.declared.kinds.Kind.{Kind}
+use Rattle.type_blobs.specs.{declared.types.TypeToken.{TypeToken}, declared.types.Modifier.{Modifier}, Spelling.{IsBody}, Types.{IsToken}}
+use Rattle.custom_info.specs.{Kinds.{kind_of}, declared.kinds.Kind.{Kind}}
 use Rattle.custom_info.specs.declared.kinds.Kind.TheVariants as kinds
 use Rattle.ppdb_maps.specs.Map.{Map, is_dropped, is_gone_row}
-use Rattle.ppdb_values.specs.Rules.{StandsOn}
-use Rattle.ppdb_values.specs.declared.annotation.Annotation.{Annotation}
-use Rattle.ppdb_values.specs.declared.custom.CustomBody.{CustomBody}
-use Rattle.ppdb_values.specs.declared.custom.CustomBody.TheVariants.{Async, Hoisted, TypeDocuments, Unread}
-use Rattle.ppdb_values.specs.declared.custom.CustomValue.{CustomValue}
-use Rattle.ppdb_values.specs.declared.file.FileValue.{FileValue}
-use Rattle.ppdb_values.specs.declared.import.ImportScopeValue.{ImportScopeValue}
-use Rattle.ppdb_values.specs.declared.import.ImportValue.{ImportValue}
+use Rattle.ppdb_values.specs.{Rules.{StandsOn}, declared.annotation.Annotation.{Annotation}, declared.custom.CustomBody.{CustomBody}}
+use Rattle.ppdb_values.specs.declared.custom.{CustomBody.TheVariants.{Async, Hoisted, TypeDocuments, Unread}, CustomValue.{CustomValue}}
+use Rattle.ppdb_values.specs.declared.{file.FileValue.{FileValue}, import.ImportScopeValue.{ImportScopeValue}, import.ImportValue.{ImportValue}}
 use Rattle.ppdb_values.specs.declared.import.ImportValue.TheVariants.{Namespace, AssemblyNamespace, Target, Xml, Alias, AssemblyAlias, NamespaceAlias}
-use Rattle.ppdb_values.specs.declared.import.ImportValue.TheVariants.{AssemblyNamespaceAlias, TargetAlias}
-use Rattle.ppdb_values.specs.declared.scope.ConstantBody.{ConstantBody}
-use Rattle.ppdb_values.specs.declared.scope.ConstantBody.TheVariants.{Primitive, Enumerated, General, Object}
-use Rattle.ppdb_values.specs.declared.scope.ConstantValue.{ConstantValue}
-use Rattle.ppdb_values_sound_laws.specs.Customs.{SoundCustom, IsBodyOfKind}
-use Rattle.ppdb_values_sound_laws.specs.Imports.{SoundImport}
-use Rattle.ppdb_values_sound_laws.specs.Named.{HasType}
-use Rattle.ppdb_values_sound_laws.specs.Scopes.{SoundConstant, stored_body}
-use Rattle.ppdb_merge_items.specs.declared.file.AnnotatedScope.{AnnotatedScope}
-use Rattle.ppdb_merge_items.specs.declared.file.AnnotatedFile.{AnnotatedFile}
-use Rattle.ppdb_merge_items.specs.Annotated.{items_of, with_item}
-use Rattle.ppdb_merge_items.specs.Each.{Each}
-use Rattle.ppdb_merge_items.specs.NamedRows.{Named, in_token, in_body, in_constant, in_import, in_steps, is_gone_type, leaves_types, live_body}
-use Rattle.ppdb_merge_items.specs.NamedRows.{live_constants, live_custom, live_import, with_live_body}
-use Rattle.ppdb_merge_items.specs.SoundParts.{SoundMoved}
-use Rattle.ppdb_merge_items.specs.Unannotated.{value_of_annotated}
-use Rattle.ppdb_merge_items.proofs.Lists.{Each-append, Each-filter, Each-map, Each-weaker, each_row}
-use Rattle.ppdb_merge_moved.proofs.Elements.{each_parts}
-use Rattle.ppdb_merge_moved.proofs.SoundItems.{most, each_all}
-use Rattle.ppdb_merge_items.proofs.Parts.{live_constant}
-use Rattle.ppdb_merge_items.proofs.Parts.{live_imports}
+use Rattle.ppdb_values.specs.declared.{import.ImportValue.TheVariants.{AssemblyNamespaceAlias, TargetAlias}, scope.ConstantBody.{ConstantBody}}
+use Rattle.ppdb_values.specs.declared.scope.{ConstantBody.TheVariants.{Primitive, Enumerated, General, Object}, ConstantValue.{ConstantValue}}
+use Rattle.ppdb_values_sound_laws.specs.{Customs.{SoundCustom, IsBodyOfKind}, Imports.{SoundImport}, Named.{HasType}, Scopes.{SoundConstant, stored_body}}
+use Rattle.ppdb_merge_items.specs.{declared.file.AnnotatedScope.{AnnotatedScope}, declared.file.AnnotatedFile.{AnnotatedFile}, Annotated.{items_of, with_item}}
+use Rattle.ppdb_merge_items.specs.{Each.{Each}, NamedRows.{Named, in_token, in_body, in_constant, in_import, in_steps, is_gone_type, leaves_types, live_body}}
+use Rattle.ppdb_merge_items.specs.{NamedRows.{live_constants, live_custom, live_import, with_live_body}, SoundParts.{SoundMoved}, Unannotated.{value_of_annotated}}
+use Rattle.ppdb_merge_items.proofs.{Lists.{Each-append, Each-filter, Each-map, Each-weaker, each_row}, Parts.{live_constant, live_imports}}
+use Rattle.ppdb_merge_moved.proofs.{Elements.{each_parts}, SoundItems.{most, each_all}}
 
 abbrev pub IsNoMethod : Named → Type 0
 IsNoMethod n = n.table ≢ 0x06

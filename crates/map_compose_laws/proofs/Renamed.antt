@@ -1,16 +1,10 @@
 -- The name of a document and the value of a Source Link record by both maps are those by the map of both.
-use Rattle.std.proofs.Common.{◌≡◌, ℕ, Bool, true, false, cond, List, Option, Some, None, refl, sym, ap}
-use Rattle.std.specs.Prelude.{unwrap_or}
-use Rattle.std.specs.Option.{option_map, option_or}
+use Rattle.std.{proofs.Common.{◌≡◌, ℕ, Bool, true, false, cond, List, Option, Some, None, refl, sym, ap}, specs.Prelude.{unwrap_or}, specs.Option.{option_map}}
+use Rattle.std.specs.Option.{option_or}
 use Rattle.ppdb_maps.specs.Map.{Map}
-use Rattle.map_compose.specs.Composed.{composed}
-use Rattle.map_compose.specs.Composition.{IsComposition}
-use Rattle.map_compose.proofs.Equations.{composed_composes}
-use Rattle.ppdb_values.specs.declared.custom.CustomBody.{CustomBody}
-use Rattle.ppdb_values.specs.declared.custom.CustomBody.TheVariants.{Unread}
-use Rattle.ppdb_values.specs.declared.custom.CustomValue.{CustomValue}
-use Rattle.ppdb_values.specs.declared.file.DocumentValue.{DocumentValue}
-use Rattle.ppdb_values.specs.Parts.{is_link}
+use Rattle.map_compose.{specs.Composed.{composed}, specs.Composition.{IsComposition}, proofs.Equations.{composed_composes}}
+use Rattle.ppdb_values.specs.declared.custom.{CustomBody.{CustomBody}, CustomBody.TheVariants.{Unread}, CustomValue.{CustomValue}}
+use Rattle.ppdb_values.specs.{declared.file.DocumentValue.{DocumentValue}, Parts.{is_link}}
 use Rattle.ppdb_merge_moved.specs.Moved.{linked, moved_document}
 use Rattle.map_compose_laws.specs.Names.{NamesCompose}
 

@@ -1,29 +1,16 @@
 -- Which rows a file names that is joined from one: those that the one names.
-use Rattle.std.proofs.Common.{◌≡◌, ℕ, ◌++◌, ◌&&◌, ◌||◌, not, true, false, [], ◌∷◌, map, refl, sym, ◌∙◌, ap, subst}
-use Rattle.std.specs.Prelude.{nat_eq}
+use Rattle.std.{proofs.Common.{◌≡◌, ℕ, ◌++◌, ◌&&◌, ◌||◌, not, true, false, [], ◌∷◌, map, refl, sym, ◌∙◌, ap, subst}, specs.Prelude.{nat_eq}}
 use Rattle.ppdb_maps.specs.Map.{Map, is_dropped, row_image, is_gone_row, leaves_table}
-use Rattle.ppdb_values.specs.declared.custom.CustomBody.{CustomBody}
-use Rattle.ppdb_values.specs.declared.custom.CustomBody.TheVariants.{Async, Hoisted, TypeDocuments, Unread}
-use Rattle.ppdb_values.specs.declared.custom.CustomValue.{CustomValue}
-use Rattle.ppdb_values.specs.declared.file.MethodValue.{MethodValue}
-use Rattle.ppdb_values.specs.declared.import.ImportScopeValue.{ImportScopeValue}
-use Rattle.ppdb_values.specs.declared.annotation.Annotation.{Annotation}
-use Rattle.ppdb_tables.specs.declared.rows.MachineRow.{MachineRow}
-use Rattle.ppdb_tables.specs.Parents.{coded_of}
-use Rattle.ppdb_merge_items.specs.declared.file.AnnotatedScope.{AnnotatedScope}
-use Rattle.ppdb_merge_items.specs.declared.file.AnnotatedFile.{AnnotatedFile}
-use Rattle.ppdb_merge_items.specs.Each.{Each}
-use Rattle.ppdb_merge_items.specs.NamedRows.{Named, names, names_some, in_constant, in_import, in_steps, live_machine, live_custom, live_signature}
-use Rattle.ppdb_merge_items.specs.NamedRows.{is_type_documents, live_constants}
-use Rattle.ppdb_merge_items.specs.Annotated.{with_item}
-use Rattle.ppdb_merge_items.proofs.Lists.{Each-append, Each-map, Each-weaker}
-use Rattle.ppdb_merge_items.proofs.Orders.{in_order_each}
-use Rattle.ppdb_merge_joined.specs.Joined.{joined, joined_documents, joined_rows, row_in, with_documents, renumbered_method, renumbered_scope}
-use Rattle.ppdb_merge_joined.specs.Joined.{renumbered_import, renumbered_custom}
-use Rattle.ppdb_merge_joined.specs.Same.{same_record}
-use Rattle.ppdb_merge_joined.proofs.Kept.{fresh_each}
+use Rattle.ppdb_values.specs.declared.custom.{CustomBody.{CustomBody}, CustomBody.TheVariants.{Async, Hoisted, TypeDocuments, Unread}, CustomValue.{CustomValue}}
+use Rattle.ppdb_values.specs.declared.{file.MethodValue.{MethodValue}, import.ImportScopeValue.{ImportScopeValue}, annotation.Annotation.{Annotation}}
+use Rattle.ppdb_tables.specs.{declared.rows.MachineRow.{MachineRow}, Parents.{coded_of}}
+use Rattle.ppdb_merge_items.specs.{declared.file.AnnotatedScope.{AnnotatedScope}, declared.file.AnnotatedFile.{AnnotatedFile}, Each.{Each}, NamedRows.{Named, names}}
+use Rattle.ppdb_merge_items.specs.NamedRows.{names_some, in_constant, in_import, in_steps, live_machine, live_custom, live_signature, is_type_documents}
+use Rattle.ppdb_merge_items.{specs.NamedRows.{live_constants}, specs.Annotated.{with_item}, proofs.Lists.{Each-append, Each-map, Each-weaker}}
+use Rattle.ppdb_merge_items.proofs.{Orders.{in_order_each}, Parts.{live_imports}}
+use Rattle.ppdb_merge_joined.specs.Joined.{joined, joined_documents, joined_rows, row_in, with_documents, renumbered_method, renumbered_scope, renumbered_import}
+use Rattle.ppdb_merge_joined.{specs.Joined.{renumbered_custom}, specs.Same.{same_record}, proofs.Kept.{fresh_each}}
 use Rattle.ppdb_merge_moved.proofs.NamedParts.{NamedParts}
-use Rattle.ppdb_merge_items.proofs.Parts.{live_imports}
 
 -- documents are no rows of methods
 same_steps : (row : ℕ → ℕ) (b : CustomBody) → in_steps (with_documents row b) ≡ in_steps b

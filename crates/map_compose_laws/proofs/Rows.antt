@@ -1,12 +1,7 @@
 -- A readable map has no row 0.
-use Rattle.std.proofs.Common.{◌≡◌, ℕ, ◌≤◌, ◌&&◌, ◌||◌, Bool, true, false, cond, List, [], ◌∷◌, Option, Some, None, refl, ◌∙◌, ap, arith}
-use Rattle.std.specs.Prelude.{nat_eq}
-use Rattle.std.specs.List.{AllByRecursion, find, list_any}
-use Rattle.std.specs.Option.{option_map}
-use Rattle.std.proofs.lemmas.Bool.{ne_eqb}
-use Rattle.ppdb_maps.specs.declared.entries.RowLine.{RowLine}
-use Rattle.ppdb_maps.specs.Map.{Map, row_within, row_line, is_dropped, count_of}
-use Rattle.ppdb_maps.specs.Readable.{IsReadable, IsRow, IsRowOf}
+use Rattle.std.{proofs.Common.{◌≡◌, ℕ, ◌≤◌, ◌&&◌, ◌||◌, Bool, true, false, cond, List, [], ◌∷◌, Option, Some, None, refl, ◌∙◌, ap, arith}, specs.Prelude.{nat_eq}}
+use Rattle.std.{specs.List.{AllByRecursion, find, list_any}, specs.Option.{option_map}, proofs.lemmas.Bool.{ne_eqb}}
+use Rattle.ppdb_maps.specs.{declared.entries.RowLine.{RowLine}, Map.{Map, row_within, row_line, is_dropped, count_of}, Readable.{IsReadable, IsRow, IsRowOf}}
 
 -- no row becomes row 0
 abbrev pub KeepsRows : Map → Type 0

@@ -1,38 +1,22 @@
 -- The image of the image of a row is its image by the map of both; so are those of types, constants and imports that name rows.
-use Rattle.std.proofs.Common.{◌≡◌, ℕ, ◌≤◌, ◌⊎◌, inl, inr, ◌&&◌, ◌||◌, not, Bool, true, false, cond, List, [], ◌∷◌, Option, Some, None, map}
-use Rattle.std.proofs.Common.{refl, sym, ◌∙◌, ap, subst, arith}
-use Rattle.std.specs.Prelude.{nat_eq}
-use Rattle.std.specs.List.{AllByRecursion, filter, filter_map, cons_option, find, list_any}
-use Rattle.std.specs.Option.{option_map, option_and_then}
-use Rattle.std.proofs.lemmas.Bool.{and_parts, both_ways, eq-eqb, eqb-true}
-use Rattle.ppdb_maps.specs.declared.entries.CrossLine.{CrossLine}
-use Rattle.ppdb_maps.specs.declared.entries.GoneLine.{GoneLine}
-use Rattle.ppdb_maps.specs.declared.entries.RowLine.{RowLine}
-use Rattle.ppdb_maps.specs.declared.image.RowImage.{RowImage}
-use Rattle.ppdb_maps.specs.declared.image.RowImage.TheVariants.{Row, Gone, Missing}
-use Rattle.ppdb_maps.specs.Forms.{Crosses}
-use Rattle.ppdb_maps.specs.Map.{Map, row_image, row_within, row_line, cross_line, has_gone_line, told_image, line_image, count_of, is_dropped, is_gone}
-use Rattle.ppdb_maps.specs.Map.{is_gone_row, is_in_table}
-use Rattle.ppdb_maps.specs.Readable.{IsReadable, IsRowOf, IsCrossOf, IsGoneOf}
-use Rattle.type_blobs.specs.declared.types.TypeToken.{TypeToken}
-use Rattle.type_blobs.specs.declared.types.Modifier.{Modifier}
-use Rattle.ppdb_values.specs.declared.annotation.Annotation.{Annotation}
-use Rattle.ppdb_values.specs.declared.scope.ConstantValue.{ConstantValue}
-use Rattle.ppdb_values.specs.declared.scope.ConstantBody.{ConstantBody}
-use Rattle.ppdb_values.specs.declared.scope.ConstantBody.TheVariants.{Primitive, Enumerated, General, Object}
-use Rattle.ppdb_values.specs.declared.import.ImportValue.{ImportValue}
+use Rattle.std.proofs.Common.{◌≡◌, ℕ, ◌≤◌, ◌⊎◌, inl, inr, ◌&&◌, ◌||◌, not, Bool, true, false, cond, List, [], ◌∷◌, Option, Some, None, map, refl, sym, ◌∙◌, ap}
+use Rattle.std.{proofs.Common.{subst, arith}, specs.Prelude.{nat_eq}, specs.List.{AllByRecursion, filter, filter_map, cons_option, find, list_any}}
+use Rattle.std.{specs.Option.{option_map, option_and_then}, proofs.lemmas.Bool.{and_parts, both_ways, eq-eqb, eqb-true}}
+use Rattle.ppdb_maps.specs.declared.{entries.CrossLine.{CrossLine}, entries.GoneLine.{GoneLine}, entries.RowLine.{RowLine}, image.RowImage.{RowImage}}
+use Rattle.ppdb_maps.specs.{declared.image.RowImage.TheVariants.{Row, Gone, Missing}, Forms.{Crosses}, Map.{Map, row_image, row_within, row_line, cross_line}}
+use Rattle.ppdb_maps.specs.{Map.{has_gone_line, told_image, line_image, count_of, is_dropped, is_gone, is_gone_row, is_in_table}, Readable.{IsReadable, IsRowOf}}
+use Rattle.ppdb_maps.specs.Readable.{IsCrossOf, IsGoneOf}
+use Rattle.type_blobs.specs.declared.types.{TypeToken.{TypeToken}, Modifier.{Modifier}}
+use Rattle.ppdb_values.specs.declared.{annotation.Annotation.{Annotation}, scope.ConstantValue.{ConstantValue}, scope.ConstantBody.{ConstantBody}}
+use Rattle.ppdb_values.specs.declared.{scope.ConstantBody.TheVariants.{Primitive, Enumerated, General, Object}, import.ImportValue.{ImportValue}}
 use Rattle.ppdb_values.specs.declared.import.ImportValue.TheVariants.{Namespace, AssemblyNamespace, Target, Xml, Alias, AssemblyAlias, NamespaceAlias}
 use Rattle.ppdb_values.specs.declared.import.ImportValue.TheVariants.{AssemblyNamespaceAlias, TargetAlias}
-use Rattle.ppdb_merge_items.specs.Annotated.{with_item}
-use Rattle.ppdb_merge_items.specs.NamedRows.{is_gone_type, names_gone_class, goes_constant, live_body, with_live_body}
-use Rattle.ppdb_merge_items.specs.NamedRows.{live_constants, live_import}
+use Rattle.ppdb_merge_items.specs.{Annotated.{with_item}, NamedRows.{is_gone_type, names_gone_class, goes_constant, live_body, with_live_body, live_constants}}
+use Rattle.ppdb_merge_items.{specs.NamedRows.{live_import}, proofs.Parts.{live_constant, live_imports}}
 use Rattle.ppdb_merge_moved.specs.Moved.{table_in, row_in, moved_token, moved_modifier, moved_constant_body, moved_constant, of_assembly, moved_import}
 use Rattle.ppdb_merge_moved.proofs.ImageRows.{IsCrossed, image_cases}
-use Rattle.map_compose.specs.Composed.{composed, image_then, own_assembly}
-use Rattle.map_compose.specs.Composition.{IsComposition}
+use Rattle.map_compose.specs.{Composed.{composed, image_then, own_assembly}, Composition.{IsComposition}}
 use Rattle.map_compose_laws.specs.Images.{KeepsOwnAssembly}
-use Rattle.ppdb_merge_items.proofs.Parts.{live_constant}
-use Rattle.ppdb_merge_items.proofs.Parts.{live_imports}
 
 -- ---- row 0
 

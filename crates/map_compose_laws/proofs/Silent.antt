@@ -1,33 +1,19 @@
 -- What a file says of a method that it does not name: nothing, but for state machines whose other method is dropped.
-use Rattle.std.proofs.Common.{◌≡◌, ◌≢◌, ℕ, ◌≤◌, ◌++◌, ◌&&◌, ◌||◌, Bool, true, false, cond, List, [], ◌∷◌, Some, None, refl, ◌∙◌, ap, subst}
-use Rattle.std.proofs.Common.{arith, flat_map, map}
-use Rattle.std.specs.Prelude.{nat_eq, is_none}
-use Rattle.std.specs.List.{filter, find}
-use Rattle.std.specs.Option.{option_map, option_and_then}
-use Rattle.std.proofs.lemmas.Bool.{and_left, eqb-true, ne_eqb, not_from_false, or_from}
-use Rattle.ppdb_maps.specs.Map.{Map, is_dropped, moved_row}
-use Rattle.ppdb_maps.specs.Readable.{IsReadable}
+use Rattle.std.proofs.Common.{◌≡◌, ◌≢◌, ℕ, ◌≤◌, ◌++◌, ◌&&◌, ◌||◌, Bool, true, false, cond, List, [], ◌∷◌, Some, None, refl, ◌∙◌, ap, subst, arith, flat_map, map}
+use Rattle.std.{specs.Prelude.{nat_eq, is_none}, specs.List.{filter, find}, specs.Option.{option_map, option_and_then}, proofs.lemmas.Bool.{and_left, eqb-true}}
+use Rattle.std.proofs.lemmas.Bool.{ne_eqb, not_from_false, or_from}
+use Rattle.ppdb_maps.specs.{Map.{Map, is_dropped, moved_row}, Readable.{IsReadable}}
 use Rattle.ppdb_tables.specs.declared.rows.MachineRow.{MachineRow}
-use Rattle.ppdb_values.specs.declared.custom.CustomValue.{CustomValue}
-use Rattle.ppdb_values.specs.declared.file.MethodValue.{MethodValue}
-use Rattle.ppdb_values.specs.declared.annotation.Custom.{Custom}
-use Rattle.ppdb_values.specs.Links.{Links, kickoff_of, move_next_of}
-use Rattle.ppdb_values.specs.Meaning.{Meaning, without_parent}
-use Rattle.ppdb_values.specs.Parts.{slots_in}
-use Rattle.ppdb_merge_items.specs.declared.file.AnnotatedScope.{AnnotatedScope}
-use Rattle.ppdb_merge_items.specs.declared.file.AnnotatedFile.{AnnotatedFile}
-use Rattle.ppdb_merge_items.specs.Each.{Each}
-use Rattle.ppdb_merge_items.specs.NamedRows.{Named, names, names_some, in_steps, live_machine, live_custom}
-use Rattle.ppdb_merge_items.specs.AnnotatedMeaning.{held, annotated_links, annotated_meaning, on_method, point_meaning, scope_meaning, scopes_at, slots_among, slots_at}
-use Rattle.ppdb_merge_items.proofs.Lists.{Each-unmap, Each-weaker}
+use Rattle.ppdb_values.specs.{declared.custom.CustomValue.{CustomValue}, declared.file.MethodValue.{MethodValue}, declared.annotation.Custom.{Custom}, Links.{Links}}
+use Rattle.ppdb_values.specs.{Links.{kickoff_of, move_next_of}, Meaning.{Meaning, without_parent}, Parts.{slots_in}}
+use Rattle.ppdb_merge_items.specs.{declared.file.AnnotatedScope.{AnnotatedScope}, declared.file.AnnotatedFile.{AnnotatedFile}, Each.{Each}, NamedRows.{Named, names}}
+use Rattle.ppdb_merge_items.specs.{NamedRows.{names_some, in_steps, live_machine, live_custom}, AnnotatedMeaning.{held, annotated_links, annotated_meaning}}
+use Rattle.ppdb_merge_items.{specs.AnnotatedMeaning.{on_method, point_meaning, scope_meaning, scopes_at, slots_among, slots_at}, proofs.Lists.{Each-unmap}}
+use Rattle.ppdb_merge_items.proofs.Lists.{Each-weaker}
 use Rattle.ppdb_merge_joined.proofs.Each.{Each-split, Each-unflat}
-use Rattle.ppdb_merge_moved.specs.Images.{links_image, partner_image}
-use Rattle.ppdb_merge_moved.specs.Moved.{moved_body}
-use Rattle.ppdb_merge_moved.proofs.Elements.{each_left}
-use Rattle.ppdb_merge_moved.proofs.ImageRows.{lives_on_method}
+use Rattle.ppdb_merge_moved.{specs.Images.{links_image, partner_image}, specs.Moved.{moved_body}, proofs.Elements.{each_left}, proofs.ImageRows.{lives_on_method}}
 use Rattle.ppdb_merge_moved.proofs.NamedParts.{NamedParts}
-use Rattle.ppdb_merge_meaning_laws.specs.Laws.{SaysNothingOf}
-use Rattle.ppdb_merge_meaning_laws.proofs.Only.{find_left, none_left}
+use Rattle.ppdb_merge_meaning_laws.{specs.Laws.{SaysNothingOf}, proofs.Only.{find_left, none_left}}
 
 abbrev pub no_meaning : Meaning
 no_meaning = record { point = None; scopes = []; slots = [] }

@@ -1,47 +1,21 @@
 -- Two steps and one at a method that the file names, from the law of meanings kept and the algebra of images.
-use Rattle.std.proofs.Common.{◌≡◌, ℕ, ◌≤◌, true, false, Some, [], ◌∷◌, refl, sym, ◌∙◌, ap, subst, arith}
-use Rattle.std.specs.Prelude.{Contains}
-use Rattle.std.specs.Option.{option_and_then}
+use Rattle.std.{proofs.Common.{◌≡◌, ℕ, ◌≤◌, true, false, Some, [], ◌∷◌, refl, sym, ◌∙◌, ap, subst, arith}, specs.Prelude.{Contains}, specs.Option.{option_and_then}}
 use Rattle.std.proofs.lemmas.Bool.{or_parts}
 use Rattle.ppdb_base.specs.Offsets.{Kept}
 use Rattle.ppdb_maps.specs.Map.{Map, is_dropped, moved_row, offsets_in, row_within}
-use Rattle.map_compose.specs.Composed.{composed, of_image}
-use Rattle.map_compose.specs.Composition.{Follows, IsComposition}
-use Rattle.map_compose.proofs.Equations.{composed_composes}
-use Rattle.ppdb_values.specs.declared.file.FileValue.{FileValue}
-use Rattle.ppdb_values.specs.Links.{links}
-use Rattle.ppdb_values.specs.Meaning.{meaning}
-use Rattle.ppdb_merge_items.specs.declared.file.AnnotatedFile.{AnnotatedFile}
-use Rattle.ppdb_merge_items.specs.Each.{Each}
-use Rattle.ppdb_merge_items.specs.Laws.{MeaningsAreAnnotated, SoundnessIsAnnotated}
-use Rattle.ppdb_merge_items.specs.NamedRows.{Named, names, named_rows}
-use Rattle.ppdb_merge_items.specs.Annotated.{annotated_file}
-use Rattle.ppdb_merge_items.specs.SoundParts.{SoundMoved}
+use Rattle.map_compose.{specs.Composed.{composed, of_image}, specs.Composition.{Follows, IsComposition}, proofs.Equations.{composed_composes}}
+use Rattle.ppdb_values.specs.{declared.file.FileValue.{FileValue}, Links.{links}, Meaning.{meaning}}
+use Rattle.ppdb_merge_items.specs.{declared.file.AnnotatedFile.{AnnotatedFile}, Each.{Each}, Laws.{MeaningsAreAnnotated, SoundnessIsAnnotated}, NamedRows.{Named}}
+use Rattle.ppdb_merge_items.specs.{NamedRows.{names, named_rows}, Annotated.{annotated_file}, SoundParts.{SoundMoved}}
 use Rattle.ppdb_merge_joined.specs.Joined.{joined}
-use Rattle.ppdb_merge_moved.specs.Fits.{IsImaged}
-use Rattle.ppdb_merge_moved.specs.Images.{meaning_image, links_image}
-use Rattle.ppdb_merge_moved.specs.Moved.{moved_file}
-use Rattle.ppdb_merge_moved.proofs.Elements.{each_in, in_each}
-use Rattle.ppdb_merge_moved.proofs.ImageRows.{within, within_is, no_shared_method}
-use Rattle.ppdb_merge_moved.proofs.NamedParts.{named_parts}
-use Rattle.ppdb_merge_moved.proofs.NamedRows.{named_rows_are_rows}
-use Rattle.ppdb_merge_moved.proofs.RowImages.{row_moved}
-use Rattle.ppdb_merge_moved.proofs.SoundMoves.{moved_sound}
-use Rattle.ppdb_merge_meaning_laws.specs.Kept.{InputsKeepMeaning, NamesMethod, named_by}
-use Rattle.ppdb_merge_meaning_laws.specs.Origins.{InputsKeepOrigins}
-use Rattle.ppdb_merge_meaning_laws.proofs.Inputs.{input_sound}
-use Rattle.map_compose_laws.specs.Images.{without_edges}
-use Rattle.map_compose_laws.specs.Steps.{moved_by, rewritten, IsNamed, StepsFit, TwoStepsMean}
-use Rattle.map_compose_laws.proofs.Edges.{edge}
-use Rattle.map_compose_laws.proofs.Fitting.{there_after, image_is, is_live, slots_stay}
-use Rattle.map_compose_laws.proofs.Follows.{Comes, moved_parts}
-use Rattle.map_compose_laws.proofs.Images.{images_compose}
-use Rattle.map_compose_laws.proofs.Kept.{links_may}
-use Rattle.map_compose_laws.proofs.Links.{links_compose}
-use Rattle.map_compose_laws.proofs.Named.{parts_more, parts_named}
-use Rattle.map_compose_laws.proofs.Rewritten.{joined_parts}
-use Rattle.map_compose_laws.proofs.Unnamed.{keeps, rewritten_back, any_means, any_links}
-use Rattle.map_compose_laws.proofs.Within.{edges_on}
+use Rattle.ppdb_merge_moved.{specs.Fits.{IsImaged}, specs.Images.{meaning_image, links_image}, specs.Moved.{moved_file}, proofs.Elements.{each_in, in_each}}
+use Rattle.ppdb_merge_moved.proofs.{ImageRows.{within, within_is, no_shared_method}, NamedParts.{named_parts}, NamedRows.{named_rows_are_rows}}
+use Rattle.ppdb_merge_moved.proofs.{RowImages.{row_moved}, SoundMoves.{moved_sound}}
+use Rattle.ppdb_merge_meaning_laws.{specs.Kept.{InputsKeepMeaning, NamesMethod, named_by}, specs.Origins.{InputsKeepOrigins}, proofs.Inputs.{input_sound}}
+use Rattle.map_compose_laws.{specs.Images.{without_edges}, specs.Steps.{moved_by, rewritten, IsNamed, StepsFit, TwoStepsMean}, proofs.Edges.{edge}}
+use Rattle.map_compose_laws.proofs.{Fitting.{there_after, image_is, is_live, slots_stay}, Follows.{Comes, moved_parts}, Images.{images_compose}, Kept.{links_may}}
+use Rattle.map_compose_laws.proofs.{Links.{links_compose}, Named.{parts_more, parts_named}, Rewritten.{joined_parts}, Unnamed.{keeps, rewritten_back, any_means}}
+use Rattle.map_compose_laws.proofs.{Unnamed.{any_links}, Within.{edges_on}}
 
 module _ (sound : SoundnessIsAnnotated) (law : InputsKeepMeaning) (origins : InputsKeepOrigins) (f s : Map) (value : FileValue) (fit : StepsFit f s value)
     (method : ℕ) (named : IsNamed f s value method) where

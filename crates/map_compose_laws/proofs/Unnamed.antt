@@ -1,40 +1,20 @@
 -- A file moved by a map and joined alone says of a method's image the image of what the file says of the method, where no other method that
 -- the file names has that image; whether the file names the method or not.
-use Rattle.std.proofs.Common.{◌≡◌, ◌≢◌, ℕ, zero, suc, ◌≤◌, ◌++◌, inl, inr, Bool, true, false, cond, [], ◌∷◌, Some, None, refl, sym}
-use Rattle.std.proofs.Common.{◌∙◌, ap, subst, arith}
-use Rattle.std.specs.Prelude.{nat_eq, Contains}
-use Rattle.std.proofs.lemmas.Bool.{ne_eqb}
+use Rattle.std.proofs.Common.{◌≡◌, ◌≢◌, ℕ, zero, suc, ◌≤◌, ◌++◌, inl, inr, Bool, true, false, cond, [], ◌∷◌, Some, None, refl, sym, ◌∙◌, ap, subst, arith}
+use Rattle.std.{specs.Prelude.{nat_eq, Contains}, proofs.lemmas.Bool.{ne_eqb}}
 use Rattle.ppdb_base.specs.Offsets.{Kept}
 use Rattle.ppdb_maps.specs.Map.{Map, is_dropped, moved_row, offsets_in, row_within}
-use Rattle.ppdb_values.specs.declared.file.FileValue.{FileValue}
-use Rattle.ppdb_values.specs.Links.{links, move_next_of}
-use Rattle.ppdb_values.specs.Meaning.{meaning}
-use Rattle.ppdb_merge_items.specs.declared.file.AnnotatedFile.{AnnotatedFile}
-use Rattle.ppdb_merge_items.specs.Each.{Each}
-use Rattle.ppdb_merge_items.specs.Laws.{SoundnessIsAnnotated}
-use Rattle.ppdb_merge_items.specs.NamedRows.{names, names_some, named_rows, all_named, live_file}
-use Rattle.ppdb_merge_items.specs.Annotated.{annotated_file}
-use Rattle.ppdb_merge_items.specs.AnnotatedMeaning.{annotated_links}
+use Rattle.ppdb_values.specs.{declared.file.FileValue.{FileValue}, Links.{links, move_next_of}, Meaning.{meaning}}
+use Rattle.ppdb_merge_items.specs.{declared.file.AnnotatedFile.{AnnotatedFile}, Each.{Each}, Laws.{SoundnessIsAnnotated}, NamedRows.{names, names_some, named_rows}}
+use Rattle.ppdb_merge_items.specs.{NamedRows.{all_named, live_file}, Annotated.{annotated_file}, AnnotatedMeaning.{annotated_links}}
 use Rattle.ppdb_merge_items.proofs.AnnotatedMeanings.{meaning_is, links_are}
-use Rattle.ppdb_merge_joined.specs.Joinable.{methods_of}
-use Rattle.ppdb_merge_joined.specs.Joined.{joined}
-use Rattle.ppdb_merge_moved.specs.Fits.{IsImaged}
-use Rattle.ppdb_merge_moved.specs.Images.{meaning_image, links_image}
-use Rattle.ppdb_merge_moved.specs.Moved.{moved_file}
-use Rattle.ppdb_merge_moved.proofs.Elements.{each_in, in_each}
-use Rattle.ppdb_merge_moved.proofs.Fitting.{moved_dropped}
-use Rattle.ppdb_merge_moved.proofs.ImageRows.{within_moved}
-use Rattle.ppdb_merge_moved.proofs.NamedParts.{NamedParts, named_parts}
-use Rattle.ppdb_merge_moved.proofs.RowImages.{moved_is_image}
-use Rattle.ppdb_merge_meaning_laws.specs.Kept.{FitsAlone, InputsFit, InputsKeepMeaning, KeepsMeaning, NamesMethod, named_by}
-use Rattle.ppdb_merge_meaning_laws.specs.Laws.{SaysNothingOf}
-use Rattle.ppdb_merge_meaning_laws.specs.Origins.{InputsKeepOrigins, IsImageFrom, OfOne}
-use Rattle.ppdb_merge_meaning_laws.proofs.Inputs.{can_be_joined}
-use Rattle.ppdb_merge_meaning_laws.proofs.Keeping.{joined_back}
-use Rattle.map_compose_laws.specs.Steps.{moved_by, rewritten}
-use Rattle.map_compose_laws.proofs.Fitting.{is_live}
-use Rattle.map_compose_laws.proofs.Named.{named_or_not}
-use Rattle.map_compose_laws.proofs.Silent.{says_nothing, no_records, unsaid_silent, no_kickoff, no_move_next, unnamed_silent, links_nothing}
+use Rattle.ppdb_merge_joined.specs.{Joinable.{methods_of}, Joined.{joined}}
+use Rattle.ppdb_merge_moved.{specs.Fits.{IsImaged}, specs.Images.{meaning_image, links_image}, specs.Moved.{moved_file}, proofs.Elements.{each_in, in_each}}
+use Rattle.ppdb_merge_moved.proofs.{Fitting.{moved_dropped}, ImageRows.{within_moved}, NamedParts.{NamedParts, named_parts}, RowImages.{moved_is_image}}
+use Rattle.ppdb_merge_meaning_laws.specs.{Kept.{FitsAlone, InputsFit, InputsKeepMeaning, KeepsMeaning, NamesMethod, named_by}, Laws.{SaysNothingOf}}
+use Rattle.ppdb_merge_meaning_laws.{specs.Origins.{InputsKeepOrigins, IsImageFrom, OfOne}, proofs.Inputs.{can_be_joined}, proofs.Keeping.{joined_back}}
+use Rattle.map_compose_laws.{specs.Steps.{moved_by, rewritten}, proofs.Fitting.{is_live}, proofs.Named.{named_or_not}, proofs.Silent.{says_nothing, no_records}}
+use Rattle.map_compose_laws.proofs.Silent.{unsaid_silent, no_kickoff, no_move_next, unnamed_silent, links_nothing}
 
 -- a file that fits its map fits alone
 alone : (m : Map) (value : FileValue) → FitsAlone (true, moved_by value m) → InputsFit (moved_by value m ∷ [])

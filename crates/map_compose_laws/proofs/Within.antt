@@ -1,38 +1,21 @@
 -- The offsets of what a file means at an offset of a method are within the method's old size, so they compose where those do.
-use Rattle.std.proofs.Common.{◌≡◌, ℕ, ◌≤◌, ◌&&◌, Bool, true, false, cond, List, [], ◌∷◌, Option, Some, None, refl, sym, subst, arith}
-use Rattle.std.specs.Prelude.{nat_eq, nat_le, nat_lt, if◌then◌else◌}
-use Rattle.std.specs.List.{enumerate_from, filter, filter_map, flat_map}
-use Rattle.std.specs.Option.{option_and_then, option_map}
-use Rattle.std.proofs.lemmas.Bool.{and_parts, eqb-true}
-use Rattle.std.proofs.lemmas.Bool.Decides.{nat_tests}
-use Rattle.custom_info.specs.declared.slots.Range.{Range}
-use Rattle.custom_info.specs.declared.slots.Slot.{Slot}
-use Rattle.custom_info.specs.declared.slots.Slot.TheVariants.{Empty, Held}
+use Rattle.std.{proofs.Common.{◌≡◌, ℕ, ◌≤◌, ◌&&◌, Bool, true, false, cond, List, [], ◌∷◌, Option, Some, None, refl, sym, subst, arith}, specs.Prelude.{nat_eq}}
+use Rattle.std.specs.{Prelude.{nat_le, nat_lt, if◌then◌else◌}, List.{enumerate_from, filter, filter_map, flat_map}, Option.{option_and_then, option_map}}
+use Rattle.std.proofs.lemmas.{Bool.{and_parts, eqb-true}, Bool.Decides.{nat_tests}}
+use Rattle.custom_info.specs.declared.slots.{Range.{Range}, Slot.{Slot}, Slot.TheVariants.{Empty, Held}}
 use Rattle.sequence_points.specs.declared.point.Point.{Point}
 use Rattle.ppdb_base.specs.Offsets.{Kept, old_size}
 use Rattle.ppdb_maps.specs.Map.{Map, offsets_in}
 use Rattle.map_compose.specs.Composed.{composed}
-use Rattle.ppdb_values.specs.declared.custom.CustomBody.{CustomBody}
-use Rattle.ppdb_values.specs.declared.custom.CustomBody.TheVariants.{Async, Hoisted, TypeDocuments, Unread}
-use Rattle.ppdb_values.specs.declared.custom.CustomValue.{CustomValue}
-use Rattle.ppdb_values.specs.declared.file.FileValue.{FileValue}
-use Rattle.ppdb_values.specs.declared.file.MethodValue.{MethodValue}
-use Rattle.ppdb_values.specs.Meaning.{ScopeMeaning, SlotMeaning, meaning, slot_at}
+use Rattle.ppdb_values.specs.declared.custom.{CustomBody.{CustomBody}, CustomBody.TheVariants.{Async, Hoisted, TypeDocuments, Unread}, CustomValue.{CustomValue}}
+use Rattle.ppdb_values.specs.{declared.file.FileValue.{FileValue}, declared.file.MethodValue.{MethodValue}, Meaning.{ScopeMeaning, SlotMeaning, meaning, slot_at}}
 use Rattle.ppdb_values.specs.Parts.{holds, slots_in}
-use Rattle.ppdb_merge_items.specs.declared.file.AnnotatedScope.{AnnotatedScope}
-use Rattle.ppdb_merge_items.specs.Each.{Each}
-use Rattle.ppdb_merge_items.specs.Laws.{MeaningsAreAnnotated}
-use Rattle.ppdb_merge_items.specs.Annotated.{annotated_file}
+use Rattle.ppdb_merge_items.specs.{declared.file.AnnotatedScope.{AnnotatedScope}, Each.{Each}, Laws.{MeaningsAreAnnotated}, Annotated.{annotated_file}}
 use Rattle.ppdb_merge_items.specs.AnnotatedMeaning.{document_at, held, last_of, method_of, on_method, point_at, point_meaning, scope_meaning}
 use Rattle.ppdb_merge_items.proofs.Lists.{Each-filter, Each-append, Each-enumerate}
-use Rattle.ppdb_merge_moved.specs.Fits.{AreWithin, EndsWithin}
-use Rattle.ppdb_merge_moved.proofs.Fitting.{offsets_rise}
-use Rattle.ppdb_merge_moved.proofs.Lists.{Each-filter_map}
-use Rattle.ppdb_merge_moved.proofs.Means.{kept_within}
+use Rattle.ppdb_merge_moved.{specs.Fits.{AreWithin, EndsWithin}, proofs.Fitting.{offsets_rise}, proofs.Lists.{Each-filter_map}, proofs.Means.{kept_within}}
 use Rattle.ppdb_merge_meaning_laws.specs.Kept.{FitsAlone}
-use Rattle.map_compose_laws.specs.Images.{EdgeComposes, EdgesCompose, PointComposes, RangeComposes}
-use Rattle.map_compose_laws.specs.Steps.{moved_by}
-use Rattle.map_compose_laws.proofs.Fitting.{each_shown}
+use Rattle.map_compose_laws.{specs.Images.{EdgeComposes, EdgesCompose, PointComposes, RangeComposes}, specs.Steps.{moved_by}, proofs.Fitting.{each_shown}}
 
 -- ---- lists
 

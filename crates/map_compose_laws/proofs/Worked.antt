@@ -1,29 +1,15 @@
 -- The worked file is sound, and the worked maps fit it.
 use Rattle.std.proofs.Common.{◌≡◌, ℕ, ◌≤◌, ◌<◌, ◌&&◌, inl, inr, true, false, cond, Bool, List, [], ◌∷◌, Some, None, refl, sym, ◌∙◌, ap, subst, arith}
-use Rattle.std.specs.Prelude.{nat_eq}
-use Rattle.std.specs.List.Sorted.{IsStrictlySortedBy}
-use Rattle.sequence_points.specs.declared.point.Point.{Point}
-use Rattle.sequence_points.specs.declared.point.Span.TheVariants.{Lines}
-use Rattle.ppdb_base.specs.declared.offsets.Run.{Run}
-use Rattle.ppdb_base.specs.Offsets.{Rise, lined}
-use Rattle.ppdb_maps.specs.declared.image.RowImage.TheVariants.{Row, Missing}
-use Rattle.ppdb_maps.specs.Map.{Map, MethodLine, method_line, row_image, row_within}
-use Rattle.ppdb_maps.specs.Readable.{IsReadable}
-use Rattle.map_compose.specs.Composed.{of_image}
-use Rattle.map_compose.specs.Sizes.{SizesAgree}
-use Rattle.ppdb_values.specs.declared.file.FileValue.{FileValue}
-use Rattle.ppdb_values.specs.declared.scope.ScopeValue.{ScopeValue}
-use Rattle.ppdb_values.specs.Chains.{chain_for}
-use Rattle.ppdb_values.specs.Ordered.{EachRow}
-use Rattle.ppdb_values.specs.Ranges.{ComesAfter, IsInOrAfter}
-use Rattle.ppdb_values.specs.WorkedSmall.{small_value, outer_scope, inner_scope}
-use Rattle.ppdb_values_sound_laws.specs.Methods.{SoundMethod, SoundPoint}
-use Rattle.ppdb_values_sound_laws.specs.Scopes.{SoundConstant, SoundScope}
-use Rattle.ppdb_values_sound_laws.specs.Sound.{IsSound}
-use Rattle.ppdb_merge_items.specs.Each.{Each}
-use Rattle.ppdb_merge_items.specs.NamedRows.{named_rows, live_scope}
-use Rattle.ppdb_merge_items.specs.Annotated.{annotated_file}
-use Rattle.ppdb_merge_items.proofs.Lists.{each_of, row_each, row_pairs}
+use Rattle.std.specs.{Prelude.{nat_eq}, List.Sorted.{IsStrictlySortedBy}}
+use Rattle.sequence_points.specs.declared.point.{Point.{Point}, Span.TheVariants.{Lines}}
+use Rattle.ppdb_base.specs.{declared.offsets.Run.{Run}, Offsets.{Rise, lined}}
+use Rattle.ppdb_maps.specs.{declared.image.RowImage.TheVariants.{Row, Missing}, Map.{Map, MethodLine, method_line, row_image, row_within}, Readable.{IsReadable}}
+use Rattle.map_compose.specs.{Composed.{of_image}, Sizes.{SizesAgree}}
+use Rattle.ppdb_values.specs.{declared.file.FileValue.{FileValue}, declared.scope.ScopeValue.{ScopeValue}, Chains.{chain_for}, Ordered.{EachRow}}
+use Rattle.ppdb_values.specs.{Ranges.{ComesAfter, IsInOrAfter}, WorkedSmall.{small_value, outer_scope, inner_scope}}
+use Rattle.ppdb_values_sound_laws.specs.{Methods.{SoundMethod, SoundPoint}, Scopes.{SoundConstant, SoundScope}, Sound.{IsSound}}
+use Rattle.ppdb_merge_items.{specs.Each.{Each}, specs.NamedRows.{named_rows, live_scope}, specs.Annotated.{annotated_file}, proofs.Lists.{each_of, row_each}}
+use Rattle.ppdb_merge_items.proofs.Lists.{row_pairs}
 use Rattle.ppdb_merge_joined.proofs.Each.{all_each, all_pairs}
 use Rattle.ppdb_merge_moved.specs.Fits.{Fits, HasSlot, IsImaged}
 use Rattle.map_compose_laws.specs.Worked.{edged, edged_points, map_with, one_kept, first_step, second_step, WorkedEdges}

@@ -1,30 +1,17 @@
 -- The first fault before the stream headers, and that of the streams.
-use Rattle.std.proofs.Common.{◌≡◌, ◌≢◌, ℕ, zero, suc, true, ◌+◌, ◌<◌, ◌≤◌, ◌⊎◌, inl, inr, List, [], ◌∷◌, ◌++◌, length, sum, Option, Some}
-use Rattle.std.proofs.Common.{None, refl, sym, ap, subst, ◌∙◌, append_assoc, arith, lit≤}
-use Rattle.std.specs.Prelude.{codes, MatchOption}
-use Rattle.std.specs.Option.{is_some, option_map, ForSome}
-use Rattle.std.proofs.lemmas.Bool.{cases_lt}
-use Rattle.ppdb_base.specs.declared.code.Code.{Code}
-use Rattle.ppdb_base.specs.declared.code.Code.TheVariants.{RootTruncated, StreamName, StreamUnknown, StreamRepeated, NotMetadata}
-use Rattle.ppdb_base.specs.declared.code.Code.TheVariants.{WindowsPdb, StreamMissing, StreamBounds}
-use Rattle.ppdb_base.specs.declared.fault.Place.{Place}
-use Rattle.ppdb_base.specs.declared.fault.Fault.{Fault}
-use Rattle.ppdb_base.specs.Place.{ComesBefore, numbers, number_of, at_byte}
-use Rattle.ppdb_base.specs.First.{IsAccepted, IsFirst}
-use Rattle.ppdb_base.proofs.Judging.{first_at, byte_before}
-use Rattle.metadata_root.specs.declared.kind.StreamKind.{StreamKind}
-use Rattle.metadata_root.specs.declared.kind.StreamKind.TheVariants.{Pdb, Tables, Strings, UserStrings, Guids, Blobs}
-use Rattle.metadata_root.specs.declared.header.Listing.{Listing}
-use Rattle.metadata_root.specs.declared.header.Extent.{Extent}
-use Rattle.metadata_root.specs.Root.{RootFaults, not_metadata, windows_pdb, truncated, invalid_name, unknown, repeated, BeginsWith}
-use Rattle.metadata_root.specs.Root.{prefix_fields, fields_to, root_fields, header_place, name_place, name_at, name_of, stream_count}
-use Rattle.metadata_root.specs.Root.{version_len}
-use Rattle.metadata_root.specs.Streams.{StreamFaults, bounds, missing_pdb, missing_tables, IsListed, Stream, Streams, stream_of, AreStreamsOf, IsStream}
-use Rattle.metadata_root.specs.Reading.{listed, slice_of, IsListing, IsFirstOutside, IsInside, HasExtent}
-use Rattle.std.proofs.lemmas.List.{length-take}
+use Rattle.std.proofs.Common.{◌≡◌, ◌≢◌, ℕ, zero, suc, true, ◌+◌, ◌<◌, ◌≤◌, ◌⊎◌, inl, inr, List, [], ◌∷◌, ◌++◌, length, sum, Option, Some, None, refl, sym, ap, subst}
+use Rattle.std.{proofs.Common.{◌∙◌, append_assoc, arith, lit≤}, specs.Prelude.{codes, MatchOption}, specs.Option.{is_some, option_map, ForSome}}
+use Rattle.std.proofs.lemmas.{Bool.{cases_lt}, List.{length-take}}
+use Rattle.ppdb_base.specs.declared.code.{Code.{Code}, Code.TheVariants.{RootTruncated, StreamName, StreamUnknown, StreamRepeated, NotMetadata, WindowsPdb}}
+use Rattle.ppdb_base.specs.declared.{code.Code.TheVariants.{StreamMissing, StreamBounds}, fault.Place.{Place}, fault.Fault.{Fault}}
+use Rattle.ppdb_base.{specs.Place.{ComesBefore, numbers, number_of, at_byte}, specs.First.{IsAccepted, IsFirst}, proofs.Judging.{first_at, byte_before}}
 use Rattle.ppdb_base.proofs.Fields.{sum_append, sum_cons}
-use Rattle.metadata_root.proofs.Order.{fields_split, ends_by_place}
-use Rattle.metadata_root.proofs.FirstOfRoot.{AreGoodTo, cut_is_first, found_where, missing_where}
+use Rattle.metadata_root.specs.declared.kind.{StreamKind.{StreamKind}, StreamKind.TheVariants.{Pdb, Tables, Strings, UserStrings, Guids, Blobs}}
+use Rattle.metadata_root.specs.{declared.header.Listing.{Listing}, declared.header.Extent.{Extent}, Root.{RootFaults, not_metadata, windows_pdb, truncated}}
+use Rattle.metadata_root.specs.Root.{invalid_name, unknown, repeated, BeginsWith, prefix_fields, fields_to, root_fields, header_place, name_place, name_at, name_of}
+use Rattle.metadata_root.specs.{Root.{stream_count, version_len}, Streams.{StreamFaults, bounds, missing_pdb, missing_tables, IsListed, Stream, Streams, stream_of}}
+use Rattle.metadata_root.specs.{Streams.{AreStreamsOf, IsStream}, Reading.{listed, slice_of, IsListing, IsFirstOutside, IsInside, HasExtent}}
+use Rattle.metadata_root.proofs.{Order.{fields_split, ends_by_place}, FirstOfRoot.{AreGoodTo, cut_is_first, found_where, missing_where}}
 
 -- no header is judged yet
 pub good_to_none : (file : List ℕ) → AreGoodTo file 0

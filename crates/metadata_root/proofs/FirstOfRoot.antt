@@ -1,29 +1,15 @@
 -- The first fault of the root, from what its readers saw.
-use Rattle.std.proofs.Common.{◌≡◌, ◌≢◌, ℕ, suc, ◌+◌, ◌<◌, ◌≤◌, ◌⊎◌, inl, inr, true, List, [], ◌∷◌, ◌++◌, length, take, sum, Option, Some}
-use Rattle.std.proofs.Common.{None, refl, sym, ap, subst, ◌∙◌, append_assoc, arith, lit≤}
-use Rattle.std.specs.Prelude.{codes, MatchOption}
-use Rattle.std.specs.Option.{is_some}
-use Rattle.std.proofs.lemmas.Bool.{cases_lt, lt-ltb, le-ltb}
-use Rattle.ppdb_base.specs.declared.code.Code.{Code}
-use Rattle.ppdb_base.specs.declared.code.Code.TheVariants.{RootTruncated, StreamName, StreamUnknown, StreamRepeated}
-use Rattle.ppdb_base.specs.declared.fault.Place.{Place}
-use Rattle.ppdb_base.specs.declared.fault.Fault.{Fault}
-use Rattle.ppdb_base.specs.Place.{ComesBefore, numbers, number_of, at_byte}
-use Rattle.ppdb_base.specs.First.{IsAccepted, IsJudgedTo, IsFirst}
-use Rattle.ppdb_base.proofs.Judging.{first_at, byte_before}
-use Rattle.metadata_root.specs.declared.kind.StreamKind.{StreamKind}
-use Rattle.metadata_root.specs.declared.header.Listing.{Listing}
-use Rattle.metadata_root.specs.declared.header.Extent.{Extent}
-use Rattle.ppdb_base.specs.Fields.{IsField}
-use Rattle.metadata_root.specs.Root.{IsInvalidName, RootFaults, not_metadata, windows_pdb, truncated, invalid_name, unknown, repeated, BeginsWith}
-use Rattle.metadata_root.specs.Root.{IsName, fields_to, root_fields, header_fields, header_place, name_place, name_at, name_len, name_of}
-use Rattle.metadata_root.specs.Root.{stream_count}
-use Rattle.metadata_root.specs.Reading.{IsGoodName, IsHeaderFault, cut, name, CutsHeader, BreaksNameRule, listed, IsListing, HasExtent}
-use Rattle.metadata_root.specs.Reading.{IsFirstOutside, IsInside, ReadsHeader, outside_after}
-use Rattle.metadata_root.specs.Streams.{offset_in, size_in}
-use Rattle.metadata_root.proofs.Listings.{same_kind, cases_kind}
-use Rattle.ppdb_base.proofs.Fields.{ends_by_cut, ends_within, sum_append}
-use Rattle.metadata_root.proofs.Order.{fields_split, earlier_header, name_len_pos}
+use Rattle.std.proofs.Common.{◌≡◌, ◌≢◌, ℕ, suc, ◌+◌, ◌<◌, ◌≤◌, ◌⊎◌, inl, inr, true, List, [], ◌∷◌, ◌++◌, length, take, sum, Option, Some, None, refl, sym, ap, subst}
+use Rattle.std.{proofs.Common.{◌∙◌, append_assoc, arith, lit≤}, specs.Prelude.{codes, MatchOption}, specs.Option.{is_some}, proofs.lemmas.Bool.{cases_lt, lt-ltb}}
+use Rattle.std.proofs.lemmas.Bool.{le-ltb}
+use Rattle.ppdb_base.specs.declared.{code.Code.{Code}, code.Code.TheVariants.{RootTruncated, StreamName, StreamUnknown, StreamRepeated}, fault.Place.{Place}}
+use Rattle.ppdb_base.specs.{declared.fault.Fault.{Fault}, Place.{ComesBefore, numbers, number_of, at_byte}, First.{IsAccepted, IsJudgedTo, IsFirst}}
+use Rattle.ppdb_base.{proofs.Judging.{first_at, byte_before}, specs.Fields.{IsField}, proofs.Fields.{ends_by_cut, ends_within, sum_append}}
+use Rattle.metadata_root.specs.{declared.kind.StreamKind.{StreamKind}, declared.header.Listing.{Listing}, declared.header.Extent.{Extent}, Root.{IsInvalidName}}
+use Rattle.metadata_root.specs.Root.{RootFaults, not_metadata, windows_pdb, truncated, invalid_name, unknown, repeated, BeginsWith, IsName, fields_to, root_fields}
+use Rattle.metadata_root.specs.{Root.{header_fields, header_place, name_place, name_at, name_len, name_of, stream_count}, Reading.{IsGoodName, IsHeaderFault, cut}}
+use Rattle.metadata_root.specs.Reading.{name, CutsHeader, BreaksNameRule, listed, IsListing, HasExtent, IsFirstOutside, IsInside, ReadsHeader, outside_after}
+use Rattle.metadata_root.{specs.Streams.{offset_in, size_in}, proofs.Listings.{same_kind, cases_kind}, proofs.Order.{fields_split, earlier_header, name_len_pos}}
 
 -- the names of the first k headers break no rule
 pub record AreGoodTo (file : List ℕ) (k : ℕ) : Type 0 where

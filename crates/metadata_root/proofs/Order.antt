@@ -1,6 +1,5 @@
 -- The order of the headers of a root.
-use Rattle.std.proofs.Common.{◌≡◌, ℕ, zero, suc, ◌+◌, ◌<◌, ◌≤◌, inl, inr, List, [], ◌++◌, sum, sym, ap, ◌∙◌, append_assoc, arith}
-use Rattle.std.proofs.lemmas.Bool.{cases_lt}
+use Rattle.std.proofs.{Common.{◌≡◌, ℕ, zero, suc, ◌+◌, ◌<◌, ◌≤◌, inl, inr, List, [], ◌++◌, sum, sym, ap, ◌∙◌, append_assoc, arith}, lemmas.Bool.{cases_lt}}
 use Rattle.std.proofs.lemmas.List.{append-nil}
 use Rattle.ppdb_base.proofs.Fields.{sum_append}
 use Rattle.metadata_root.specs.Root.{fields_to, header_fields, header_place, name_len}

@@ -1,10 +1,7 @@
 -- How a function that judges a file in the order of places is shown to answer the first fault: it keeps
 -- `IsJudgedTo Faults here`, that no fault comes before here, and moves here on.
 use Rattle.std.proofs.Common.{◌≡◌, ℕ, suc, ◌<◌, ◌≤◌, ◌⊎◌, inl, inr, List, [], ◌∷◌, ap, subst, ◌∙◌, arith}
-use Rattle.ppdb_base.specs.declared.code.Code.{Code}
-use Rattle.ppdb_base.specs.declared.fault.Place.{Place}
-use Rattle.ppdb_base.specs.declared.fault.Fault.{Fault}
-use Rattle.ppdb_base.specs.Place.{ComesBefore, numbers, number_of, at_byte}
+use Rattle.ppdb_base.specs.{declared.code.Code.{Code}, declared.fault.Place.{Place}, declared.fault.Fault.{Fault}, Place.{ComesBefore, numbers, number_of, at_byte}}
 use Rattle.ppdb_base.specs.First.{IsAccepted, IsJudgedTo, IsFirst, Then}
 
 -- the numbers of a place alone, to which all is judged before a code is tried there

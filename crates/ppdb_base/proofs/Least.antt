@@ -1,9 +1,6 @@
 -- A fault is the first one, or has a first one before it.
 use Rattle.std.proofs.Common.{◌≡◌, ℕ, zero, suc, ◌<◌, List, [], ◌∷◌, length, refl, sym, subst, arith, inl, inr}
-use Rattle.ppdb_base.specs.declared.code.Code.{Code}
-use Rattle.ppdb_base.specs.declared.fault.Place.{Place}
-use Rattle.ppdb_base.specs.Place.{ComesBefore, numbers}
-use Rattle.ppdb_base.specs.First.{AcceptedWithoutFirst}
+use Rattle.ppdb_base.specs.{declared.code.Code.{Code}, declared.fault.Place.{Place}, Place.{ComesBefore, numbers}, First.{AcceptedWithoutFirst}}
 
 by_order : (n : ℕ) (P : List ℕ → Type 0)
     → ((ns : List ℕ) → length ns ≡ n → ((ms : List ℕ) → length ms ≡ n → ComesBefore ms ns → P ms) → P ns)

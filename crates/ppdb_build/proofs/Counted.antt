@@ -1,29 +1,22 @@
 -- The tables of a draft have as many rows as those of the canonical file.
-use Rattle.std.proofs.Common.{◌≡◌, ℕ, ◌≤◌, List, [], ◌∷◌, ◌++◌, length, map, take, replicate, refl, sym, ap, subst, ◌∙◌, arith}
-use Rattle.std.proofs.Common.{None, slice_index}
-use Rattle.std.specs.Prelude.{All}
-use Rattle.std.specs.List.{filter_map}
-use Rattle.std.proofs.lemmas.List.{length-map}
-use Rattle.std.proofs.lemmas.List.Elements.{All-nil, All-head, All-tail, All-cons, All-filter}
-use Rattle.std.proofs.lemmas.List.FromFn.{length-enumerate_from}
+use Rattle.std.proofs.Common.{◌≡◌, ℕ, ◌≤◌, List, [], ◌∷◌, ◌++◌, length, map, take, replicate, refl, sym, ap, subst, ◌∙◌, arith, None, slice_index}
+use Rattle.std.{specs.Prelude.{All}, specs.List.{filter_map}, proofs.lemmas.List.{length-map}, proofs.lemmas.List.Elements.{All-nil, All-head, All-tail, All-cons}}
+use Rattle.std.proofs.lemmas.List.{Elements.{All-filter}, FromFn.{length-enumerate_from}}
 use Rattle.sequence_points.specs.Written.{first_of}
 use Rattle.ppdb_base.specs.declared.limits.Limit.TheVariants.{TableRows}
 use Rattle.ppdb_tables.specs.RawTables.{numbered}
-use Rattle.ppdb_values.specs.declared.file.FileValue.{FileValue}
-use Rattle.ppdb_values.specs.Types.{IsGuid, HasTypes}
+use Rattle.ppdb_values.specs.{declared.file.FileValue.{FileValue}, Types.{IsGuid, HasTypes}}
 use Rattle.ppdb_build_heaps.specs.Items.{first_uses}
-use Rattle.ppdb_build_canon.specs.Uses.{variables_of, constants_of, guid_uses}
-use Rattle.ppdb_build_canon.specs.Canonical.{counts, document_row, method_rows, scope_row, variable_row, constant_row, import_row, custom_row, canonical_tables}
-use Rattle.ppdb_build_canon.specs.Limits.{too_many_rows, tables}
+use Rattle.ppdb_build_canon.specs.{Uses.{variables_of, constants_of, guid_uses}, Canonical.{counts, document_row, method_rows, scope_row, variable_row}}
+use Rattle.ppdb_build_canon.specs.{Canonical.{constant_row, import_row, custom_row, canonical_tables}, Limits.{too_many_rows, tables}}
 use Rattle.ppdb_build_canon.proofs.Counts as known
 use Rattle.ppdb_build_items.specs.Interned.{cell}
-use Rattle.ppdb_build_draft.specs.Draft.{Draft}
-use Rattle.ppdb_build_draft.specs.Drafted.{held_document, held_method, held_scope, held_variable, held_constant, held_import, held_custom, held_rows, IsDraftOf}
+use Rattle.ppdb_build_draft.specs.{Draft.{Draft}, Drafted.{held_document, held_method, held_scope, held_variable, held_constant, held_import, held_custom}}
+use Rattle.ppdb_build_draft.specs.Drafted.{held_rows, IsDraftOf}
 use Rattle.ppdb_build_bytes.specs.Drafts.{counts_in}
 use Rattle.ppdb_build_rows_laws.proofs.Documents.{all_guids}
-use Rattle.ppdb_build.specs.Building.{early_limit_of}
+use Rattle.ppdb_build.{specs.Building.{early_limit_of}, proofs.Limits.{neither, not_above}}
 use Rattle.ppdb_build_limits.proofs.Firsts.{first_or}
-use Rattle.ppdb_build.proofs.Limits.{neither, not_above}
 
 -- ---- GUIDs
 

@@ -1,35 +1,21 @@
 -- The head and the draft of inputs that are joined: which limits they report.
 use Rattle.std.proofs.Common.{◌≡◌, ℕ, ◌≤◌, Bool, false, cond, List, [], ◌∷◌, length, map, refl, subst, sym, ap, ◌∙◌, arith, Option, Some, None, All}
-use Rattle.std.specs.Prelude.{nat_lt, nat_le, slice_index}
-use Rattle.std.specs.Option.{option_map, option_or}
-use Rattle.std.specs.List.{filter_map, cons_option, find}
-use Rattle.std.proofs.lemmas.List.{length-map}
-use Rattle.std.proofs.lemmas.List.Elements.{All-head, All-tail}
-use Rattle.std.proofs.lemmas.List.FromFn.{length-enumerate_from}
-use Rattle.ppdb_base.specs.declared.limits.Limit.{Limit}
-use Rattle.ppdb_base.specs.declared.limits.Limit.TheVariants.{TableRows, PointOffset, LineStep}
-use Rattle.sequence_points.specs.declared.point.Point.{Point}
-use Rattle.sequence_points.specs.Written.{first_of}
-use Rattle.ppdb_tables.specs.RawTables.{numbered}
-use Rattle.ppdb_tables.specs.declared.head.PdbHead.{PdbHead}
-use Rattle.ppdb_values.specs.declared.file.FileValue.{FileValue}
-use Rattle.ppdb_values.specs.declared.file.MethodValue.{MethodValue}
-use Rattle.ppdb_values.specs.Types.{HasTypes}
+use Rattle.std.specs.{Prelude.{nat_lt, nat_le, slice_index}, Option.{option_map, option_or}, List.{filter_map, cons_option, find}}
+use Rattle.std.proofs.lemmas.{List.{length-map}, List.Elements.{All-head, All-tail}, List.FromFn.{length-enumerate_from}}
+use Rattle.ppdb_base.specs.declared.limits.{Limit.{Limit}, Limit.TheVariants.{TableRows, PointOffset, LineStep}}
+use Rattle.sequence_points.specs.{declared.point.Point.{Point}, Written.{first_of}}
+use Rattle.ppdb_tables.specs.{RawTables.{numbered}, declared.head.PdbHead.{PdbHead}}
+use Rattle.ppdb_values.specs.{declared.file.FileValue.{FileValue}, declared.file.MethodValue.{MethodValue}, Types.{HasTypes}}
 use Rattle.ppdb_values_sound_laws.specs.Sound.{IsSound}
 use Rattle.ppdb_build_layout.specs.declared.rows.Rows.{Rows}
 use Rattle.ppdb_build_canon.specs.Canonical.{counts, document_row, method_rows, scope_row, variable_row, constant_row, import_row, custom_row, canonical_tables}
-use Rattle.ppdb_build_canon.specs.Limits.{above, too_many_rows, tables, list_past_end, large_offset, large_step_of}
-use Rattle.ppdb_build_canon.specs.Uses.{variables_of, constants_of}
+use Rattle.ppdb_build_canon.specs.{Limits.{above, too_many_rows, tables, list_past_end, large_offset, large_step_of}, Uses.{variables_of, constants_of}}
 use Rattle.ppdb_build_canon.proofs.Counts as known
-use Rattle.ppdb_build_draft.specs.Draft.{Draft}
-use Rattle.ppdb_build_draft.specs.Drafted.{held_document, held_method, held_scope, held_variable, held_constant, held_import, held_custom, held_rows}
-use Rattle.ppdb_build_draft.specs.Drafted.{drafted, IsDraftOf, DraftsAreCanonical}
-use Rattle.ppdb_merge_items.specs.Each.{Each}
-use Rattle.ppdb_merge_items.proofs.Lists.{Each-weaker}
+use Rattle.ppdb_build_draft.specs.{Draft.{Draft}, Drafted.{held_document, held_method, held_scope, held_variable, held_constant, held_import, held_custom}}
+use Rattle.ppdb_build_draft.specs.Drafted.{held_rows, drafted, IsDraftOf, DraftsAreCanonical}
+use Rattle.ppdb_merge_items.{specs.Each.{Each}, proofs.Lists.{Each-weaker}}
 use Rattle.ppdb_merge_rows.specs.Methods.{HasForms}
-use Rattle.ppdb_build.specs.Building.{IsDraftedFrom, early_limit_of}
-use Rattle.ppdb_build.specs.Joining.{AreRowsFew, IsHeadOf}
-use Rattle.ppdb_build.proofs.Limits.{lists_alone}
+use Rattle.ppdb_build.{specs.Building.{IsDraftedFrom, early_limit_of}, specs.Joining.{AreRowsFew, IsHeadOf}, proofs.Limits.{lists_alone}}
 
 -- ---- nothing is answered
 

@@ -1,27 +1,16 @@
 -- The head and the draft of a value: their limits and their file are those of the value.
-use Rattle.std.proofs.Common.{◌≡◌, ℕ, ◌+◌, List, [], ◌∷◌, ◌++◌, length, drop, refl, sym, ap, subst, ◌∙◌, Option, None}
-use Rattle.std.specs.List.{filter_map}
+use Rattle.std.{proofs.Common.{◌≡◌, ℕ, ◌+◌, List, [], ◌∷◌, ◌++◌, length, drop, refl, sym, ap, subst, ◌∙◌, Option, None}, specs.List.{filter_map}}
 use Rattle.sequence_points.specs.Written.{first_of}
-use Rattle.ppdb_base.specs.declared.limits.Limit.{Limit}
-use Rattle.ppdb_base.specs.declared.limits.Limit.TheVariants.{FileSize, SpanTotal}
+use Rattle.ppdb_base.specs.{declared.limits.Limit.{Limit}, declared.limits.Limit.TheVariants.{FileSize, SpanTotal}, Told.{told}}
 use Rattle.ppdb_tables.specs.declared.head.PdbHead.{PdbHead}
-use Rattle.ppdb_base.specs.Told.{told}
 use Rattle.ppdb_build_layout.specs.Bytes.{file_bytes}
-use Rattle.ppdb_values.specs.declared.file.FileValue.{FileValue}
-use Rattle.ppdb_build_canon.specs.declared.choice.IdChoice.{IdChoice}
-use Rattle.ppdb_build_canon.specs.Canonical.{canonical, counts}
-use Rattle.ppdb_build_canon.specs.Canon.{canon}
-use Rattle.ppdb_values.specs.Types.{HasTypes}
+use Rattle.ppdb_values.specs.{declared.file.FileValue.{FileValue}, Types.{HasTypes}}
+use Rattle.ppdb_build_canon.specs.{declared.choice.IdChoice.{IdChoice}, Canonical.{canonical, counts}, Canon.{canon}, Limits.{above, first_met, large_step_of, span}}
+use Rattle.ppdb_build_canon.specs.Limits.{first_limit}
 use Rattle.ppdb_values_sound_laws.specs.Sound.{IsSound}
-use Rattle.ppdb_build_canon.specs.Limits.{above, first_met, large_step_of, span, first_limit}
-use Rattle.ppdb_build_draft.specs.Draft.{Draft}
-use Rattle.ppdb_build_draft.specs.Drafted.{drafted, IsDraftOf, DraftsAreCanonical}
-use Rattle.ppdb_build_bytes.specs.Drafts.{debug_counts_of, counts_in, file_from, id_in}
-use Rattle.ppdb_build_bytes.proofs.Counts.{counts_joined}
-use Rattle.ppdb_build_bytes.proofs.Laid.{draft_length}
-use Rattle.ppdb_build.specs.Building.{IsDraftedFrom, early_limit_of}
-use Rattle.ppdb_build.proofs.Counted.{are_few, counts_same}
-use Rattle.ppdb_build.proofs.Limits.{late_first}
+use Rattle.ppdb_build_draft.specs.{Draft.{Draft}, Drafted.{drafted, IsDraftOf, DraftsAreCanonical}}
+use Rattle.ppdb_build_bytes.{specs.Drafts.{debug_counts_of, counts_in, file_from, id_in}, proofs.Counts.{counts_joined}, proofs.Laid.{draft_length}}
+use Rattle.ppdb_build.{specs.Building.{IsDraftedFrom, early_limit_of}, proofs.Counted.{are_few, counts_same}, proofs.Limits.{late_first}}
 use Rattle.ppdb_build.proofs.Written.{written_is}
 
 -- the row counts of the type system are the value's

@@ -1,46 +1,25 @@
 -- The file that inputs are joined into has what the types of the code carry.
-use Rattle.std.proofs.Common.{◌≡◌, ℕ, ◌+◌, ◌≤◌, Bool, true, false, cond, List, [], ◌∷◌, Option, Some, None, length, map, take, get_or, ap, sym, subst, ◌∙◌, arith, refl}
-use Rattle.std.specs.Prelude.{All, bytes_eq}
-use Rattle.std.specs.List.{enumerate_from, filter_map, flat_map, list_any}
-use Rattle.std.specs.Option.{option_map}
-use Rattle.std.proofs.lemmas.List.{length-take-le, length-append}
-use Rattle.std.proofs.lemmas.List.Elements.{All-map, All-weaker}
-use Rattle.ppdb_maps.specs.Map.{Map}
-use Rattle.ppdb_tables.specs.declared.parent.Parent.{Parent}
-use Rattle.ppdb_tables.specs.declared.rows.VariableRow.{VariableRow}
-use Rattle.ppdb_tables.specs.Parents.{coded_of}
-use Rattle.ppdb_values.specs.Customs.{custom_of, kind_in}
-use Rattle.ppdb_values.specs.Documents.{document_of}
-use Rattle.ppdb_values.specs.RawFile.{RawFile}
-use Rattle.ppdb_values.specs.Rules.{IsCustom, KeepsRules}
-use Rattle.ppdb_values.specs.Types.{HasGuids, HasTypes, IsGuid, IsNarrow, IsNarrowRow}
-use Rattle.ppdb_values.specs.Value.{value_of}
-use Rattle.ppdb_values.specs.declared.custom.CustomValue.{CustomValue}
-use Rattle.ppdb_values.specs.declared.file.DocumentValue.{DocumentValue}
-use Rattle.ppdb_values.specs.declared.file.FileValue.{FileValue}
-use Rattle.ppdb_values.specs.declared.scope.ScopeValue.{ScopeValue}
+use Rattle.std.proofs.Common.{◌≡◌, ℕ, ◌+◌, ◌≤◌, Bool, true, false, cond, List, [], ◌∷◌, Option, Some, None, length, map, take, get_or, ap, sym, subst, ◌∙◌, arith}
+use Rattle.std.{proofs.Common.{refl}, specs.Prelude.{All, bytes_eq}, specs.List.{enumerate_from, filter_map, flat_map, list_any}, specs.Option.{option_map}}
+use Rattle.std.proofs.lemmas.{List.{length-take-le, length-append}, List.Elements.{All-map, All-weaker}}
+use Rattle.ppdb_maps.specs.{Map.{Map}, Readable.{IsReadable}}
+use Rattle.ppdb_tables.specs.{declared.parent.Parent.{Parent}, declared.rows.VariableRow.{VariableRow}, Parents.{coded_of}}
+use Rattle.ppdb_values.specs.{Customs.{custom_of, kind_in}, Documents.{document_of}, RawFile.{RawFile}, Rules.{IsCustom, KeepsRules}, Types.{HasGuids, HasTypes}}
+use Rattle.ppdb_values.specs.{Types.{IsGuid, IsNarrow, IsNarrowRow}, Value.{value_of}, declared.custom.CustomValue.{CustomValue}}
+use Rattle.ppdb_values.specs.declared.{file.DocumentValue.{DocumentValue}, file.FileValue.{FileValue}, scope.ScopeValue.{ScopeValue}}
 use Rattle.ppdb_values.proofs.Typed.{any_all, each_all, guid_length, guid_or_none}
 use Rattle.ppdb_values_sound_laws.specs.Customs.{SoundCustoms}
 use Rattle.ppdb_verify.specs.Views.{raw_file}
-use Rattle.ppdb_build_canon.specs.Canonical.{canonical_tables, variable_row}
-use Rattle.ppdb_build_canon.specs.Uses.{variables_of}
+use Rattle.ppdb_build_canon.specs.{Canonical.{canonical_tables, variable_row}, Uses.{variables_of}}
 use Rattle.ppdb_build_layout.specs.declared.rows.Rows.{Rows}
-use Rattle.ppdb_build_draft.specs.Draft.{Draft}
-use Rattle.ppdb_build_draft.specs.Drafted.{IsDraftOf, held_variable}
-use Rattle.ppdb_maps.specs.Readable.{IsReadable}
-use Rattle.ppdb_merge_items.specs.Each.{Each}
-use Rattle.ppdb_merge_items.proofs.Lists.{Each-enumerate, Each-map, Each-unmap, Each-weaker}
-use Rattle.ppdb_merge_items.proofs.Orders.{in_order_each}
-use Rattle.ppdb_merge_joined.specs.Joined.{firsts}
-use Rattle.ppdb_merge_joined.specs.Same.{same_record}
-use Rattle.ppdb_merge_joined.proofs.Each.{Each-flat, Each-unflat, all_each, each_all as of_all}
+use Rattle.ppdb_build_draft.specs.{Draft.{Draft}, Drafted.{IsDraftOf, held_variable}}
+use Rattle.ppdb_merge_items.{specs.Each.{Each}, proofs.Lists.{Each-enumerate, Each-map, Each-unmap, Each-weaker}, proofs.Orders.{in_order_each}}
+use Rattle.ppdb_merge_joined.{specs.Joined.{firsts}, specs.Same.{same_record}, proofs.Each.{Each-flat, Each-unflat, all_each, each_all as of_all}}
 use Rattle.ppdb_merge_joined.proofs.Kept.{fresh_each}
-use Rattle.ppdb_merge_moved.specs.Moved.{linked, moved_counts, moved_document}
-use Rattle.ppdb_merge_moved.proofs.Lists.{Each-filter_map}
+use Rattle.ppdb_merge_moved.{specs.Moved.{linked, moved_counts, moved_document}, proofs.Lists.{Each-filter_map}}
 use Rattle.ppdb_merge_parts.specs.Flat.{FitsAlone, InputsFit, MovedBy, joined_inputs, JoinedPartsAreFlat, documents_of, moved_documents}
 use Rattle.ppdb_build_merged.specs.Records.{JoinedRecordsAreFlat, Numbered, parent_image, record_image, record_on, records_of}
-use Rattle.ppdb_merge_rows.specs.Inputs.{moved_by, moved_inputs}
-use Rattle.ppdb_merge_rows.specs.declared.inputs.RowInput.{RowInput}
+use Rattle.ppdb_merge_rows.specs.{Inputs.{moved_by, moved_inputs}, declared.inputs.RowInput.{RowInput}}
 
 -- ---- what the files of inputs have
 

@@ -1,13 +1,11 @@
 -- The head of the first input, moved, is that of the file that inputs are joined into.
-use Rattle.std.proofs.Common.{◌≡◌, ℕ, zero, suc, ◌+◌, ◌≤◌, List, [], ◌∷◌, length, take, get_or, refl, sym, ap, subst, ◌∙◌, arith}
+use Rattle.std.{proofs.Common.{◌≡◌, ℕ, zero, suc, ◌+◌, ◌≤◌, List, [], ◌∷◌, length, take, get_or, refl, sym, ap, subst, ◌∙◌, arith}, specs.Prelude.{unwrap_or}}
 use Rattle.ppdb_tables.specs.declared.head.PdbHead.{PdbHead}
 use Rattle.ppdb_maps.specs.Map.{Map, count_of}
 use Rattle.ppdb_merge_moved.specs.Moved.{moved_counts}
 use Rattle.ppdb_merge_parts.specs.Flat.{joined_inputs, JoinedPartsAreFlat}
-use Rattle.ppdb_merge_rows.specs.Inputs.{moved_by, moved_inputs}
-use Rattle.ppdb_merge_rows.specs.declared.inputs.RowInput.{RowInput}
+use Rattle.ppdb_merge_rows.specs.{Inputs.{moved_by, moved_inputs}, declared.inputs.RowInput.{RowInput}}
 use Rattle.ppdb_build.specs.Joining.{IsHeadOf, IsMovedHead}
-use Rattle.std.specs.Prelude.{unwrap_or}
 
 counts_taken : (m : Map) (table k : ℕ) (rows : List ℕ) → take k (moved_counts m table rows) ≡ moved_counts m table (take k rows)
 counts_taken m table zero rows = refl

@@ -1,29 +1,16 @@
 -- The list of the last scope of a draft begins after the rows of a table exactly where the last scope of the value owns none of them.
-use Rattle.std.proofs.Common.{◌≡◌, ℕ, zero, suc, ◌+◌, ◌-◌, ◌&&◌, List, [], ◌∷◌, length, map, min, take, refl, sym, ap, ◌∙◌}
-use Rattle.std.proofs.Common.{arith, slice_get, inl, inr}
-use Rattle.std.specs.Prelude.{Option, Some, None, ◌==◌}
-use Rattle.std.specs.Option.{option_or}
-use Rattle.std.specs.List.{sum_by}
-use Rattle.std.proofs.lemmas.Bool.Decides.{nat_tests}
-use Rattle.std.proofs.lemmas.List.{length-map}
-use Rattle.std.proofs.lemmas.List.Concat.{length-flat_map}
-use Rattle.std.proofs.lemmas.List.FromFn.{length-enumerate_from}
-use Rattle.std.proofs.lemmas.List.Sums.{sum_by-cons}
-use Rattle.std.proofs.lemmas.Option.{none-some, slice_get_cases}
+use Rattle.std.proofs.Common.{◌≡◌, ℕ, zero, suc, ◌+◌, ◌-◌, ◌&&◌, List, [], ◌∷◌, length, map, min, take, refl, sym, ap, ◌∙◌, arith, slice_get, inl, inr}
+use Rattle.std.{specs.Prelude.{Option, Some, None, ◌==◌}, specs.Option.{option_or}, specs.List.{sum_by}, proofs.lemmas.Bool.Decides.{nat_tests}}
+use Rattle.std.proofs.lemmas.{List.{length-map}, List.Concat.{length-flat_map}, List.FromFn.{length-enumerate_from}, List.Sums.{sum_by-cons}, Option.{none-some}}
+use Rattle.std.proofs.lemmas.Option.{slice_get_cases}
 use Rattle.sequence_points.specs.Written.{last_of}
-use Rattle.ppdb_base.specs.declared.limits.Limit.{Limit}
-use Rattle.ppdb_base.specs.declared.limits.Limit.TheVariants.{ListPastEnd}
-use Rattle.ppdb_tables.specs.declared.rows.ScopeRow.{ScopeRow}
-use Rattle.ppdb_tables.specs.RawTables.{numbered}
-use Rattle.ppdb_values.specs.declared.file.FileValue.{FileValue}
-use Rattle.ppdb_values.specs.declared.scope.ScopeValue.{ScopeValue}
+use Rattle.ppdb_base.specs.declared.limits.{Limit.{Limit}, Limit.TheVariants.{ListPastEnd}}
+use Rattle.ppdb_tables.specs.{declared.rows.ScopeRow.{ScopeRow}, RawTables.{numbered}}
+use Rattle.ppdb_values.specs.declared.{file.FileValue.{FileValue}, scope.ScopeValue.{ScopeValue}}
 use Rattle.ppdb_values_sound_laws.proofs.Listed.{row_of_map, row_of_numbered}
-use Rattle.ppdb_build_canon.specs.Uses.{variables_of, constants_of}
-use Rattle.ppdb_build_canon.specs.Canonical.{scope_row, variable_row, constant_row, canonical_tables}
-use Rattle.ppdb_build_canon.specs.Limits.{owns_none, list_past_end}
-use Rattle.ppdb_build_canon.proofs.Limits.{met}
-use Rattle.ppdb_build_draft.specs.Draft.{Draft}
-use Rattle.ppdb_build_draft.specs.Drafted.{held_scope, held_variable, held_constant, IsDraftOf}
+use Rattle.ppdb_build_canon.specs.{Uses.{variables_of, constants_of}, Canonical.{scope_row, variable_row, constant_row, canonical_tables}, Limits.{owns_none}}
+use Rattle.ppdb_build_canon.{specs.Limits.{list_past_end}, proofs.Limits.{met}}
+use Rattle.ppdb_build_draft.specs.{Draft.{Draft}, Drafted.{held_scope, held_variable, held_constant, IsDraftOf}}
 
 -- ---- the last scope
 

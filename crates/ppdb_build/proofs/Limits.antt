@@ -1,21 +1,14 @@
 -- The first limit of all, from the first of some.
-use Rattle.std.proofs.Common.{◌≡◌, ℕ, ◌≤◌, Bool, true, false, List, [], ◌∷◌, length, refl, sym, ap, ◌∙◌, Option, Some, None}
-use Rattle.std.specs.Prelude.{nat_lt, if◌then◌else◌}
-use Rattle.std.specs.Option.{option_or}
-use Rattle.std.specs.List.{filter_map}
-use Rattle.std.proofs.lemmas.Bool.{ltb-false}
-use Rattle.std.proofs.lemmas.Option.{none-some}
+use Rattle.std.{proofs.Common.{◌≡◌, ℕ, ◌≤◌, Bool, true, false, List, [], ◌∷◌, length, refl, sym, ap, ◌∙◌, Option, Some, None}, specs.Prelude.{nat_lt, if◌then◌else◌}}
+use Rattle.std.{specs.Option.{option_or}, specs.List.{filter_map}, proofs.lemmas.Bool.{ltb-false}, proofs.lemmas.Option.{none-some}}
 use Rattle.sequence_points.specs.Written.{first_of}
-use Rattle.ppdb_base.specs.declared.limits.Limit.{Limit}
-use Rattle.ppdb_base.specs.declared.limits.Limit.TheVariants.{FileSize, SpanTotal}
-use Rattle.ppdb_base.specs.Told.{told}
+use Rattle.ppdb_base.specs.{declared.limits.Limit.{Limit}, declared.limits.Limit.TheVariants.{FileSize, SpanTotal}, Told.{told}}
 use Rattle.ppdb_build_layout.specs.Bytes.{file_bytes}
 use Rattle.ppdb_values.specs.declared.file.FileValue.{FileValue}
-use Rattle.ppdb_build_canon.specs.Canonical.{canonical}
-use Rattle.ppdb_build_canon.specs.Limits.{above, first_met, too_many_rows, tables, list_past_end, large_offset, large_step_of, span, first_limit}
-use Rattle.ppdb_build.specs.declared.error.BuildError.{BuildError}
-use Rattle.ppdb_build.specs.declared.error.BuildError.TheVariants.{Limit as Passed, Memory}
-use Rattle.ppdb_build.specs.Building.{IsLimit, IsLimitOf, early_limit_of}
+use Rattle.ppdb_build_canon.specs.{Canonical.{canonical}, Limits.{above, first_met, too_many_rows, tables, list_past_end, large_offset, large_step_of, span}}
+use Rattle.ppdb_build_canon.specs.Limits.{first_limit}
+use Rattle.ppdb_build.specs.{declared.error.BuildError.{BuildError}, declared.error.BuildError.TheVariants.{Limit as Passed, Memory}, Building.{IsLimit, IsLimitOf}}
+use Rattle.ppdb_build.specs.Building.{early_limit_of}
 
 chain : (a b c d : Option Limit) (rest : List (Option Limit)) → first_met (a ∷ b ∷ c ∷ d ∷ rest) ≡ option_or (first_met (a ∷ b ∷ c ∷ d ∷ [])) (first_met rest)
 chain (Some x) b c d rest = refl

@@ -1,7 +1,6 @@
 -- The row counts of the type system, as the head of a file reports them.
-use Rattle.std.proofs.Common.{◌≡◌, ℕ, ◌<◌, List, [], ◌∷◌, length, take, sym, ◌∙◌, arith, slice_index}
-use Rattle.std.specs.List.{repeat}
-use Rattle.std.proofs.lemmas.List.{ext_get_or, get_or-take, length-take-le, take-append-le, take_all}
+use Rattle.std.{proofs.Common.{◌≡◌, ℕ, ◌<◌, List, [], ◌∷◌, length, take, sym, ◌∙◌, arith, slice_index}, specs.List.{repeat}, proofs.lemmas.List.{ext_get_or}}
+use Rattle.std.proofs.lemmas.List.{get_or-take, length-take-le, take-append-le, take_all}
 use Rattle.ppdb_values.specs.Value.{type_system_rows}
 
 -- two lists with the same first numbers

@@ -1,35 +1,20 @@
 -- The parts of a sound value that passes no early limit can be written.
-use Rattle.std.proofs.Common.{◌≡◌, ℕ, ◌<◌, ◌≤◌, Bool, true, false, List, [], length, take, get_or, ap, ◌∙◌, arith}
-use Rattle.std.proofs.Common.{Some, None, All}
-use Rattle.std.specs.Prelude.{nat_le, ◌==◌, if◌then◌else◌}
-use Rattle.std.specs.List.{filter_map, find}
-use Rattle.std.proofs.lemmas.Bool.{leb-false}
-use Rattle.std.proofs.lemmas.List.Elements.{All-weaker, All-contains}
+use Rattle.std.{proofs.Common.{◌≡◌, ℕ, ◌<◌, ◌≤◌, Bool, true, false, List, [], length, take, get_or, ap, ◌∙◌, arith, Some, None, All}, specs.Prelude.{nat_le, ◌==◌}}
+use Rattle.std.{specs.Prelude.{if◌then◌else◌}, specs.List.{filter_map, find}, proofs.lemmas.Bool.{leb-false}, proofs.lemmas.List.Elements.{All-weaker, All-contains}}
 use Rattle.std.proofs.lemmas.List.Concat.{length-flat_map}
-use Rattle.sequence_points.specs.declared.point.Point.{Point}
-use Rattle.sequence_points.specs.Written.{first_of}
-use Rattle.sequence_points.specs.Ranges.{IsOffset}
+use Rattle.sequence_points.specs.{declared.point.Point.{Point}, Written.{first_of}, Ranges.{IsOffset}}
 use Rattle.ppdb_base.specs.declared.limits.Limit.TheVariants.{PointOffset}
 use Rattle.ppdb_tables.specs.RawTables.{row_at}
-use Rattle.ppdb_values.specs.declared.file.FileValue.{FileValue}
-use Rattle.ppdb_values.specs.declared.file.MethodValue.{MethodValue}
-use Rattle.ppdb_values.specs.declared.scope.ScopeValue.{ScopeValue}
-use Rattle.ppdb_values.specs.Types.{HasTypes}
+use Rattle.ppdb_values.specs.{declared.file.FileValue.{FileValue}, declared.file.MethodValue.{MethodValue}, declared.scope.ScopeValue.{ScopeValue}, Types.{HasTypes}}
 use Rattle.ppdb_values.proofs.Typed.{each_all}
-use Rattle.ppdb_values_sound_laws.specs.Named.{count}
-use Rattle.ppdb_values_sound_laws.specs.Sound.{IsSound}
-use Rattle.ppdb_values_sound_laws.specs.Writing.{HasSpelling, SoundPartsCanBeWritten}
-use Rattle.ppdb_build_canon.specs.Limits.{too_many_rows, tables, list_past_end, large_offset, large_step_of}
-use Rattle.ppdb_build_canon.proofs.Among.{among_rows}
+use Rattle.ppdb_values_sound_laws.specs.{Named.{count}, Sound.{IsSound}, Writing.{HasSpelling, SoundPartsCanBeWritten}}
+use Rattle.ppdb_build_canon.{specs.Limits.{too_many_rows, tables, list_past_end, large_offset, large_step_of}, proofs.Among.{among_rows}}
 use Rattle.ppdb_build_canon.proofs.Limits.{nothing_mapped, no_first, none_made, none_found}
 use Rattle.ppdb_build_limits.proofs.Firsts.{first_at}
-use Rattle.ppdb_build.specs.declared.error.BuildError.{BuildError}
-use Rattle.ppdb_build.specs.declared.error.BuildError.TheVariants.{Limit as Passed, Memory}
-use Rattle.ppdb_build.specs.Building.{IsLimit, early_limit_of, IsWritableMethod, IsWritableConstant, IsWritableScope}
+use Rattle.ppdb_build.specs.{declared.error.BuildError.{BuildError}, declared.error.BuildError.TheVariants.{Limit as Passed, Memory}, Building.{IsLimit}}
+use Rattle.ppdb_build.specs.Building.{early_limit_of, IsWritableMethod, IsWritableConstant, IsWritableScope, IsWritableCustom, ArePartsWritable}
+use Rattle.ppdb_build.proofs.{Limits.{neither}, Counted.{AreFew, are_few}}
 use Rattle.ppdb_build_merged.specs.Writable.{IsWritableImport}
-use Rattle.ppdb_build.specs.Building.{IsWritableCustom, ArePartsWritable}
-use Rattle.ppdb_build.proofs.Limits.{neither}
-use Rattle.ppdb_build.proofs.Counted.{AreFew, are_few}
 
 -- the first step that has no form
 pub step_at : (methods : List MethodValue) (i : ℕ) (method : MethodValue) → i < length methods → filter_map large_step_of (take i methods) ≡ []

@@ -3,11 +3,8 @@ use Rattle.std.proofs.Common.{◌≡◌, ℕ, List, length, replicate, refl, ap,
 use Rattle.sha2.specs.Sha256.{sha256}
 use Rattle.ppdb_build_layout.specs.Bytes.{file_bytes}
 use Rattle.ppdb_values.specs.declared.file.FileValue.{FileValue}
-use Rattle.ppdb_build_canon.specs.declared.choice.IdChoice.{IdChoice}
-use Rattle.ppdb_build_canon.specs.declared.choice.IdChoice.TheVariants.{Hash, Keep}
-use Rattle.ppdb_build_canon.specs.Canonical.{canonical}
-use Rattle.ppdb_build_canon.specs.Canon.{canon, chosen_id, id_from}
-use Rattle.ppdb_build_canon.proofs.Ids.{ids_forgotten}
+use Rattle.ppdb_build_canon.specs.{declared.choice.IdChoice.{IdChoice}, declared.choice.IdChoice.TheVariants.{Hash, Keep}, Canonical.{canonical}, Canon.{canon}}
+use Rattle.ppdb_build_canon.{specs.Canon.{chosen_id, id_from}, proofs.Ids.{ids_forgotten}}
 use Rattle.ppdb_build_draft.specs.Draft.{Draft}
 use Rattle.ppdb_build_bytes.specs.Drafts.{file_from, id_in}
 

@@ -1,38 +1,22 @@
 -- The file of a draft is the canonical file of its value, and as long as that in any case.
-use Rattle.std.proofs.Common.{◌≡◌, ℕ, suc, ◌+◌, ◌*◌, ◌<◌, ◌≤◌, ◌^◌, Bool, true, false, List, [], ◌∷◌, ◌++◌, length, map, flat_map, take}
-use Rattle.std.proofs.Common.{drop, refl, sym, ap, subst, ◌∙◌, arith, length-append}
-use Rattle.std.specs.Prelude.{All}
-use Rattle.std.proofs.lemmas.List.{length-map, take_at, length-take, length-drop}
+use Rattle.std.proofs.Common.{◌≡◌, ℕ, suc, ◌+◌, ◌*◌, ◌<◌, ◌≤◌, ◌^◌, Bool, true, false, List, [], ◌∷◌, ◌++◌, length, map, flat_map, take, drop, refl, sym, ap, subst}
+use Rattle.std.{proofs.Common.{◌∙◌, arith, length-append}, specs.Prelude.{All}, proofs.lemmas.List.{length-map, take_at, length-take, length-drop}}
 use Rattle.std.proofs.lemmas.List.Elements.{All-head, All-tail}
-use Rattle.ppdb_tables.specs.declared.rows.DocumentRow.{DocumentRow}
-use Rattle.ppdb_tables.specs.declared.rows.MethodDebugRow.{MethodDebugRow}
-use Rattle.ppdb_tables.specs.declared.rows.ScopeRow.{ScopeRow}
-use Rattle.ppdb_tables.specs.declared.rows.VariableRow.{VariableRow}
-use Rattle.ppdb_tables.specs.declared.rows.ConstantRow.{ConstantRow}
-use Rattle.ppdb_tables.specs.declared.rows.ImportRow.{ImportRow}
-use Rattle.ppdb_tables.specs.declared.rows.CustomRow.{CustomRow}
-use Rattle.ppdb_tables.specs.Layouts.{widths_of, document_columns, method_columns, scope_columns, variable_columns, constant_columns}
-use Rattle.ppdb_tables.specs.Layouts.{import_columns, custom_columns}
+use Rattle.ppdb_tables.specs.declared.rows.{DocumentRow.{DocumentRow}, MethodDebugRow.{MethodDebugRow}, ScopeRow.{ScopeRow}, VariableRow.{VariableRow}}
+use Rattle.ppdb_tables.specs.{declared.rows.ConstantRow.{ConstantRow}, declared.rows.ImportRow.{ImportRow}, declared.rows.CustomRow.{CustomRow}, Layouts.{widths_of}}
+use Rattle.ppdb_tables.specs.Layouts.{document_columns, method_columns, scope_columns, variable_columns, constant_columns, import_columns, custom_columns}
 use Rattle.ppdb_tables.specs.RawTables.{RawTables}
-use Rattle.ppdb_values.specs.declared.file.FileValue.{FileValue}
-use Rattle.ppdb_values.specs.Types.{IsGuid}
-use Rattle.row_layout.specs.declared.column.Sizes.{Sizes}
-use Rattle.row_layout.specs.Columns.{index_width}
-use Rattle.row_layout.specs.Rows.{Fit}
+use Rattle.ppdb_values.specs.{declared.file.FileValue.{FileValue}, Types.{IsGuid}}
+use Rattle.row_layout.specs.{declared.column.Sizes.{Sizes}, Columns.{index_width}, Rows.{Fit}}
 use Rattle.ppdb_build_heaps.specs.Items.{as_text, as_blob}
-use Rattle.ppdb_build_layout.specs.declared.rows.Rows.{Rows}
-use Rattle.ppdb_build_layout.specs.declared.rows.HeapLens.{HeapLens}
-use Rattle.ppdb_build_layout.specs.Bytes.{padding, padded, pdb_stream, tables_stream, prefix_bytes, file_bytes, rows_of, heaps_of, sizes_of}
-use Rattle.ppdb_build_layout.specs.Laid.{AllRowsFit}
-use Rattle.ppdb_build_layout.proofs.Lengths.{length-pdb, length-tables, length-prefix, rows_sum}
-use Rattle.ppdb_build_canon.specs.Uses.{texts, guids, blobs}
-use Rattle.ppdb_build_canon.specs.Canonical.{counts, canonical_tables, canonical}
+use Rattle.ppdb_build_layout.specs.{declared.rows.Rows.{Rows}, declared.rows.HeapLens.{HeapLens}, Bytes.{padding, padded, pdb_stream, tables_stream, prefix_bytes}}
+use Rattle.ppdb_build_layout.{specs.Bytes.{file_bytes, rows_of, heaps_of, sizes_of}, specs.Laid.{AllRowsFit}, proofs.Lengths.{length-pdb, length-tables}}
+use Rattle.ppdb_build_layout.{proofs.Lengths.{length-prefix, rows_sum}, specs.Told.{told_lens}}
+use Rattle.ppdb_build_canon.specs.{Uses.{texts, guids, blobs}, Canonical.{counts, canonical_tables, canonical}}
 use Rattle.ppdb_build_items.specs.Interned.{cell}
-use Rattle.ppdb_build_draft.specs.Draft.{Draft}
-use Rattle.ppdb_build_draft.specs.Drafted.{held_document, held_method, held_scope, held_variable, held_constant, held_import, held_custom, held_rows, IsDraftOf}
-use Rattle.ppdb_build_draft.specs.Heaps.{heap_lens_of}
+use Rattle.ppdb_build_draft.specs.{Draft.{Draft}, Drafted.{held_document, held_method, held_scope, held_variable, held_constant, held_import, held_custom}}
+use Rattle.ppdb_build_draft.specs.{Drafted.{held_rows, IsDraftOf}, Heaps.{heap_lens_of}}
 use Rattle.ppdb_base.specs.Told.{told}
-use Rattle.ppdb_build_layout.specs.Told.{told_lens}
 use Rattle.ppdb_build_bytes.specs.Drafts.{tables_from, file_from, CanBeLaid}
 
 -- ---- the same heaps and counts, and rows as they are held

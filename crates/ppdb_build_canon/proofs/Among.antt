@@ -1,10 +1,7 @@
 -- Elements of lists that are made of others.
-use Rattle.std.proofs.Common.{◌≡◌, ℕ, zero, suc, List, [], ◌∷◌, map, flat_map, refl, sym, ap, ◌∙◌, subst, arith}
-use Rattle.std.specs.Prelude.{Some}
-use Rattle.std.specs.List.{Contains}
-use Rattle.std.proofs.lemmas.List.{length-map, get_or-map}
-use Rattle.std.proofs.lemmas.List.Elements.{Contains-append_left, Contains-append_right}
-use Rattle.std.proofs.lemmas.Option.{slice_get_within, get_or_from_slice_get}
+use Rattle.std.{proofs.Common.{◌≡◌, ℕ, zero, suc, List, [], ◌∷◌, map, flat_map, refl, sym, ap, ◌∙◌, subst, arith}, specs.Prelude.{Some}, specs.List.{Contains}}
+use Rattle.std.proofs.lemmas.{List.{length-map, get_or-map}, List.Elements.{Contains-append_left, Contains-append_right}, Option.{slice_get_within}}
+use Rattle.std.proofs.lemmas.Option.{get_or_from_slice_get}
 use Rattle.ppdb_tables.specs.RawTables.{row_at}
 
 pub among_first : {X : Type 0} (x : X) (xs : List X) → Contains (x ∷ xs) x

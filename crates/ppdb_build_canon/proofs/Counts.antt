@@ -1,20 +1,12 @@
 -- How many rows each table of the canonical file has.
 use Rattle.std.proofs.Common.{◌≡◌, ℕ, zero, suc, ◌-◌, ◌<◌, ◌≤◌, List, [], ◌∷◌, ◌++◌, length, take, replicate, refl, sym, ap, subst, ◌∙◌, append_assoc, arith}
-use Rattle.std.proofs.Common.{slice_index, slice_get, inl, inr, Bool, true, false, length-append}
-use Rattle.std.specs.Prelude.{Some, nat_lt, ◌||◌, ◌==◌}
-use Rattle.std.specs.List.{list_all}
-use Rattle.std.proofs.lemmas.Bool.{ltb-true, eqb-true, or_cases}
-use Rattle.std.proofs.lemmas.Bool.Decides.{nat_tests}
-use Rattle.std.proofs.lemmas.List.{get_or-take, get_or_append_left, get_or-append_right, length-take}
-use Rattle.std.proofs.lemmas.List.Concat.{length-flat_map}
-use Rattle.std.proofs.lemmas.List.Folds.{list_all_at}
-use Rattle.std.proofs.lemmas.Option.{slice_get_within, get_or_from_slice_get}
+use Rattle.std.{proofs.Common.{slice_index, slice_get, inl, inr, Bool, true, false, length-append}, specs.Prelude.{Some, nat_lt, ◌||◌, ◌==◌}, specs.List.{list_all}}
+use Rattle.std.proofs.lemmas.{Bool.{ltb-true, eqb-true, or_cases}, Bool.Decides.{nat_tests}, List.{get_or-take, get_or_append_left, get_or-append_right}}
+use Rattle.std.proofs.lemmas.{List.{length-take}, List.Concat.{length-flat_map}, List.Folds.{list_all_at}, Option.{slice_get_within, get_or_from_slice_get}}
 use Rattle.row_layout.specs.Columns.{parent_tables}
-use Rattle.ppdb_values.specs.declared.file.FileValue.{FileValue}
-use Rattle.ppdb_values.specs.RawFile.{point_limits, type_limits as raw_limits}
+use Rattle.ppdb_values.specs.{declared.file.FileValue.{FileValue}, RawFile.{point_limits, type_limits as raw_limits}}
 use Rattle.ppdb_values_sound_laws.specs.Named.{count as value_count, type_limits}
-use Rattle.ppdb_build_canon.specs.Uses.{variables_of, constants_of}
-use Rattle.ppdb_build_canon.specs.Canonical.{counts, method_rows, canonical_tables}
+use Rattle.ppdb_build_canon.specs.{Uses.{variables_of, constants_of}, Canonical.{counts, method_rows, canonical_tables}}
 
 no_rows : (n k : ℕ) → slice_index (replicate n 0) k ≡ 0
 no_rows zero k = refl

@@ -1,21 +1,14 @@
 -- The identity stands in 20 bytes after the root, and nothing else depends on it.
 use Rattle.std.proofs.Common.{◌≡◌, ℕ, ◌+◌, List, ◌++◌, length, take, drop, replicate, refl, sym, ap, ◌∙◌, append_assoc, arith, length-append, set, slice_index}
-use Rattle.std.specs.Prelude.{bit_and, bit_or}
-use Rattle.std.specs.List.{range_with_len}
-use Rattle.std.proofs.lemmas.List.{take_at, drop_at, length-take, length-set}
+use Rattle.std.{specs.Prelude.{bit_and, bit_or}, specs.List.{range_with_len}, proofs.lemmas.List.{take_at, drop_at, length-take, length-set}}
 use Rattle.byteorder.specs.Endian.{little_bytes}
-use Rattle.sha2.specs.Sha256.{sha256}
-use Rattle.sha2.proofs.Facts256.{length-sha256}
+use Rattle.sha2.{specs.Sha256.{sha256}, proofs.Facts256.{length-sha256}}
 use Rattle.ppdb_tables.specs.Head.{method_token}
-use Rattle.ppdb_values.specs.declared.file.FileValue.{FileValue}
-use Rattle.ppdb_values.specs.RawFile.{RawFile}
-use Rattle.ppdb_build_layout.specs.Bytes.{file_bytes, prefix_bytes, pdb_stream, tables_stream, padded, padding, with_rows, bits_of, counts_of, root_prefix}
-use Rattle.ppdb_build_layout.specs.Bytes.{headers, stream_headers, rows_of, heaps_of}
-use Rattle.ppdb_build_canon.specs.declared.choice.IdChoice.{IdChoice}
-use Rattle.ppdb_build_canon.specs.declared.choice.IdChoice.TheVariants.{Hash, Keep}
-use Rattle.ppdb_build_canon.specs.Canon.{chosen_id, canon, with_id, id_from}
-use Rattle.ppdb_build_canon.specs.Canonical.{canonical, canonical_tables}
-use Rattle.ppdb_build_canon.specs.Laws.{CanonicalFilesForgetIds, IdsStandAfterTheRoot}
+use Rattle.ppdb_values.specs.{declared.file.FileValue.{FileValue}, RawFile.{RawFile}}
+use Rattle.ppdb_build_layout.specs.Bytes.{file_bytes, prefix_bytes, pdb_stream, tables_stream, padded, padding, with_rows, bits_of, counts_of, root_prefix, headers}
+use Rattle.ppdb_build_layout.specs.Bytes.{stream_headers, rows_of, heaps_of}
+use Rattle.ppdb_build_canon.specs.{declared.choice.IdChoice.{IdChoice}, declared.choice.IdChoice.TheVariants.{Hash, Keep}, Canon.{chosen_id, canon, with_id}}
+use Rattle.ppdb_build_canon.specs.{Canon.{id_from}, Canonical.{canonical, canonical_tables}, Laws.{CanonicalFilesForgetIds, IdsStandAfterTheRoot}}
 
 -- ---- where the identity stands
 

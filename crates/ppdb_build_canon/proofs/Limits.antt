@@ -1,21 +1,13 @@
 -- What holds of a value that meets no limit.
-use Rattle.std.proofs.Common.{◌≡◌, ℕ, ◌<◌, ◌≤◌, Bool, true, false, cond, List, [], ◌∷◌, length, refl, sym, ap, ◌∙◌, ◌&&◌, slice_index}
-use Rattle.std.specs.Prelude.{All, Option, Some, None, nat_lt, nat_le, ◌==◌, if◌then◌else◌}
-use Rattle.std.specs.Option.{option_or, option_map}
-use Rattle.std.specs.List.{filter_map, cons_option, find, sum_by}
-use Rattle.std.proofs.lemmas.Bool.{ltb-false, leb-false, eq-eqb}
-use Rattle.std.proofs.lemmas.Option.{none-some}
-use Rattle.std.proofs.lemmas.List.Elements.{All-nil, All-cons, All-weaker, All-contains}
-use Rattle.sequence_points.specs.declared.point.Point.{Point}
-use Rattle.sequence_points.specs.Written.{large_steps, first_of, last_of}
-use Rattle.ppdb_base.specs.declared.limits.Limit.{Limit}
-use Rattle.ppdb_base.specs.declared.limits.Limit.TheVariants.{TableRows, ListPastEnd, PointOffset, LineStep, FileSize, SpanTotal}
-use Rattle.ppdb_values.specs.declared.file.FileValue.{FileValue}
-use Rattle.ppdb_values.specs.declared.file.MethodValue.{MethodValue}
-use Rattle.ppdb_values.specs.declared.scope.ScopeValue.{ScopeValue}
+use Rattle.std.{proofs.Common.{◌≡◌, ℕ, ◌<◌, ◌≤◌, Bool, true, false, cond, List, [], ◌∷◌, length, refl, sym, ap, ◌∙◌, ◌&&◌, slice_index}, specs.Prelude.{All, Option}}
+use Rattle.std.specs.{Prelude.{Some, None, nat_lt, nat_le, ◌==◌, if◌then◌else◌}, Option.{option_or, option_map}, List.{filter_map, cons_option, find, sum_by}}
+use Rattle.std.proofs.lemmas.{Bool.{ltb-false, leb-false, eq-eqb}, Option.{none-some}, List.Elements.{All-nil, All-cons, All-weaker, All-contains}}
+use Rattle.sequence_points.specs.{declared.point.Point.{Point}, Written.{large_steps, first_of, last_of}}
+use Rattle.ppdb_base.specs.declared.limits.{Limit.{Limit}, Limit.TheVariants.{TableRows, ListPastEnd, PointOffset, LineStep, FileSize, SpanTotal}}
 use Rattle.ppdb_base.specs.Told.{told}
-use Rattle.ppdb_build_canon.specs.Canonical.{counts}
-use Rattle.ppdb_build_canon.specs.Limits.{above, too_many_rows, tables, owns_none, list_past_end, large_offset, large_step_of, ValuesWithoutLimits}
+use Rattle.ppdb_values.specs.declared.{file.FileValue.{FileValue}, file.MethodValue.{MethodValue}, scope.ScopeValue.{ScopeValue}}
+use Rattle.ppdb_build_canon.specs.{Canonical.{counts}, Limits.{above, too_many_rows, tables, owns_none, list_past_end, large_offset, large_step_of}}
+use Rattle.ppdb_build_canon.specs.Limits.{ValuesWithoutLimits}
 
 -- a limit is met
 abbrev pub met : Bool → Limit → Option Limit

@@ -1,17 +1,12 @@
 -- The canonical tables of a value that meets no limit have as many rows as are counted, and are small.
 use Rattle.std.proofs.Common.{◌≡◌, ℕ, zero, suc, ◌+◌, ◌-◌, ◌<◌, ◌≤◌, ◌++◌, length, refl, sym, subst, ◌∙◌, arith, slice_index, inl, inr, length-append}
-use Rattle.std.specs.List.{Contains}
-use Rattle.std.proofs.lemmas.Bool.{cases_lt}
-use Rattle.std.proofs.lemmas.List.{length-map}
-use Rattle.std.proofs.lemmas.List.FromFn.{length-enumerate_from}
+use Rattle.std.{specs.List.{Contains}, proofs.lemmas.Bool.{cases_lt}, proofs.lemmas.List.{length-map}, proofs.lemmas.List.FromFn.{length-enumerate_from}}
 use Rattle.ppdb_tables.specs.RawTables.{HasShape, numbered}
-use Rattle.ppdb_values.specs.declared.file.FileValue.{FileValue}
-use Rattle.ppdb_values.specs.RawFile.{RawFile}
+use Rattle.ppdb_values.specs.{declared.file.FileValue.{FileValue}, RawFile.{RawFile}}
 use Rattle.ppdb_values_sound_laws.specs.Sound.{SoundRows}
 use Rattle.ppdb_build_layout.specs.Bytes.{file_bytes, prefix_bytes, rows_of, heaps_of}
-use Rattle.ppdb_build_canon.specs.Uses.{variables_of, constants_of}
-use Rattle.ppdb_build_canon.specs.Canonical.{counts, document_row, scope_row, variable_row, constant_row, import_row, custom_row, canonical_tables, canonical}
-use Rattle.ppdb_build_canon.specs.Limits.{tables, IsWithinLimits}
+use Rattle.ppdb_build_canon.specs.{Uses.{variables_of, constants_of}, Canonical.{counts, document_row, scope_row, variable_row, constant_row, import_row}}
+use Rattle.ppdb_build_canon.specs.{Canonical.{custom_row, canonical_tables, canonical}, Limits.{tables, IsWithinLimits}}
 use Rattle.ppdb_build_canon.proofs.Counts
 
 -- ---- the eight tables

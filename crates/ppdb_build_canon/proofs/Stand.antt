@@ -1,23 +1,15 @@
 -- What a value uses stands at its index in the heaps of the canonical file.
-use Rattle.std.proofs.Common.{◌≡◌, ◌≢◌, ℕ, ◌+◌, ◌<◌, ◌≤◌, Bool, true, false, cond, not, List, [], ◌∷◌, ◌++◌, length, filter, flat_map}
-use Rattle.std.proofs.Common.{replicate, sym, subst, arith, bytes_eq, length-append, min}
-use Rattle.std.specs.Prelude.{All, Some}
-use Rattle.std.specs.List.{Contains}
-use Rattle.std.proofs.lemmas.List.Elements.{All-cons, All-head, All-tail, All-filter, All-contains}
+use Rattle.std.proofs.Common.{◌≡◌, ◌≢◌, ℕ, ◌+◌, ◌<◌, ◌≤◌, Bool, true, false, cond, not, List, [], ◌∷◌, ◌++◌, length, filter, flat_map, replicate, sym, subst, arith}
+use Rattle.std.{proofs.Common.{bytes_eq, length-append, min}, specs.Prelude.{All, Some}, specs.List.{Contains}, proofs.lemmas.List.Elements.{All-cons, All-head}}
+use Rattle.std.proofs.lemmas.List.Elements.{All-tail, All-filter, All-contains}
 use Rattle.cli_ints.specs.Shortest.{short_unsigned}
 use Rattle.ppdb_heaps.specs.Heaps.{text_at, blob_at, guid_at}
-use Rattle.ppdb_build_heaps.specs.Items.{IsIn, first_uses, index_of, as_text, as_blob, shortest}
-use Rattle.ppdb_build_heaps.specs.Uses.{Piece, blob_bytes}
-use Rattle.ppdb_build_heaps.proofs.Stable.{after-adds}
-use Rattle.ppdb_build_heaps.proofs.Stands.{text-there, blob-there, guid-there}
-use Rattle.ppdb_build_heaps.proofs.Stays.{within as index_within}
-use Rattle.ppdb_values.specs.declared.file.FileValue.{FileValue}
-use Rattle.ppdb_values.specs.Types.{IsGuid}
+use Rattle.ppdb_build_heaps.{specs.Items.{IsIn, first_uses, index_of, as_text, as_blob, shortest}, specs.Uses.{Piece, blob_bytes}, proofs.Stable.{after-adds}}
+use Rattle.ppdb_build_heaps.proofs.{Stands.{text-there, blob-there, guid-there}, Stays.{within as index_within}}
+use Rattle.ppdb_values.specs.{declared.file.FileValue.{FileValue}, Types.{IsGuid}}
 use Rattle.ppdb_build_layout.specs.Bytes.{padding, padded}
-use Rattle.ppdb_build_canon.specs.Uses.{text_uses, guid_uses, cell_blobs, blob_uses, texts, guids, blobs}
-use Rattle.ppdb_build_canon.specs.Canonical.{text_cell, guid_cell, blob_cell, canonical_tables}
-use Rattle.ppdb_build_canon.proofs.Among.{among_later}
-use Rattle.ppdb_build_canon.proofs.Used.{item_used, blob_used}
+use Rattle.ppdb_build_canon.specs.{Uses.{text_uses, guid_uses, cell_blobs, blob_uses, texts, guids, blobs}, Canonical.{text_cell, guid_cell, blob_cell}}
+use Rattle.ppdb_build_canon.{specs.Canonical.{canonical_tables}, proofs.Among.{among_later}, proofs.Used.{item_used, blob_used}}
 
 -- ---- an item ends within its heap
 

@@ -1,12 +1,8 @@
 -- What is used stands in its heap.
 use Rattle.std.proofs.Common.{◌≡◌, ℕ, zero, suc, Bool, true, false, not, List, [], ◌∷◌, ◌||◌, filter, refl, sym, ap, ◌∙◌, subst, arith, bytes_eq}
-use Rattle.std.specs.List.{Contains, list_any}
-use Rattle.ppdb_build_heaps.specs.Items.{IsIn, first_uses}
-use Rattle.ppdb_build_heaps.specs.Uses.{Piece, blob_bytes, with_held, heap_of}
-use Rattle.ppdb_build_heaps.proofs.Items.{itself}
-use Rattle.ppdb_build_heaps.proofs.Stable.{AreUsed, all-used}
-use Rattle.ppdb_build_heaps.proofs.FirstUses.{any-others}
-use Rattle.std.specs.Prelude.{flat_map}
+use Rattle.std.specs.{List.{Contains, list_any}, Prelude.{flat_map}}
+use Rattle.ppdb_build_heaps.{specs.Items.{IsIn, first_uses}, specs.Uses.{Piece, blob_bytes, with_held, heap_of}, proofs.Items.{itself}, proofs.Stable.{AreUsed}}
+use Rattle.ppdb_build_heaps.proofs.{Stable.{all-used}, FirstUses.{any-others}}
 
 -- ---- texts and GUIDs
 

@@ -1,19 +1,12 @@
 -- What each part of a value uses is among the uses of the value.
-use Rattle.std.proofs.Common.{◌≡◌, ℕ, List, [], ◌∷◌, ◌++◌, map, flat_map, subst, sym}
-use Rattle.std.specs.Prelude.{Some, option_to_list}
-use Rattle.std.specs.List.{Contains}
+use Rattle.std.{proofs.Common.{◌≡◌, ℕ, List, [], ◌∷◌, ◌++◌, map, flat_map, subst, sym}, specs.Prelude.{Some, option_to_list}, specs.List.{Contains}}
 use Rattle.std.proofs.lemmas.List.Elements.{Contains-append_left, Contains-append_right, Contains-push}
-use Rattle.ppdb_values.specs.declared.file.FileValue.{FileValue}
-use Rattle.ppdb_values.specs.declared.file.DocumentValue.{DocumentValue}
-use Rattle.ppdb_values.specs.declared.file.MethodValue.{MethodValue}
-use Rattle.ppdb_values.specs.declared.scope.VariableValue.{VariableValue}
-use Rattle.ppdb_values.specs.declared.scope.ConstantValue.{ConstantValue}
-use Rattle.ppdb_values.specs.declared.import.ImportScopeValue.{ImportScopeValue}
+use Rattle.ppdb_values.specs.declared.file.{FileValue.{FileValue}, DocumentValue.{DocumentValue}, MethodValue.{MethodValue}}
+use Rattle.ppdb_values.specs.declared.{scope.VariableValue.{VariableValue}, scope.ConstantValue.{ConstantValue}, import.ImportScopeValue.{ImportScopeValue}}
 use Rattle.ppdb_values.specs.declared.custom.CustomValue.{CustomValue}
 use Rattle.ppdb_build_heaps.specs.Uses.{Piece, plain, held_by, with_held}
-use Rattle.ppdb_build_canon.specs.Uses.{name_pieces, method_blob, constant_blob, import_blob, custom_blob, variables_of, constants_of, text_uses}
-use Rattle.ppdb_build_canon.specs.Uses.{guid_uses, cell_blobs, blob_uses}
-use Rattle.ppdb_build_canon.proofs.Among.{among_first, among_later, among_map, among_flat_map}
+use Rattle.ppdb_build_canon.specs.Uses.{name_pieces, method_blob, constant_blob, import_blob, custom_blob, variables_of, constants_of, text_uses, guid_uses}
+use Rattle.ppdb_build_canon.{specs.Uses.{cell_blobs, blob_uses}, proofs.Among.{among_first, among_later, among_map, among_flat_map}}
 
 -- the blobs of a document: its name and its hash
 abbrev pub document_blobs : DocumentValue → List (List Piece)

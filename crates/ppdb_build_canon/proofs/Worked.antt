@@ -1,19 +1,13 @@
 -- The worked files, by computation.
 use Rattle.std.proofs.Common.{◌≡◌, refl, ap, ◌∙◌, None, Some, [], ◌∷◌, pos}
 use Rattle.cli_ints.specs.Shortest.{short_unsigned, short_signed}
-use Rattle.ppdb_build_heaps.specs.Items.{first_uses}
-use Rattle.ppdb_values.specs.WorkedBytes.{stored_empty, stored_small, stored_program}
-use Rattle.ppdb_build_layout.specs.Worked.{WorkedFilesAreLaidOut}
-use Rattle.ppdb_build_layout.specs.Bytes.{file_bytes, prefix_bytes, pdb_stream, tables_stream, all_rows}
-use Rattle.ppdb_values.specs.WorkedSmall.{zeros, empty_file, empty_value, small_file, small_value}
+use Rattle.ppdb_build_heaps.specs.{Items.{first_uses}, Uses.{blobs_after}}
+use Rattle.ppdb_values.specs.{WorkedBytes.{stored_empty, stored_small, stored_program}, WorkedSmall.{zeros, empty_file, empty_value, small_file, small_value}}
 use Rattle.ppdb_values.specs.WorkedProgram.{program_file, program_value}
-use Rattle.ppdb_build_canon.specs.declared.choice.IdChoice.TheVariants.{Keep}
-use Rattle.ppdb_build_heaps.specs.Uses.{blobs_after}
-use Rattle.ppdb_build_canon.specs.Canonical.{canonical, canonical_tables}
-use Rattle.ppdb_build_canon.specs.Canon.{canon}
-use Rattle.ppdb_build_canon.specs.Limits.{first_limit, span}
-use Rattle.ppdb_base.specs.declared.limits.Limit.TheVariants.{PointOffset, LineStep}
+use Rattle.ppdb_build_layout.specs.{Worked.{WorkedFilesAreLaidOut}, Bytes.{file_bytes, prefix_bytes, pdb_stream, tables_stream, all_rows}}
+use Rattle.ppdb_build_canon.specs.{declared.choice.IdChoice.TheVariants.{Keep}, Canonical.{canonical, canonical_tables}, Canon.{canon}, Limits.{first_limit, span}}
 use Rattle.ppdb_build_canon.specs.Worked.{with_points, point_at}
+use Rattle.ppdb_base.specs.declared.limits.Limit.TheVariants.{PointOffset, LineStep}
 
 pub empty_is : canonical empty_value (zeros 20) ≡ empty_file
 unfolding canonical_tables first_uses blobs_after short_unsigned short_signed

@@ -1,23 +1,13 @@
 -- The worked parts, by computation.
-use Rattle.std.proofs.Common.{◌≡◌, ℕ, true, [], length, replicate, refl, ap, ◌∙◌, arith, slice_index}
-use Rattle.std.proofs.Common.{◌&&◌}
-use Rattle.std.specs.Prelude.{None, Some, if◌then◌else◌}
-use Rattle.std.specs.List.{sum_by, filter_map, cons_option}
-use Rattle.std.proofs.lemmas.Bool.{eq-eqb, le-ltb}
-use Rattle.std.proofs.lemmas.List.{length-replicate, append-nil}
+use Rattle.std.{proofs.Common.{◌≡◌, ℕ, true, [], length, replicate, refl, ap, ◌∙◌, arith, slice_index, ◌&&◌}, specs.Prelude.{None, Some, if◌then◌else◌}}
+use Rattle.std.{specs.List.{sum_by, filter_map, cons_option}, proofs.lemmas.Bool.{eq-eqb, le-ltb}, proofs.lemmas.List.{length-replicate, append-nil}}
 use Rattle.cli_ints.specs.Shortest.{short_unsigned, short_signed}
 use Rattle.sequence_points.specs.Written.{first_of}
-use Rattle.ppdb_base.specs.declared.limits.Limit.{Limit}
-use Rattle.ppdb_base.specs.declared.limits.Limit.TheVariants.{ListPastEnd, TableRows}
-use Rattle.ppdb_build_heaps.specs.Uses.{blobs_after}
-use Rattle.ppdb_build_heaps.specs.Items.{first_uses}
-use Rattle.ppdb_base.specs.Told.{told}
-use Rattle.ppdb_values.specs.declared.file.FileValue.{FileValue}
-use Rattle.ppdb_values.specs.WorkedSmall.{variable_x}
-use Rattle.ppdb_build_canon.specs.Canonical.{canonical_tables, counts}
-use Rattle.ppdb_build_canon.specs.Limits.{first_limit, above, too_many_rows, tables, list_past_end}
-use Rattle.ppdb_build_canon.proofs.Limits.{met}
-use Rattle.ppdb_build_canon.specs.WorkedParts.{WorkedNames, WorkedPoints, WorkedLists, with_variables}
+use Rattle.ppdb_base.specs.{declared.limits.Limit.{Limit}, declared.limits.Limit.TheVariants.{ListPastEnd, TableRows}, Told.{told}}
+use Rattle.ppdb_build_heaps.specs.{Uses.{blobs_after}, Items.{first_uses}}
+use Rattle.ppdb_values.specs.{declared.file.FileValue.{FileValue}, WorkedSmall.{variable_x}}
+use Rattle.ppdb_build_canon.specs.{Canonical.{canonical_tables, counts}, Limits.{first_limit, above, too_many_rows, tables, list_past_end}}
+use Rattle.ppdb_build_canon.{proofs.Limits.{met}, specs.WorkedParts.{WorkedNames, WorkedPoints, WorkedLists, with_variables}}
 
 pub names_are : WorkedNames
 unfolding blobs_after short_unsigned

@@ -1,9 +1,7 @@
 -- A part that was added, from what was noted of it.
 use Rattle.std.proofs.Common.{◌≡◌, ℕ, List, [], ◌∷◌, ◌++◌, ap, ◌∙◌}
-use Rattle.ppdb_tables.specs.declared.rows.DocumentRow.{DocumentRow}
-use Rattle.ppdb_tables.specs.declared.rows.ImportRow.{ImportRow}
-use Rattle.ppdb_values.specs.declared.file.DocumentValue.{DocumentValue}
-use Rattle.ppdb_values.specs.declared.import.ImportScopeValue.{ImportScopeValue}
+use Rattle.ppdb_tables.specs.declared.rows.{DocumentRow.{DocumentRow}, ImportRow.{ImportRow}}
+use Rattle.ppdb_values.specs.declared.{file.DocumentValue.{DocumentValue}, import.ImportScopeValue.{ImportScopeValue}}
 use Rattle.ppdb_build_heaps.specs.Uses.{plain}
 use Rattle.ppdb_build_canon.specs.Uses.{name_pieces, import_blob}
 use Rattle.ppdb_build_items.specs.Interned.{Annotation, with_blob, with_guid, blob_place, guid_place, cell}

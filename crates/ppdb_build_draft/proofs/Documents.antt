@@ -1,17 +1,12 @@
 -- The documents of a value, one after another.
 use Rattle.std.proofs.Common.{◌≡◌, ℕ, List, [], ◌∷◌, ◌++◌, map, fold, flat_map, refl, sym, ap, ◌∙◌, append_assoc, Option, Some, None}
-use Rattle.std.specs.Prelude.{option_to_list}
-use Rattle.std.proofs.lemmas.List.{append-nil}
-use Rattle.std.proofs.lemmas.List.Sums.{fold-append}
+use Rattle.std.{specs.Prelude.{option_to_list}, proofs.lemmas.List.{append-nil}, proofs.lemmas.List.Sums.{fold-append}}
 use Rattle.ppdb_tables.specs.declared.rows.DocumentRow.{DocumentRow}
 use Rattle.ppdb_values.specs.declared.file.DocumentValue.{DocumentValue}
-use Rattle.ppdb_build_heaps.specs.Items.{with_use}
-use Rattle.ppdb_build_heaps.specs.Uses.{plain}
-use Rattle.ppdb_build_canon.specs.Uses.{name_pieces}
-use Rattle.ppdb_build_canon.proofs.Uses.{document_blobs}
+use Rattle.ppdb_build_heaps.specs.{Items.{with_use}, Uses.{plain}}
+use Rattle.ppdb_build_canon.{specs.Uses.{name_pieces}, proofs.Uses.{document_blobs}}
 use Rattle.ppdb_build_items.specs.Interned.{with_blob, with_guid, blob_place, guid_place, cell}
-use Rattle.ppdb_build_draft.specs.Draft.{Draft, with_document}
-use Rattle.ppdb_build_draft.proofs.Heaps.{Grows, grows_not, grows_then, grows_guid, grows_blob, blob_stays, guid_stays}
+use Rattle.ppdb_build_draft.{specs.Draft.{Draft, with_document}, proofs.Heaps.{Grows, grows_not, grows_then, grows_guid, grows_blob, blob_stays, guid_stays}}
 
 -- the row of a document where the heaps have these items
 abbrev pub document_in : List (List ℕ) → List (List ℕ) → DocumentValue → DocumentRow

@@ -1,17 +1,12 @@
 -- Items that are noted one after another, and the places that they keep.
-use Rattle.std.proofs.Common.{◌≡◌, ℕ, ◌+◌, List, [], ◌∷◌, ◌++◌, length, map, fold, flat_map, sum_by, bytes_eq, refl, sym, ap, subst, ◌∙◌}
-use Rattle.std.proofs.Common.{append_assoc, arith, Option, Some, None}
-use Rattle.std.proofs.lemmas.List.{append-nil}
-use Rattle.std.proofs.lemmas.List.Sums.{fold-append, sum_by-append, sum_by-cons}
+use Rattle.std.proofs.Common.{◌≡◌, ℕ, ◌+◌, List, [], ◌∷◌, ◌++◌, length, map, fold, flat_map, sum_by, bytes_eq, refl, sym, ap, subst, ◌∙◌, append_assoc, arith}
+use Rattle.std.proofs.{Common.{Option, Some, None}, lemmas.List.{append-nil}, lemmas.List.Sums.{fold-append, sum_by-append, sum_by-cons}}
 use Rattle.std.specs.List.{position_or_len}
 use Rattle.ppdb_base.specs.Told.{told}
-use Rattle.ppdb_build_heaps.specs.Items.{IsIn, with_use, index_of, as_text, as_blob}
-use Rattle.ppdb_build_heaps.specs.Uses.{Piece, plain, held_by, with_held, blob_bytes, blobs_after}
-use Rattle.ppdb_build_heaps.proofs.Items.{index-stable, with_use-adds, used-there}
-use Rattle.ppdb_build_heaps.proofs.Stable.{AreIn, AreUsed, after-adds, spelled-stable, after-used, all-ready}
+use Rattle.ppdb_build_heaps.specs.{Items.{IsIn, with_use, index_of, as_text, as_blob}, Uses.{Piece, plain, held_by, with_held, blob_bytes, blobs_after}}
+use Rattle.ppdb_build_heaps.proofs.{Items.{index-stable, with_use-adds, used-there}, Stable.{AreIn, AreUsed, after-adds, spelled-stable, after-used, all-ready}}
 use Rattle.ppdb_build_heaps.proofs.Stays.{items-stay}
-use Rattle.ppdb_build_items.specs.Interned.{Annotation, with_text, with_blob, with_guid, text_place, blob_place, guid_place}
-use Rattle.ppdb_build_items.proofs.Made.{sum-plain}
+use Rattle.ppdb_build_items.{specs.Interned.{Annotation, with_text, with_blob, with_guid, text_place, blob_place, guid_place}, proofs.Made.{sum-plain}}
 
 -- ---- heaps that grow
 

@@ -1,9 +1,7 @@
 -- How long a heap is, with its padding.
-use Rattle.std.proofs.Common.{◌≡◌, ℕ, ◌+◌, List, length, flat_map, sum_by, sym, ap, ◌∙◌}
-use Rattle.std.proofs.lemmas.List.Concat.{length-flat_map}
+use Rattle.std.proofs.{Common.{◌≡◌, ℕ, ◌+◌, List, length, flat_map, sum_by, sym, ap, ◌∙◌}, lemmas.List.Concat.{length-flat_map}}
 use Rattle.ppdb_base.specs.Told.{told}
-use Rattle.ppdb_build_layout.specs.Bytes.{padding, padded}
-use Rattle.ppdb_build_layout.proofs.Lengths.{length-padded}
+use Rattle.ppdb_build_layout.{specs.Bytes.{padding, padded}, proofs.Lengths.{length-padded}}
 
 -- the lengths of its items, as they are spelled, and the padding
 pub padded_len_is : (spelled : List ℕ → List ℕ) (items : List (List ℕ)) (n : ℕ)

@@ -1,16 +1,13 @@
 -- The methods of a value that have points, one after another, and the rows of those that have none.
-use Rattle.std.proofs.Common.{◌≡◌, ◌≢◌, ℕ, zero, suc, ◌+◌, ◌-◌, ◌<◌, ◌≤◌, cond, List, [], ◌∷◌, ◌++◌, length, map, fold, replicate, refl}
-use Rattle.std.proofs.Common.{sym, ap, subst, ◌∙◌, append_assoc, arith, ◌==◌, Option, Some, None, length-append}
-use Rattle.std.specs.List.{find, range_with_len}
-use Rattle.std.proofs.lemmas.List.{length-replicate, map-append}
-use Rattle.std.proofs.lemmas.Bool.{ne_eqb, eq-eqb}
+use Rattle.std.proofs.Common.{◌≡◌, ◌≢◌, ℕ, zero, suc, ◌+◌, ◌-◌, ◌<◌, ◌≤◌, cond, List, [], ◌∷◌, ◌++◌, length, map, fold, replicate, refl, sym, ap, subst, ◌∙◌}
+use Rattle.std.{proofs.Common.{append_assoc, arith, ◌==◌, Option, Some, None, length-append}, specs.List.{find, range_with_len}}
+use Rattle.std.proofs.lemmas.{List.{length-replicate, map-append}, Bool.{ne_eqb, eq-eqb}}
 use Rattle.sequence_points.specs.Points.{common_document}
 use Rattle.ppdb_tables.specs.declared.rows.MethodDebugRow.{MethodDebugRow}
 use Rattle.ppdb_values.specs.declared.file.MethodValue.{MethodValue}
 use Rattle.ppdb_build_canon.specs.Uses.{method_blob}
 use Rattle.ppdb_build_items.specs.Interned.{with_blob, blob_place, cell}
-use Rattle.ppdb_build_draft.specs.Draft.{Draft, with_method, rows_to, all_methods}
-use Rattle.ppdb_build_draft.proofs.Heaps.{Grows, grows_not, grows_then, grows_blob, blob_stays}
+use Rattle.ppdb_build_draft.{specs.Draft.{Draft, with_method, rows_to, all_methods}, proofs.Heaps.{Grows, grows_not, grows_then, grows_blob, blob_stays}}
 
 -- the row of a method where the heap has these items
 abbrev pub method_in : List (List ℕ) → MethodValue → MethodDebugRow

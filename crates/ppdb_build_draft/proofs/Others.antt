@@ -1,17 +1,12 @@
 -- The import scopes, the state machines and the custom records of a value, one after another.
-use Rattle.std.proofs.Common.{◌≡◌, ℕ, List, [], ◌∷◌, ◌++◌, map, fold, refl, sym, ap, ◌∙◌, append_assoc, Some}
-use Rattle.std.proofs.lemmas.List.{append-nil}
-use Rattle.ppdb_tables.specs.declared.rows.ImportRow.{ImportRow}
-use Rattle.ppdb_tables.specs.declared.rows.MachineRow.{MachineRow}
-use Rattle.ppdb_tables.specs.declared.rows.CustomRow.{CustomRow}
-use Rattle.ppdb_tables.specs.Parents.{coded_of}
-use Rattle.ppdb_values.specs.declared.import.ImportScopeValue.{ImportScopeValue}
-use Rattle.ppdb_values.specs.declared.custom.CustomValue.{CustomValue}
+use Rattle.std.proofs.{Common.{◌≡◌, ℕ, List, [], ◌∷◌, ◌++◌, map, fold, refl, sym, ap, ◌∙◌, append_assoc, Some}, lemmas.List.{append-nil}}
+use Rattle.ppdb_tables.specs.{declared.rows.ImportRow.{ImportRow}, declared.rows.MachineRow.{MachineRow}, declared.rows.CustomRow.{CustomRow}, Parents.{coded_of}}
+use Rattle.ppdb_values.specs.declared.{import.ImportScopeValue.{ImportScopeValue}, custom.CustomValue.{CustomValue}}
 use Rattle.ppdb_build_heaps.specs.Items.{with_use}
 use Rattle.ppdb_build_canon.specs.Uses.{import_blob, custom_blob}
 use Rattle.ppdb_build_items.specs.Interned.{with_blob, blob_place, guid_place, cell}
-use Rattle.ppdb_build_draft.specs.Draft.{Draft, with_import, with_machine, with_custom}
-use Rattle.ppdb_build_draft.proofs.Heaps.{Grows, grows_not, grows_then, grows_use, grows_blob, blob_stays, guid_stays}
+use Rattle.ppdb_build_draft.{specs.Draft.{Draft, with_import, with_machine, with_custom}, proofs.Heaps.{Grows, grows_not, grows_then, grows_use, grows_blob}}
+use Rattle.ppdb_build_draft.proofs.Heaps.{blob_stays, guid_stays}
 
 -- ---- import scopes
 

@@ -1,18 +1,13 @@
 -- The scopes of a value with their variables, and then the constants, one after another.
 use Rattle.std.proofs.Common.{◌≡◌, ℕ, ◌+◌, ◌-◌, List, [], ◌∷◌, ◌++◌, length, map, fold, flat_map, refl, sym, ap, ◌∙◌, append_assoc, arith, length-append}
-use Rattle.std.proofs.lemmas.List.{append-nil, map-append, length-map}
-use Rattle.std.proofs.lemmas.List.Sums.{fold-append}
-use Rattle.ppdb_tables.specs.declared.rows.ScopeRow.{ScopeRow}
-use Rattle.ppdb_tables.specs.declared.rows.VariableRow.{VariableRow}
-use Rattle.ppdb_tables.specs.declared.rows.ConstantRow.{ConstantRow}
-use Rattle.ppdb_values.specs.declared.scope.ScopeValue.{ScopeValue}
-use Rattle.ppdb_values.specs.declared.scope.VariableValue.{VariableValue}
-use Rattle.ppdb_values.specs.declared.scope.ConstantValue.{ConstantValue}
+use Rattle.std.proofs.lemmas.{List.{append-nil, map-append, length-map}, List.Sums.{fold-append}}
+use Rattle.ppdb_tables.specs.declared.rows.{ScopeRow.{ScopeRow}, VariableRow.{VariableRow}, ConstantRow.{ConstantRow}}
+use Rattle.ppdb_values.specs.declared.scope.{ScopeValue.{ScopeValue}, VariableValue.{VariableValue}, ConstantValue.{ConstantValue}}
 use Rattle.ppdb_base.specs.Told.{told}
 use Rattle.ppdb_build_canon.specs.Uses.{constant_blob}
 use Rattle.ppdb_build_items.specs.Interned.{Annotation, with_text, with_blob, text_place, blob_place, cell}
-use Rattle.ppdb_build_draft.specs.Draft.{Draft, with_variable, with_scope_row, with_scope, with_signature, with_constant, with_constants}
-use Rattle.ppdb_build_draft.proofs.Heaps.{Grows, grows_not, grows_then, grows_use, grows_blob, text_stays, blob_stays}
+use Rattle.ppdb_build_draft.{specs.Draft.{Draft, with_variable, with_scope_row, with_scope, with_signature, with_constant, with_constants}, proofs.Heaps.{Grows}}
+use Rattle.ppdb_build_draft.proofs.Heaps.{grows_not, grows_then, grows_use, grows_blob, text_stays, blob_stays}
 
 -- ---- variables
 

@@ -1,52 +1,30 @@
 -- All parts of a value, one after another, make the heaps and the rows of its file.
-use Rattle.std.proofs.Common.{◌≡◌, ℕ, suc, ◌+◌, ◌-◌, ◌<◌, ◌≤◌, List, [], ◌∷◌, ◌++◌, length, map, fold, flat_map, take, sum_by, refl, sym}
-use Rattle.std.proofs.Common.{ap, subst, ◌∙◌, append_assoc, arith, Option, Some, None}
-use Rattle.std.specs.Prelude.{slice_index}
-use Rattle.std.specs.List.{enumerate_from, range_with_len}
-use Rattle.std.proofs.lemmas.List.{append-nil, length-map, take_at, get_or-map}
-use Rattle.std.proofs.lemmas.List.Sums.{fold-append, sum_by-append, sum_by-cons}
-use Rattle.std.proofs.lemmas.Option.{slice_get_within, get_or_from_slice_get}
+use Rattle.std.proofs.Common.{◌≡◌, ℕ, suc, ◌+◌, ◌-◌, ◌<◌, ◌≤◌, List, [], ◌∷◌, ◌++◌, length, map, fold, flat_map, take, sum_by, refl, sym, ap, subst, ◌∙◌}
+use Rattle.std.{proofs.Common.{append_assoc, arith, Option, Some, None}, specs.Prelude.{slice_index}, specs.List.{enumerate_from, range_with_len}}
+use Rattle.std.proofs.lemmas.{List.{append-nil, length-map, take_at, get_or-map}, List.Sums.{fold-append, sum_by-append, sum_by-cons}, Option.{slice_get_within}}
+use Rattle.std.proofs.lemmas.Option.{get_or_from_slice_get}
 use native.Mathlib.Numerals.{one-add}
-use Rattle.ppdb_tables.specs.declared.rows.DocumentRow.{DocumentRow}
-use Rattle.ppdb_tables.specs.declared.rows.MethodDebugRow.{MethodDebugRow}
-use Rattle.ppdb_tables.specs.declared.rows.ScopeRow.{ScopeRow}
-use Rattle.ppdb_tables.specs.declared.rows.MachineRow.{MachineRow}
-use Rattle.ppdb_tables.specs.declared.rows.VariableRow.{VariableRow}
-use Rattle.ppdb_tables.specs.declared.rows.ConstantRow.{ConstantRow}
-use Rattle.ppdb_tables.specs.declared.rows.ImportRow.{ImportRow}
-use Rattle.ppdb_tables.specs.declared.rows.CustomRow.{CustomRow}
-use Rattle.ppdb_tables.specs.RawTables.{numbered, row_at}
-use Rattle.ppdb_tables.proofs.NumberedRows.{row_there}
-use Rattle.ppdb_values.specs.declared.file.FileValue.{FileValue}
-use Rattle.ppdb_values.specs.declared.file.DocumentValue.{DocumentValue}
-use Rattle.ppdb_values.specs.declared.file.MethodValue.{MethodValue}
-use Rattle.ppdb_values.specs.declared.scope.ScopeValue.{ScopeValue}
-use Rattle.ppdb_values.specs.declared.custom.CustomValue.{CustomValue}
-use Rattle.ppdb_values.specs.Ordered.{Rises}
-use Rattle.ppdb_values.specs.Parts.{method_at, first_item}
+use Rattle.ppdb_tables.specs.declared.rows.{DocumentRow.{DocumentRow}, MethodDebugRow.{MethodDebugRow}, ScopeRow.{ScopeRow}, MachineRow.{MachineRow}}
+use Rattle.ppdb_tables.specs.declared.rows.{VariableRow.{VariableRow}, ConstantRow.{ConstantRow}, ImportRow.{ImportRow}, CustomRow.{CustomRow}}
+use Rattle.ppdb_tables.{specs.RawTables.{numbered, row_at}, proofs.NumberedRows.{row_there}}
+use Rattle.ppdb_values.specs.declared.{file.FileValue.{FileValue}, file.DocumentValue.{DocumentValue}, file.MethodValue.{MethodValue}, scope.ScopeValue.{ScopeValue}}
+use Rattle.ppdb_values.specs.{declared.custom.CustomValue.{CustomValue}, Ordered.{Rises}, Parts.{method_at, first_item}}
 use Rattle.ppdb_values_sound_laws.specs.Sound.{IsSound}
 use Rattle.ppdb_base.specs.Told.{told}
-use Rattle.ppdb_build_heaps.specs.Items.{first_uses, with_use}
-use Rattle.ppdb_build_heaps.specs.Uses.{Piece, blob_bytes}
-use Rattle.ppdb_build_heaps.proofs.FirstUses.{fold-first}
+use Rattle.ppdb_build_heaps.{specs.Items.{first_uses, with_use}, specs.Uses.{Piece, blob_bytes}, proofs.FirstUses.{fold-first}}
 use Rattle.ppdb_build_layout.specs.declared.rows.Rows.{Rows}
-use Rattle.ppdb_build_canon.specs.Uses.{texts, guids, blobs, method_blob, constant_blob, import_blob, custom_blob}
-use Rattle.ppdb_build_canon.proofs.Uses.{document_blobs}
-use Rattle.ppdb_build_canon.specs.Uses.{variables_of, constants_of, text_uses, guid_uses, cell_blobs, blob_uses}
-use Rattle.ppdb_build_canon.specs.Canonical.{guid_cell, document_row, method_row_of, method_rows, scope_row, variable_row, constant_row}
-use Rattle.ppdb_build_canon.specs.Canonical.{import_row, custom_row, canonical_tables}
-use Rattle.ppdb_build_canon.specs.Limits.{span}
+use Rattle.ppdb_build_canon.specs.Uses.{texts, guids, blobs, method_blob, constant_blob, import_blob, custom_blob, variables_of, constants_of, text_uses, guid_uses}
+use Rattle.ppdb_build_canon.{specs.Uses.{cell_blobs, blob_uses}, proofs.Uses.{document_blobs}, specs.Canonical.{guid_cell, document_row, method_row_of, method_rows}}
+use Rattle.ppdb_build_canon.specs.{Canonical.{scope_row, variable_row, constant_row, import_row, custom_row, canonical_tables}, Limits.{span}}
 use Rattle.ppdb_build_items.specs.Interned.{Annotation, none_interned, with_text, with_blob, guid_place, cell}
-use Rattle.ppdb_build_draft.specs.Draft.{Draft, empty_draft, no_rows, with_document, with_method, with_all_methods, all_methods, with_scope}
-use Rattle.ppdb_build_draft.specs.Draft.{with_constant, with_constants, with_import, with_machine}
-use Rattle.ppdb_build_draft.specs.Drafted.{drafted, held_document, held_method, held_scope, held_variable, held_constant, held_import}
-use Rattle.ppdb_build_draft.specs.Drafted.{held_custom, held_rows, IsDraftOf, DraftsAreCanonical}
-use Rattle.ppdb_build_draft.proofs.Heaps.{Grows, grows_not, grows_then, texts_interned, blobs_interned}
-use Rattle.ppdb_build_draft.proofs.Documents.{document_in, guids_on, DocumentsDrafted, documents_drafted}
-use Rattle.ppdb_build_draft.proofs.Methods.{next_method, MethodsDrafted, methods_drafted, RiseFrom, row_by, found, all_rows, methods_spread}
-use Rattle.ppdb_build_draft.proofs.Scopes.{variable_in, variable_names, scope_rows_from, ScopesDrafted, scopes_drafted, constant_in}
-use Rattle.ppdb_build_draft.proofs.Scopes.{ConstantsDrafted, all_constants, constants_drafted}
-use Rattle.ppdb_build_draft.proofs.Others.{import_in, ImportsDrafted, imports_drafted, machines_drafted, custom_in, CustomsDrafted, customs_drafted}
+use Rattle.ppdb_build_draft.specs.Draft.{Draft, empty_draft, no_rows, with_document, with_method, with_all_methods, all_methods, with_scope, with_constant}
+use Rattle.ppdb_build_draft.specs.{Draft.{with_constants, with_import, with_machine}, Drafted.{drafted, held_document, held_method, held_scope, held_variable}}
+use Rattle.ppdb_build_draft.{specs.Drafted.{held_constant, held_import, held_custom, held_rows, IsDraftOf, DraftsAreCanonical}, proofs.Heaps.{Grows, grows_not}}
+use Rattle.ppdb_build_draft.proofs.{Heaps.{grows_then, texts_interned, blobs_interned}, Documents.{document_in, guids_on, DocumentsDrafted, documents_drafted}}
+use Rattle.ppdb_build_draft.proofs.{Methods.{next_method, MethodsDrafted, methods_drafted, RiseFrom, row_by, found, all_rows, methods_spread}, Scopes.{variable_in}}
+use Rattle.ppdb_build_draft.proofs.Scopes.{variable_names, scope_rows_from, ScopesDrafted, scopes_drafted, constant_in, ConstantsDrafted, all_constants}
+use Rattle.ppdb_build_draft.proofs.{Scopes.{constants_drafted}, Others.{import_in, ImportsDrafted, imports_drafted, machines_drafted, custom_in, CustomsDrafted}}
+use Rattle.ppdb_build_draft.proofs.Others.{customs_drafted}
 
 -- ---- lists that are made in one way or the other
 

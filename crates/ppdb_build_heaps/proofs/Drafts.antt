@@ -1,13 +1,9 @@
 -- Blobs that are put together from pieces, one after another.
-use Rattle.std.proofs.Common.{◌≡◌, ℕ, List, [], ◌∷◌, ◌++◌, map, refl, sym, ap, subst, ◌∙◌, flat_map}
-use Rattle.std.proofs.lemmas.List.{append-nil, map_push}
-use Rattle.std.proofs.lemmas.List.Sums.{fold_push}
-use Rattle.std.proofs.lemmas.List.Concat.{flat_map-append}
-use Rattle.ppdb_build_heaps.specs.Items.{IsIn, with_use, index_of, as_blob, shortest}
-use Rattle.ppdb_build_heaps.specs.Uses.{Piece, octets, index, held_by, piece_bytes, plain, with_held, blobs_after, blob_bytes}
-use Rattle.ppdb_build_heaps.specs.Drafts.{IsDraft}
-use Rattle.ppdb_build_heaps.proofs.Items.{with_use-adds}
-use Rattle.ppdb_build_heaps.proofs.Stable.{AreIn, AreReady, AreUsed, after-used, spelled-stable}
+use Rattle.std.proofs.{Common.{◌≡◌, ℕ, List, [], ◌∷◌, ◌++◌, map, refl, sym, ap, subst, ◌∙◌, flat_map}, lemmas.List.{append-nil, map_push}}
+use Rattle.std.proofs.lemmas.List.{Sums.{fold_push}, Concat.{flat_map-append}}
+use Rattle.ppdb_build_heaps.specs.{Items.{IsIn, with_use, index_of, as_blob, shortest}, Uses.{Piece, octets, index, held_by, piece_bytes, plain, with_held}}
+use Rattle.ppdb_build_heaps.{specs.Uses.{blobs_after, blob_bytes}, specs.Drafts.{IsDraft}, proofs.Items.{with_use-adds}, proofs.Stable.{AreIn, AreReady, AreUsed}}
+use Rattle.ppdb_build_heaps.proofs.Stable.{after-used, spelled-stable}
 
 -- ---- what is held stands in the heap
 

@@ -1,13 +1,8 @@
 -- The distinct items in order of first use, one use after another.
-use Rattle.std.proofs.Common.{◌≡◌, ℕ, Bool, true, false, cond, not, List, [], ◌∷◌, ◌++◌, ◌||◌, map, filter, fold, refl, sym, ap, ◌∙◌, true≢false}
-use Rattle.std.proofs.Common.{append_assoc, bytes_eq, if◌then◌else◌, flat_map}
-use Rattle.std.proofs.lemmas.List.{append-nil}
-use Rattle.std.proofs.lemmas.List.Elements.{filter-append}
-use Rattle.std.specs.List.{list_any}
-use Rattle.std.specs.Cmp.Lexicographic.{bytes_decides}
-use Rattle.ppdb_build_heaps.specs.Items.{first_uses, with_use}
-use Rattle.ppdb_build_heaps.specs.Uses.{Piece, blob_bytes, blobs_after, heap_of, with_held}
-use Rattle.ppdb_build_heaps.proofs.Items.{itself}
+use Rattle.std.proofs.Common.{◌≡◌, ℕ, Bool, true, false, cond, not, List, [], ◌∷◌, ◌++◌, ◌||◌, map, filter, fold, refl, sym, ap, ◌∙◌, true≢false, append_assoc}
+use Rattle.std.proofs.{Common.{bytes_eq, if◌then◌else◌, flat_map}, lemmas.List.{append-nil}, lemmas.List.Elements.{filter-append}}
+use Rattle.std.specs.{List.{list_any}, Cmp.Lexicographic.{bytes_decides}}
+use Rattle.ppdb_build_heaps.{specs.Items.{first_uses, with_use}, specs.Uses.{Piece, blob_bytes, blobs_after, heap_of, with_held}, proofs.Items.{itself}}
 use Rattle.ppdb_build_heaps.proofs.Stable.{AreReady, spelled-stable, after-adds, all-ready}
 
 abbrev pub others : List ℕ → List (List ℕ) → List (List ℕ)

@@ -1,12 +1,8 @@
 -- What the map of a heap's GUIDs says of them.
-use Rattle.std.proofs.Common.{◌≡◌, ℕ, ◌+◌, Bool, true, false, cond, List, [], ◌∷◌, ◌++◌, length, sym, ap, refl, ◌∙◌}
-use Rattle.std.proofs.Common.{bytes_eq, min, Some, None, if◌then◌else◌}
-use Rattle.std.proofs.lemmas.Map.Text.{is_eq-slice_cmp}
-use Rattle.std.specs.{List.{list_any, position_or_len}, BTreeMap.is_at, Cmp.Lexicographic.slice_cmp, Ordering.nat_cmp}
-use Rattle.ppdb_build_heaps.specs.Guids.{number_of}
-use Rattle.ppdb_build_heaps.specs.Items.{with_use}
-use Rattle.ppdb_build_heaps.proofs.Items.{before-new, itself}
-use Rattle.ppdb_build_heaps.proofs.Stays.{before-length, number}
+use Rattle.std.proofs.Common.{◌≡◌, ℕ, ◌+◌, Bool, true, false, cond, List, [], ◌∷◌, ◌++◌, length, sym, ap, refl, ◌∙◌, bytes_eq, min, Some, None, if◌then◌else◌}
+use Rattle.std.{proofs.lemmas.Map.Text.{is_eq-slice_cmp}, specs.List.{list_any, position_or_len}, specs.BTreeMap.{is_at}, specs.Cmp.Lexicographic.{slice_cmp}}
+use Rattle.std.specs.Ordering.{nat_cmp}
+use Rattle.ppdb_build_heaps.{specs.Guids.{number_of}, specs.Items.{with_use}, proofs.Items.{before-new, itself}, proofs.Stays.{before-length, number}}
 use Rattle.ppdb_build_heaps.proofs.Interned.{said_more}
 
 abbrev told_number : List (List ℕ) → List ℕ → ℕ

@@ -1,13 +1,9 @@
 -- What is said of items, with one more.
-use Rattle.std.proofs.Common.{◌≡◌, ℕ, Bool, true, false, cond, List, [], ◌∷◌, ◌++◌, ◌||◌, refl, sym, ap, subst, ◌∙◌}
-use Rattle.std.proofs.Common.{true≢false, bytes_eq, Option, Some, None, if◌then◌else◌}
-use Rattle.std.specs.{List.list_any, Cmp.Lexicographic.bytes_decides}
-use Rattle.ppdb_build_heaps.specs.declared.heap.HeapKind.{HeapKind}
-use Rattle.ppdb_build_heaps.specs.Kinds.{spelled}
-use Rattle.ppdb_base.specs.Told.{told}
-use Rattle.ppdb_build_heaps.specs.Items.{with_use, index_of}
-use Rattle.ppdb_build_heaps.specs.Interned.{length_of}
+use Rattle.std.proofs.Common.{◌≡◌, ℕ, Bool, true, false, cond, List, [], ◌∷◌, ◌++◌, ◌||◌, refl, sym, ap, subst, ◌∙◌, true≢false, bytes_eq, Option, Some, None}
+use Rattle.std.{proofs.Common.{if◌then◌else◌}, specs.List.{list_any}, specs.Cmp.Lexicographic.{bytes_decides}}
+use Rattle.ppdb_build_heaps.specs.{declared.heap.HeapKind.{HeapKind}, Kinds.{spelled}, Items.{with_use, index_of}, Interned.{length_of}}
 use Rattle.ppdb_build_heaps.proofs.Items.{index-new, stays-there, list_any-last, itself}
+use Rattle.ppdb_base.specs.Told.{told}
 
 -- ---- one more item
 

@@ -1,11 +1,7 @@
 -- The items of a heap, and their indexes.
 use Rattle.std.proofs.Common.{◌≡◌, ℕ, Bool, true, false, cond, not, List, [], ◌∷◌, ◌++◌, ◌||◌, length, drop, flat_map, sum_by, refl, sym, ap, ◌∙◌, true≢false}
-use Rattle.std.proofs.Common.{append_assoc, bytes_eq, if◌then◌else◌}
-use Rattle.std.proofs.lemmas.List.{append-nil, drop_at}
-use Rattle.std.proofs.lemmas.List.Sums.{take_while-cons}
-use Rattle.std.proofs.lemmas.List.Concat.{flat_map-append, length-flat_map}
-use Rattle.std.specs.List.{list_any, before_first}
-use Rattle.std.specs.Cmp.Lexicographic.{bytes_decides}
+use Rattle.std.proofs.{Common.{append_assoc, bytes_eq, if◌then◌else◌}, lemmas.List.{append-nil, drop_at}, lemmas.List.Sums.{take_while-cons}}
+use Rattle.std.{proofs.lemmas.List.Concat.{flat_map-append, length-flat_map}, specs.List.{list_any, before_first}, specs.Cmp.Lexicographic.{bytes_decides}}
 use Rattle.ppdb_build_heaps.specs.Items.{with_use, index_of}
 
 -- an item that is there: what stands before its first place, and what after it

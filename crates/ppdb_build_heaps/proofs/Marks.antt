@@ -1,22 +1,13 @@
 -- What the maps of marks say of a heap's items.
-use Rattle.std.proofs.Common.{◌≡◌, ℕ, ◌+◌, ◌<◌, ◌≤◌, Bool, true, false, cond, not, List, [], ◌∷◌, ◌++◌, length, take, get_or, bytes_eq, refl, sym, ap, subst, ◌∙◌, arith}
-use Rattle.std.proofs.Common.{true≢false, Option, Some, None, IsSome, if◌then◌else◌, length-append}
-use Rattle.std.proofs.lemmas.Bool.{eq-eqb, eqb-true, ne_eqb, lt-ltb, le-ltb, ltb-true, ltb-false}
-use Rattle.std.proofs.lemmas.Bool.Decides.{nat_tests}
-use Rattle.std.specs.Ordering.{is_eq, nat_cmp}
-use Rattle.std.proofs.lemmas.List.{get_or_append_left}
-use Rattle.std.proofs.lemmas.List.Folds.{position_or_len_push, list_any_at}
-use Rattle.std.proofs.lemmas.List.Sums.{position_or_len_is, prefix_len_passes, prefix_len_stops, prefix_len-le-length}
-use Rattle.std.proofs.Math.Seq.{get_or-append_seam}
-use Rattle.std.specs.{Prelude.{nat_eq, nat_lt}, List.{list_any, position_or_len, position}, Cmp.Lexicographic.bytes_decides}
+use Rattle.std.proofs.Common.{◌≡◌, ℕ, ◌+◌, ◌<◌, ◌≤◌, Bool, true, false, cond, not, List, [], ◌∷◌, ◌++◌, length, take, get_or, bytes_eq, refl, sym, ap, subst, ◌∙◌}
+use Rattle.std.proofs.{Common.{arith, true≢false, Option, Some, None, IsSome, if◌then◌else◌, length-append}, lemmas.Bool.{eq-eqb, eqb-true, ne_eqb, lt-ltb, le-ltb}}
+use Rattle.std.{proofs.lemmas.Bool.{ltb-true, ltb-false}, proofs.lemmas.Bool.Decides.{nat_tests}, specs.Ordering.{is_eq, nat_cmp}}
+use Rattle.std.proofs.lemmas.{List.{get_or_append_left}, List.Folds.{position_or_len_push, list_any_at}, List.Sums.{position_or_len_is, prefix_len_passes}}
+use Rattle.std.{proofs.lemmas.List.Sums.{prefix_len_stops, prefix_len-le-length}, proofs.Math.Seq.{get_or-append_seam}, specs.Prelude.{nat_eq, nat_lt}}
+use Rattle.std.specs.{List.{list_any, position_or_len, position}, Cmp.Lexicographic.{bytes_decides}}
 use Rattle.ppdb_base.specs.Told.{told}
-use Rattle.ppdb_build_heaps.specs.declared.heap.HeapKind.{HeapKind}
-use Rattle.ppdb_build_heaps.specs.Kinds.{spelled}
-use Rattle.ppdb_build_heaps.specs.Items.{with_use, index_of}
-use Rattle.ppdb_build_heaps.specs.Interned.{length_of, index_in}
-use Rattle.ppdb_build_heaps.specs.Marks.{mark, has_mark, first_with, is_first, other_index}
-use Rattle.ppdb_build_heaps.proofs.Items.{itself, index-new, index-stable}
-use Rattle.ppdb_build_heaps.proofs.Interned.{said_more}
+use Rattle.ppdb_build_heaps.specs.{declared.heap.HeapKind.{HeapKind}, Kinds.{spelled}, Items.{with_use, index_of}, Interned.{length_of, index_in}, Marks.{mark}}
+use Rattle.ppdb_build_heaps.{specs.Marks.{has_mark, first_with, is_first, other_index}, proofs.Items.{itself, index-new, index-stable}, proofs.Interned.{said_more}}
 use Rattle.ppdb_build_heaps.proofs.Stays.{counted}
 
 -- ---- the first place, with one more item

@@ -1,6 +1,5 @@
 -- The parts of a list, one after another.
-use Rattle.std.proofs.Common.{◌≡◌, ℕ, ◌+◌, ◌<◌, List, [], ◌∷◌, ◌++◌, length, take, map, get_or, ap, ◌∙◌, arith}
-use Rattle.std.proofs.lemmas.List.{take_more, length-map, get_or-map}
+use Rattle.std.proofs.{Common.{◌≡◌, ℕ, ◌+◌, ◌<◌, List, [], ◌∷◌, ◌++◌, length, take, map, get_or, ap, ◌∙◌, arith}, lemmas.List.{take_more, length-map, get_or-map}}
 
 pub part-next : {R X : Type 0} (now : R → X) (parts : List R) (i : ℕ) (d : R) → i < length parts
     → take (i + 1) (map now parts) ≡ take i (map now parts) ++ now (get_or parts i d) ∷ []

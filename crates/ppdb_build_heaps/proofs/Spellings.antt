@@ -1,18 +1,11 @@
 -- What the spellings of items say of them.
-use Rattle.std.proofs.Common.{◌≡◌, ℕ, zero, suc, ◌+◌, ◌-◌, ◌<◌, ◌≤◌, Bool, true, false, List, [], ◌∷◌, ◌++◌, length, take, drop, flat_map, get_or, min}
-use Rattle.std.proofs.Common.{Result, Ok, Err, OnOk, OnErr, is_err, true≢false, refl, sym, ap, subst, ◌∙◌, append_assoc, length-append, arith, if◌then◌else◌}
-use Rattle.std.proofs.lemmas.List.{take_at, drop_at, length-drop, append-nil}
-use Rattle.std.proofs.lemmas.List.Sums.{sum_by-cons}
-use Rattle.std.proofs.lemmas.List.Concat.{flat_map-append, length-flat_map}
-use Rattle.std.proofs.lemmas.Bool.{lt-ltb, le-ltb, ltb-true, ltb-false, le-leb, lt-leb}
-use Rattle.std.specs.Prelude.{nat_lt, nat_le}
+use Rattle.std.proofs.Common.{◌≡◌, ℕ, zero, suc, ◌+◌, ◌-◌, ◌<◌, ◌≤◌, Bool, true, false, List, [], ◌∷◌, ◌++◌, length, take, drop, flat_map, get_or, min, Result, Ok}
+use Rattle.std.proofs.Common.{Err, OnOk, OnErr, is_err, true≢false, refl, sym, ap, subst, ◌∙◌, append_assoc, length-append, arith, if◌then◌else◌}
+use Rattle.std.proofs.lemmas.{List.{take_at, drop_at, length-drop, append-nil}, List.Sums.{sum_by-cons}, List.Concat.{flat_map-append, length-flat_map}}
+use Rattle.std.{proofs.lemmas.Bool.{lt-ltb, le-ltb, ltb-true, ltb-false, le-leb, lt-leb}, specs.Prelude.{nat_lt, nat_le}}
 use Rattle.cli_ints.specs.Shortest.{short_unsigned, in_two_bytes, in_four_bytes}
-use Rattle.ppdb_build_heaps.specs.declared.heap.HeapKind.{HeapKind}
-use Rattle.ppdb_build_heaps.specs.declared.heap.HeapKind.TheVariants.{Texts, Blobs}
-use Rattle.ppdb_build_heaps.specs.Items.{as_text, as_blob, shortest}
-use Rattle.ppdb_build_heaps.specs.Kinds.{spelled}
-use Rattle.ppdb_build_heaps.specs.Interned.{Contents, length_of}
-use Rattle.ppdb_build_heaps.specs.Spelled.{item_of, items_in, starts_of, AreSpelled}
+use Rattle.ppdb_build_heaps.specs.{declared.heap.HeapKind.{HeapKind}, declared.heap.HeapKind.TheVariants.{Texts, Blobs}, Items.{as_text, as_blob, shortest}}
+use Rattle.ppdb_build_heaps.specs.{Kinds.{spelled}, Interned.{Contents, length_of}, Spelled.{item_of, items_in, starts_of, AreSpelled}}
 
 -- what is said of an answer that is no error
 pub on_ok : {X E : Type 0} {P : Type 0} (r : Result X E) → is_err r ≡ false → OnOk r P → P

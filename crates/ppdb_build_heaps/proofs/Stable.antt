@@ -1,9 +1,7 @@
 -- Blobs that are used stand in the heap, as the heap spells them.
-use Rattle.std.proofs.Common.{◌≡◌, ℕ, List, [], ◌∷◌, ◌++◌, map, flat_map, refl, sym, ap, subst, ◌∙◌, append_assoc}
-use Rattle.std.proofs.lemmas.List.{append-nil}
-use Rattle.ppdb_build_heaps.specs.Items.{IsIn, with_use, index_of, as_blob, shortest}
-use Rattle.ppdb_build_heaps.specs.Uses.{Piece, octets, index, held_by, blob_bytes, plain, with_held, blobs_after, heap_of}
-use Rattle.ppdb_build_heaps.proofs.Items.{index-stable, with_use-adds, used-there, stays-there}
+use Rattle.std.proofs.{Common.{◌≡◌, ℕ, List, [], ◌∷◌, ◌++◌, map, flat_map, refl, sym, ap, subst, ◌∙◌, append_assoc}, lemmas.List.{append-nil}}
+use Rattle.ppdb_build_heaps.specs.{Items.{IsIn, with_use, index_of, as_blob, shortest}, Uses.{Piece, octets, index, held_by, blob_bytes, plain, with_held}}
+use Rattle.ppdb_build_heaps.{specs.Uses.{blobs_after, heap_of}, proofs.Items.{index-stable, with_use-adds, used-there, stays-there}}
 
 -- each of some contents is one of the items
 abbrev pub AreIn : List (List ℕ) → List (List ℕ) → Type 0

@@ -1,22 +1,14 @@
 -- What stands at an item's index is the item.
-use Rattle.std.proofs.Common.{◌≡◌, ◌≢◌, ℕ, zero, suc, ◌+◌, ◌*◌, ◌<◌, ◌≤◌, true, false, not, List, [], ◌∷◌, ◌++◌, length, drop, take, flat_map, sum_by, min}
-use Rattle.std.proofs.Common.{Some, refl, sym, ap, subst, ◌∙◌, append_assoc, arith, bytes_eq, length-append}
-use Rattle.std.proofs.Math.Seq.{take-append_seam}
-use Rattle.std.specs.Prelude.{nat_lt, get_or, All, ◌==◌, option_map, None, if◌then◌else◌}
-use Rattle.std.specs.List.{before_first, position_or_len}
-use Rattle.std.proofs.lemmas.Bool.{le-leb, lt-ltb, ne_eqb}
+use Rattle.std.proofs.Common.{◌≡◌, ◌≢◌, ℕ, zero, suc, ◌+◌, ◌*◌, ◌<◌, ◌≤◌, true, false, not, List, [], ◌∷◌, ◌++◌, length, drop, take, flat_map, sum_by, min, Some}
+use Rattle.std.{proofs.Common.{refl, sym, ap, subst, ◌∙◌, append_assoc, arith, bytes_eq, length-append}, proofs.Math.Seq.{take-append_seam}, specs.Prelude.{nat_lt}}
+use Rattle.std.{specs.Prelude.{get_or, All, ◌==◌, option_map, None, if◌then◌else◌}, specs.List.{before_first, position_or_len}, proofs.lemmas.Bool.{le-leb, lt-ltb}}
+use Rattle.std.proofs.lemmas.Bool.{ne_eqb}
 use native.Mathlib.Numerals.{one-add}
-use Rattle.std.proofs.lemmas.List.{take_at, length-drop, append-nil, get_or_append_left}
-use Rattle.std.proofs.lemmas.List.Elements.{All-get_or, All-head, All-tail}
-use Rattle.std.proofs.lemmas.List.Sums.{sum_by-cons, prefix_len-le-length, position_or_len_is}
-use Rattle.cli_ints.specs.Compressed.{SpellsUnsigned}
-use Rattle.cli_ints.specs.Shortest.{short_unsigned}
-use Rattle.cli_ints.proofs.Shortest.{short_unsigned-shortest}
-use Rattle.ppdb_heaps.specs.Heaps.{text_at, blob_at, guid_at, until_zero, BeginsWithBlob}
-use Rattle.ppdb_heaps.proofs.Heaps.{blob-begins}
-use Rattle.ppdb_build_heaps.specs.Laws.{WrittenItemsAreRead}
-use Rattle.ppdb_build_heaps.specs.Items.{IsIn, index_of, as_text, as_blob, shortest}
-use Rattle.ppdb_build_heaps.proofs.Items.{at_index, before-no}
+use Rattle.std.proofs.lemmas.{List.{take_at, length-drop, append-nil, get_or_append_left}, List.Elements.{All-get_or, All-head, All-tail}, List.Sums.{sum_by-cons}}
+use Rattle.std.proofs.lemmas.List.Sums.{prefix_len-le-length, position_or_len_is}
+use Rattle.cli_ints.{specs.Compressed.{SpellsUnsigned}, specs.Shortest.{short_unsigned}, proofs.Shortest.{short_unsigned-shortest}}
+use Rattle.ppdb_heaps.{specs.Heaps.{text_at, blob_at, guid_at, until_zero, BeginsWithBlob}, proofs.Heaps.{blob-begins}}
+use Rattle.ppdb_build_heaps.{specs.Laws.{WrittenItemsAreRead}, specs.Items.{IsIn, index_of, as_text, as_blob, shortest}, proofs.Items.{at_index, before-no}}
 
 least : (n : ℕ) → n < 0x20000000 → min n 0x1fffffff ≡ n
 least n h = omega arith

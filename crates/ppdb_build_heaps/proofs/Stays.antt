@@ -1,17 +1,12 @@
 -- Items that are there stay, and lie within the heap.
 use Rattle.std.proofs.Common.{◌≡◌, ℕ, ◌+◌, ◌<◌, ◌≤◌, List, [], ◌∷◌, ◌++◌, length, flat_map, min, not, sym, ap, ◌∙◌, arith, bytes_eq, length-append, All}
-use Rattle.std.proofs.lemmas.List.Concat.{flat_map-append, length-flat_map}
-use Rattle.std.proofs.lemmas.List.{length-take-le}
-use Rattle.std.proofs.lemmas.List.Elements.{All-nil, All-cons}
-use Rattle.std.proofs.lemmas.List.Sums.{prefix_len-le-length}
-use Rattle.std.specs.List.{before_first, position_or_len}
+use Rattle.std.proofs.lemmas.{List.Concat.{flat_map-append, length-flat_map}, List.{length-take-le}, List.Elements.{All-nil, All-cons}}
+use Rattle.std.{proofs.lemmas.List.Sums.{prefix_len-le-length}, specs.List.{before_first, position_or_len}}
 use Rattle.cli_ints.specs.Shortest.{short_unsigned}
-use Rattle.ppdb_build_heaps.specs.Items.{IsIn, index_of, as_blob, shortest}
-use Rattle.ppdb_build_heaps.specs.Uses.{Piece, with_held, heap_of, blob_bytes}
-use Rattle.ppdb_build_heaps.specs.Laws.{ItemsStay, ItemsHaveForms, AllUsesAreThere, DraftsAreInterned}
-use Rattle.ppdb_build_heaps.proofs.Items.{there, index-stable, before-stable, with_use-adds, used-there, stays-there}
-use Rattle.ppdb_build_heaps.proofs.Stable.{AreUsed, all-used}
-use Rattle.ppdb_build_heaps.proofs.Drafts.{none-drafted, octets-drafted, index-drafted, draft-interned, draft-spelled}
+use Rattle.ppdb_build_heaps.specs.{Items.{IsIn, index_of, as_blob, shortest}, Uses.{Piece, with_held, heap_of, blob_bytes}, Laws.{ItemsStay, ItemsHaveForms}}
+use Rattle.ppdb_build_heaps.{specs.Laws.{AllUsesAreThere, DraftsAreInterned}, proofs.Items.{there, index-stable, before-stable, with_use-adds, used-there}}
+use Rattle.ppdb_build_heaps.proofs.{Items.{stays-there}, Stable.{AreUsed, all-used}, Drafts.{none-drafted, octets-drafted, index-drafted, draft-interned}}
+use Rattle.ppdb_build_heaps.proofs.Drafts.{draft-spelled}
 
 -- an item and what stands before it lie within the heap
 pub within : (spelled : List ℕ → List ℕ) (items : List (List ℕ)) (item : List ℕ) → IsIn items item

@@ -1,15 +1,10 @@
 -- A blob that is made piece by piece is the blob of its pieces, with what it holds before it.
 use Rattle.std.proofs.Common.{◌≡◌, ℕ, ◌+◌, List, [], ◌∷◌, ◌++◌, length, map, fold, sum_by, refl, sym, ap, subst, ◌∙◌, append_assoc, arith, flat_map}
-use Rattle.std.proofs.lemmas.List.{append-nil, map_push}
-use Rattle.std.proofs.lemmas.List.Sums.{fold_push, sum_by-append, sum_by-cons}
-use Rattle.std.proofs.lemmas.List.Concat.{flat_map-append}
+use Rattle.std.proofs.lemmas.{List.{append-nil, map_push}, List.Sums.{fold_push, sum_by-append, sum_by-cons}, List.Concat.{flat_map-append}}
 use Rattle.ppdb_base.specs.Told.{told}
-use Rattle.ppdb_build_heaps.specs.Items.{IsIn, with_use, index_of, as_blob, shortest}
-use Rattle.ppdb_build_heaps.specs.Uses.{Piece, octets, index, plain, held_by, piece_bytes, blob_bytes, with_held, blobs_after}
-use Rattle.ppdb_build_heaps.proofs.Items.{with_use-adds, used-there, stays-there}
-use Rattle.ppdb_build_heaps.proofs.Stable.{AreIn, spelled-stable}
-use Rattle.ppdb_build_items.specs.Interned.{with_blob, blob_place}
-use Rattle.ppdb_build_items.specs.Making.{Making, interned_of, begun, with_piece, made}
+use Rattle.ppdb_build_heaps.specs.{Items.{IsIn, with_use, index_of, as_blob, shortest}, Uses.{Piece, octets, index, plain, held_by, piece_bytes, blob_bytes}}
+use Rattle.ppdb_build_heaps.{specs.Uses.{with_held, blobs_after}, proofs.Items.{with_use-adds, used-there, stays-there}, proofs.Stable.{AreIn, spelled-stable}}
+use Rattle.ppdb_build_items.specs.{Interned.{with_blob, blob_place}, Making.{Making, interned_of, begun, with_piece, made}}
 
 -- so many pieces were put, and what they hold was noted
 pub record IsMade (before : Making) (pieces : List Piece) (now : Making) : Type 0 where

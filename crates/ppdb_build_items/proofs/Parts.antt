@@ -1,8 +1,6 @@
 -- The parts of a name, one after another.
-use Rattle.std.proofs.Common.{◌≡◌, ◌≢◌, ℕ, ◌+◌, ◌<◌, Bool, true, false, List, [], ◌∷◌, ◌++◌, length, take, map, refl, ap, ◌∙◌, arith}
-use Rattle.std.proofs.Common.{◌==◌, if◌then◌else◌, get_or}
-use Rattle.std.proofs.lemmas.List.{take_more, length-map, get_or-map}
-use Rattle.std.specs.List.{slice_split}
+use Rattle.std.proofs.Common.{◌≡◌, ◌≢◌, ℕ, ◌+◌, ◌<◌, Bool, true, false, List, [], ◌∷◌, ◌++◌, length, take, map, refl, ap, ◌∙◌, arith, ◌==◌, if◌then◌else◌, get_or}
+use Rattle.std.{proofs.lemmas.List.{take_more, length-map, get_or-map}, specs.List.{slice_split}}
 use Rattle.ppdb_build_canon.specs.Uses.{parts_of, separator_of}
 
 -- a name with a separator is split at it

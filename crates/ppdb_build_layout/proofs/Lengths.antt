@@ -1,23 +1,14 @@
 -- How long streams are, without their bytes.
 use Rattle.std.proofs.Common.{◌≡◌, ℕ, suc, ◌+◌, ◌*◌, List, [], ◌∷◌, ◌++◌, length, sum, replicate, min, refl, ap, ◌∙◌, arith, length-append, append_assoc, ◌-◌}
-use Rattle.std.specs.Prelude.{slice_index}
-use Rattle.std.specs.List.{range_with_len}
-use Rattle.std.proofs.lemmas.List.{length-replicate}
-use Rattle.byteorder.specs.Endian.{little_bytes}
-use Rattle.byteorder.specs.Numbers.{length-bytes_low_first}
-use Rattle.row_layout.specs.declared.column.Column.{Column}
-use Rattle.row_layout.specs.declared.column.Sizes.{Sizes}
-use Rattle.row_layout.specs.Rows.{row_bytes}
-use Rattle.row_layout.proofs.Cells.{length-row_bytes}
-use Rattle.ppdb_tables.specs.Head.{method_token}
-use Rattle.ppdb_tables.specs.Layouts.{widths_of, document_columns, method_columns, scope_columns, variable_columns, constant_columns, import_columns}
-use Rattle.ppdb_tables.specs.Layouts.{machine_columns, custom_columns}
-use Rattle.ppdb_build_layout.specs.declared.rows.Rows.{Rows}
-use Rattle.ppdb_build_layout.specs.declared.rows.HeapLens.{HeapLens}
+use Rattle.std.{specs.Prelude.{slice_index}, specs.List.{range_with_len}, proofs.lemmas.List.{length-replicate}}
+use Rattle.byteorder.specs.{Endian.{little_bytes}, Numbers.{length-bytes_low_first}}
+use Rattle.row_layout.{specs.declared.column.Column.{Column}, specs.declared.column.Sizes.{Sizes}, specs.Rows.{row_bytes}, proofs.Cells.{length-row_bytes}}
+use Rattle.ppdb_tables.specs.{Head.{method_token}, Layouts.{widths_of, document_columns, method_columns, scope_columns, variable_columns, constant_columns}}
+use Rattle.ppdb_tables.specs.Layouts.{import_columns, machine_columns, custom_columns}
+use Rattle.ppdb_build_layout.specs.{declared.rows.Rows.{Rows}, declared.rows.HeapLens.{HeapLens}, Bytes.{padding, padded, with_rows, bits_of, counts_of, pdb_stream}}
+use Rattle.ppdb_build_layout.specs.Bytes.{heap_bits, sizes_of, rows_bytes, all_rows, tables_stream, prefix_bytes, root_prefix, headers, stream_headers}
+use Rattle.ppdb_build_layout.specs.Bytes.{document_cells, method_cells, scope_cells, variable_cells, constant_cells, import_cells, machine_cells, custom_cells}
 use Rattle.ppdb_base.specs.Told.{told}
-use Rattle.ppdb_build_layout.specs.Bytes.{padding, padded, with_rows, bits_of, counts_of, pdb_stream, heap_bits, sizes_of, rows_bytes, all_rows}
-use Rattle.ppdb_build_layout.specs.Bytes.{tables_stream, prefix_bytes, root_prefix, headers, stream_headers, document_cells, method_cells, scope_cells}
-use Rattle.ppdb_build_layout.specs.Bytes.{variable_cells, constant_cells, import_cells, machine_cells, custom_cells}
 
 pub length-padded : (bytes : List ℕ) → length (padded bytes) ≡ length bytes + padding (length bytes)
 length-padded bytes = length-append bytes (replicate (padding (length bytes)) 0) ∙ ap (λ n. length bytes + n) (length-replicate (padding (length bytes)) 0)

@@ -1,14 +1,7 @@
 -- The tables that have rows, one after another.
-use Rattle.std.proofs.Common.{◌≡◌, ℕ, zero, suc, ◌+◌, ◌<◌, ◌≤◌, ◌^◌, ◌*◌, ◌%◌, cond, List, [], ◌∷◌, ◌++◌, length, flat_map, ap, ◌∙◌, arith, add-one}
-use Rattle.std.proofs.Common.{length-append}
-use Rattle.std.specs.Prelude.{nat_lt, slice_index}
-use Rattle.std.specs.List.{range_with_len}
-use Rattle.std.proofs.lemmas.Bool.{lt-ltb, le-ltb}
-use Rattle.std.proofs.lemmas.List.{append-nil}
-use Rattle.std.proofs.lemmas.List.Elements.{filter-append}
-use Rattle.std.proofs.lemmas.List.Concat.{flat_map-append}
-use Rattle.std.proofs.lemmas.List.Sums.{sum_by_push}
-use Rattle.std.proofs.Math.Nat.{pow-suc}
+use Rattle.std.proofs.Common.{◌≡◌, ℕ, zero, suc, ◌+◌, ◌<◌, ◌≤◌, ◌^◌, ◌*◌, ◌%◌, cond, List, [], ◌∷◌, ◌++◌, length, flat_map, ap, ◌∙◌, arith, add-one, length-append}
+use Rattle.std.{specs.Prelude.{nat_lt, slice_index}, specs.List.{range_with_len}, proofs.lemmas.Bool.{lt-ltb, le-ltb}, proofs.lemmas.List.{append-nil}}
+use Rattle.std.proofs.{lemmas.List.Elements.{filter-append}, lemmas.List.Concat.{flat_map-append}, lemmas.List.Sums.{sum_by_push}, Math.Nat.{pow-suc}}
 use Rattle.std.proofs.Math.Pow.{pow-lt}
 use Rattle.byteorder.specs.Endian.{little_bytes}
 use Rattle.ppdb_build_layout.specs.Bytes.{with_rows, bits_of, counts_of}

@@ -1,14 +1,8 @@
 -- The bits of some tables, and which tables they are.
-use Rattle.std.proofs.Common.{◌≡◌, ℕ, zero, suc, ◌+◌, ◌*◌, ◌/◌, ◌%◌, ◌^◌, ◌<◌, ◌≤◌, Bool, true, false, cond, List, [], ◌∷◌, ◌++◌, length, filter, refl, sym}
-use Rattle.std.proofs.Common.{ap, ◌∙◌, arith, add-one, add-zero, zero-add, length-append}
-use Rattle.std.proofs.lemmas.Nat.Bits.{bit_at_lowest, bit_at-suc}
-use Rattle.std.proofs.lemmas.List.Elements.{filter-append}
-use Rattle.std.proofs.Math.Nat.{pow-suc, mul_comm}
-use Rattle.std.specs.List.{range_with_len}
-use Rattle.std.specs.Int.{bit_at}
-use Rattle.std.proofs.lemmas.List.Sums.{sum_by-cons}
-use Rattle.ppdb_tables.specs.Counts.{counts_below}
-use Rattle.ppdb_tables.proofs.RowCounts.{counts-step, counts-zero}
+use Rattle.std.proofs.Common.{◌≡◌, ℕ, zero, suc, ◌+◌, ◌*◌, ◌/◌, ◌%◌, ◌^◌, ◌<◌, ◌≤◌, Bool, true, false, cond, List, [], ◌∷◌, ◌++◌, length, filter, refl, sym, ap, ◌∙◌}
+use Rattle.std.proofs.{Common.{arith, add-one, add-zero, zero-add, length-append}, lemmas.Nat.Bits.{bit_at_lowest, bit_at-suc}, lemmas.List.Elements.{filter-append}}
+use Rattle.std.{proofs.Math.Nat.{pow-suc, mul_comm}, specs.List.{range_with_len}, specs.Int.{bit_at}, proofs.lemmas.List.Sums.{sum_by-cons}}
+use Rattle.ppdb_tables.{specs.Counts.{counts_below}, proofs.RowCounts.{counts-step, counts-zero}}
 use Rattle.ppdb_build_layout.specs.Bytes.{bits_of}
 
 -- the tests' answers as a number, the first answer as the lowest bit

@@ -1,16 +1,10 @@
 -- The root of a file that is laid out, and its streams.
 use Rattle.std.proofs.Common.{◌≡◌, ℕ, ◌+◌, ◌<◌, ◌≤◌, ◌^◌, List, [], ◌++◌, length, drop, take, refl, sym, ap, ◌∙◌, append_assoc, arith, length-append}
-use Rattle.std.specs.Prelude.{codes}
-use Rattle.std.proofs.lemmas.List.{append-nil, drop_at, take_at}
-use Rattle.byteorder.specs.Endian.{little_bytes, little_number}
-use Rattle.byteorder.specs.Numbers.{little_number-reads_back}
-use Rattle.metadata_root.specs.declared.kind.StreamKind.{StreamKind}
-use Rattle.metadata_root.specs.declared.kind.StreamKind.TheVariants.{Pdb, Tables, Strings, Guids, Blobs}
-use Rattle.metadata_root.specs.Fields.{number_at}
-use Rattle.metadata_root.specs.Root.{fields_to, header_place, name_at, name_of, name_place, stream_count}
-use Rattle.metadata_root.specs.Streams.{IsStream, offset_in, size_in}
-use Rattle.ppdb_build_layout.specs.declared.rows.HeapLens.{HeapLens}
-use Rattle.ppdb_build_layout.specs.Bytes.{root_prefix, headers, stream_headers}
+use Rattle.std.{specs.Prelude.{codes}, proofs.lemmas.List.{append-nil, drop_at, take_at}}
+use Rattle.byteorder.specs.{Endian.{little_bytes, little_number}, Numbers.{little_number-reads_back}}
+use Rattle.metadata_root.specs.{declared.kind.StreamKind.{StreamKind}, declared.kind.StreamKind.TheVariants.{Pdb, Tables, Strings, Guids, Blobs}, Fields.{number_at}}
+use Rattle.metadata_root.specs.{Root.{fields_to, header_place, name_at, name_of, name_place, stream_count}, Streams.{IsStream, offset_in, size_in}}
+use Rattle.ppdb_build_layout.specs.{declared.rows.HeapLens.{HeapLens}, Bytes.{root_prefix, headers, stream_headers}}
 
 -- a number that was written is read, whatever follows it
 pub back : (n : ℕ) (rest : List ℕ) → n < 2 ^ 32 → little_number 4 (little_bytes 4 n ++ rest) ≡ n

@@ -1,20 +1,12 @@
 -- Row counts that are written are the row counts that are read.
-use Rattle.std.proofs.Common.{◌≡◌, ℕ, suc, ◌+◌, ◌-◌, ◌*◌, ◌<◌, ◌≤◌, Bool, true, false, cond, List, [], ◌∷◌, ◌++◌, length, drop, filter, flat_map, inl, inr}
-use Rattle.std.proofs.Common.{refl, sym, ap, ◌∙◌, arith, zero-add, append_assoc, true≢false}
-use Rattle.std.specs.Prelude.{nat_lt, nat_le, slice_index}
-use Rattle.std.specs.List.{range_with_len}
-use Rattle.std.specs.Int.{bit_at}
-use Rattle.std.proofs.lemmas.Bool.{cases_lt, lt-ltb, le-ltb, le-leb, ltb-false, leb-true}
-use Rattle.std.proofs.lemmas.List.{append-nil, drop_at, drop-drop}
-use Rattle.std.proofs.lemmas.List.Elements.{filter-append}
-use Rattle.std.proofs.lemmas.List.Concat.{flat_map-append}
-use Rattle.byteorder.specs.Endian.{little_bytes, little_number}
-use Rattle.byteorder.specs.Numbers.{little_number-reads_back}
+use Rattle.std.proofs.Common.{◌≡◌, ℕ, suc, ◌+◌, ◌-◌, ◌*◌, ◌<◌, ◌≤◌, Bool, true, false, cond, List, [], ◌∷◌, ◌++◌, length, drop, filter, flat_map, inl, inr, refl}
+use Rattle.std.{proofs.Common.{sym, ap, ◌∙◌, arith, zero-add, append_assoc, true≢false}, specs.Prelude.{nat_lt, nat_le, slice_index}, specs.List.{range_with_len}}
+use Rattle.std.{specs.Int.{bit_at}, proofs.lemmas.Bool.{cases_lt, lt-ltb, le-ltb, le-leb, ltb-false, leb-true}, proofs.lemmas.List.{append-nil, drop_at, drop-drop}}
+use Rattle.std.proofs.lemmas.List.{Elements.{filter-append}, Concat.{flat_map-append}}
+use Rattle.byteorder.specs.{Endian.{little_bytes, little_number}, Numbers.{little_number-reads_back}}
 use Rattle.metadata_root.specs.Fields.{number_at}
-use Rattle.ppdb_tables.specs.Counts.{counts_below, rows_in}
-use Rattle.ppdb_tables.proofs.RowCounts.{rows_in-clear, rows_in-set}
-use Rattle.ppdb_build_layout.specs.Bytes.{with_rows, bits_of, counts_of}
-use Rattle.ppdb_build_layout.proofs.Lengths.{length-counts}
+use Rattle.ppdb_tables.{specs.Counts.{counts_below, rows_in}, proofs.RowCounts.{rows_in-clear, rows_in-set}}
+use Rattle.ppdb_build_layout.{specs.Bytes.{with_rows, bits_of, counts_of}, proofs.Lengths.{length-counts}}
 use Rattle.ppdb_build_layout_laws.proofs.Bits.{counted, range-split, filter-same, filter-none, below-is}
 
 -- the rows of a table, where it is one of some tables

@@ -1,25 +1,14 @@
 -- The stream #Pdb of a file that is laid out.
-use Rattle.std.proofs.Common.{◌≡◌, ◌≢◌, ℕ, ◌+◌, ◌%◌, ◌^◌, ◌<◌, ◌≤◌, List, [], ◌∷◌, ◌++◌, length, take, drop, replicate, sum, inl, inr, refl, sym, ap, ◌∙◌}
-use Rattle.std.proofs.Common.{arith, append_assoc, length-append}
-use Rattle.std.specs.Prelude.{nat_lt, slice_index, if◌then◌else◌}
-use Rattle.std.specs.List.{range_with_len}
-use Rattle.std.proofs.lemmas.Bool.{cases_eq, eq-eqb, ne_eqb}
-use Rattle.std.proofs.lemmas.List.{drop_at, take_at}
-use Rattle.byteorder.specs.Endian.{little_bytes, little_number}
-use Rattle.byteorder.specs.Numbers.{little_number-reads_back, length-bytes_low_first}
-use Rattle.ppdb_base.specs.First.{IsAccepted}
-use Rattle.ppdb_base.proofs.Fields.{ends_within}
-use Rattle.ppdb_base.proofs.Judging.{accepted_then}
+use Rattle.std.proofs.Common.{◌≡◌, ◌≢◌, ℕ, ◌+◌, ◌%◌, ◌^◌, ◌<◌, ◌≤◌, List, [], ◌∷◌, ◌++◌, length, take, drop, replicate, sum, inl, inr, refl, sym, ap, ◌∙◌, arith}
+use Rattle.std.{proofs.Common.{append_assoc, length-append}, specs.Prelude.{nat_lt, slice_index, if◌then◌else◌}, specs.List.{range_with_len}}
+use Rattle.std.proofs.lemmas.{Bool.{cases_eq, eq-eqb, ne_eqb}, List.{drop_at, take_at}}
+use Rattle.byteorder.specs.{Endian.{little_bytes, little_number}, Numbers.{little_number-reads_back, length-bytes_low_first}}
+use Rattle.ppdb_base.{specs.First.{IsAccepted}, proofs.Fields.{ends_within}, proofs.Judging.{accepted_then}}
 use Rattle.metadata_root.specs.Fields.{number_at}
-use Rattle.ppdb_tables.specs.Counts.{counts_below}
-use Rattle.ppdb_tables.proofs.RowCounts.{sum-fields}
-use Rattle.ppdb_tables.specs.Head.{PdbFieldFaults, EntryFaults, PdbFaults, entry_in, method_token, referenced, pdb_fields, pdb_rows}
-use Rattle.ppdb_tables.specs.Head.PdbFieldFaults.{short, foreign, rows}
-use Rattle.ppdb_tables.specs.Head.EntryFaults.{entry}
-use Rattle.ppdb_build_layout.specs.Bytes.{padding, with_rows, bits_of, counts_of, pdb_stream}
-use Rattle.ppdb_build_layout.proofs.Lengths.{length-pdb}
-use Rattle.ppdb_build_layout_laws.proofs.Bits.{number_from, bits-are, number-below}
-use Rattle.ppdb_build_layout_laws.proofs.Counts.{among, among-in, among-small, rows_back, below_all}
+use Rattle.ppdb_tables.{specs.Counts.{counts_below}, proofs.RowCounts.{sum-fields}, specs.Head.{PdbFieldFaults, EntryFaults, PdbFaults, entry_in, method_token}}
+use Rattle.ppdb_tables.specs.{Head.{referenced, pdb_fields, pdb_rows}, Head.PdbFieldFaults.{short, foreign, rows}, Head.EntryFaults.{entry}}
+use Rattle.ppdb_build_layout.{specs.Bytes.{padding, with_rows, bits_of, counts_of, pdb_stream}, proofs.Lengths.{length-pdb}}
+use Rattle.ppdb_build_layout_laws.proofs.{Bits.{number_from, bits-are, number-below}, Counts.{among, among-in, among-small, rows_back, below_all}}
 
 -- a number after a prefix
 pub number-behind : (stream prefix rest : List ℕ) (at len n : ℕ) → stream ≡ prefix ++ (little_bytes len n ++ rest) → length prefix ≡ at → n < 256 ^ len

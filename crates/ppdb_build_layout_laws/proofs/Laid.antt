@@ -1,35 +1,19 @@
 -- A file that is laid out is read as it was.
-use Rattle.std.proofs.Common.{◌≡◌, ℕ, ◌<◌, ◌≤◌, List, length, refl, sym, ap, subst, ◌∙◌, zero-add}
-use Rattle.std.specs.Prelude.{slice_index}
+use Rattle.std.{proofs.Common.{◌≡◌, ℕ, ◌<◌, ◌≤◌, List, length, refl, sym, ap, subst, ◌∙◌, zero-add}, specs.Prelude.{slice_index}}
 use Rattle.std.proofs.lemmas.List.FromFn.{get_or-map-range_with_len}
 use Rattle.ppdb_base.specs.First.{IsAccepted}
-use Rattle.metadata_root.specs.declared.kind.StreamKind.TheVariants.{Pdb, Tables, Strings, UserStrings, Guids, Blobs}
-use Rattle.metadata_root.specs.Streams.{AreStreamsOf, ContainerFaults}
+use Rattle.metadata_root.specs.{declared.kind.StreamKind.TheVariants.{Pdb, Tables, Strings, UserStrings, Guids, Blobs}, Streams.{AreStreamsOf, ContainerFaults}}
 use Rattle.row_layout.specs.declared.column.Sizes.{Sizes}
-use Rattle.ppdb_tables.specs.declared.head.PdbHead.{PdbHead}
-use Rattle.ppdb_tables.specs.declared.rows.DocumentRow.{DocumentRow}
-use Rattle.ppdb_tables.specs.declared.rows.MethodDebugRow.{MethodDebugRow}
-use Rattle.ppdb_tables.specs.declared.rows.ScopeRow.{ScopeRow}
-use Rattle.ppdb_tables.specs.declared.rows.VariableRow.{VariableRow}
-use Rattle.ppdb_tables.specs.declared.rows.ConstantRow.{ConstantRow}
-use Rattle.ppdb_tables.specs.declared.rows.ImportRow.{ImportRow}
-use Rattle.ppdb_tables.specs.declared.rows.MachineRow.{MachineRow}
-use Rattle.ppdb_tables.specs.declared.rows.CustomRow.{CustomRow}
-use Rattle.ppdb_tables.specs.Head.{head_in, pdb_rows}
-use Rattle.ppdb_tables.specs.Layouts.{document_row, document_columns, method_row, method_columns, scope_row, scope_columns, variable_row, variable_columns}
-use Rattle.ppdb_tables.specs.Layouts.{constant_row, constant_columns, import_row, import_columns, machine_row, machine_columns, custom_row, custom_columns}
-use Rattle.ppdb_tables.specs.RawTables.{RawTables}
-use Rattle.ppdb_tables.specs.Tables.{rows_at, tables_in}
+use Rattle.ppdb_tables.specs.declared.{head.PdbHead.{PdbHead}, rows.DocumentRow.{DocumentRow}, rows.MethodDebugRow.{MethodDebugRow}, rows.ScopeRow.{ScopeRow}}
+use Rattle.ppdb_tables.specs.declared.rows.{VariableRow.{VariableRow}, ConstantRow.{ConstantRow}, ImportRow.{ImportRow}, MachineRow.{MachineRow}}
+use Rattle.ppdb_tables.specs.{declared.rows.CustomRow.{CustomRow}, Head.{head_in, pdb_rows}, Layouts.{document_row, document_columns, method_row, method_columns}}
+use Rattle.ppdb_tables.specs.Layouts.{scope_row, scope_columns, variable_row, variable_columns, constant_row, constant_columns, import_row, import_columns}
+use Rattle.ppdb_tables.specs.{Layouts.{machine_row, machine_columns, custom_row, custom_columns}, RawTables.{RawTables}, Tables.{rows_at, tables_in}}
 use Rattle.ppdb_values.specs.RawFile.{RawFile}
-use Rattle.ppdb_build_layout.specs.declared.rows.Rows.{Rows}
-use Rattle.ppdb_build_layout.specs.declared.rows.HeapLens.{HeapLens}
-use Rattle.ppdb_build_layout.specs.Bytes.{file_bytes, prefix_bytes, pdb_stream, tables_stream, rows_of, heaps_of}
-use Rattle.ppdb_build_layout.specs.Laid.{CanBeLaidOut, IsReadBack, LaidOutFilesAreRead, laid_streams}
-use Rattle.ppdb_build_layout_laws.proofs.Container.{whole, pdb_is, tables_are, texts_are, guids_are, blobs_are}
-use Rattle.ppdb_build_layout_laws.proofs.Counts.{among}
-use Rattle.ppdb_build_layout_laws.proofs.Head.{head_good, id_back, entry_back, pdb_rows_back}
-use Rattle.ppdb_build_layout_laws.proofs.Rules.{container_good, unlisted}
-use Rattle.ppdb_build_layout_laws.proofs.Tables.{AreCounted, sizes_back, tables_good}
+use Rattle.ppdb_build_layout.specs.{declared.rows.Rows.{Rows}, declared.rows.HeapLens.{HeapLens}, Bytes.{file_bytes, prefix_bytes, pdb_stream, tables_stream}}
+use Rattle.ppdb_build_layout.specs.{Bytes.{rows_of, heaps_of}, Laid.{CanBeLaidOut, IsReadBack, LaidOutFilesAreRead, laid_streams}}
+use Rattle.ppdb_build_layout_laws.proofs.{Container.{whole, pdb_is, tables_are, texts_are, guids_are, blobs_are}, Counts.{among}, Head.{head_good, id_back}}
+use Rattle.ppdb_build_layout_laws.proofs.{Head.{entry_back, pdb_rows_back}, Rules.{container_good, unlisted}, Tables.{AreCounted, sizes_back, tables_good}}
 use Rattle.ppdb_build_layout_laws.proofs.TablesBack.{documents-are, methods-are, scopes-are, variables-are, constants-are, imports-are, machines-are, customs-are}
 
 -- tables whose rows are the same are the same

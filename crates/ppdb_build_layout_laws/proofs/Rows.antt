@@ -1,24 +1,13 @@
 -- The rows that are written are the rows that are read.
-use Rattle.std.proofs.Common.{◌≡◌, ℕ, ◌+◌, ◌*◌, ◌<◌, List, [], ◌∷◌, ◌++◌, length, take, map, flat_map, sum, refl, sym, ap, ◌∙◌, append_assoc, arith}
-use Rattle.std.proofs.Common.{length-append, All}
-use Rattle.std.specs.Prelude.{get_or}
-use Rattle.std.specs.List.{range_with_len}
-use Rattle.std.proofs.lemmas.List.{append-nil, drop_at, take_at}
+use Rattle.std.proofs.Common.{◌≡◌, ℕ, ◌+◌, ◌*◌, ◌<◌, List, [], ◌∷◌, ◌++◌, length, take, map, flat_map, sum, refl, sym, ap, ◌∙◌, append_assoc, arith, length-append}
+use Rattle.std.{proofs.Common.{All}, specs.Prelude.{get_or}, specs.List.{range_with_len}, proofs.lemmas.List.{append-nil, drop_at, take_at}}
 use Rattle.std.proofs.lemmas.List.Elements.{All-head, All-tail}
-use Rattle.row_layout.specs.declared.column.Sizes.{Sizes}
-use Rattle.row_layout.specs.Rows.{Fit, cell_in, row_bytes}
-use Rattle.row_layout.proofs.Cells.{cell-row_bytes, length-row_bytes}
-use Rattle.ppdb_tables.specs.declared.rows.DocumentRow.{DocumentRow}
-use Rattle.ppdb_tables.specs.declared.rows.MethodDebugRow.{MethodDebugRow}
-use Rattle.ppdb_tables.specs.declared.rows.ScopeRow.{ScopeRow}
-use Rattle.ppdb_tables.specs.declared.rows.VariableRow.{VariableRow}
-use Rattle.ppdb_tables.specs.declared.rows.ConstantRow.{ConstantRow}
-use Rattle.ppdb_tables.specs.declared.rows.ImportRow.{ImportRow}
-use Rattle.ppdb_tables.specs.declared.rows.MachineRow.{MachineRow}
-use Rattle.ppdb_tables.specs.declared.rows.CustomRow.{CustomRow}
-use Rattle.ppdb_tables.specs.Layouts.{rows_by, row_in, widths_of, document_row, document_columns, method_row, method_columns, scope_row, scope_columns}
-use Rattle.ppdb_tables.specs.Layouts.{variable_row, variable_columns, constant_row, constant_columns, import_row, import_columns, machine_row}
-use Rattle.ppdb_tables.specs.Layouts.{machine_columns, custom_row, custom_columns}
+use Rattle.row_layout.{specs.declared.column.Sizes.{Sizes}, specs.Rows.{Fit, cell_in, row_bytes}, proofs.Cells.{cell-row_bytes, length-row_bytes}}
+use Rattle.ppdb_tables.specs.declared.rows.{DocumentRow.{DocumentRow}, MethodDebugRow.{MethodDebugRow}, ScopeRow.{ScopeRow}, VariableRow.{VariableRow}}
+use Rattle.ppdb_tables.specs.declared.rows.{ConstantRow.{ConstantRow}, ImportRow.{ImportRow}, MachineRow.{MachineRow}, CustomRow.{CustomRow}}
+use Rattle.ppdb_tables.specs.Layouts.{rows_by, row_in, widths_of, document_row, document_columns, method_row, method_columns, scope_row, scope_columns, variable_row}
+use Rattle.ppdb_tables.specs.Layouts.{variable_columns, constant_row, constant_columns, import_row, import_columns, machine_row, machine_columns, custom_row}
+use Rattle.ppdb_tables.specs.Layouts.{custom_columns}
 use Rattle.ppdb_build_layout.specs.Bytes.{document_cells, method_cells, scope_cells, variable_cells, constant_cells, import_cells, machine_cells, custom_cells}
 
 -- ---- any table

@@ -1,18 +1,11 @@
 -- The root and the streams of a file that is laid out break no rule.
 use Rattle.std.proofs.Common.{◌≡◌, ℕ, zero, suc, ◌+◌, ◌<◌, ◌≤◌, List, length, take, inl, inr, true≢false, false, refl, sym, ap, subst, ◌∙◌, arith, get_or}
-use Rattle.std.specs.Prelude.{codes, Any, nat_le}
-use Rattle.std.specs.List.{list_any}
-use Rattle.std.proofs.lemmas.Bool.{le-leb}
-use Rattle.std.proofs.lemmas.List.Folds.{list_any-from_Any}
-use Rattle.ppdb_base.specs.First.{IsAccepted}
-use Rattle.ppdb_base.proofs.Fields.{ends_within}
-use Rattle.ppdb_base.proofs.Judging.{accepted_then}
-use Rattle.metadata_root.specs.declared.kind.StreamKind.{StreamKind}
-use Rattle.metadata_root.specs.declared.kind.StreamKind.TheVariants.{Pdb, Tables, Strings, UserStrings, Guids, Blobs}
+use Rattle.std.{specs.Prelude.{codes, Any, nat_le}, specs.List.{list_any}, proofs.lemmas.Bool.{le-leb}, proofs.lemmas.List.Folds.{list_any-from_Any}}
+use Rattle.ppdb_base.{specs.First.{IsAccepted}, proofs.Fields.{ends_within}, proofs.Judging.{accepted_then}}
+use Rattle.metadata_root.specs.declared.kind.{StreamKind.{StreamKind}, StreamKind.TheVariants.{Pdb, Tables, Strings, UserStrings, Guids, Blobs}}
 use Rattle.metadata_root.specs.Root.{RootFaults, BeginsWith, IsInvalidName, name_at, name_of, name_place, header_place, root_fields, stream_count}
-use Rattle.metadata_root.specs.Root.RootFaults.{not_metadata, windows_pdb, truncated, invalid_name, unknown, repeated}
-use Rattle.metadata_root.specs.Streams.{StreamFaults, ContainerFaults, IsListed, offset_in, size_in}
-use Rattle.metadata_root.specs.Streams.StreamFaults.{bounds, missing_pdb, missing_tables}
+use Rattle.metadata_root.specs.{Root.RootFaults.{not_metadata, windows_pdb, truncated, invalid_name, unknown, repeated}, Streams.{StreamFaults, ContainerFaults}}
+use Rattle.metadata_root.specs.{Streams.{IsListed, offset_in, size_in}, Streams.StreamFaults.{bounds, missing_pdb, missing_tables}}
 use Rattle.ppdb_build_layout_laws.proofs.Container.{whole, length-whole, five, last, name_0, name_1, name_2, name_3, name_4, offset_0, offset_1, offset_2, offset_3}
 use Rattle.ppdb_build_layout_laws.proofs.Container.{offset_4, size_0, size_1, size_2, size_3, size_4}
 

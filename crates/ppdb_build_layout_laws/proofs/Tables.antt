@@ -1,32 +1,21 @@
 -- The stream #~ of a file that is laid out.
-use Rattle.std.proofs.Common.{◌≡◌, ℕ, suc, ◌+◌, ◌*◌, ◌^◌, ◌<◌, ◌≤◌, ◌⊎◌, Bool, true, false, List, [], ◌∷◌, ◌++◌, length, drop, map, replicate, sum, inl, inr}
-use Rattle.std.proofs.Common.{refl, sym, ap, subst, ◌∙◌, arith, append_assoc, length-append, get_or, zero-add, nat_le}
-use Rattle.std.specs.Prelude.{nat_lt, slice_index, if◌then◌else◌}
-use Rattle.std.proofs.Math.Nat.{mul_comm}
-use Rattle.std.specs.List.{range_with_len}
-use Rattle.std.proofs.lemmas.Bool.{cases_lt, lt-ltb, le-ltb}
+use Rattle.std.proofs.Common.{◌≡◌, ℕ, suc, ◌+◌, ◌*◌, ◌^◌, ◌<◌, ◌≤◌, ◌⊎◌, Bool, true, false, List, [], ◌∷◌, ◌++◌, length, drop, map, replicate, sum, inl, inr, refl}
+use Rattle.std.{proofs.Common.{sym, ap, subst, ◌∙◌, arith, append_assoc, length-append, get_or, zero-add, nat_le}, specs.Prelude.{nat_lt, slice_index}}
+use Rattle.std.{specs.Prelude.{if◌then◌else◌}, proofs.Math.Nat.{mul_comm}, specs.List.{range_with_len}, proofs.lemmas.Bool.{cases_lt, lt-ltb, le-ltb}}
 use Rattle.std.proofs.lemmas.List.{drop_at}
 use Rattle.byteorder.specs.Endian.{little_bytes, little_number}
-use Rattle.ppdb_base.specs.First.{IsAccepted}
-use Rattle.ppdb_base.proofs.Fields.{ends_within, sum_append}
-use Rattle.ppdb_base.proofs.Judging.{accepted_then}
+use Rattle.ppdb_base.{specs.First.{IsAccepted}, proofs.Fields.{ends_within, sum_append}, proofs.Judging.{accepted_then}}
 use Rattle.metadata_root.specs.Fields.{number_at}
-use Rattle.row_layout.specs.declared.column.Sizes.{Sizes}
-use Rattle.row_layout.specs.declared.column.Column.{Column}
-use Rattle.ppdb_tables.specs.declared.head.PdbHead.{PdbHead}
-use Rattle.ppdb_tables.specs.Counts.{counts_below}
-use Rattle.ppdb_tables.specs.Layouts.{debug_tables, row_fields, row_len}
-use Rattle.ppdb_tables.specs.Tables.{TableFieldFaults, BoundFaults, TablesFaults, heap_sizes, valid, table_fields, table_rows, rows_start, count_in, sizes_in}
-use Rattle.ppdb_tables.specs.Tables.TableFieldFaults.{short, heap_bits, foreign, rows, method_rows}
-use Rattle.ppdb_tables.specs.Tables.BoundFaults.{bounds}
+use Rattle.row_layout.specs.declared.column.{Sizes.{Sizes}, Column.{Column}}
+use Rattle.ppdb_tables.specs.{declared.head.PdbHead.{PdbHead}, Counts.{counts_below}, Layouts.{debug_tables, row_fields, row_len}, Tables.{TableFieldFaults}}
+use Rattle.ppdb_tables.specs.Tables.{BoundFaults, TablesFaults, heap_sizes, valid, table_fields, table_rows, rows_start, count_in, sizes_in}
+use Rattle.ppdb_tables.specs.Tables.{TableFieldFaults.{short, heap_bits, foreign, rows, method_rows}, BoundFaults.{bounds}}
 use Rattle.ppdb_tables.proofs.RowCounts.{sum-fields, sum-replicate}
-use Rattle.ppdb_build_layout.specs.declared.rows.Rows.{Rows}
-use Rattle.ppdb_build_layout.specs.declared.rows.HeapLens.{HeapLens}
+use Rattle.ppdb_build_layout.specs.declared.rows.{Rows.{Rows}, HeapLens.{HeapLens}}
 use Rattle.ppdb_build_layout.specs.Bytes as bytes
-use Rattle.ppdb_build_layout.specs.Bytes.{padding, with_rows, bits_of, counts_of, sizes_of, all_rows, tables_stream}
-use Rattle.ppdb_build_layout.proofs.Lengths.{length-all, length-counts, rows_sum}
-use Rattle.ppdb_build_layout_laws.proofs.Bits.{number_from, bits-are, number-below}
-use Rattle.ppdb_build_layout_laws.proofs.Counts.{among, among-in, among-small, rows_back, below_all}
+use Rattle.ppdb_build_layout.{specs.Bytes.{padding, with_rows, bits_of, counts_of, sizes_of, all_rows, tables_stream}, proofs.Lengths.{length-all, length-counts}}
+use Rattle.ppdb_build_layout.proofs.Lengths.{rows_sum}
+use Rattle.ppdb_build_layout_laws.proofs.{Bits.{number_from, bits-are, number-below}, Counts.{among, among-in, among-small, rows_back, below_all}}
 use Rattle.ppdb_build_layout_laws.proofs.Head.{number-behind}
 
 -- a list is what is read at each of its places

@@ -1,23 +1,15 @@
 -- The tables that are written are the tables that are read.
 use Rattle.std.proofs.Common.{◌≡◌, ℕ, ◌*◌, ◌≤◌, List, [], ◌∷◌, ◌++◌, length, take, drop, sum, refl, sym, ap, ◌∙◌, arith, append_assoc, length-append}
-use Rattle.std.specs.Prelude.{slice_index}
-use Rattle.std.proofs.Math.Nat.{mul_comm}
-use Rattle.row_layout.specs.declared.column.Column.{Column}
-use Rattle.row_layout.specs.declared.column.Sizes.{Sizes}
-use Rattle.row_layout.specs.Rows.{Fit, row_bytes}
+use Rattle.std.{specs.Prelude.{slice_index}, proofs.Math.Nat.{mul_comm}}
+use Rattle.row_layout.specs.{declared.column.Column.{Column}, declared.column.Sizes.{Sizes}, Rows.{Fit, row_bytes}}
 use Rattle.ppdb_tables.specs.Layouts.{row_len, rows_by, widths_of, document_row, document_columns, method_row, method_columns, scope_row, scope_columns}
-use Rattle.ppdb_tables.specs.Layouts.{variable_row, variable_columns, constant_row, constant_columns, import_row, import_columns, machine_row}
-use Rattle.ppdb_tables.specs.Layouts.{machine_columns, custom_row, custom_columns}
-use Rattle.ppdb_tables.specs.Tables.{rows_start, rows_at, table_place}
-use Rattle.ppdb_build_layout.specs.declared.rows.Rows.{Rows}
-use Rattle.ppdb_build_layout.specs.declared.rows.HeapLens.{HeapLens}
-use Rattle.ppdb_build_layout.specs.Bytes.{rows_bytes, all_rows, document_cells, method_cells, scope_cells, variable_cells, constant_cells, import_cells}
-use Rattle.ppdb_build_layout.specs.Bytes.{machine_cells, custom_cells}
-use Rattle.ppdb_build_layout.specs.Laid.{RowsFit, AllRowsFit}
+use Rattle.ppdb_tables.specs.Layouts.{variable_row, variable_columns, constant_row, constant_columns, import_row, import_columns, machine_row, machine_columns}
+use Rattle.ppdb_tables.specs.{Layouts.{custom_row, custom_columns}, Tables.{rows_start, rows_at, table_place}}
+use Rattle.ppdb_build_layout.specs.{declared.rows.Rows.{Rows}, declared.rows.HeapLens.{HeapLens}, Bytes.{rows_bytes, all_rows, document_cells, method_cells}}
+use Rattle.ppdb_build_layout.specs.{Bytes.{scope_cells, variable_cells, constant_cells, import_cells, machine_cells, custom_cells}, Laid.{RowsFit, AllRowsFit}}
 use Rattle.ppdb_build_layout.proofs.Lengths.{length-rows}
-use Rattle.ppdb_build_layout_laws.proofs.Container.{slice}
-use Rattle.ppdb_build_layout_laws.proofs.Rows.{rows-back, document-back, method-back, scope-back, variable-back, constant-back, import-back, machine-back, custom-back}
-use Rattle.ppdb_build_layout_laws.proofs.Tables.{AreCounted, stream, sizes, zeros, prefix, rows_there, start, sum-rows}
+use Rattle.ppdb_build_layout_laws.proofs.{Container.{slice}, Rows.{rows-back, document-back, method-back, scope-back, variable-back, constant-back, import-back}}
+use Rattle.ppdb_build_layout_laws.proofs.{Rows.{machine-back, custom-back}, Tables.{AreCounted, stream, sizes, zeros, prefix, rows_there, start, sum-rows}}
 
 -- a table that stands at its place is read
 table-back : {X : Type 0} (row_of : List ℕ → List ℕ → X) (columns : List Column) (cells : X

@@ -1,18 +1,10 @@
 -- The first limit that is met, one part after another.
-use Rattle.std.proofs.Common.{◌≡◌, ℕ, zero, suc, ◌+◌, ◌-◌, ◌<◌, List, [], ◌∷◌, length, take, All, ◌≤◌, ◌≢◌, get_or, refl, sym, ap, ◌∙◌}
-use Rattle.std.proofs.Common.{subst, arith, Option, Some, None}
-use Rattle.std.specs.List.{filter_map, cons_option}
-use Rattle.std.specs.Option.{option_or}
-use Rattle.std.specs.Prelude.{slice_get, slice_index}
-use Rattle.std.proofs.lemmas.List.{take_all}
-use Rattle.std.proofs.lemmas.List.Elements.{All-nil, All-cons, All-head, All-tail}
-use Rattle.std.proofs.lemmas.List.FromFn.{length-map-range_with_len}
+use Rattle.std.proofs.Common.{◌≡◌, ℕ, zero, suc, ◌+◌, ◌-◌, ◌<◌, List, [], ◌∷◌, length, take, All, ◌≤◌, ◌≢◌, get_or, refl, sym, ap, ◌∙◌, subst, arith, Option, Some}
+use Rattle.std.{proofs.Common.{None}, specs.List.{filter_map, cons_option}, specs.Option.{option_or}, specs.Prelude.{slice_get, slice_index}}
+use Rattle.std.proofs.lemmas.{List.{take_all}, List.Elements.{All-nil, All-cons, All-head, All-tail}, List.FromFn.{length-map-range_with_len}}
 use Rattle.ppdb_base.specs.declared.limits.Limit.{Limit}
-use Rattle.ppdb_values.specs.declared.file.FileValue.{FileValue}
-use Rattle.ppdb_values.specs.declared.file.MethodValue.{MethodValue}
-use Rattle.ppdb_values.specs.Parts.{method_at}
-use Rattle.ppdb_build_canon.specs.Canonical.{method_rows, method_row_of}
-use Rattle.ppdb_build_canon.specs.Limits.{first_met}
+use Rattle.ppdb_values.specs.{declared.file.FileValue.{FileValue}, declared.file.MethodValue.{MethodValue}, Parts.{method_at}}
+use Rattle.ppdb_build_canon.specs.{Canonical.{method_rows, method_row_of}, Limits.{first_met}}
 use Rattle.sequence_points.specs.Written.{first_of, last_of}
 
 -- the first of some answers

@@ -1,26 +1,13 @@
 -- The value of a file of bytes that keeps the rules passes no limit on lists, and that of a valid file none of L1 to L4.
-use Rattle.std.proofs.Common.{ℕ, ◌<◌, List, length, refl, sym, ◌∙◌, arith, subst}
-use Rattle.std.specs.Prelude.{All}
-use Rattle.std.proofs.lemmas.List.{length-map}
-use Rattle.metadata_root.specs.declared.kind.StreamKind.TheVariants.{Pdb, Tables}
-use Rattle.metadata_root.specs.Streams.{bytes_of}
-use Rattle.ppdb_tables.specs.declared.rows.ScopeRow.{ScopeRow}
-use Rattle.ppdb_tables.specs.RawTables.{RawTables, count}
-use Rattle.ppdb_tables.specs.Tables.{sizes_in}
-use Rattle.ppdb_values.specs.Constants.{constant_of}
-use Rattle.ppdb_values.specs.RawFile.{RawFile}
-use Rattle.ppdb_values.specs.Value.{owned_by, value_of, variable_of}
-use Rattle.ppdb_values_sound_laws.proofs.Counts.{constants_counted, variables_counted}
-use Rattle.ppdb_values_sound_laws.proofs.Listed.{all_at}
-use Rattle.ppdb_tables.specs.Head.{head_in}
+use Rattle.std.{proofs.Common.{ℕ, ◌<◌, List, length, refl, sym, ◌∙◌, arith, subst}, specs.Prelude.{All}, proofs.lemmas.List.{length-map}}
+use Rattle.metadata_root.specs.{declared.kind.StreamKind.TheVariants.{Pdb, Tables}, Streams.{bytes_of}}
+use Rattle.ppdb_tables.specs.{declared.rows.ScopeRow.{ScopeRow}, RawTables.{RawTables, count}, Tables.{sizes_in}, Head.{head_in}}
+use Rattle.ppdb_values.specs.{Constants.{constant_of}, RawFile.{RawFile}, Value.{owned_by, value_of, variable_of}}
+use Rattle.ppdb_values_sound_laws.proofs.{Counts.{constants_counted, variables_counted}, Listed.{all_at}}
 use Rattle.ppdb_verify.specs.Files.{IsRawOf}
-use Rattle.ppdb_build_limits_laws.specs.Unlimited.{FilesPassNoEarlyLimit}
-use Rattle.ppdb_verify_valid_laws.specs.Valid.{ValidFilesAreSound}
-use Rattle.ppdb_verify_valid_laws.proofs.StreamBytes.{IsByte, stream_bytes}
-use Rattle.ppdb_build_limits_laws.specs.Limits.{FilesPassNoListLimit, ValidFilesMeetLateLimits}
-use Rattle.ppdb_build_limits_laws.proofs.Lists.{last_has}
-use Rattle.ppdb_build_limits_laws.proofs.Narrow.{narrow_column, two_bytes}
-use Rattle.ppdb_build_limits_laws.proofs.PastEnd.{not_past_end}
+use Rattle.ppdb_build_limits_laws.{specs.Unlimited.{FilesPassNoEarlyLimit}, specs.Limits.{FilesPassNoListLimit, ValidFilesMeetLateLimits}, proofs.Lists.{last_has}}
+use Rattle.ppdb_build_limits_laws.proofs.{Narrow.{narrow_column, two_bytes}, PastEnd.{not_past_end}}
+use Rattle.ppdb_verify_valid_laws.{specs.Valid.{ValidFilesAreSound}, proofs.StreamBytes.{IsByte, stream_bytes}}
 
 -- where a table has less than 65536 rows, no list of its rows begins after 65535
 abbrev HasNarrowLists : RawTables → Type 0

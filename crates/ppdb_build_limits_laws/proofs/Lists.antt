@@ -1,19 +1,10 @@
 -- Where no list of the scopes begins after the last of the items, the last scope owns some.
-use Rattle.std.proofs.Common.{◌≡◌, ℕ, suc, ◌+◌, ◌-◌, ◌≤◌, List, [], ◌∷◌, length, map, drop, refl, ap, arith, slice_get}
-use Rattle.std.specs.Prelude.{Some, unwrap_or}
-use Rattle.std.specs.List.{enumerate_from}
-use Rattle.std.specs.Option.{option_map}
-use Rattle.std.proofs.lemmas.List.{length-take, length-drop}
-use Rattle.std.proofs.lemmas.List.FromFn.{length-enumerate_from}
-use Rattle.std.proofs.lemmas.Option.{slice_get_past}
+use Rattle.std.{proofs.Common.{◌≡◌, ℕ, suc, ◌+◌, ◌-◌, ◌≤◌, List, [], ◌∷◌, length, map, drop, refl, ap, arith, slice_get}, specs.Prelude.{Some, unwrap_or}}
+use Rattle.std.{specs.List.{enumerate_from}, specs.Option.{option_map}, proofs.lemmas.List.{length-take, length-drop}}
+use Rattle.std.proofs.lemmas.{List.FromFn.{length-enumerate_from}, Option.{slice_get_past}}
 use Rattle.sequence_points.specs.Written.{last_of}
-use Rattle.ppdb_tables.specs.declared.rows.ScopeRow.{ScopeRow}
-use Rattle.ppdb_tables.specs.RawTables.{RawTables, numbered}
-use Rattle.ppdb_values.specs.declared.scope.ScopeValue.{ScopeValue}
-use Rattle.ppdb_values.specs.Ordered.{EachRow}
-use Rattle.ppdb_values.specs.Owners.{list_end}
-use Rattle.ppdb_values.specs.Rules.{KeepsLists}
-use Rattle.ppdb_values.specs.Value.{owned_by, scope_of}
+use Rattle.ppdb_tables.specs.{declared.rows.ScopeRow.{ScopeRow}, RawTables.{RawTables, numbered}}
+use Rattle.ppdb_values.specs.{declared.scope.ScopeValue.{ScopeValue}, Ordered.{EachRow}, Owners.{list_end}, Rules.{KeepsLists}, Value.{owned_by, scope_of}}
 use Rattle.ppdb_values.proofs.Lists.{owned_is_list}
 
 -- the last of the values that numbered rows make, and its row

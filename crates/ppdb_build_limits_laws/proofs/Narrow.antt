@@ -1,18 +1,9 @@
 -- In a stream of bytes the column of a table with less than 65536 rows has numbers below 65536.
-use Rattle.std.proofs.Common.{◌≡◌, ℕ, ◌*◌, ◌<◌, List, length, take, drop, sum, ap, arith, inl, inr, slice_index}
-use Rattle.std.specs.Prelude.{All}
-use Rattle.std.specs.List.{range_with_len}
-use Rattle.std.proofs.lemmas.Bool.{cases_lt, lt-leb}
-use Rattle.std.proofs.lemmas.List.{get_or_past}
-use Rattle.std.proofs.lemmas.List.Elements.{All-drop, All-get_or, All-map, All-take}
+use Rattle.std.{proofs.Common.{◌≡◌, ℕ, ◌*◌, ◌<◌, List, length, take, drop, sum, ap, arith, inl, inr, slice_index}, specs.Prelude.{All}, specs.List.{range_with_len}}
+use Rattle.std.proofs.lemmas.{Bool.{cases_lt, lt-leb}, List.{get_or_past}, List.Elements.{All-drop, All-get_or, All-map, All-take}}
 use Rattle.byteorder.specs.Endian.{little_number}
-use Rattle.row_layout.specs.declared.column.Column.TheVariants.{Row}
-use Rattle.row_layout.specs.declared.column.Sizes.{Sizes}
-use Rattle.row_layout.specs.Columns.{index_width, width_of}
-use Rattle.row_layout.specs.Rows.{cell_in, cell_place}
-use Rattle.ppdb_tables.specs.declared.rows.ScopeRow.{ScopeRow}
-use Rattle.ppdb_tables.specs.Layouts.{row_in, scope_columns, scope_row, widths_of}
-use Rattle.ppdb_tables.specs.Tables.{rows_at, table_place}
+use Rattle.row_layout.specs.{declared.column.Column.TheVariants.{Row}, declared.column.Sizes.{Sizes}, Columns.{index_width, width_of}, Rows.{cell_in, cell_place}}
+use Rattle.ppdb_tables.specs.{declared.rows.ScopeRow.{ScopeRow}, Layouts.{row_in, scope_columns, scope_row, widths_of}, Tables.{rows_at, table_place}}
 
 abbrev IsByte : ℕ → Type 0
 IsByte b = b < 256

@@ -1,15 +1,10 @@
 -- Where the last scope owns some of the items, their list is not past its end.
-use Rattle.std.proofs.Common.{◌≡◌, ℕ, ◌≤◌, ◌&&◌, Bool, true, false, ap, ◌∙◌, arith, refl}
-use Rattle.std.specs.Prelude.{Option, Some, None, ◌==◌}
-use Rattle.std.specs.List.{sum_by}
-use Rattle.std.proofs.lemmas.Bool.{eqb-true}
-use Rattle.std.proofs.lemmas.Bool.Decides.{nat_tests}
+use Rattle.std.{proofs.Common.{◌≡◌, ℕ, ◌≤◌, ◌&&◌, Bool, true, false, ap, ◌∙◌, arith, refl}, specs.Prelude.{Option, Some, None, ◌==◌}, specs.List.{sum_by}}
+use Rattle.std.proofs.lemmas.{Bool.{eqb-true}, Bool.Decides.{nat_tests}}
 use Rattle.sequence_points.specs.Written.{last_of}
 use Rattle.ppdb_base.specs.declared.limits.Limit.TheVariants.{ListPastEnd}
-use Rattle.ppdb_values.specs.declared.file.FileValue.{FileValue}
-use Rattle.ppdb_values.specs.declared.scope.ScopeValue.{ScopeValue}
-use Rattle.ppdb_build_canon.specs.Limits.{list_past_end, owns_none}
-use Rattle.ppdb_build_canon.proofs.Limits.{met}
+use Rattle.ppdb_values.specs.declared.{file.FileValue.{FileValue}, scope.ScopeValue.{ScopeValue}}
+use Rattle.ppdb_build_canon.{specs.Limits.{list_past_end, owns_none}, proofs.Limits.{met}}
 
 module _ (value : FileValue) (table : ℕ) (items : ScopeValue → ℕ) where
   -- the last scope, if there is one, owns some

@@ -1,17 +1,10 @@
 -- The points of a method of a file that keeps the rules can be written, and none of their steps from line to line is large.
-use Rattle.std.proofs.Common.{◌≡◌, ℕ, suc, ◌+◌, ◌⊎◌, List, [], ◌∷◌, Option, Some, None, refl, subst, arith, inl, inr}
-use Rattle.std.specs.Option.{option_map}
-use Rattle.sequence_points.specs.Points.{PointsReading}
-use Rattle.sequence_points.specs.Records.{sequence_points}
-use Rattle.sequence_points.specs.Written.{CanBeWritten, large_steps}
+use Rattle.std.{proofs.Common.{◌≡◌, ℕ, suc, ◌+◌, ◌⊎◌, List, [], ◌∷◌, Option, Some, None, refl, subst, arith, inl, inr}, specs.Option.{option_map}}
+use Rattle.sequence_points.specs.{Points.{PointsReading}, Records.{sequence_points}, Written.{CanBeWritten, large_steps}}
 use Rattle.sequence_points.proofs.ReadPoints.{read_points}
 use Rattle.ppdb_tables.specs.declared.rows.MethodDebugRow.{MethodDebugRow}
-use Rattle.ppdb_values.specs.declared.file.MethodValue.{MethodValue}
-use Rattle.ppdb_values.specs.Documents.{method_of, method_with, entries_of, points_in, signature_in}
-use Rattle.ppdb_values.specs.Ordered.{EachRow}
-use Rattle.ppdb_values.specs.RawFile.{RawFile, blob, point_limits}
-use Rattle.ppdb_values.specs.Rules.{KeepsRules, IsMethod, IsWhole}
-use Rattle.ppdb_values.specs.Value.{value_of}
+use Rattle.ppdb_values.specs.{declared.file.MethodValue.{MethodValue}, Documents.{method_of, method_with, entries_of, points_in, signature_in}, Ordered.{EachRow}}
+use Rattle.ppdb_values.specs.{RawFile.{RawFile, blob, point_limits}, Rules.{KeepsRules, IsMethod, IsWhole}, Value.{value_of}}
 use Rattle.ppdb_values_sound_laws.proofs.Listed.{made}
 use Rattle.ppdb_build_limits_laws.proofs.Steps.{no_large_steps}
 

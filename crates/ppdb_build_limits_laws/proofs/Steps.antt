@@ -1,29 +1,16 @@
 -- Points that were read have no step from line to line without a form: each step is a number that was stored.
-use Rattle.std.proofs.Common.{◌≡◌, ℕ, zero, suc, ◌+◌, ◌*◌, ◌^◌, ◌<◌, Bool, true, false, List, [], ◌∷◌, ◌++◌, length, Option, Some, None, ℤ, pos}
-use Rattle.std.proofs.Common.{negsuc, ◌+ℤ◌, refl, sym, ap, subst, ◌∙◌, append_assoc, append-nil, arith}
-use Rattle.std.specs.Prelude.{is_some, unsigned_abs, ◌-ℤ◌, if◌then◌else◌}
-use Rattle.std.specs.Option.{option_map, option_to_list}
-use Rattle.std.proofs.lemmas.Int.{ints}
-use Rattle.std.proofs.lemmas.Bool.{and_parts}
-use Rattle.cli_ints.specs.Compressed.{SpellsSigned, unrotated}
-use Rattle.cli_ints.specs.Shortest.{fits_half}
+use Rattle.std.proofs.Common.{◌≡◌, ℕ, zero, suc, ◌+◌, ◌*◌, ◌^◌, ◌<◌, Bool, true, false, List, [], ◌∷◌, ◌++◌, length, Option, Some, None, ℤ, pos, negsuc, ◌+ℤ◌, refl}
+use Rattle.std.{proofs.Common.{sym, ap, subst, ◌∙◌, append_assoc, append-nil, arith}, specs.Prelude.{is_some, unsigned_abs, ◌-ℤ◌, if◌then◌else◌}}
+use Rattle.std.{specs.Option.{option_map, option_to_list}, proofs.lemmas.Int.{ints}, proofs.lemmas.Bool.{and_parts}}
+use Rattle.cli_ints.specs.{Compressed.{SpellsSigned, unrotated}, Shortest.{fits_half}}
 use Rattle.ppdb_base.specs.declared.fault.BlobFault.{BlobFault}
 use Rattle.blob_grammar.specs.Grammar.{Value, number, integer, octets, Form, unsigned, signed, Spells, Field, Cut, with_value, closed, IsAllowed}
 use Rattle.blob_grammar.proofs.ReadRecords.{of_reading}
-use Rattle.sequence_points.specs.declared.point.Point.{Point}
-use Rattle.sequence_points.specs.declared.point.PointLimits.{PointLimits}
-use Rattle.sequence_points.specs.declared.point.Span.TheVariants.{Hidden, Lines}
-use Rattle.sequence_points.specs.declared.place.Start.{Start}
-use Rattle.sequence_points.specs.Records.{Entry, header, hidden, visible, in_document, Sums, with_entry, sums, int_of}
-use Rattle.sequence_points.specs.Records.{header_of, document_record, hidden_point, visible_point, point_of_fields, record_of, sequence_points}
-use Rattle.sequence_points.specs.Ranges.{is_line}
-use Rattle.sequence_points.specs.Points.{PointsReading, document_after, point_of, points_after}
-use Rattle.sequence_points.specs.Places.{start_after}
-use Rattle.sequence_points.specs.Written.{last_start, if_large, large_step, large_steps, numbered}
-use Rattle.sequence_points.proofs.Before.{last_start-push}
-use Rattle.sequence_points.proofs.Stands.{line_of}
-use Rattle.sequence_points.proofs.Sums.{sums-push}
-use Rattle.sequence_points.proofs.WellRead.{points-push}
+use Rattle.sequence_points.specs.declared.{point.Point.{Point}, point.PointLimits.{PointLimits}, point.Span.TheVariants.{Hidden, Lines}, place.Start.{Start}}
+use Rattle.sequence_points.specs.Records.{Entry, header, hidden, visible, in_document, Sums, with_entry, sums, int_of, header_of, document_record, hidden_point}
+use Rattle.sequence_points.specs.{Records.{visible_point, point_of_fields, record_of, sequence_points}, Ranges.{is_line}, Points.{PointsReading, document_after}}
+use Rattle.sequence_points.specs.{Points.{point_of, points_after}, Places.{start_after}, Written.{last_start, if_large, large_step, large_steps, numbered}}
+use Rattle.sequence_points.proofs.{Before.{last_start-push}, Stands.{line_of}, Sums.{sums-push}, WellRead.{points-push}}
 
 -- ---- a number that is stored has a form
 

@@ -1,32 +1,17 @@
 -- The value of a file that keeps the rules passes no limit on rows, offsets and steps.
-use Rattle.std.proofs.Common.{◌≡◌, ℕ, ◌≤◌, Bool, false, cond, List, [], ◌∷◌, length, length-append, take, refl, ap, ◌∙◌}
-use Rattle.std.proofs.Common.{arith, Option, Some, None, slice_index, All}
-use Rattle.std.specs.Prelude.{nat_lt, nat_le}
-use Rattle.std.specs.Option.{option_map}
-use Rattle.std.specs.List.{filter_map, cons_option, find, repeat}
-use Rattle.std.proofs.lemmas.List.{length-map, length-take}
-use Rattle.std.proofs.lemmas.List.Concat.{length-flat_map}
-use Rattle.std.proofs.lemmas.List.Elements.{All-nil, All-cons, All-head, All-tail}
+use Rattle.std.proofs.Common.{◌≡◌, ℕ, ◌≤◌, Bool, false, cond, List, [], ◌∷◌, length, length-append, take, refl, ap, ◌∙◌, arith, Option, Some, None, slice_index, All}
+use Rattle.std.{specs.Prelude.{nat_lt, nat_le}, specs.Option.{option_map}, specs.List.{filter_map, cons_option, find, repeat}, proofs.lemmas.List.{length-map}}
+use Rattle.std.proofs.lemmas.{List.{length-take}, List.Concat.{length-flat_map}, List.Elements.{All-nil, All-cons, All-head, All-tail}}
 use Rattle.std.proofs.lemmas.List.FromFn.{length-map-range_with_len}
-use Rattle.ppdb_base.specs.declared.limits.Limit.{Limit}
-use Rattle.ppdb_base.specs.declared.limits.Limit.TheVariants.{TableRows, PointOffset, LineStep}
-use Rattle.sequence_points.specs.declared.point.Point.{Point}
-use Rattle.sequence_points.specs.Written.{first_of}
-use Rattle.ppdb_values.specs.declared.file.FileValue.{FileValue}
-use Rattle.ppdb_values.specs.declared.file.MethodValue.{MethodValue}
-use Rattle.ppdb_values.specs.declared.scope.ScopeValue.{ScopeValue}
-use Rattle.ppdb_values.specs.Customs.{custom_of}
-use Rattle.ppdb_values.specs.Parts.{method_at}
-use Rattle.ppdb_values.specs.RawFile.{RawFile}
-use Rattle.ppdb_values.specs.Rules.{KeepsRules}
-use Rattle.ppdb_values.specs.Value.{value_of}
+use Rattle.ppdb_base.specs.declared.limits.{Limit.{Limit}, Limit.TheVariants.{TableRows, PointOffset, LineStep}}
+use Rattle.sequence_points.specs.{declared.point.Point.{Point}, Written.{first_of}}
+use Rattle.ppdb_values.specs.declared.{file.FileValue.{FileValue}, file.MethodValue.{MethodValue}, scope.ScopeValue.{ScopeValue}}
+use Rattle.ppdb_values.specs.{Customs.{custom_of}, Parts.{method_at}, RawFile.{RawFile}, Rules.{KeepsRules}, Value.{value_of}}
 use Rattle.ppdb_values.proofs.Typed.{each_all}
 use Rattle.ppdb_values_sound_laws.proofs.Counts.{rows_sound, documents_counted, scopes_counted, variables_counted, constants_counted, imports_counted}
-use Rattle.ppdb_build_canon.specs.Canonical.{counts, method_rows, method_row_of}
-use Rattle.ppdb_build_canon.specs.Limits.{above, too_many_rows, large_offset, large_step_of, tables}
+use Rattle.ppdb_build_canon.specs.{Canonical.{counts, method_rows, method_row_of}, Limits.{above, too_many_rows, large_offset, large_step_of, tables}}
 use Rattle.ppdb_build_canon.proofs.Counts as known
-use Rattle.ppdb_build_limits_laws.specs.Unlimited.{PassesNoEarlyLimit, FilesPassNoEarlyLimit}
-use Rattle.ppdb_build_limits_laws.proofs.Points.{AreWritten, methods_written}
+use Rattle.ppdb_build_limits_laws.{specs.Unlimited.{PassesNoEarlyLimit, FilesPassNoEarlyLimit}, proofs.Points.{AreWritten, methods_written}}
 
 -- ---- nothing is answered
 

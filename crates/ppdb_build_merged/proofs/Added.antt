@@ -1,16 +1,10 @@
 -- What was added of the rows of keys, key by key.
-use Rattle.std.proofs.Common.{◌≡◌, ℕ, zero, suc, ◌+◌, ◌<◌, ◌≤◌, ◌++◌, List, [], ◌∷◌, Option, Some, None, length, get_or, take, fold, refl, sym, ap, subst, ◌∙◌, arith}
-use Rattle.std.proofs.Common.{slice_get}
-use Rattle.std.specs.Prelude.{flat_map}
-use Rattle.std.specs.List.{filter_map, cons_option}
-use Rattle.std.specs.Option.{option_to_list, option_and_then}
-use Rattle.std.proofs.lemmas.List.{take_all, take_more}
-use Rattle.std.proofs.lemmas.List.Sums.{fold-append}
-use Rattle.ppdb_merge_items.specs.Each.{Each}
-use Rattle.ppdb_merge_items.proofs.Lists.{Each-append}
+use Rattle.std.proofs.Common.{◌≡◌, ℕ, zero, suc, ◌+◌, ◌<◌, ◌≤◌, ◌++◌, List, [], ◌∷◌, Option, Some, None, length, get_or, take, fold, refl, sym, ap, subst, ◌∙◌}
+use Rattle.std.{proofs.Common.{arith, slice_get}, specs.Prelude.{flat_map}, specs.List.{filter_map, cons_option}, specs.Option.{option_to_list, option_and_then}}
+use Rattle.std.proofs.lemmas.{List.{take_all, take_more}, List.Sums.{fold-append}}
+use Rattle.ppdb_merge_items.{specs.Each.{Each}, proofs.Lists.{Each-append}}
 use Rattle.ppdb_merge_parts.proofs.Lists.{filter_map_append}
-use Rattle.ppdb_merge_joined.proofs.Placed.{flat_append}
-use Rattle.ppdb_merge_joined.proofs.Each.{Each-split}
+use Rattle.ppdb_merge_joined.proofs.{Placed.{flat_append}, Each.{Each-split}}
 
 -- ---- what stays of a list, and one item more
 

@@ -1,9 +1,7 @@
 -- The keys of inputs, one input more.
 use Rattle.std.proofs.Common.{◌≡◌, ℕ, ◌+◌, ◌<◌, ◌++◌, [], ◌∷◌, List, length, get_or, take, sym, ap, ◌∙◌, arith, append-nil, append_assoc}
 use Rattle.std.proofs.lemmas.List.{length-take, take_more}
-use Rattle.ppdb_build_merged.specs.declared.inputs.Placed.{Placed}
-use Rattle.ppdb_build_merged.specs.declared.keys.MethodTable.{MethodTable}
-use Rattle.ppdb_build_merged.specs.Keyed.{keys_in, keys_from}
+use Rattle.ppdb_build_merged.specs.{declared.inputs.Placed.{Placed}, declared.keys.MethodTable.{MethodTable}, Keyed.{keys_in, keys_from}}
 
 keys_append : (n : ℕ) (xs : List Placed) (x : Placed) (table : MethodTable)
     → keys_from n (xs ++ x ∷ []) table ≡ keys_from n xs table ++ keys_in (n + length xs) x table

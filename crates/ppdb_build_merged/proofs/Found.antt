@@ -1,24 +1,14 @@
 -- What the keys of a table find, in their order: what stays of the table's rows of all inputs.
-use Rattle.std.proofs.Common.{◌≡◌, ℕ, suc, ◌+◌, ◌++◌, Bool, true, false, cond, List, [], ◌∷◌, Option, Some, None, length, map, refl, sym, ap, ◌∙◌}
-use Rattle.std.proofs.Common.{arith, slice_get}
-use Rattle.std.specs.Prelude.{nat_eq, flat_map}
-use Rattle.std.specs.List.{filter_map, cons_option, enumerate_from, range_with_len}
-use Rattle.std.specs.Option.{option_map, option_and_then}
+use Rattle.std.proofs.Common.{◌≡◌, ℕ, suc, ◌+◌, ◌++◌, Bool, true, false, cond, List, [], ◌∷◌, Option, Some, None, length, map, refl, sym, ap, ◌∙◌, arith, slice_get}
+use Rattle.std.specs.{Prelude.{nat_eq, flat_map}, List.{filter_map, cons_option, enumerate_from, range_with_len}, Option.{option_map, option_and_then}}
 use Rattle.std.proofs.lemmas.Bool.{eq-eqb, eqb-true}
 use Rattle.ppdb_maps.specs.Map.{moved_row}
 use Rattle.ppdb_tables.specs.RawTables.{row_at, numbered}
-use Rattle.ppdb_merge_items.specs.Each.{Each}
-use Rattle.ppdb_merge_items.specs.Sorted.{in_order}
-use Rattle.ppdb_merge_items.proofs.Lists.{Each-append}
-use Rattle.ppdb_merge_items.proofs.Orders.{in_order_each}
+use Rattle.ppdb_merge_items.{specs.Each.{Each}, specs.Sorted.{in_order}, proofs.Lists.{Each-append}, proofs.Orders.{in_order_each}}
 use Rattle.ppdb_merge_order.specs.declared.keys.Key.{Key}
-use Rattle.ppdb_merge_parts.specs.Flat.{Counted}
-use Rattle.ppdb_merge_parts.proofs.Lists.{filter_map_map, filter_map_append, map_filter_map}
-use Rattle.ppdb_merge_parts.proofs.Ordered.{in_order_made}
-use Rattle.ppdb_build_merged.specs.declared.inputs.Placed.{Placed}
-use Rattle.ppdb_build_merged.specs.declared.keys.MethodTable.{MethodTable}
-use Rattle.ppdb_build_merged.specs.Inputs.{raw_of, counted_of}
-use Rattle.ppdb_build_merged.specs.Keyed.{rows_in, method_in, key_of, keys_in, keys_from, placed_at}
+use Rattle.ppdb_merge_parts.{specs.Flat.{Counted}, proofs.Lists.{filter_map_map, filter_map_append, map_filter_map}, proofs.Ordered.{in_order_made}}
+use Rattle.ppdb_build_merged.specs.{declared.inputs.Placed.{Placed}, declared.keys.MethodTable.{MethodTable}, Inputs.{raw_of, counted_of}, Keyed.{rows_in}}
+use Rattle.ppdb_build_merged.specs.Keyed.{method_in, key_of, keys_in, keys_from, placed_at}
 
 -- ---- rows by their numbers
 

@@ -1,17 +1,12 @@
 -- Records that equal none of an earlier input, looked up by their keys.
 use Rattle.std.proofs.Common.{◌≡◌, ◌++◌, ◌<◌, Bool, true, false, cond, List, [], ◌∷◌, length, map, refl, sym, ◌∙◌, ap, arith, append-nil, append_assoc}
-use Rattle.std.specs.Prelude.{◌||◌, filter, flat_map, not}
-use Rattle.std.specs.BTreeSet.{BTreeSet, contains, Updates}
-use Rattle.std.specs.List.{list_any}
-use Rattle.std.proofs.lemmas.List.{map-append}
-use Rattle.std.proofs.lemmas.List.Elements.{filter-append, filter_agree}
-use Rattle.std.proofs.lemmas.List.Folds.{list_any-append}
+use Rattle.std.{specs.Prelude.{◌||◌, filter, flat_map, not}, specs.BTreeSet.{BTreeSet, contains, Updates}, specs.List.{list_any}, proofs.lemmas.List.{map-append}}
+use Rattle.std.proofs.lemmas.List.{Elements.{filter-append, filter_agree}, Folds.{list_any-append}}
 use Rattle.ppdb_values.specs.declared.custom.CustomValue.{CustomValue}
 use Rattle.ppdb_merge_joined.specs.Same.{fresh, same_record}
 use Rattle.ppdb_build_merged.specs.declared.customs_said.RecordKey.{RecordKey}
 use Rattle.ppdb_build_merged.specs.contracts.customs_said.RecordKeyOrd.TheImpl as key_ord
-use Rattle.ppdb_build_merged.specs.Said.{IsSeen, Said, said, same_said, shown}
-use Rattle.ppdb_build_merged.proofs.Said.{key_same, record_same, said_turned}
+use Rattle.ppdb_build_merged.{specs.Said.{IsSeen, Said, said, same_said, shown}, proofs.Said.{key_same, record_same, said_turned}}
 
 -- ---- a set of keys
 

@@ -1,34 +1,18 @@
 -- Documents of several inputs, one document or one input more.
-use Rattle.std.proofs.Common.{◌≡◌, ◌≢◌, ℕ, zero, suc, ◌+◌, ◌-◌, ◌≤◌, ◌++◌, true, cond, List, [], ◌∷◌, length, map, take, fold, refl, sym, ap}
-use Rattle.std.proofs.Common.{subst, ◌∙◌, arith, append_assoc, slice_get}
-use Rattle.std.specs.declared.vec.Vec.{Vec}
-use Rattle.std.specs.declared.alloc.Global.{Global}
-use Rattle.std.specs.Prelude.{bytes_eq, flat_map, sum_by}
-use Rattle.std.specs.Option.{option_to_list}
-use Rattle.std.proofs.lemmas.List.{map-append, length-append}
-use Rattle.std.proofs.lemmas.List.Sums.{fold-append, sum_by-cons}
-use Rattle.std.proofs.lemmas.Map.Text.{is_eq-slice_cmp}
+use Rattle.std.proofs.Common.{◌≡◌, ◌≢◌, ℕ, zero, suc, ◌+◌, ◌-◌, ◌≤◌, ◌++◌, true, cond, List, [], ◌∷◌, length, map, take, fold, refl, sym, ap, subst, ◌∙◌, arith}
+use Rattle.std.{proofs.Common.{append_assoc, slice_get}, specs.declared.vec.Vec.{Vec}, specs.declared.alloc.Global.{Global}, specs.Prelude.{bytes_eq, flat_map}}
+use Rattle.std.{specs.Prelude.{sum_by}, specs.Option.{option_to_list}, proofs.lemmas.List.{map-append, length-append}, proofs.lemmas.List.Sums.{fold-append}}
+use Rattle.std.proofs.lemmas.{List.Sums.{sum_by-cons}, Map.Text.{is_eq-slice_cmp}}
 use Rattle.ppdb_tables.specs.RawTables.{row_at}
-use Rattle.ppdb_values.specs.declared.annotation.Annotation.{Annotation}
-use Rattle.ppdb_values.specs.declared.file.DocumentValue.{DocumentValue}
+use Rattle.ppdb_values.specs.declared.{annotation.Annotation.{Annotation}, file.DocumentValue.{DocumentValue}}
 use Rattle.ppdb_build_draft.specs.Draft.{Draft, with_document}
-use Rattle.ppdb_merge_items.specs.Annotated.{items_of}
-use Rattle.ppdb_merge_items.specs.Each.{Each}
-use Rattle.ppdb_merge_items.proofs.Lists.{Each-unmap, Each-weaker}
-use Rattle.ppdb_merge_items.proofs.Mapped.{map_map_both}
-use Rattle.ppdb_merge_joined.specs.Gathered.{HasRow, row_for, row_after}
-use Rattle.ppdb_merge_joined.specs.Joined.{firsts, row_named}
-use Rattle.ppdb_merge_joined.proofs.Gathering.{AllNamed, all_named, firsts_new_name, firsts_old_name, rows_new, rows_push, rows_stay}
-use Rattle.ppdb_merge_joined.proofs.Names.{bytes_same, is_named}
-use Rattle.ppdb_merge_joined.proofs.PutFiles.{named_behind, own_named}
+use Rattle.ppdb_merge_items.{specs.Annotated.{items_of}, specs.Each.{Each}, proofs.Lists.{Each-unmap, Each-weaker}, proofs.Mapped.{map_map_both}}
+use Rattle.ppdb_merge_joined.{specs.Gathered.{HasRow, row_for, row_after}, specs.Joined.{firsts, row_named}, proofs.Gathering.{AllNamed, all_named, firsts_new_name}}
+use Rattle.ppdb_merge_joined.proofs.{Gathering.{firsts_old_name, rows_new, rows_push, rows_stay}, Names.{bytes_same, is_named}, PutFiles.{named_behind, own_named}}
 use Rattle.ppdb_merge_joined.proofs.Placed.{flat_append}
 use Rattle.ppdb_merge_parts.specs.Flat.{counted, moved_documents, documents_of, document_rows}
-use Rattle.ppdb_build_merged.specs.declared.names.Names.{Names}
-use Rattle.ppdb_merge_rows.specs.declared.inputs.RowInput.{RowInput}
-use Rattle.ppdb_build_merged.specs.declared.inputs.Placed.{Placed}
-use Rattle.ppdb_merge_rows.specs.Inputs.{moved_by, moved_inputs}
-use Rattle.ppdb_build_merged.specs.Inputs.{ArePlaced, counted_of, documents_in}
-use Rattle.ppdb_build_merged.specs.Names.{AreNamed}
+use Rattle.ppdb_build_merged.specs.{declared.names.Names.{Names}, declared.inputs.Placed.{Placed}, Inputs.{ArePlaced, counted_of, documents_in}, Names.{AreNamed}}
+use Rattle.ppdb_merge_rows.specs.{declared.inputs.RowInput.{RowInput}, Inputs.{moved_by, moved_inputs}}
 
 -- ---- documents without records
 

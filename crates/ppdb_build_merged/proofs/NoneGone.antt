@@ -1,21 +1,15 @@
 -- Where no row is gone, all constants stay.
 use Rattle.std.proofs.Common.{◌≡◌, ℕ, suc, ◌-◌, ◌||◌, ◌&&◌, Bool, true, false, cond, List, [], ◌∷◌, Option, Some, None, length, map, take, drop, refl, ap, ◌∙◌}
-use Rattle.std.proofs.Common.{arith, slice_get}
-use Rattle.std.specs.Prelude.{is_some, nat_eq}
-use Rattle.std.specs.List.{filter_map, list_any}
-use Rattle.std.proofs.lemmas.List.{length-map, length-take, length-drop, take-map, drop-map}
+use Rattle.std.{proofs.Common.{arith, slice_get}, specs.Prelude.{is_some, nat_eq}, specs.List.{filter_map, list_any}, proofs.lemmas.List.{length-map, length-take}}
+use Rattle.std.proofs.lemmas.List.{length-drop, take-map, drop-map}
 use Rattle.type_blobs.specs.declared.types.Modifier.{Modifier}
-use Rattle.ppdb_maps.specs.declared.entries.CrossLine.{CrossLine}
-use Rattle.ppdb_maps.specs.declared.entries.GoneLine.{GoneLine}
-use Rattle.ppdb_maps.specs.declared.image.RowImage.{RowImage, TheVariants.{Row, Missing}}
-use Rattle.ppdb_maps.specs.Map.{Map, cross_line, count_of, is_dropped, is_gone, line_image, row_line, told_image, is_gone_row}
-use Rattle.ppdb_values.specs.declared.scope.ConstantBody.{ConstantBody, TheVariants.{Primitive, Enumerated, General, Object}}
-use Rattle.ppdb_values.specs.declared.scope.ConstantValue.{ConstantValue}
-use Rattle.ppdb_values.specs.Constants.{constant_of as constant_of_row}
+use Rattle.ppdb_maps.specs.declared.{entries.CrossLine.{CrossLine}, entries.GoneLine.{GoneLine}, image.RowImage.{RowImage}, image.RowImage.TheVariants.{Row}}
+use Rattle.ppdb_maps.specs.{declared.image.RowImage.TheVariants.{Missing}, Map.{Map, cross_line, count_of, is_dropped, is_gone, line_image, row_line, told_image}}
+use Rattle.ppdb_maps.specs.Map.{is_gone_row}
+use Rattle.ppdb_values.specs.declared.scope.{ConstantBody.{ConstantBody}, ConstantBody.TheVariants.{Primitive, Enumerated, General, Object}}
+use Rattle.ppdb_values.specs.{declared.scope.ConstantValue.{ConstantValue}, Constants.{constant_of as constant_of_row}}
 use Rattle.ppdb_verify.specs.Views.{raw_file}
-use Rattle.ppdb_values_reading.specs.declared.scopes.ListRange.{ListRange}
-use Rattle.ppdb_values_reading.specs.Lent.{constants_of}
-use Rattle.ppdb_values_reading.specs.Scopes.{IsWithin, items_in}
+use Rattle.ppdb_values_reading.specs.{declared.scopes.ListRange.{ListRange}, Lent.{constants_of}, Scopes.{IsWithin, items_in}}
 use Rattle.ppdb_merge_items.specs.NamedRows.{goes_constant, is_gone_type, names_gone_class, with_live_body}
 use Rattle.ppdb_merge_moved.specs.Moved.{moved_constant}
 use Rattle.ppdb_merge_parts.specs.Flat.{constant_image}

@@ -1,56 +1,30 @@
 -- The rows that scopes, variables and constants of the joined file come from, by the keys that are walked.
-use Rattle.std.proofs.Common.{◌≡◌, ℕ, zero, suc, ◌+◌, ◌-◌, ◌≤◌, ◌<◌, ◌++◌, Bool, true, false, cond, List, [], ◌∷◌, Option, Some, None, length, map, take, drop}
-use Rattle.std.proofs.Common.{refl, sym, ap, subst, ◌∙◌, arith, get_or, slice_get, append-nil}
-use Rattle.std.specs.Prelude.{◌&&◌, filter, flat_map, is_some, nat_eq, not, position, slice_range, sum_by, unwrap_or}
-use Rattle.std.specs.List.{enumerate_from, range_with_len}
-use Rattle.std.specs.Option.{option_and_then, option_map, option_to_list}
-use Rattle.std.proofs.lemmas.List.{length-drop, length-map, length-take, take_more, map-append}
-use Rattle.std.proofs.lemmas.List.FromFn.{length-enumerate_from}
-use Rattle.std.proofs.lemmas.List.Sums.{sum_by_push}
+use Rattle.std.proofs.Common.{◌≡◌, ℕ, zero, suc, ◌+◌, ◌-◌, ◌≤◌, ◌<◌, ◌++◌, Bool, true, false, cond, List, [], ◌∷◌, Option, Some, None, length, map, take, drop, refl}
+use Rattle.std.{proofs.Common.{sym, ap, subst, ◌∙◌, arith, get_or, slice_get, append-nil}, specs.Prelude.{◌&&◌, filter, flat_map, is_some, nat_eq, not, position}}
+use Rattle.std.specs.{Prelude.{slice_range, sum_by, unwrap_or}, List.{enumerate_from, range_with_len}, Option.{option_and_then, option_map, option_to_list}}
+use Rattle.std.proofs.lemmas.{List.{length-drop, length-map, length-take, take_more, map-append}, List.FromFn.{length-enumerate_from}, List.Sums.{sum_by_push}}
 use Rattle.ppdb_maps.specs.Map.{Map, moved_row, offsets_in}
-use Rattle.ppdb_tables.specs.RawTables.{HasShape, RawTables, row_at, numbered}
-use Rattle.ppdb_tables.specs.declared.rows.ScopeRow.{ScopeRow}
-use Rattle.ppdb_values.specs.declared.scope.ConstantValue.{ConstantValue}
-use Rattle.ppdb_values.specs.declared.scope.ScopeValue.{ScopeValue}
-use Rattle.ppdb_values.specs.declared.scope.VariableValue.{VariableValue}
-use Rattle.ppdb_values.specs.Constants.{constant_of}
-use Rattle.ppdb_values.specs.Owners.{list_end}
-use Rattle.ppdb_values.specs.Parts.{first_item}
-use Rattle.ppdb_values.specs.Rules.{HasRow, KeepsLists, KeepsRules}
-use Rattle.ppdb_values.specs.Value.{scope_of as scope_of_row, value_of, variable_of}
-use Rattle.ppdb_values.proofs.Mapped.{row_map, filter_map_both}
+use Rattle.ppdb_tables.specs.{RawTables.{HasShape, RawTables, row_at, numbered}, declared.rows.ScopeRow.{ScopeRow}}
+use Rattle.ppdb_values.specs.declared.scope.{ConstantValue.{ConstantValue}, ScopeValue.{ScopeValue}, VariableValue.{VariableValue}}
+use Rattle.ppdb_values.specs.{Constants.{constant_of}, Owners.{list_end}, Parts.{first_item}, Rules.{HasRow, KeepsLists, KeepsRules}}
+use Rattle.ppdb_values.{specs.Value.{scope_of as scope_of_row, value_of, variable_of}, proofs.Mapped.{row_map, filter_map_both}}
 use Rattle.ppdb_values_sound_laws.proofs.Listed.{row_of_numbered}
-use Rattle.ppdb_values_reading.specs.declared.scopes.ListRange.{ListRange}
-use Rattle.ppdb_values_reading.specs.declared.scopes.Scope.{Scope}
-use Rattle.ppdb_values_reading.specs.Lent.{constants_of, variables_of}
-use Rattle.ppdb_values_reading.specs.Scopes.{HasLists, IsWithin, ScopesOwnTheirLists, items_in, rows_in, scope_in, scope_with, scopes_in}
-use Rattle.ppdb_values_reading.proofs.Rows.{row_made, numbered_row}
-use Rattle.ppdb_values_reading.proofs.Shared.{list_within}
-use Rattle.ppdb_merge_items.specs.Each.{Each}
-use Rattle.ppdb_merge_items.specs.NamedRows.{goes_constant}
-use Rattle.ppdb_merge_items.specs.Sorted.{in_order}
-use Rattle.ppdb_merge_items.proofs.Lists.{Each-append, Each-filter, Each-map, Each-weaker}
-use Rattle.ppdb_merge_items.proofs.Mapped.{map_map_both}
-use Rattle.ppdb_merge_items.proofs.Orders.{in_order_each}
-use Rattle.ppdb_merge_joined.proofs.Names.{position_cons}
-use Rattle.ppdb_merge_joined.proofs.Placed.{flat_append}
+use Rattle.ppdb_values_reading.specs.{declared.scopes.ListRange.{ListRange}, declared.scopes.Scope.{Scope}, Lent.{constants_of, variables_of}, Scopes.{HasLists}}
+use Rattle.ppdb_values_reading.{specs.Scopes.{IsWithin, ScopesOwnTheirLists, items_in, rows_in, scope_in, scope_with, scopes_in}, proofs.Rows.{row_made}}
+use Rattle.ppdb_values_reading.proofs.{Rows.{numbered_row}, Shared.{list_within}}
+use Rattle.ppdb_merge_items.{specs.Each.{Each}, specs.NamedRows.{goes_constant}, specs.Sorted.{in_order}, proofs.Lists.{Each-append, Each-filter, Each-map}}
+use Rattle.ppdb_merge_items.proofs.{Lists.{Each-weaker}, Mapped.{map_map_both}, Orders.{in_order_each}}
+use Rattle.ppdb_merge_joined.proofs.{Names.{position_cons}, Placed.{flat_append}}
 use Rattle.ppdb_merge_moved.specs.Moved.{is_empty, moved_range}
-use Rattle.ppdb_merge_order.specs.declared.keys.Key.{Key}
-use Rattle.ppdb_merge_order.specs.NewRows.{AreNewRows, new_row}
-use Rattle.ppdb_merge_parts.specs.Flat.{MovedBy, constant_image, moved_scope_value, scope_image}
-use Rattle.ppdb_merge_parts.proofs.Ordered.{in_order_map}
+use Rattle.ppdb_merge_order.specs.{declared.keys.Key.{Key}, NewRows.{AreNewRows, new_row}}
+use Rattle.ppdb_merge_parts.{specs.Flat.{MovedBy, constant_image, moved_scope_value, scope_image}, proofs.Ordered.{in_order_map}}
 use Rattle.ppdb_merge_records_laws.specs.Records.{Numbered, Origin, constant_origins, origins_in, row_of, rows_left, scope_origins, scopes_left, variable_origins}
 use Rattle.ppdb_merge_records_laws.proofs.Placed.{filter_each}
 use Rattle.ppdb_merge_rows.specs.Inputs.{moved_by}
-use Rattle.ppdb_build_merged.specs.declared.customs_scopes.Owned.{Owned}
-use Rattle.ppdb_build_merged.specs.declared.customs_scopes.Owned.TheVariants.{Variables, Constants}
-use Rattle.ppdb_build_merged.specs.declared.inputs.Placed.{Placed}
-use Rattle.ppdb_build_merged.specs.declared.keys.MethodTable.TheVariants.{Scopes}
-use Rattle.ppdb_build_merged.specs.Inputs.{counted_of, raw_of}
-use Rattle.ppdb_build_merged.specs.Keyed.{key_of, keys_from, keys_in, scope_in as scope_image_in, scope_of}
-use Rattle.ppdb_build_merged.specs.Origins.{HaveNewRows, count_of, item_stays, kept_scopes, left_at, left_in, left_of, list_keys, list_of, origin_in, owned_key, table_of}
-use Rattle.ppdb_build_merged.specs.Records.{inputs_of}
-use Rattle.ppdb_build_merged.proofs.Named.{flat_mapped}
+use Rattle.ppdb_build_merged.specs.declared.{customs_scopes.Owned.{Owned}, customs_scopes.Owned.TheVariants.{Variables, Constants}, inputs.Placed.{Placed}}
+use Rattle.ppdb_build_merged.specs.{declared.keys.MethodTable.TheVariants.{Scopes}, Inputs.{counted_of, raw_of}, Keyed.{key_of, keys_from, keys_in}}
+use Rattle.ppdb_build_merged.specs.{Keyed.{scope_in as scope_image_in, scope_of}, Origins.{HaveNewRows, count_of, item_stays, kept_scopes, left_at, left_in}}
+use Rattle.ppdb_build_merged.{specs.Origins.{left_of, list_keys, list_of, origin_in, owned_key, table_of}, specs.Records.{inputs_of}, proofs.Named.{flat_mapped}}
 use Rattle.ppdb_build_merged.proofs.Tables.{scope_methods}
 
 -- ---- the rows of scopes, and their keys

@@ -1,14 +1,8 @@
 -- A row that is not there has no item.
-use Rattle.std.proofs.Common.{◌≡◌, ℕ, zero, suc, ◌≤◌, List, None, length, refl, ap, ◌∙◌, arith, inl, inr}
-use Rattle.std.proofs.lemmas.Bool.{cases_lt}
-use Rattle.std.proofs.lemmas.List.{length-map}
+use Rattle.std.proofs.{Common.{◌≡◌, ℕ, zero, suc, ◌≤◌, List, None, length, refl, ap, ◌∙◌, arith, inl, inr}, lemmas.Bool.{cases_lt}, lemmas.List.{length-map}}
 use Rattle.std.proofs.lemmas.List.FromFn.{length-enumerate_from}
 use Rattle.ppdb_tables.specs.RawTables.{row_at, numbered, HasShape}
-use Rattle.ppdb_values.specs.Parts.{method_at}
-use Rattle.ppdb_values.specs.RawFile.{RawFile}
-use Rattle.ppdb_values.specs.Rows.{method_in}
-use Rattle.ppdb_values.specs.Rules.{HasRow}
-use Rattle.ppdb_values.specs.Value.{scope_of, value_of}
+use Rattle.ppdb_values.specs.{Parts.{method_at}, RawFile.{RawFile}, Rows.{method_in}, Rules.{HasRow}, Value.{scope_of, value_of}}
 use Rattle.ppdb_values.proofs.Rows.{method_is_row}
 use Rattle.ppdb_values_reading.proofs.Rows.{row_past}
 

@@ -1,11 +1,9 @@
 -- The range of a scope that stays goes forward.
-use Rattle.std.proofs.Common.{◌≡◌, ℕ, ◌≤◌, Bool, true, false, cond, Some, None, refl, subst, arith}
-use Rattle.std.proofs.lemmas.Bool.Decides.{nat_tests}
+use Rattle.std.proofs.{Common.{◌≡◌, ℕ, ◌≤◌, Bool, true, false, cond, Some, None, refl, subst, arith}, lemmas.Bool.Decides.{nat_tests}}
 use Rattle.ppdb_maps.specs.Map.{Map}
 use Rattle.ppdb_values_reading.specs.declared.scopes.Scope.{Scope}
 use Rattle.ppdb_merge_moved.specs.Moved.{is_empty}
-use Rattle.ppdb_merge_rows.specs.declared.scopes.MovedScope.{MovedScope}
-use Rattle.ppdb_merge_rows.specs.Rows.{moved_cells, scope_after}
+use Rattle.ppdb_merge_rows.specs.{declared.scopes.MovedScope.{MovedScope}, Rows.{moved_cells, scope_after}}
 
 pub stays_forward : (m : Map) (before : ℕ) (scope : Scope) (cells : MovedScope) → scope_after m before scope ≡ Some cells
     → cells.range.start ≤ cells.range.end

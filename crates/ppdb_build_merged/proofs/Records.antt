@@ -1,41 +1,23 @@
 -- What becomes of the records of inputs, as they are read.
-use Rattle.std.proofs.Common.{◌≡◌, ◌≢◌, ℕ, zero, suc, ◌+◌, ◌≤◌, ◌<◌, ◌++◌, Bool, false, cond, List, [], ◌∷◌, Option, Some, None, length, map, fold, take, drop}
-use Rattle.std.proofs.Common.{refl, sym, ap, subst, ◌∙◌, arith, get_or, slice_get, append-nil, append_assoc}
-use Rattle.std.specs.Prelude.{◌&&◌, ◌||◌, nat_eq, nat_lt, not, sum_by}
-use Rattle.std.specs.List.{cons_option, enumerate_from, filter_map}
-use Rattle.std.specs.Option.{option_and_then, option_map, option_to_list}
-use Rattle.std.proofs.lemmas.Bool.{le-ltb, lt-ltb, ne_eqb}
-use Rattle.std.proofs.lemmas.List.{length-map, length-take, map-append, take_more}
-use Rattle.std.proofs.lemmas.List.Sums.{sum_by-cons}
-use Rattle.ppdb_maps.specs.Map.{Map, is_dropped, row_image, is_gone_row, leaves_table}
-use Rattle.ppdb_maps.specs.Readable.{IsReadable}
-use Rattle.ppdb_tables.specs.RawTables.{row_at}
-use Rattle.ppdb_tables.specs.declared.parent.Parent.{Parent}
-use Rattle.ppdb_values.specs.declared.custom.CustomBody.{CustomBody}
-use Rattle.ppdb_values.specs.declared.custom.CustomBody.TheVariants.{Async, Hoisted, TypeDocuments, Unread}
-use Rattle.ppdb_values.specs.declared.custom.CustomValue.{CustomValue}
+use Rattle.std.proofs.Common.{◌≡◌, ◌≢◌, ℕ, zero, suc, ◌+◌, ◌≤◌, ◌<◌, ◌++◌, Bool, false, cond, List, [], ◌∷◌, Option, Some, None, length, map, fold, take, drop, refl}
+use Rattle.std.{proofs.Common.{sym, ap, subst, ◌∙◌, arith, get_or, slice_get, append-nil, append_assoc}, specs.Prelude.{◌&&◌, ◌||◌, nat_eq, nat_lt, not, sum_by}}
+use Rattle.std.{specs.List.{cons_option, enumerate_from, filter_map}, specs.Option.{option_and_then, option_map, option_to_list}, proofs.lemmas.Bool.{le-ltb}}
+use Rattle.std.proofs.lemmas.{Bool.{lt-ltb, ne_eqb}, List.{length-map, length-take, map-append, take_more}, List.Sums.{sum_by-cons}}
+use Rattle.ppdb_maps.specs.{Map.{Map, is_dropped, row_image, is_gone_row, leaves_table}, Readable.{IsReadable}}
+use Rattle.ppdb_tables.specs.{RawTables.{row_at}, declared.parent.Parent.{Parent}}
+use Rattle.ppdb_values.specs.declared.custom.{CustomBody.{CustomBody}, CustomBody.TheVariants.{Async, Hoisted, TypeDocuments, Unread}, CustomValue.{CustomValue}}
 use Rattle.ppdb_values.specs.Value.{value_of}
-use Rattle.ppdb_values_sound_laws.specs.Customs.{SoundCustoms}
-use Rattle.ppdb_values_sound_laws.specs.Named.{HasRow}
-use Rattle.ppdb_values_sound_laws.specs.Sound.{IsSound}
-use Rattle.ppdb_values_sound_laws.proofs.Listed.{row_of_map}
-use Rattle.ppdb_merge_items.specs.Each.{Each}
-use Rattle.ppdb_merge_items.specs.NamedRows.{is_type_documents, live_custom}
-use Rattle.ppdb_merge_items.proofs.Lists.{Each-unmap, Each-weaker}
+use Rattle.ppdb_values_sound_laws.{specs.Customs.{SoundCustoms}, specs.Named.{HasRow}, specs.Sound.{IsSound}, proofs.Listed.{row_of_map}}
+use Rattle.ppdb_merge_items.{specs.Each.{Each}, specs.NamedRows.{is_type_documents, live_custom}, proofs.Lists.{Each-unmap, Each-weaker}}
 use Rattle.ppdb_merge_items.proofs.Mapped.{map_map_both}
 use Rattle.ppdb_merge_joined.specs.Joined.{row_in, with_documents}
 use Rattle.ppdb_merge_moved.specs.Moved.{linked, moved_body, moved_parent}
 use Rattle.ppdb_merge_parts.specs.Flat.{FitsAlone, InputsFit, MovedBy, in_turn, Counted, counted, documents_of, document_rows}
 use Rattle.ppdb_merge_records_laws.specs.Records.{ImportScopesFollow, Numbered, Origin, constant_origins, import_origins, origins_in, parent_image, parent_row}
 use Rattle.ppdb_merge_records_laws.specs.Records.{record_image, record_on, row_of, scope_origins, variable_origins}
-use Rattle.ppdb_merge_rows.specs.declared.inputs.RowInput.{RowInput}
-use Rattle.ppdb_merge_rows.specs.Inputs.{moved_by, moved_inputs}
-use Rattle.ppdb_merge_rows.specs.Rows.{body_after, records_after}
-use Rattle.ppdb_build_merged.specs.declared.inputs.Placed.{Placed}
-use Rattle.ppdb_build_merged.specs.Inputs.{ArePlaced, counted_of, raw_of}
-use Rattle.ppdb_build_merged.specs.Records.{AreInputs, IsInput, inputs_of, numbered_by, record_at}
-use Rattle.ppdb_build_merged.proofs.Added.{each_at}
-use Rattle.ppdb_build_merged.proofs.Tables.{each_document, inputs_placed}
+use Rattle.ppdb_merge_rows.specs.{declared.inputs.RowInput.{RowInput}, Inputs.{moved_by, moved_inputs}, Rows.{body_after, records_after}}
+use Rattle.ppdb_build_merged.specs.{declared.inputs.Placed.{Placed}, Inputs.{ArePlaced, counted_of, raw_of}, Records.{AreInputs, IsInput, inputs_of, numbered_by}}
+use Rattle.ppdb_build_merged.{specs.Records.{record_at}, proofs.Added.{each_at}, proofs.Tables.{each_document, inputs_placed}}
 
 -- ---- a record as it is read: on its own row, with what it says in the joined file
 

@@ -1,13 +1,8 @@
 -- What was added of the rows of a table or of a list, row after row.
-use Rattle.std.proofs.Common.{◌≡◌, ℕ, zero, suc, ◌+◌, ◌-◌, ◌≤◌, ◌<◌, List, [], ◌∷◌, ◌++◌, length, take, drop, fold, Option, Some, None, refl, sym, ap, subst}
-use Rattle.std.proofs.Common.{◌∙◌, arith, slice_get}
-use Rattle.std.specs.Prelude.{slice_range}
-use Rattle.std.specs.List.{filter_map}
-use Rattle.std.specs.Option.{option_to_list, option_and_then}
-use Rattle.std.proofs.lemmas.List.{length-append, drop_all}
-use Rattle.std.proofs.lemmas.List.Sums.{fold-append}
-use Rattle.ppdb_tables.specs.RawTables.{row_at}
-use Rattle.ppdb_tables.proofs.NumberedRows.{row_there}
+use Rattle.std.proofs.Common.{◌≡◌, ℕ, zero, suc, ◌+◌, ◌-◌, ◌≤◌, ◌<◌, List, [], ◌∷◌, ◌++◌, length, take, drop, fold, Option, Some, None, refl, sym, ap, subst, ◌∙◌}
+use Rattle.std.{proofs.Common.{arith, slice_get}, specs.Prelude.{slice_range}, specs.List.{filter_map}, specs.Option.{option_to_list, option_and_then}}
+use Rattle.std.proofs.lemmas.{List.{length-append, drop_all}, List.Sums.{fold-append}}
+use Rattle.ppdb_tables.{specs.RawTables.{row_at}, proofs.NumberedRows.{row_there}}
 use Rattle.ppdb_merge_items.specs.Each.{Each}
 
 -- ---- what is left

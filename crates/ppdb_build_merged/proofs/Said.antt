@@ -1,20 +1,11 @@
 -- Records say the same where they are equal, and keys are equal where they say the same.
 use Rattle.std.proofs.Common.{◌≡◌, ℕ, ◌+◌, ◌<◌, ◌++◌, Bool, true, false, List, [], ◌∷◌, length, get_or, take, refl, sym, ◌∙◌, ap, arith, append-nil, append_assoc}
-use Rattle.std.specs.Prelude.{◌&&◌, nat_eq, Option, Some, None, bytes_eq, flat_map}
-use Rattle.std.specs.declared.cmp.Ordering.{Ordering}
-use Rattle.std.specs.declared.cmp.Ordering.TheVariants.{Less, Equal, Greater}
-use Rattle.std.specs.Ordering.{is_eq, nat_cmp, ordering_then}
-use Rattle.std.proofs.lemmas.Bool.{eqb-true, eq-eqb}
-use Rattle.std.proofs.lemmas.Bool.Decides.{nat_tests}
-use Rattle.std.proofs.lemmas.List.{take_more}
-use Rattle.std.proofs.lemmas.Map.Text.{is_eq-slice_cmp}
+use Rattle.std.specs.{Prelude.{◌&&◌, nat_eq, Option, Some, None, bytes_eq, flat_map}, declared.cmp.Ordering.{Ordering}, declared.cmp.Ordering.TheVariants.{Less}}
+use Rattle.std.{specs.declared.cmp.Ordering.TheVariants.{Equal, Greater}, specs.Ordering.{is_eq, nat_cmp, ordering_then}, proofs.lemmas.Bool.{eqb-true, eq-eqb}}
+use Rattle.std.proofs.lemmas.{Bool.Decides.{nat_tests}, List.{take_more}, Map.Text.{is_eq-slice_cmp}}
 use lib.Pointwise.{pointwise}
-use Rattle.custom_info.specs.declared.slots.Slot.{Slot}
-use Rattle.custom_info.specs.declared.slots.Slot.TheVariants.{Empty, Held}
-use Rattle.custom_info.specs.declared.stepping.AsyncStep.{AsyncStep}
-use Rattle.ppdb_values.specs.declared.custom.CustomBody.{CustomBody}
-use Rattle.ppdb_values.specs.declared.custom.CustomBody.TheVariants.{Async, Hoisted, TypeDocuments, Unread}
-use Rattle.ppdb_values.specs.declared.custom.CustomValue.{CustomValue}
+use Rattle.custom_info.specs.declared.{slots.Slot.{Slot}, slots.Slot.TheVariants.{Empty, Held}, stepping.AsyncStep.{AsyncStep}}
+use Rattle.ppdb_values.specs.declared.custom.{CustomBody.{CustomBody}, CustomBody.TheVariants.{Async, Hoisted, TypeDocuments, Unread}, CustomValue.{CustomValue}}
 use Rattle.ppdb_merge_joined.specs.Same.{same_body, same_record, same_slot, same_step}
 use Rattle.ppdb_build_merged.specs.declared.customs_said.RecordKey.{RecordKey}
 use Rattle.ppdb_build_merged.specs.contracts.customs_said.RecordKeyOrd.TheImpl as key_ord

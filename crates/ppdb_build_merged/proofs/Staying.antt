@@ -1,13 +1,10 @@
 -- What becomes of the constants of an input.
-use Rattle.std.proofs.Common.{◌≡◌, ℕ, List, Option, Some, None, length, ap, ◌∙◌}
-use Rattle.std.specs.Option.{option_map, option_and_then}
-use Rattle.std.proofs.lemmas.List.{length-map}
+use Rattle.std.{proofs.Common.{◌≡◌, ℕ, List, Option, Some, None, length, ap, ◌∙◌}, specs.Option.{option_map, option_and_then}, proofs.lemmas.List.{length-map}}
 use Rattle.type_blobs.specs.declared.types.Modifier.{Modifier}
 use Rattle.ppdb_tables.specs.RawTables.{row_at}
 use Rattle.ppdb_values.specs.Constants.{constant_of as constant_of_row}
 use Rattle.ppdb_verify.specs.Views.{raw_file}
-use Rattle.ppdb_values_reading.specs.declared.constants.LentConstant.{LentConstant}
-use Rattle.ppdb_values_reading.specs.Lent.{constant_value_shown, constants_of}
+use Rattle.ppdb_values_reading.specs.{declared.constants.LentConstant.{LentConstant}, Lent.{constant_value_shown, constants_of}}
 use Rattle.ppdb_merge_parts.specs.Flat.{constant_image}
 use Rattle.ppdb_merge_rows.specs.declared.inputs.RowInput.{RowInput}
 use Rattle.ppdb_build_merged.specs.Constants.{constant_of, constants_in}

@@ -1,57 +1,29 @@
 -- What the keys of each table find: the parts of the file that the inputs are joined into.
-use Rattle.std.proofs.Common.{◌≡◌, ℕ, zero, suc, ◌+◌, ◌<◌, ◌≤◌, Bool, true, false, List, [], ◌∷◌, Option, Some, None, length, get_or, map, refl, sym, ap, subst}
-use Rattle.std.proofs.Common.{◌∙◌, arith}
-use Rattle.std.specs.Prelude.{All, bytes_eq, flat_map, slice_index, unwrap_or}
-use Rattle.std.specs.List.{filter_map, enumerate_from, range_with_len}
-use Rattle.std.specs.Option.{option_map, option_and_then}
-use Rattle.std.proofs.lemmas.List.{length-map}
-use Rattle.std.proofs.lemmas.List.Elements.{All-nil, All-cons}
+use Rattle.std.proofs.Common.{◌≡◌, ℕ, zero, suc, ◌+◌, ◌<◌, ◌≤◌, Bool, true, false, List, [], ◌∷◌, Option, Some, None, length, get_or, map, refl, sym, ap, subst, ◌∙◌}
+use Rattle.std.{proofs.Common.{arith}, specs.Prelude.{All, bytes_eq, flat_map, slice_index, unwrap_or}, specs.List.{filter_map, enumerate_from, range_with_len}}
+use Rattle.std.{specs.Option.{option_map, option_and_then}, proofs.lemmas.List.{length-map}, proofs.lemmas.List.Elements.{All-nil, All-cons}}
 use Rattle.std.proofs.lemmas.List.FromFn.{length-enumerate_from}
 use Rattle.sequence_points.specs.Ranges.{IsDocument}
-use Rattle.ppdb_tables.specs.declared.rows.MachineRow.{MachineRow}
-use Rattle.ppdb_tables.specs.declared.rows.MethodDebugRow.{MethodDebugRow}
-use Rattle.ppdb_tables.specs.declared.rows.ScopeRow.{ScopeRow}
+use Rattle.ppdb_tables.specs.declared.rows.{MachineRow.{MachineRow}, MethodDebugRow.{MethodDebugRow}, ScopeRow.{ScopeRow}}
 use Rattle.ppdb_tables.specs.RawTables.{row_at, numbered}
 use Rattle.ppdb_maps.specs.Map.{Map, moved_row, count_of}
-use Rattle.ppdb_values.specs.declared.file.DocumentValue.{DocumentValue}
-use Rattle.ppdb_values.specs.declared.file.FileValue.{FileValue}
-use Rattle.ppdb_values.specs.declared.file.MethodValue.{MethodValue}
-use Rattle.ppdb_values.specs.declared.import.ImportScopeValue.{ImportScopeValue}
-use Rattle.ppdb_values.specs.declared.scope.ScopeValue.{ScopeValue}
-use Rattle.ppdb_values.specs.Documents.{method_of as method_of_row}
-use Rattle.ppdb_values.specs.Parts.{method_at}
-use Rattle.ppdb_values.specs.RawFile.{RawFile}
-use Rattle.ppdb_values.specs.Rows.{method_in as method_in_row}
-use Rattle.ppdb_values.specs.Value.{scope_of as scope_of_row, value_of}
+use Rattle.ppdb_values.specs.declared.file.{DocumentValue.{DocumentValue}, FileValue.{FileValue}, MethodValue.{MethodValue}}
+use Rattle.ppdb_values.specs.{declared.import.ImportScopeValue.{ImportScopeValue}, declared.scope.ScopeValue.{ScopeValue}, Documents.{method_of as method_of_row}}
+use Rattle.ppdb_values.specs.{Parts.{method_at}, RawFile.{RawFile}, Rows.{method_in as method_in_row}, Value.{scope_of as scope_of_row, value_of}}
 use Rattle.ppdb_values.proofs.Rows.{method_is_row}
 use Rattle.ppdb_values_sound_laws.proofs.Listed.{row_of_numbered}
-use Rattle.ppdb_merge_items.specs.Annotated.{annotated_file}
-use Rattle.ppdb_merge_items.specs.Each.{Each}
-use Rattle.ppdb_merge_items.specs.Sorted.{in_order}
-use Rattle.ppdb_merge_items.proofs.Lists.{Each-map, Each-unmap, Each-weaker}
+use Rattle.ppdb_merge_items.{specs.Annotated.{annotated_file}, specs.Each.{Each}, specs.Sorted.{in_order}, proofs.Lists.{Each-map, Each-unmap, Each-weaker}}
 use Rattle.ppdb_merge_items.proofs.Mapped.{map_map_both}
-use Rattle.ppdb_merge_joined.specs.Joined.{firsts, row_named}
-use Rattle.ppdb_merge_joined.proofs.Names.{firsts_has, found_within, is_named}
-use Rattle.ppdb_merge_joined.proofs.Each.{Each-with}
-use Rattle.ppdb_merge_moved.specs.Fits.{Fits}
-use Rattle.ppdb_merge_moved.specs.Moved.{moved_counts}
+use Rattle.ppdb_merge_joined.{specs.Joined.{firsts, row_named}, proofs.Names.{firsts_has, found_within, is_named}, proofs.Each.{Each-with}}
+use Rattle.ppdb_merge_moved.specs.{Fits.{Fits}, Moved.{moved_counts}}
 use Rattle.ppdb_merge_order.specs.declared.keys.Key.{Key}
-use Rattle.ppdb_merge_parts.specs.Flat.{FitsAlone, InputsFit, MovedBy, in_turn, joined_inputs}
-use Rattle.ppdb_merge_parts.specs.Flat.{Counted, counted, moved_documents, documents_of, document_rows, method_image, scope_image, import_image, machine_image}
-use Rattle.ppdb_merge_parts.specs.Flat.{JoinedPartsAreFlat}
-use Rattle.ppdb_merge_parts.proofs.Lists.{map_flat, flat_same}
-use Rattle.ppdb_merge_rows.specs.Laws.{FittingPointsFit, RowsAreImages}
-use Rattle.ppdb_merge_rows.specs.Methods.{method_after}
-use Rattle.ppdb_merge_rows.specs.declared.inputs.RowInput.{RowInput}
-use Rattle.ppdb_build_merged.specs.declared.inputs.Placed.{Placed}
-use Rattle.ppdb_build_merged.specs.declared.keys.MethodTable.TheVariants.{Methods, Scopes, Machines}
-use Rattle.ppdb_merge_rows.specs.Inputs.{moved_by, moved_inputs}
-use Rattle.ppdb_merge_rows.proofs.RowImages.{found_is}
-use Rattle.ppdb_build_merged.specs.Inputs.{ArePlaced, IsReady, counted_of, documents_in, raw_of}
-use Rattle.ppdb_build_merged.specs.Keyed.{imports_of, keys_from, machine_of, method_in, method_of, placed_at, scope_of}
-use Rattle.ppdb_build_merged.proofs.Added.{each_at}
-use Rattle.ppdb_build_merged.proofs.Found.{keys_find, listed, rows_listed, same_kept}
-use Rattle.ppdb_build_merged.proofs.Named.{all_documents, documents_are, flat_mapped, named_in}
+use Rattle.ppdb_merge_parts.specs.Flat.{FitsAlone, InputsFit, MovedBy, in_turn, joined_inputs, Counted, counted, moved_documents, documents_of, document_rows}
+use Rattle.ppdb_merge_parts.{specs.Flat.{method_image, scope_image, import_image, machine_image, JoinedPartsAreFlat}, proofs.Lists.{map_flat, flat_same}}
+use Rattle.ppdb_merge_rows.specs.{Laws.{FittingPointsFit, RowsAreImages}, Methods.{method_after}, declared.inputs.RowInput.{RowInput}, Inputs.{moved_by}}
+use Rattle.ppdb_merge_rows.{specs.Inputs.{moved_inputs}, proofs.RowImages.{found_is}}
+use Rattle.ppdb_build_merged.specs.{declared.inputs.Placed.{Placed}, declared.keys.MethodTable.TheVariants.{Methods, Scopes, Machines}, Inputs.{ArePlaced, IsReady}}
+use Rattle.ppdb_build_merged.specs.{Inputs.{counted_of, documents_in, raw_of}, Keyed.{imports_of, keys_from, machine_of, method_in, method_of, placed_at, scope_of}}
+use Rattle.ppdb_build_merged.proofs.{Added.{each_at}, Found.{keys_find, listed, rows_listed, same_kept}, Named.{all_documents, documents_are, flat_mapped, named_in}}
 
 -- ---- inputs that are placed
 

@@ -1,18 +1,10 @@
 -- The parts of a sound value, as the steps of a draft take them; and its rows of the type system.
-use Rattle.std.proofs.Common.{◌≡◌, ℕ, ◌≤◌, ◌<◌, List, [], ◌∷◌, length, take, fold, refl, arith}
-use Rattle.std.proofs.lemmas.List.{length-append}
-use Rattle.ppdb_values.specs.declared.custom.CustomValue.{CustomValue}
-use Rattle.ppdb_values.specs.declared.file.FileValue.{FileValue}
-use Rattle.ppdb_values.specs.declared.file.MethodValue.{MethodValue}
-use Rattle.ppdb_values.specs.Names.{repeat}
-use Rattle.ppdb_values.specs.Value.{type_system_rows}
-use Rattle.ppdb_values.proofs.Typed.{each_all}
-use Rattle.ppdb_values_sound_laws.specs.Sound.{IsSound}
-use Rattle.ppdb_values_sound_laws.specs.Writing.{HasSpelling, IsWritable, SoundPartsCanBeWritten}
-use Rattle.ppdb_build_draft.specs.Draft.{with_custom, with_import, with_machine}
-use Rattle.ppdb_build_draft.specs.Drafted.{drafted, with_lists}
-use Rattle.ppdb_merge_items.specs.Each.{Each}
-use Rattle.ppdb_merge_items.proofs.Lists.{each_row}
+use Rattle.std.proofs.{Common.{◌≡◌, ℕ, ◌≤◌, ◌<◌, List, [], ◌∷◌, length, take, fold, refl, arith}, lemmas.List.{length-append}}
+use Rattle.ppdb_values.specs.declared.{custom.CustomValue.{CustomValue}, file.FileValue.{FileValue}, file.MethodValue.{MethodValue}}
+use Rattle.ppdb_values.{specs.Names.{repeat}, specs.Value.{type_system_rows}, proofs.Typed.{each_all}}
+use Rattle.ppdb_values_sound_laws.specs.{Sound.{IsSound}, Writing.{HasSpelling, IsWritable, SoundPartsCanBeWritten}}
+use Rattle.ppdb_build_draft.specs.{Draft.{with_custom, with_import, with_machine}, Drafted.{drafted, with_lists}}
+use Rattle.ppdb_merge_items.{specs.Each.{Each}, proofs.Lists.{each_row}}
 use Rattle.ppdb_build_merged.specs.Writable.{IsTaken, HasConstants, IsWritableImport}
 
 pub methods_there : (value : FileValue) → IsSound value → Each (λ (method : MethodValue). 1 ≤ method.method) value.methods

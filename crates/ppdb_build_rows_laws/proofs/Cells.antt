@@ -1,33 +1,19 @@
 -- The cells of tables that keep the rules fit the widths of their columns, where those of the lists do.
-use Rattle.std.proofs.Common.{◌≡◌, ℕ, zero, suc, ◌+◌, ◌*◌, ◌/◌, ◌%◌, ◌<◌, ◌≤◌, ◌^◌, Bool, true, false, List, length, drop, refl, sym, ap, subst, ◌∙◌, arith}
-use Rattle.std.proofs.Common.{inl, inr, slice_get, get_or, if◌then◌else◌, true≢false}
-use Rattle.std.specs.Prelude.{All, Option, Some, None, is_some, nat_le, ◌==◌, take, unwrap_or}
-use Rattle.std.specs.List.{list_any}
-use Rattle.std.specs.Option.{option_map}
-use Rattle.std.specs.Int.{bit_at}
-use Rattle.std.proofs.lemmas.Bool.{cases_lt, leb-true, leb-false}
-use Rattle.std.proofs.lemmas.List.{drop_all}
-use Rattle.std.proofs.lemmas.List.Folds.{list_any_at}
-use Rattle.std.proofs.lemmas.Option.{none-some, slice_get-get_or, slice_get_within, get_or_from_slice_get}
+use Rattle.std.proofs.Common.{◌≡◌, ℕ, zero, suc, ◌+◌, ◌*◌, ◌/◌, ◌%◌, ◌<◌, ◌≤◌, ◌^◌, Bool, true, false, List, length, drop, refl, sym, ap, subst, ◌∙◌, arith, inl}
+use Rattle.std.{proofs.Common.{inr, slice_get, get_or, if◌then◌else◌, true≢false}, specs.Prelude.{All, Option, Some, None, is_some, nat_le, ◌==◌, take, unwrap_or}}
+use Rattle.std.{specs.List.{list_any}, specs.Option.{option_map}, specs.Int.{bit_at}, proofs.lemmas.Bool.{cases_lt, leb-true, leb-false}}
+use Rattle.std.proofs.lemmas.{List.{drop_all}, List.Folds.{list_any_at}, Option.{none-some, slice_get-get_or, slice_get_within, get_or_from_slice_get}}
 use Rattle.blob_grammar.specs.Reader.{unsigned_at}
 use Rattle.ppdb_heaps.specs.Heaps.{text_at, blob_at, guid_at, until_zero, counted}
-use Rattle.row_layout.specs.declared.column.Column.{Column}
-use Rattle.row_layout.specs.declared.column.Column.TheVariants.{Text, Blob, Guid, Row, Parent}
-use Rattle.ppdb_tables.specs.declared.parent.Parent.{Parent as ParentRow}
-use Rattle.row_layout.specs.declared.column.Sizes.{Sizes}
+use Rattle.row_layout.specs.declared.column.{Column.{Column}, Column.TheVariants.{Text, Blob, Guid, Row, Parent}, Sizes.{Sizes}}
 use Rattle.row_layout.specs.Columns.{width_of, index_width, has_rows, parent_tables}
-use Rattle.ppdb_tables.specs.Layouts.{document_columns, method_columns, scope_columns, variable_columns, constant_columns, import_columns, machine_columns}
-use Rattle.ppdb_tables.specs.Layouts.{custom_columns}
-use Rattle.ppdb_tables.specs.Parents.{parent_in}
-use Rattle.ppdb_tables.specs.RawTables.{RawTables, HasShape, count}
-use Rattle.ppdb_values.specs.Customs.{parent_of}
-use Rattle.ppdb_values.specs.RawFile.{text, blob}
-use Rattle.ppdb_values.specs.Rules.{HasText, HasBlob, HasGuidOrNone, HasRow, HasRowOrNone, KeepsDocuments, KeepsMethods, KeepsScopes, KeepsVariables}
-use Rattle.ppdb_values.specs.Rules.{KeepsConstants, KeepsImports, KeepsMachines, KeepsCustoms}
-use Rattle.ppdb_values.specs.Types.{IsNarrowRow}
+use Rattle.ppdb_tables.specs.{declared.parent.Parent.{Parent as ParentRow}, Layouts.{document_columns, method_columns, scope_columns, variable_columns}}
+use Rattle.ppdb_tables.specs.{Layouts.{constant_columns, import_columns, machine_columns, custom_columns}, Parents.{parent_in}, RawTables.{RawTables, HasShape}}
+use Rattle.ppdb_tables.specs.RawTables.{count}
+use Rattle.ppdb_values.specs.{Customs.{parent_of}, RawFile.{text, blob}, Rules.{HasText, HasBlob, HasGuidOrNone, HasRow, HasRowOrNone, KeepsDocuments, KeepsMethods}}
+use Rattle.ppdb_values.specs.{Rules.{KeepsScopes, KeepsVariables, KeepsConstants, KeepsImports, KeepsMachines, KeepsCustoms}, Types.{IsNarrowRow}}
 use Rattle.ppdb_build_layout.specs.Bytes.{sizes_of, heaps_of, document_cells, method_cells, scope_cells, variable_cells, constant_cells, import_cells, machine_cells}
-use Rattle.ppdb_build_layout.specs.Bytes.{custom_cells}
-use Rattle.ppdb_build_layout.specs.Laid.{RowsFit}
+use Rattle.ppdb_build_layout.specs.{Bytes.{custom_cells}, Laid.{RowsFit}}
 
 -- ---- indexes that are there lie within their heaps
 

@@ -1,29 +1,17 @@
 -- The document rows of a canonical file keep the rules, and say the documents of the value.
-use Rattle.std.proofs.Common.{◌≡◌, ◌≢◌, ℕ, ◌≤◌, List, [], ◌∷◌, ◌++◌, length, map, flat_map, refl, sym, ap, subst, ◌∙◌, inl}
-use Rattle.std.specs.Prelude.{All, IfSome, Option, Some, None, option_to_list}
-use Rattle.std.specs.List.{Contains}
-use Rattle.std.proofs.lemmas.List.{append-nil}
-use Rattle.std.proofs.lemmas.List.Elements.{All-nil, All-cons, All-head, All-tail, All-append, All-map}
-use Rattle.ppdb_heaps.specs.Heaps.{blob_at, guid_at}
-use Rattle.ppdb_heaps.specs.Names.{names, IsName}
+use Rattle.std.{proofs.Common.{◌≡◌, ◌≢◌, ℕ, ◌≤◌, List, [], ◌∷◌, ◌++◌, length, map, flat_map, refl, sym, ap, subst, ◌∙◌, inl}, specs.Prelude.{All, IfSome, Option}}
+use Rattle.std.{specs.Prelude.{Some, None, option_to_list}, specs.List.{Contains}, proofs.lemmas.List.{append-nil}, proofs.lemmas.List.Elements.{All-nil, All-cons}}
+use Rattle.std.proofs.lemmas.List.Elements.{All-head, All-tail, All-append, All-map}
+use Rattle.ppdb_heaps.specs.{Heaps.{blob_at, guid_at}, Names.{names, IsName}}
 use Rattle.ppdb_build_heaps.specs.Uses.{plain, blob_bytes}
 use Rattle.ppdb_tables.specs.RawTables.{RawTables}
-use Rattle.ppdb_values.specs.declared.file.FileValue.{FileValue}
-use Rattle.ppdb_values.specs.declared.file.DocumentValue.{DocumentValue}
-use Rattle.ppdb_values.specs.declared.custom.CustomValue.{CustomValue}
-use Rattle.ppdb_values.specs.Documents.{document_of}
-use Rattle.ppdb_values.specs.RawFile.{blob, guid}
-use Rattle.ppdb_values.specs.Rules.{IsDocument, KeepsDocuments, HasGuidOrNone}
-use Rattle.ppdb_values.specs.Types.{HasTypes, HasGuids, IsGuid}
+use Rattle.ppdb_values.specs.declared.{file.FileValue.{FileValue}, file.DocumentValue.{DocumentValue}, custom.CustomValue.{CustomValue}}
+use Rattle.ppdb_values.specs.{Documents.{document_of}, RawFile.{blob, guid}, Rules.{IsDocument, KeepsDocuments, HasGuidOrNone}, Types.{HasTypes, HasGuids, IsGuid}}
 use Rattle.ppdb_values.proofs.Readings.{name_is}
 use Rattle.ppdb_values_sound_laws.specs.Sound.{SoundDocuments}
-use Rattle.ppdb_build_canon.specs.Canonical.{canonical_tables, document_row, guid_cell}
-use Rattle.ppdb_build_canon.specs.Uses.{name_pieces, blobs, guid_uses}
-use Rattle.ppdb_build_canon.proofs.Stand.{blob_stands, guid_stands}
-use Rattle.ppdb_build_canon.proofs.Uses.{name_named, hash_named, algorithm_used, language_used, named_used}
-use Rattle.ppdb_build_rows_laws.proofs.Lists.{map_back, each_map, pairs_map}
-use Rattle.ppdb_build_rows_laws.proofs.Names.{name_read}
-use Rattle.ppdb_build_rows_laws.proofs.Read.{blob_is, has_blob, has_guid, is_whole}
+use Rattle.ppdb_build_canon.{specs.Canonical.{canonical_tables, document_row, guid_cell}, specs.Uses.{name_pieces, blobs, guid_uses}, proofs.Stand.{blob_stands}}
+use Rattle.ppdb_build_canon.proofs.{Stand.{guid_stands}, Uses.{name_named, hash_named, algorithm_used, language_used, named_used}}
+use Rattle.ppdb_build_rows_laws.proofs.{Lists.{map_back, each_map, pairs_map}, Names.{name_read}, Read.{blob_is, has_blob, has_guid, is_whole}}
 
 -- ---- each GUID has 16 bytes
 

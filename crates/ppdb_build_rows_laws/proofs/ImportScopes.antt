@@ -1,38 +1,21 @@
 -- The import scopes of a canonical file keep the rules, and say those of the value.
-use Rattle.std.proofs.Common.{◌≡◌, ℕ, suc, ◌≤◌, List, [], length, map, refl, sym, ap, subst, ◌∙◌, arith}
-use Rattle.std.specs.Prelude.{Option, Some, None, unwrap_or}
-use Rattle.std.specs.List.{Contains}
-use Rattle.std.specs.Option.{option_map}
-use Rattle.std.proofs.lemmas.List.{length-map}
+use Rattle.std.{proofs.Common.{◌≡◌, ℕ, suc, ◌≤◌, List, [], length, map, refl, sym, ap, subst, ◌∙◌, arith}, specs.Prelude.{Option, Some, None, unwrap_or}}
+use Rattle.std.{specs.List.{Contains}, specs.Option.{option_map}, proofs.lemmas.List.{length-map}}
 use Rattle.blob_grammar.specs.Reading.{Reading}
 use Rattle.ppdb_heaps.specs.Heaps.{blob_at}
-use Rattle.type_blobs.specs.declared.types.TypeLimits.{TypeLimits}
-use Rattle.type_blobs.specs.Imports.{imports, ImportItem}
+use Rattle.type_blobs.specs.{declared.types.TypeLimits.{TypeLimits}, Imports.{imports, ImportItem}}
 use Rattle.ppdb_build_heaps.specs.Uses.{held_by, index, blob_bytes}
-use Rattle.ppdb_tables.specs.declared.rows.ImportRow.{ImportRow}
-use Rattle.ppdb_tables.specs.RawTables.{RawTables, row_at}
-use Rattle.ppdb_values.specs.Chains.{NeverEnds, parent_at, chain_for, chain_of}
-use Rattle.ppdb_values.specs.declared.file.FileValue.{FileValue}
-use Rattle.ppdb_values.specs.declared.import.ImportScopeValue.{ImportScopeValue}
-use Rattle.ppdb_values.specs.Imports.{import_value, import_scope_of}
-use Rattle.ppdb_values.specs.RawFile.{blob, records_of, type_limits as raw_limits}
-use Rattle.ppdb_values.specs.Rules.{IsImport, KeepsImports}
-use Rattle.ppdb_values.specs.WrittenImports.{stored_import}
-use Rattle.ppdb_values.proofs.ChainEnds.{chains_end}
-use Rattle.ppdb_values.proofs.Mapped.{row_map}
-use Rattle.ppdb_values.proofs.Readings.{records_are}
-use Rattle.ppdb_values.proofs.StoredImports.{back}
-use Rattle.ppdb_values_sound_laws.specs.Imports.{SoundImport, SoundImportScope, SoundImports}
-use Rattle.ppdb_values_sound_laws.specs.Named.{count}
-use Rattle.ppdb_build_canon.specs.Canonical.{canonical_tables, import_row}
-use Rattle.ppdb_build_canon.specs.Uses.{import_pieces, import_blob, blobs}
-use Rattle.ppdb_build_canon.proofs.Among.{among_first, among_flat_map}
-use Rattle.ppdb_build_canon.proofs.Counts.{type_limits_are, counted_imports}
-use Rattle.ppdb_build_canon.proofs.Stand.{blob_stands}
-use Rattle.ppdb_build_canon.proofs.Uses.{import_named, named_used, held_used}
-use Rattle.ppdb_build_rows_laws.proofs.Imports.{imports_reading, text_stands, AllThere, AllSound}
-use Rattle.ppdb_build_rows_laws.proofs.Lists.{map_back, each_map, each_among}
-use Rattle.ppdb_build_rows_laws.proofs.Read.{blob_is, has_blob, is_whole}
+use Rattle.ppdb_tables.specs.{declared.rows.ImportRow.{ImportRow}, RawTables.{RawTables, row_at}}
+use Rattle.ppdb_values.specs.{Chains.{NeverEnds, parent_at, chain_for, chain_of}, declared.file.FileValue.{FileValue}}
+use Rattle.ppdb_values.specs.{declared.import.ImportScopeValue.{ImportScopeValue}, Imports.{import_value, import_scope_of}, RawFile.{blob, records_of}}
+use Rattle.ppdb_values.specs.{RawFile.{type_limits as raw_limits}, Rules.{IsImport, KeepsImports}, WrittenImports.{stored_import}}
+use Rattle.ppdb_values.proofs.{ChainEnds.{chains_end}, Mapped.{row_map}, Readings.{records_are}, StoredImports.{back}}
+use Rattle.ppdb_values_sound_laws.specs.{Imports.{SoundImport, SoundImportScope, SoundImports}, Named.{count}}
+use Rattle.ppdb_build_canon.{specs.Canonical.{canonical_tables, import_row}, specs.Uses.{import_pieces, import_blob, blobs}, proofs.Among.{among_first}}
+use Rattle.ppdb_build_canon.proofs.{Among.{among_flat_map}, Counts.{type_limits_are, counted_imports}, Stand.{blob_stands}, Uses.{import_named, named_used}}
+use Rattle.ppdb_build_canon.proofs.Uses.{held_used}
+use Rattle.ppdb_build_rows_laws.proofs.{Imports.{imports_reading, text_stands, AllThere, AllSound}, Lists.{map_back, each_map, each_among}, Read.{blob_is, has_blob}}
+use Rattle.ppdb_build_rows_laws.proofs.Read.{is_whole}
 
 module _ (value : FileValue) (entries : length value.rows ≡ 64) (most : (table : ℕ) → count value table ≤ 16777215) (sound : SoundImports value)
     (small : length (canonical_tables value).blobs ≤ 134217728) where

@@ -1,36 +1,23 @@
 -- The imports of a scope are written by the indexes of their texts, and are read again.
 use Rattle.std.proofs.Common.{◌≡◌, ℕ, ◌<◌, ◌≤◌, ◌^◌, List, [], ◌∷◌, ◌++◌, length, map, flat_map, refl, sym, ap, subst, ◌∙◌, inl, arith, min, sum_by, bytes_eq}
-use Rattle.std.specs.Prelude.{All, IsSome, Option, Some, None, unwrap_or}
-use Rattle.std.specs.List.{Contains}
-use Rattle.std.proofs.lemmas.List.{append-nil}
-use Rattle.std.proofs.lemmas.List.Concat.{flat_map-append}
-use Rattle.std.proofs.lemmas.List.Elements.{All-nil, All-cons}
+use Rattle.std.{specs.Prelude.{All, IsSome, Option, Some, None, unwrap_or}, specs.List.{Contains}, proofs.lemmas.List.{append-nil}}
+use Rattle.std.proofs.lemmas.List.{Concat.{flat_map-append}, Elements.{All-nil, All-cons}}
 use Rattle.cli_ints.specs.Shortest.{short_unsigned}
 use Rattle.blob_grammar.specs.Reading.{Reading}
 use Rattle.ppdb_heaps.specs.Heaps.{blob_at}
-use Rattle.type_blobs.specs.declared.import_writer.ImportNumbers.{ImportNumbers}
-use Rattle.type_blobs.specs.declared.import_part.ImportPart.{ImportPart}
-use Rattle.type_blobs.specs.declared.import_part.ImportPart.TheVariants.{Alias, Assembly, Namespace as NamespacePart, Target as TargetPart}
-use Rattle.type_blobs.specs.Imports.{imports, parts_of}
-use Rattle.type_blobs.specs.Spelling.{import_spelling, IsImport, IsPartThere, StandFor, import_item}
-use Rattle.type_blobs.specs.Types.{IsToken}
+use Rattle.type_blobs.specs.declared.{import_writer.ImportNumbers.{ImportNumbers}, import_part.ImportPart.{ImportPart}, import_part.ImportPart.TheVariants.{Alias}}
+use Rattle.type_blobs.specs.{declared.import_part.ImportPart.TheVariants.{Assembly, Namespace as NamespacePart, Target as TargetPart}, Imports.{imports, parts_of}}
+use Rattle.type_blobs.specs.{Spelling.{import_spelling, IsImport, IsPartThere, StandFor, import_item}, Types.{IsToken}}
 use Rattle.type_blobs.proofs.WrittenImports.{written_imports}
-use Rattle.ppdb_build_heaps.specs.Items.{index_of, as_blob, shortest}
-use Rattle.ppdb_build_heaps.specs.Uses.{index, plain, piece_bytes, blob_bytes}
-use Rattle.ppdb_build_heaps.proofs.Items.{before-yes}
+use Rattle.ppdb_build_heaps.{specs.Items.{index_of, as_blob, shortest}, specs.Uses.{index, plain, piece_bytes, blob_bytes}, proofs.Items.{before-yes}}
 use Rattle.ppdb_build_heaps.proofs.Stable.{after-adds}
 use Rattle.ppdb_tables.specs.RawTables.{RawTables}
-use Rattle.ppdb_values.specs.declared.file.FileValue.{FileValue}
-use Rattle.ppdb_values.specs.declared.import.ImportValue.{ImportValue}
-use Rattle.ppdb_values.specs.declared.import.ImportValue.TheVariants.{Namespace, AssemblyNamespace, Target, Xml, Alias as AliasValue, AssemblyAlias}
-use Rattle.ppdb_values.specs.declared.import.ImportValue.TheVariants.{NamespaceAlias, AssemblyNamespaceAlias, TargetAlias}
-use Rattle.ppdb_values.specs.WrittenImports.{stored_import, kind_of_import, alias_text, namespace_text, assembly_row, target_type, import_numbers}
-use Rattle.ppdb_values.proofs.StoredImports.{numbers_stand, kind_from, kind_to}
-use Rattle.ppdb_values_sound_laws.specs.Imports.{SoundImport}
-use Rattle.ppdb_values_sound_laws.specs.Named.{type_limits, HasRow, count}
-use Rattle.ppdb_build_canon.specs.Canonical.{canonical_tables, blob_cell}
-use Rattle.ppdb_build_canon.specs.Uses.{import_pieces, blobs, blob_uses}
-use Rattle.ppdb_build_canon.proofs.Among.{among_first, among_later}
+use Rattle.ppdb_values.specs.declared.{file.FileValue.{FileValue}, import.ImportValue.{ImportValue}, import.ImportValue.TheVariants.{Namespace, AssemblyNamespace}}
+use Rattle.ppdb_values.specs.declared.import.ImportValue.TheVariants.{Target, Xml, Alias as AliasValue, AssemblyAlias, NamespaceAlias, AssemblyNamespaceAlias}
+use Rattle.ppdb_values.specs.{declared.import.ImportValue.TheVariants.{TargetAlias}, WrittenImports.{stored_import, kind_of_import, alias_text, namespace_text}}
+use Rattle.ppdb_values.{specs.WrittenImports.{assembly_row, target_type, import_numbers}, proofs.StoredImports.{numbers_stand, kind_from, kind_to}}
+use Rattle.ppdb_values_sound_laws.specs.{Imports.{SoundImport}, Named.{type_limits, HasRow, count}}
+use Rattle.ppdb_build_canon.{specs.Canonical.{canonical_tables, blob_cell}, specs.Uses.{import_pieces, blobs, blob_uses}, proofs.Among.{among_first, among_later}}
 use Rattle.ppdb_build_canon.proofs.Stand.{blob_stands, blob_within}
 
 -- ---- what an import names

@@ -1,21 +1,13 @@
 -- The numbers of the lists of scopes fit their cells.
-use Rattle.std.proofs.Common.{◌≡◌, ℕ, zero, suc, ◌+◌, ◌-◌, ◌<◌, ◌≤◌, ◌^◌, Bool, true, false, List, [], ◌∷◌, length, take, map, refl, subst, ◌∙◌, arith, get_or}
-use Rattle.std.proofs.Common.{inl, inr}
-use Rattle.std.specs.Prelude.{All, Some, nat_le}
-use Rattle.std.specs.List.{sum_by}
-use Rattle.std.proofs.lemmas.Bool.{cases_eq, cases_lt, eqb-false, leb-false}
-use Rattle.std.proofs.lemmas.List.Sums.{sum_by-cons, sum_by-take-le}
-use Rattle.std.proofs.lemmas.Option.{slice_get-get_or, slice_get_within}
+use Rattle.std.proofs.Common.{◌≡◌, ℕ, zero, suc, ◌+◌, ◌-◌, ◌<◌, ◌≤◌, ◌^◌, Bool, true, false, List, [], ◌∷◌, length, take, map, refl, subst, ◌∙◌, arith, get_or, inl}
+use Rattle.std.{proofs.Common.{inr}, specs.Prelude.{All, Some, nat_le}, specs.List.{sum_by}, proofs.lemmas.Bool.{cases_eq, cases_lt, eqb-false, leb-false}}
+use Rattle.std.proofs.lemmas.{List.Sums.{sum_by-cons, sum_by-take-le}, Option.{slice_get-get_or, slice_get_within}}
 use Rattle.row_layout.specs.Columns.{index_width}
 use Rattle.sequence_points.specs.Written.{last_of}
-use Rattle.ppdb_tables.specs.declared.rows.ScopeRow.{ScopeRow}
-use Rattle.ppdb_tables.specs.RawTables.{numbered, row_at}
-use Rattle.ppdb_values.specs.declared.file.FileValue.{FileValue}
-use Rattle.ppdb_values.specs.declared.scope.ScopeValue.{ScopeValue}
-use Rattle.ppdb_values.specs.Parts.{first_item}
+use Rattle.ppdb_tables.specs.{declared.rows.ScopeRow.{ScopeRow}, RawTables.{numbered, row_at}}
+use Rattle.ppdb_values.specs.{declared.file.FileValue.{FileValue}, declared.scope.ScopeValue.{ScopeValue}, Parts.{first_item}}
 use Rattle.ppdb_values_sound_laws.proofs.Listed.{row_of_numbered}
-use Rattle.ppdb_build_canon.specs.Canonical.{scope_row}
-use Rattle.ppdb_build_canon.specs.Limits.{owns_none}
+use Rattle.ppdb_build_canon.specs.{Canonical.{scope_row}, Limits.{owns_none}}
 
 module _ (items : ScopeValue → ℕ) where
   -- Where the last scope owns some, the scopes before any one own fewer than all.

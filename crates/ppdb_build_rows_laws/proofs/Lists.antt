@@ -1,7 +1,5 @@
 -- Rows that are made of the parts of a value.
-use Rattle.std.proofs.Common.{◌≡◌, suc, List, [], ◌∷◌, map, refl, ap, ◌∙◌, subst}
-use Rattle.std.specs.Prelude.{Some}
-use Rattle.std.proofs.lemmas.Option.{slice_get-get_or}
+use Rattle.std.{proofs.Common.{◌≡◌, suc, List, [], ◌∷◌, map, refl, ap, ◌∙◌, subst}, specs.Prelude.{Some}, proofs.lemmas.Option.{slice_get-get_or}}
 use Rattle.std.specs.List.{Contains}
 use Rattle.ppdb_values.specs.Ordered.{EachRow, EachPair}
 use Rattle.ppdb_values_sound_laws.proofs.Listed.{row_of_map}

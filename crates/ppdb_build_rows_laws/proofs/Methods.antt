@@ -1,47 +1,24 @@
 -- The method rows of a canonical file keep the rules, and say the methods of the value that have points.
-use Rattle.std.proofs.Common.{◌≡◌, ℕ, zero, suc, ◌+◌, ◌<◌, ◌≤◌, ◌⊎◌, Bool, true, false, cond, List, [], ◌∷◌, length, map, refl, sym, ap, subst, ◌∙◌, inl, inr}
-use Rattle.std.proofs.Common.{arith, slice_index, length-append, get_or}
-use Rattle.std.specs.Prelude.{All, Option, Some, None, ◌==◌, if◌then◌else◌}
-use Rattle.std.specs.List.{Contains, find, filter_map, cons_option, enumerate_from, range_with_len, list_all}
-use Rattle.std.specs.Option.{option_map}
-use Rattle.std.proofs.lemmas.Bool.{cases_eq, cases_lt, eq-eqb, ne_eqb, eqb-true}
-use Rattle.std.proofs.lemmas.Option.{slice_get-get_or, slice_get_within, same_Some}
-use Rattle.std.proofs.lemmas.List.{append-nil, length-map}
-use Rattle.std.proofs.lemmas.List.FromFn.{length-range_with_len}
-use Rattle.std.proofs.lemmas.List.Elements.{All-nil, All-head, All-contains, All-weaker}
+use Rattle.std.proofs.Common.{◌≡◌, ℕ, zero, suc, ◌+◌, ◌<◌, ◌≤◌, ◌⊎◌, Bool, true, false, cond, List, [], ◌∷◌, length, map, refl, sym, ap, subst, ◌∙◌, inl, inr, arith}
+use Rattle.std.{proofs.Common.{slice_index, length-append, get_or}, specs.Prelude.{All, Option, Some, None, ◌==◌, if◌then◌else◌}, specs.List.{Contains, find}}
+use Rattle.std.{specs.List.{filter_map, cons_option, enumerate_from, range_with_len, list_all}, specs.Option.{option_map}, proofs.lemmas.Bool.{cases_eq, cases_lt}}
+use Rattle.std.proofs.lemmas.{Bool.{eq-eqb, ne_eqb, eqb-true}, Option.{slice_get-get_or, slice_get_within, same_Some}, List.{append-nil, length-map}}
+use Rattle.std.proofs.lemmas.List.{FromFn.{length-range_with_len}, Elements.{All-nil, All-head, All-contains, All-weaker}}
 use Rattle.ppdb_heaps.specs.Heaps.{blob_at}
 use Rattle.cli_ints.specs.Shortest.{short_unsigned}
-use Rattle.sequence_points.specs.declared.point.Point.{Point}
-use Rattle.sequence_points.specs.Points.{PointsReading, common_document}
-use Rattle.sequence_points.specs.Records.{sequence_points}
-use Rattle.sequence_points.specs.declared.point.PointLimits.{PointLimits}
-use Rattle.sequence_points.specs.Ranges.{IsOffset}
-use Rattle.sequence_points.specs.Written.{CanBeWritten, large_steps, points_blob, points_bytes, header_bytes, initial_document}
-use Rattle.sequence_points.proofs.Reread.{written_points}
-use Rattle.ppdb_tables.specs.declared.rows.MethodDebugRow.{MethodDebugRow}
-use Rattle.ppdb_tables.specs.RawTables.{RawTables, numbered, row_at, count as raw_count}
-use Rattle.ppdb_values.specs.declared.file.FileValue.{FileValue}
-use Rattle.ppdb_values.specs.declared.file.MethodValue.{MethodValue}
-use Rattle.ppdb_values.specs.Documents.{method_of, method_with, points_in}
-use Rattle.ppdb_values.specs.Ordered.{EachPair, EachRow, Rises}
-use Rattle.ppdb_values.specs.Parts.{method_at}
-use Rattle.ppdb_values.specs.RawFile.{blob, point_limits}
-use Rattle.ppdb_values.specs.Rules.{IsMethod, KeepsMethods}
+use Rattle.sequence_points.specs.{declared.point.Point.{Point}, Points.{PointsReading, common_document}, Records.{sequence_points}}
+use Rattle.sequence_points.specs.{declared.point.PointLimits.{PointLimits}, Ranges.{IsOffset}, Written.{CanBeWritten, large_steps, points_blob, points_bytes}}
+use Rattle.sequence_points.{specs.Written.{header_bytes, initial_document}, proofs.Reread.{written_points}}
+use Rattle.ppdb_tables.specs.{declared.rows.MethodDebugRow.{MethodDebugRow}, RawTables.{RawTables, numbered, row_at, count as raw_count}}
+use Rattle.ppdb_values.specs.{declared.file.FileValue.{FileValue}, declared.file.MethodValue.{MethodValue}, Documents.{method_of, method_with, points_in}}
+use Rattle.ppdb_values.specs.{Ordered.{EachPair, EachRow, Rises}, Parts.{method_at}, RawFile.{blob, point_limits}, Rules.{IsMethod, KeepsMethods}}
 use Rattle.ppdb_values.proofs.Readings.{points_are, signature_is}
-use Rattle.ppdb_values_sound_laws.specs.Methods.{SoundMethod, SoundPoint}
-use Rattle.ppdb_values_sound_laws.specs.Named.{count}
-use Rattle.ppdb_values_sound_laws.specs.Sound.{IsSound}
-use Rattle.ppdb_values_sound_laws.proofs.Listed.{key_at}
+use Rattle.ppdb_values_sound_laws.{specs.Methods.{SoundMethod, SoundPoint}, specs.Named.{count}, specs.Sound.{IsSound}, proofs.Listed.{key_at}}
 use Rattle.ppdb_values_sound_laws.proofs.Writing.{parts_writable}
-use Rattle.ppdb_build_canon.specs.Canonical.{canonical_tables, counts, method_row_of, method_rows, blob_cell}
-use Rattle.ppdb_build_canon.specs.Limits.{IsWithinLimits}
-use Rattle.ppdb_build_canon.specs.Uses.{method_blob}
-use Rattle.ppdb_build_canon.proofs.Among.{among_first, among_later}
-use Rattle.ppdb_build_canon.proofs.Counts.{point_limits_are, low_counted, documents_named}
-use Rattle.ppdb_build_canon.proofs.Stand.{blob_stands, short_some}
+use Rattle.ppdb_build_canon.specs.{Canonical.{canonical_tables, counts, method_row_of, method_rows, blob_cell}, Limits.{IsWithinLimits}, Uses.{method_blob}}
+use Rattle.ppdb_build_canon.proofs.{Among.{among_first, among_later}, Counts.{point_limits_are, low_counted, documents_named}, Stand.{blob_stands, short_some}}
 use Rattle.ppdb_build_canon.proofs.Uses.{method_named, named_used}
-use Rattle.ppdb_build_rows_laws.proofs.Lists.{each_map, each_among}
-use Rattle.ppdb_build_rows_laws.proofs.Read.{blob_is, has_blob, is_whole}
+use Rattle.ppdb_build_rows_laws.proofs.{Lists.{each_map, each_among}, Read.{blob_is, has_blob, is_whole}}
 
 -- ---- methods that rise, from a row on
 

@@ -1,23 +1,13 @@
 -- The name of a document is written as a separator and the indexes of its parts.
 use Rattle.std.proofs.Common.{◌≡◌, ◌≢◌, ℕ, ◌<◌, ◌≤◌, ◌^◌, Bool, true, false, List, [], ◌∷◌, ◌++◌, length, map, flat_map, refl, sym, ap, subst, ◌∙◌, arith, min}
-use Rattle.std.proofs.Common.{if◌then◌else◌}
-use Rattle.std.specs.Prelude.{All, Some, ◌==◌}
-use Rattle.std.specs.List.{Contains, list_any, slice_split, join_by, join_with_byte}
-use Rattle.std.proofs.lemmas.List.{append-nil}
-use Rattle.std.proofs.lemmas.List.Elements.{All-nil, All-cons}
-use Rattle.std.proofs.lemmas.List.Splits.{join_with_byte-slice_split, length-slice_split}
+use Rattle.std.{proofs.Common.{if◌then◌else◌}, specs.Prelude.{All, Some, ◌==◌}, specs.List.{Contains, list_any, slice_split, join_by, join_with_byte}}
+use Rattle.std.proofs.lemmas.{List.{append-nil}, List.Elements.{All-nil, All-cons}, List.Splits.{join_with_byte-slice_split, length-slice_split}}
 use Rattle.cli_ints.specs.Shortest.{short_unsigned}
-use Rattle.ppdb_heaps.specs.Heaps.{blob_at}
-use Rattle.ppdb_heaps.specs.Names.{without_zero, IsName, IsWritable, name_spelling}
-use Rattle.ppdb_heaps.proofs.WrittenNames.{written_text}
-use Rattle.ppdb_build_heaps.specs.Items.{index_of, as_blob}
-use Rattle.ppdb_build_heaps.specs.Uses.{index, plain, piece_bytes, held_by, blob_bytes}
+use Rattle.ppdb_heaps.{specs.Heaps.{blob_at}, specs.Names.{without_zero, IsName, IsWritable, name_spelling}, proofs.WrittenNames.{written_text}}
+use Rattle.ppdb_build_heaps.specs.{Items.{index_of, as_blob}, Uses.{index, plain, piece_bytes, held_by, blob_bytes}}
 use Rattle.ppdb_values.specs.declared.file.FileValue.{FileValue}
-use Rattle.ppdb_build_canon.specs.Uses.{separator_of, parts_of, name_pieces, blobs, blob_uses, cell_blobs}
-use Rattle.ppdb_build_canon.specs.Canonical.{blob_cell, canonical_tables}
-use Rattle.ppdb_build_canon.proofs.Among.{among_first, among_later}
-use Rattle.ppdb_build_canon.proofs.Stand.{blob_stands, blob_within}
-use Rattle.ppdb_build_canon.proofs.Uses.{held_used}
+use Rattle.ppdb_build_canon.specs.{Uses.{separator_of, parts_of, name_pieces, blobs, blob_uses, cell_blobs}, Canonical.{blob_cell, canonical_tables}}
+use Rattle.ppdb_build_canon.proofs.{Among.{among_first, among_later}, Stand.{blob_stands, blob_within}, Uses.{held_used}}
 
 -- ---- the parts of a name, joined, are the name
 

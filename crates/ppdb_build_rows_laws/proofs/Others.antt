@@ -1,19 +1,11 @@
 -- The state machines, the row counts and the cells of two bytes of a canonical file are those of the value.
 use Rattle.std.proofs.Common.{◌≡◌, ℕ, zero, suc, ◌+◌, List, [], ◌∷◌, ◌++◌, length, take, drop, flat_map, replicate, refl, sym, ap, ◌∙◌, arith, slice_index}
-use Rattle.std.proofs.Common.{append_assoc}
-use Rattle.std.specs.Prelude.{All}
-use Rattle.std.specs.List.{repeat}
-use Rattle.std.proofs.lemmas.List.{get_or-drop, length-drop, length-take, take-append-drop, take_at}
-use Rattle.std.proofs.lemmas.List.Elements.{All-nil, All-head, All-tail, All-append, All-map}
-use Rattle.ppdb_values.specs.declared.file.FileValue.{FileValue}
-use Rattle.ppdb_values.specs.declared.scope.ScopeValue.{ScopeValue}
-use Rattle.ppdb_values.specs.Rules.{HasRow, KeepsMachines}
-use Rattle.ppdb_values.specs.Types.{HasTypes, IsNarrow, IsNarrowRow}
-use Rattle.ppdb_values.specs.Value.{type_system_rows}
-use Rattle.ppdb_values_sound_laws.specs.Named.{HasRow as HasValueRow}
-use Rattle.ppdb_values_sound_laws.specs.Sound.{SoundRows, SoundMachines}
-use Rattle.ppdb_build_canon.specs.Canonical.{canonical_tables, counts, method_rows, variable_row}
-use Rattle.ppdb_build_canon.specs.Uses.{variables_of, constants_of}
+use Rattle.std.{proofs.Common.{append_assoc}, specs.Prelude.{All}, specs.List.{repeat}, proofs.lemmas.List.{get_or-drop, length-drop, length-take, take-append-drop}}
+use Rattle.std.proofs.lemmas.{List.{take_at}, List.Elements.{All-nil, All-head, All-tail, All-append, All-map}}
+use Rattle.ppdb_values.specs.{declared.file.FileValue.{FileValue}, declared.scope.ScopeValue.{ScopeValue}, Rules.{HasRow, KeepsMachines}, Types.{HasTypes, IsNarrow}}
+use Rattle.ppdb_values.specs.{Types.{IsNarrowRow}, Value.{type_system_rows}}
+use Rattle.ppdb_values_sound_laws.specs.{Named.{HasRow as HasValueRow}, Sound.{SoundRows, SoundMachines}}
+use Rattle.ppdb_build_canon.specs.{Canonical.{canonical_tables, counts, method_rows, variable_row}, Uses.{variables_of, constants_of}}
 use Rattle.ppdb_build_canon.proofs.Counts.{low_counted}
 
 -- ---- row counts

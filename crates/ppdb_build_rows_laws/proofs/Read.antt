@@ -1,13 +1,9 @@
 -- What is there is read.
-use Rattle.std.proofs.Common.{◌≡◌, ℕ, List, [], sym, ap, ◌∙◌, inr, subst}
-use Rattle.std.specs.Prelude.{Some, None, unwrap_or, is_some}
-use Rattle.blob_grammar.specs.Grammar.{Grammar}
-use Rattle.blob_grammar.specs.Reading.{Reading}
+use Rattle.std.{proofs.Common.{◌≡◌, ℕ, List, [], sym, ap, ◌∙◌, inr, subst}, specs.Prelude.{Some, None, unwrap_or, is_some}}
+use Rattle.blob_grammar.specs.{Grammar.{Grammar}, Reading.{Reading}}
 use Rattle.ppdb_heaps.specs.Heaps.{blob_at, guid_at}
 use Rattle.ppdb_tables.specs.RawTables.{RawTables}
-use Rattle.ppdb_values.specs.RawFile.{blob}
-use Rattle.ppdb_values.specs.Rules.{HasBlob, HasGuidOrNone, IsWhole}
-use Rattle.ppdb_values.proofs.Readings.{records_are}
+use Rattle.ppdb_values.{specs.RawFile.{blob}, specs.Rules.{HasBlob, HasGuidOrNone, IsWhole}, proofs.Readings.{records_are}}
 
 pub blob_is : (raw : RawTables) (index : ℕ) (content : List ℕ) → blob_at raw.blobs index ≡ Some content → blob raw index ≡ content
 blob_is raw index content e = ap (λ o. unwrap_or o []) e

@@ -1,33 +1,19 @@
 -- The canonical file of a value, put together from its tables.
 use Rattle.std.proofs.Common.{◌≡◌, ℕ, ◌<◌, ◌≤◌, ◌^◌, ◌⊎◌, Bool, true, false, List, [], length, sym, ap, ◌∙◌, inl, inr, arith, suc, slice_index, if◌then◌else◌}
 use Rattle.std.specs.Prelude.{All, ◌==◌}
-use Rattle.ppdb_tables.specs.declared.rows.ScopeRow.{ScopeRow}
-use Rattle.ppdb_tables.specs.RawTables.{RawTables, HasShape, count as raw_count}
-use Rattle.ppdb_values.specs.declared.file.FileValue.{FileValue}
-use Rattle.ppdb_values.specs.Parts.{first_item}
-use Rattle.ppdb_values.specs.Rules.{KeepsRules, KeepsDocuments, KeepsMethods, KeepsImports}
-use Rattle.ppdb_values.specs.Types.{HasTypes}
-use Rattle.ppdb_values.specs.Value.{value_of}
-use Rattle.ppdb_values_sound_laws.specs.Named.{count}
-use Rattle.ppdb_values_sound_laws.specs.Sound.{IsSound}
-use Rattle.row_layout.specs.declared.column.Column.TheVariants.{Row}
-use Rattle.row_layout.specs.Columns.{width_of}
-use Rattle.ppdb_build_layout.specs.Bytes.{file_bytes, sizes_of, rows_of, heaps_of}
-use Rattle.ppdb_build_layout.specs.Laid.{AllRowsFit}
-use Rattle.ppdb_build_canon.specs.Canon.{with_id}
-use Rattle.ppdb_build_canon.specs.Canonical.{canonical, canonical_tables, counts}
-use Rattle.ppdb_build_canon.specs.Limits.{IsWithinLimits}
+use Rattle.ppdb_tables.specs.{declared.rows.ScopeRow.{ScopeRow}, RawTables.{RawTables, HasShape, count as raw_count}}
+use Rattle.ppdb_values.specs.{declared.file.FileValue.{FileValue}, Parts.{first_item}, Rules.{KeepsRules, KeepsDocuments, KeepsMethods, KeepsImports}}
+use Rattle.ppdb_values.specs.{Types.{HasTypes}, Value.{value_of}}
+use Rattle.ppdb_values_sound_laws.specs.{Named.{count}, Sound.{IsSound}}
+use Rattle.row_layout.specs.{declared.column.Column.TheVariants.{Row}, Columns.{width_of}}
+use Rattle.ppdb_build_layout.specs.{Bytes.{file_bytes, sizes_of, rows_of, heaps_of}, Laid.{AllRowsFit}}
+use Rattle.ppdb_build_canon.specs.{Canon.{with_id}, Canonical.{canonical, canonical_tables, counts}, Limits.{IsWithinLimits}}
 use Rattle.ppdb_build_canon.proofs.Counts.{documents_named, scopes_named, variables_named, constants_named, imports_named, low_counted, none_between, none_above}
-use Rattle.ppdb_build_canon.proofs.Ids.{same_length}
-use Rattle.ppdb_build_canon.proofs.Limits.{values_within}
-use Rattle.ppdb_build_canon.proofs.Shape.{has_shape, blobs_small}
+use Rattle.ppdb_build_canon.proofs.{Ids.{same_length}, Limits.{values_within}, Shape.{has_shape, blobs_small}}
 use Rattle.ppdb_build_scopes_laws.specs.Reread.{ScopesAreReread, CustomsAreReread, CanonicalScopesAreReread, CanonicalCustomsAreReread}
-use Rattle.ppdb_build_rows_laws.specs.Reread.{IsReread, CanonicalRowsAreReread}
-use Rattle.ppdb_build_rows_laws.proofs.Cells.{documents_fit, methods_fit, scopes_fit, variables_fit, constants_fit, imports_fit, machines_fit, customs_fit}
-use Rattle.ppdb_build_rows_laws.proofs.Documents.{documents_kept, documents_read}
-use Rattle.ppdb_build_rows_laws.proofs.ImportScopes.{imports_kept, imports_read}
-use Rattle.ppdb_build_rows_laws.proofs.ListColumns.{first_fits, scope_rows}
-use Rattle.ppdb_build_rows_laws.proofs.Methods.{methods_kept, methods_read}
+use Rattle.ppdb_build_rows_laws.{specs.Reread.{IsReread, CanonicalRowsAreReread}, proofs.Cells.{documents_fit, methods_fit, scopes_fit, variables_fit}}
+use Rattle.ppdb_build_rows_laws.proofs.{Cells.{constants_fit, imports_fit, machines_fit, customs_fit}, Documents.{documents_kept, documents_read}}
+use Rattle.ppdb_build_rows_laws.proofs.{ImportScopes.{imports_kept, imports_read}, ListColumns.{first_fits, scope_rows}, Methods.{methods_kept, methods_read}}
 use Rattle.ppdb_build_rows_laws.proofs.Others.{rows_read, machines_kept, narrow_rows}
 
 one_of : (a b c d e : Bool) (most u v w x y z : ℕ) → u ≤ most → v ≤ most → w ≤ most → x ≤ most → y ≤ most → z ≤ most

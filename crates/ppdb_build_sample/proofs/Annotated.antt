@@ -1,33 +1,16 @@
 -- The sample with its records at their items.
-use Rattle.std.proofs.Common.{◌≡◌, ℕ, zero, suc, ◌+◌, ◌*◌, ◌≤◌, ◌<◌, ◌++◌, Bool, List, [], ◌∷◌, map, flat_map}
-use Rattle.std.proofs.Common.{refl, sym, ◌∙◌, ap, arith, append-nil}
-use Rattle.std.specs.Prelude.{◌%◌, nat_eq, codes}
-use Rattle.std.specs.List.{filter, range_with_len}
+use Rattle.std.proofs.Common.{◌≡◌, ℕ, zero, suc, ◌+◌, ◌*◌, ◌≤◌, ◌<◌, ◌++◌, Bool, List, [], ◌∷◌, map, flat_map, refl, sym, ◌∙◌, ap, arith, append-nil}
+use Rattle.std.specs.{Prelude.{◌%◌, nat_eq, codes}, List.{filter, range_with_len}}
 use Rattle.custom_info.specs.declared.slots.Range.{Range}
-use Rattle.ppdb_values.specs.declared.custom.CustomValue.{CustomValue}
-use Rattle.ppdb_values.specs.declared.import.ImportScopeValue.{ImportScopeValue}
-use Rattle.ppdb_values.specs.declared.import.ImportValue.TheVariants.{Namespace}
-use Rattle.ppdb_values.specs.declared.scope.ScopeValue.{ScopeValue}
-use Rattle.ppdb_values.specs.declared.file.DocumentValue.{DocumentValue}
-use Rattle.ppdb_values.specs.declared.file.MethodValue.{MethodValue}
-use Rattle.ppdb_values.specs.declared.annotation.Custom.{Custom}
-use Rattle.ppdb_values.specs.declared.annotation.Annotation.{Annotation}
-use Rattle.ppdb_values.specs.WorkedSmall.{zeros}
+use Rattle.ppdb_values.specs.declared.{custom.CustomValue.{CustomValue}, import.ImportScopeValue.{ImportScopeValue}, import.ImportValue.TheVariants.{Namespace}}
+use Rattle.ppdb_values.specs.declared.{scope.ScopeValue.{ScopeValue}, file.DocumentValue.{DocumentValue}, file.MethodValue.{MethodValue}, annotation.Custom.{Custom}}
+use Rattle.ppdb_values.specs.{declared.annotation.Annotation.{Annotation}, WorkedSmall.{zeros}}
 use Rattle.ppdb_tables.specs.Parents.{coded_of}
-use Rattle.ppdb_merge_items.specs.declared.file.AnnotatedScope.{AnnotatedScope}
-use Rattle.ppdb_merge_items.specs.declared.file.AnnotatedFile.{AnnotatedFile}
-use Rattle.ppdb_merge_items.specs.Each.{Each, Pairs}
-use Rattle.ppdb_merge_items.specs.Annotated.{customs_of, annotated_file, placed, scope_of}
-use Rattle.ppdb_merge_items.specs.Sorted.{in_order}
-use Rattle.ppdb_merge_items.specs.Unannotated.{value_of_annotated}
-use Rattle.ppdb_merge_items.specs.Worked.{bare}
-use Rattle.ppdb_merge_items.proofs.Files.{file_back}
-use Rattle.ppdb_merge_items.proofs.Lists.{Each-filter, Each-map, Pairs-map, each_of}
-use Rattle.ppdb_merge_items.proofs.Mapped.{map_map_both}
-use Rattle.ppdb_merge_items.proofs.Orders.{in_order_is, rises_of}
+use Rattle.ppdb_merge_items.specs.{declared.file.AnnotatedScope.{AnnotatedScope}, declared.file.AnnotatedFile.{AnnotatedFile}, Each.{Each, Pairs}}
+use Rattle.ppdb_merge_items.specs.{Annotated.{customs_of, annotated_file, placed, scope_of}, Sorted.{in_order}, Unannotated.{value_of_annotated}, Worked.{bare}}
+use Rattle.ppdb_merge_items.proofs.{Files.{file_back}, Lists.{Each-filter, Each-map, Pairs-map, each_of}, Mapped.{map_map_both}, Orders.{in_order_is, rises_of}}
 use Rattle.ppdb_merge_joined.proofs.Each.{Each-flat}
-use Rattle.ppdb_build_sample.specs.Sample.{counted, document_of, sample_document, sample_method, sample_scope, sample_constant}
-use Rattle.ppdb_build_sample.specs.Sample.{sample_custom, sample_of}
+use Rattle.ppdb_build_sample.specs.Sample.{counted, document_of, sample_document, sample_method, sample_scope, sample_constant, sample_custom, sample_of}
 use Rattle.ppdb_merge_moved.proofs.Lists.{Pairs-filter}
 
 -- ---- numbers from 1 on

@@ -1,9 +1,6 @@
 -- Lists made of the numbers from 1 on, one number more.
-use Rattle.std.proofs.Common.{◌≡◌, ℕ, zero, suc, ◌+◌, ◌++◌, Bool, true, false, List, [], ◌∷◌, map, flat_map, refl, sym, ◌∙◌}
-use Rattle.std.proofs.Common.{ap, arith, append-nil, append_assoc}
-use Rattle.std.specs.List.{filter, range_with_len}
-use Rattle.std.proofs.lemmas.List.{map-append}
-use Rattle.std.proofs.lemmas.List.Elements.{filter-append}
+use Rattle.std.proofs.Common.{◌≡◌, ℕ, zero, suc, ◌+◌, ◌++◌, Bool, true, false, List, [], ◌∷◌, map, flat_map, refl, sym, ◌∙◌, ap, arith, append-nil, append_assoc}
+use Rattle.std.{specs.List.{filter, range_with_len}, proofs.lemmas.List.{map-append}, proofs.lemmas.List.Elements.{filter-append}}
 use Rattle.std.proofs.lemmas.List.FromFn.{map-range_with_len_more}
 use Rattle.ppdb_merge_joined.proofs.Placed.{flat_append}
 

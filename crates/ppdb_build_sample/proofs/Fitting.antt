@@ -1,42 +1,25 @@
 -- The sample's map fits the sample.
-use Rattle.std.proofs.Common.{◌≡◌, ◌≢◌, ℕ, zero, suc, ◌+◌, ◌-◌, ◌≤◌, ◌<◌, ◌++◌, ◌⊎◌, inl, inr, true, List, [], ◌∷◌, Some, map, flat_map}
-use Rattle.std.proofs.Common.{refl, sym, ◌∙◌, ap, subst, arith, slice_index}
-use Rattle.std.specs.Prelude.{nat_eq, ◌&&◌}
-use Rattle.std.specs.List.{filter, find, range_with_len}
-use Rattle.std.specs.Option.{option_map}
+use Rattle.std.proofs.Common.{◌≡◌, ◌≢◌, ℕ, zero, suc, ◌+◌, ◌-◌, ◌≤◌, ◌<◌, ◌++◌, ◌⊎◌, inl, inr, true, List, [], ◌∷◌, Some, map, flat_map, refl, sym, ◌∙◌, ap, subst}
+use Rattle.std.{proofs.Common.{arith, slice_index}, specs.Prelude.{nat_eq, ◌&&◌}, specs.List.{filter, find, range_with_len}, specs.Option.{option_map}}
 use Rattle.std.proofs.lemmas.Bool.{cases_lt, eq-eqb, ne_eqb}
 use Rattle.ppdb_base.specs.Offsets.{lined, old_size}
 use Rattle.sequence_points.specs.declared.point.Point.{Point}
-use Rattle.custom_info.specs.Kinds.{kind_of}
-use Rattle.custom_info.specs.declared.kinds.Kind.TheVariants.{Hoisted, Unknown}
-use Rattle.ppdb_maps.specs.declared.entries.RowLine.{RowLine}
-use Rattle.ppdb_maps.specs.Map.{Map, MethodLine, row_image, offsets_in}
-use Rattle.ppdb_maps.specs.declared.image.RowImage.TheVariants.{Row}
-use Rattle.ppdb_maps.specs.Sample.{sample_runs, sample_map_of, sample_method as sample_line}
-use Rattle.ppdb_maps.proofs.SampleMap.{sample_readable}
-use Rattle.ppdb_values.specs.declared.custom.CustomValue.{CustomValue}
-use Rattle.ppdb_values.specs.declared.file.MethodValue.{MethodValue}
-use Rattle.ppdb_values.specs.WorkedSmall.{empty_value}
-use Rattle.ppdb_merge_items.specs.declared.file.AnnotatedScope.{AnnotatedScope}
-use Rattle.ppdb_merge_items.specs.declared.file.AnnotatedFile.{AnnotatedFile}
-use Rattle.ppdb_merge_items.specs.Each.{Each, Pairs}
-use Rattle.ppdb_merge_items.specs.Laws.{SoundnessIsAnnotated}
-use Rattle.ppdb_merge_items.specs.NamedRows.{Named, names, names_some, named_rows, in_constant, in_steps, live_scope, live_custom}
-use Rattle.ppdb_merge_moved.proofs.ImageRows.{within_is}
-use Rattle.ppdb_merge_items.specs.Annotated.{annotated_file}
-use Rattle.ppdb_merge_items.proofs.Lists.{Each-append, Each-filter, Each-map, Each-weaker}
-use Rattle.ppdb_merge_joined.proofs.Each.{Each-flat}
-use Rattle.ppdb_merge_moved.specs.Fits.{Fits, IsImaged, AreWithin, KeepsAsync, HasSlot, AreApart, NamesDiffer}
+use Rattle.custom_info.specs.{Kinds.{kind_of}, declared.kinds.Kind.TheVariants.{Hoisted, Unknown}}
+use Rattle.ppdb_maps.specs.{declared.entries.RowLine.{RowLine}, Map.{Map, MethodLine, row_image, offsets_in}, declared.image.RowImage.TheVariants.{Row}}
+use Rattle.ppdb_maps.{specs.Sample.{sample_runs, sample_map_of, sample_method as sample_line}, proofs.SampleMap.{sample_readable}, proofs.Parts.{line_offsets}}
+use Rattle.ppdb_maps.proofs.Parts.{sample_row}
+use Rattle.ppdb_values.specs.{declared.custom.CustomValue.{CustomValue}, declared.file.MethodValue.{MethodValue}, WorkedSmall.{empty_value}}
+use Rattle.ppdb_merge_items.specs.{declared.file.AnnotatedScope.{AnnotatedScope}, declared.file.AnnotatedFile.{AnnotatedFile}, Each.{Each, Pairs}}
+use Rattle.ppdb_merge_items.specs.{Laws.{SoundnessIsAnnotated}, NamedRows.{Named, names, names_some, named_rows, in_constant, in_steps, live_scope, live_custom}}
+use Rattle.ppdb_merge_items.{specs.Annotated.{annotated_file}, proofs.Lists.{Each-append, Each-filter, Each-map, Each-weaker}, proofs.Parts.{live_method}}
+use Rattle.ppdb_merge_items.proofs.Parts.{with_live_signature, with_live_constants}
+use Rattle.ppdb_merge_moved.{proofs.ImageRows.{within_is}, specs.Fits.{Fits, IsImaged, AreWithin, KeepsAsync, HasSlot, AreApart, NamesDiffer}}
 use Rattle.ppdb_merge_moved.proofs.Elements.{in_each}
+use Rattle.ppdb_merge_joined.proofs.Each.{Each-flat}
 use Rattle.ppdb_values_sound_laws.specs.Sound.{IsSound}
 use Rattle.ppdb_merge_meaning_laws.specs.Kept.{InputsFit}
-use Rattle.ppdb_build_sample.specs.Laws.{SamplesFit, sample_input}
-use Rattle.ppdb_build_sample.specs.Sample.{sample, sample_of}
-use Rattle.ppdb_build_sample.proofs.Annotated.{IsIn, sample_rows, sample_annotated, each_method, each_scope, each_custom, annotated_is}
-use Rattle.ppdb_build_sample.proofs.Sound.{sample_is_sound}
-use Rattle.ppdb_merge_items.proofs.Parts.{live_method, with_live_signature, with_live_constants}
-use Rattle.ppdb_maps.proofs.Parts.{line_offsets}
-use Rattle.ppdb_maps.proofs.Parts.{sample_row}
+use Rattle.ppdb_build_sample.{specs.Laws.{SamplesFit, sample_input}, specs.Sample.{sample, sample_of}, proofs.Annotated.{IsIn, sample_rows, sample_annotated}}
+use Rattle.ppdb_build_sample.proofs.{Annotated.{each_method, each_scope, each_custom, annotated_is}, Sound.{sample_is_sound}}
 
 -- ---- what the map says
 

@@ -1,46 +1,20 @@
 -- The sample is sound.
-use Rattle.std.proofs.Common.{◌≡◌, ◌≢◌, ℕ, zero, suc, ◌+◌, ◌*◌, ◌≤◌, ◌<◌, ◌++◌, inl, inr, List, [], ◌∷◌, refl, sym}
-use Rattle.std.proofs.Common.{subst, arith, slice_index}
-use Rattle.std.specs.Prelude.{codes}
-use Rattle.std.specs.Fmt.{decimal}
-use Rattle.std.proofs.lemmas.Fmt.{decimal_injective}
-use Rattle.std.proofs.lemmas.List.{append_cancel_left, append_cancel_right}
+use Rattle.std.proofs.Common.{◌≡◌, ◌≢◌, ℕ, zero, suc, ◌+◌, ◌*◌, ◌≤◌, ◌<◌, ◌++◌, inl, inr, List, [], ◌∷◌, refl, sym, subst, arith, slice_index}
+use Rattle.std.{specs.Prelude.{codes}, specs.Fmt.{decimal}, proofs.lemmas.Fmt.{decimal_injective}, proofs.lemmas.List.{append_cancel_left, append_cancel_right}}
 use Rattle.std.proofs.lemmas.List.FromFn.{length-map-range_with_len}
-use Rattle.custom_info.specs.HoistedScopes.{IsSlot}
-use Rattle.custom_info.specs.declared.slots.Range.{Range}
-use Rattle.custom_info.specs.declared.slots.Slot.TheVariants.{Held}
-use Rattle.sequence_points.specs.declared.point.Point.{Point}
-use Rattle.sequence_points.specs.declared.point.Span.TheVariants.{Lines}
-use Rattle.sequence_points.specs.Ranges.{IsLine}
-use Rattle.sequence_points.specs.Written.{IsSpan}
-use Rattle.ppdb_values.specs.declared.custom.CustomValue.{CustomValue}
-use Rattle.ppdb_values.specs.declared.file.DocumentValue.{DocumentValue}
-use Rattle.ppdb_values.specs.declared.file.FileValue.{FileValue}
-use Rattle.ppdb_values.specs.declared.file.MethodValue.{MethodValue}
-use Rattle.ppdb_values.specs.declared.import.ImportScopeValue.{ImportScopeValue}
-use Rattle.ppdb_values.specs.declared.annotation.Annotation.{Annotation}
-use Rattle.ppdb_values.specs.declared.scope.ConstantValue.{ConstantValue}
-use Rattle.ppdb_values.specs.declared.scope.VariableValue.{VariableValue}
-use Rattle.ppdb_values.specs.Chains.{NeverEnds, parent_at}
-use Rattle.ppdb_values.specs.Ranges.{ComesAfter, IsInOrAfter}
-use Rattle.ppdb_values.specs.WorkedSmall.{zeros}
-use Rattle.ppdb_values_sound_laws.specs.Customs.{SoundCustom}
-use Rattle.ppdb_values_sound_laws.specs.Imports.{SoundImport}
-use Rattle.ppdb_values_sound_laws.specs.Methods.{SoundMethod, SoundPoint}
-use Rattle.ppdb_values_sound_laws.specs.Named.{count}
-use Rattle.ppdb_values_sound_laws.specs.Scopes.{HoldsNoZero, SoundConstant, SoundVariable}
-use Rattle.ppdb_values_sound_laws.specs.Sound.{IsSound, SoundRows}
-use Rattle.ppdb_values_sound_laws.proofs.Counts.{rows_sound}
-use Rattle.ppdb_merge_items.specs.declared.file.AnnotatedScope.{AnnotatedScope}
-use Rattle.ppdb_merge_items.specs.Each.{Each, Pairs}
-use Rattle.ppdb_merge_items.specs.Laws.{SoundnessIsAnnotated}
-use Rattle.ppdb_merge_items.specs.Annotated.{scope_of}
-use Rattle.ppdb_merge_items.specs.SoundParts.{SoundIn, SoundNote, SoundAnnotatedScope, SoundParts}
-use Rattle.ppdb_merge_items.specs.Worked.{bare}
-use Rattle.ppdb_merge_items.proofs.Lists.{Each-append, Each-map, Pairs-map, each_of, row_each, row_pairs}
+use Rattle.custom_info.specs.{HoistedScopes.{IsSlot}, declared.slots.Range.{Range}, declared.slots.Slot.TheVariants.{Held}}
+use Rattle.sequence_points.specs.{declared.point.Point.{Point}, declared.point.Span.TheVariants.{Lines}, Ranges.{IsLine}, Written.{IsSpan}}
+use Rattle.ppdb_values.specs.declared.{custom.CustomValue.{CustomValue}, file.DocumentValue.{DocumentValue}, file.FileValue.{FileValue}}
+use Rattle.ppdb_values.specs.declared.{file.MethodValue.{MethodValue}, import.ImportScopeValue.{ImportScopeValue}, annotation.Annotation.{Annotation}}
+use Rattle.ppdb_values.specs.{declared.scope.ConstantValue.{ConstantValue}, declared.scope.VariableValue.{VariableValue}, Chains.{NeverEnds, parent_at}}
+use Rattle.ppdb_values.specs.{Ranges.{ComesAfter, IsInOrAfter}, WorkedSmall.{zeros}}
+use Rattle.ppdb_values_sound_laws.specs.{Customs.{SoundCustom}, Imports.{SoundImport}, Methods.{SoundMethod, SoundPoint}, Named.{count}, Scopes.{HoldsNoZero}}
+use Rattle.ppdb_values_sound_laws.{specs.Scopes.{SoundConstant, SoundVariable}, specs.Sound.{IsSound, SoundRows}, proofs.Counts.{rows_sound}}
+use Rattle.ppdb_merge_items.specs.{declared.file.AnnotatedScope.{AnnotatedScope}, Each.{Each, Pairs}, Laws.{SoundnessIsAnnotated}, Annotated.{scope_of}}
+use Rattle.ppdb_merge_items.{specs.SoundParts.{SoundIn, SoundNote, SoundAnnotatedScope, SoundParts}, specs.Worked.{bare}, proofs.Lists.{Each-append, Each-map}}
+use Rattle.ppdb_merge_items.proofs.Lists.{Pairs-map, each_of, row_each, row_pairs}
 use Rattle.ppdb_merge_joined.proofs.Each.{Pairs-flat, all_each, all_pairs}
-use Rattle.ppdb_build_sample.specs.Sample.{counted, document_of, sample_document, sample_method}
-use Rattle.ppdb_build_sample.specs.Sample.{sample_constant, sample_custom, sample_of}
+use Rattle.ppdb_build_sample.specs.Sample.{counted, document_of, sample_document, sample_method, sample_constant, sample_custom, sample_of}
 use Rattle.ppdb_build_sample.proofs.Annotated.{IsIn, pairs_counted, outer_annotated, inner_annotated, both_annotated, document_annotated, sample_annotated}
 use Rattle.ppdb_build_sample.proofs.Annotated.{inner_range, sample_import, sample_rows, each_method, each_scope, each_custom, customs_rise, value_is}
 

@@ -1,8 +1,5 @@
 -- The worked samples.
-use Rattle.std.proofs.Common.{◌∷◌, ◌++◌, [], refl, ap, arith, ◌∙◌}
-use Rattle.std.specs.Prelude.{None, codes}
-use Rattle.std.specs.Fmt.{decimal}
-use Rattle.std.proofs.lemmas.Fmt.{decimal_digit}
+use Rattle.std.{proofs.Common.{◌∷◌, ◌++◌, [], refl, ap, arith, ◌∙◌}, specs.Prelude.{None, codes}, specs.Fmt.{decimal}, proofs.lemmas.Fmt.{decimal_digit}}
 use Rattle.ppdb_build_sample.specs.Worked.{WorkedSamples, sample_of_one}
 
 pub worked_samples : WorkedSamples

@@ -1,41 +1,21 @@
 -- The constants of a canonical file.
-use Rattle.std.proofs.Common.{◌≡◌, ℕ, zero, suc, List, [], length, map, refl, sym, ap, ◌∙◌, subst, slice_get}
-use Rattle.std.specs.Prelude.{Option, Some, None, All, is_some}
-use Rattle.std.proofs.lemmas.List.{append-nil}
-use Rattle.std.specs.Option.{option_map_or}
+use Rattle.std.{proofs.Common.{◌≡◌, ℕ, zero, suc, List, [], length, map, refl, sym, ap, ◌∙◌, subst, slice_get}, specs.Prelude.{Option, Some, None, All, is_some}}
+use Rattle.std.{proofs.lemmas.List.{append-nil}, specs.Option.{option_map_or}}
 use Rattle.blob_grammar.specs.Reading.{Reading}
-use Rattle.type_blobs.specs.declared.types.Modifier.{Modifier}
-use Rattle.type_blobs.specs.declared.types.TypeLimits.{TypeLimits}
-use Rattle.type_blobs.specs.Constants.{ConstantBody as StoredBody, constants, body_of}
-use Rattle.type_blobs.specs.ConstantReading.{ConstantReading, body}
-use Rattle.type_blobs.specs.Spelling.{IsBodyThere, constant_spelling}
-use Rattle.type_blobs.specs.Types.{IsToken, IsThere}
+use Rattle.type_blobs.specs.{declared.types.Modifier.{Modifier}, declared.types.TypeLimits.{TypeLimits}, Constants.{ConstantBody as StoredBody, constants, body_of}}
+use Rattle.type_blobs.specs.{ConstantReading.{ConstantReading, body}, Spelling.{IsBodyThere, constant_spelling}, Types.{IsToken, IsThere}}
 use Rattle.type_blobs.proofs.WrittenConstants.{written_constant}
 use Rattle.ppdb_heaps.specs.Heaps.{text_at, blob_at}
-use Rattle.ppdb_tables.specs.declared.rows.ScopeRow.{ScopeRow}
-use Rattle.ppdb_tables.specs.declared.rows.ConstantRow.{ConstantRow}
-use Rattle.ppdb_tables.specs.RawTables.{RawTables, numbered}
-use Rattle.ppdb_values.specs.declared.file.FileValue.{FileValue}
-use Rattle.ppdb_values.specs.declared.scope.ScopeValue.{ScopeValue}
-use Rattle.ppdb_values.specs.declared.scope.ConstantBody.{ConstantBody}
-use Rattle.ppdb_values.specs.declared.scope.ConstantBody.TheVariants.{Primitive, Enumerated, General, Object}
-use Rattle.ppdb_values.specs.declared.scope.ConstantValue.{ConstantValue}
-use Rattle.ppdb_values.specs.Constants.{constant_of, body_value}
-use Rattle.ppdb_values.specs.Ordered.{EachRow}
-use Rattle.ppdb_values.specs.RawFile.{text, blob, records_of, begun_of, type_limits as raw_limits}
-use Rattle.ppdb_values.specs.Rules.{KeepsConstants, IsConstant}
-use Rattle.ppdb_values.specs.Value.{owned_by}
-use Rattle.ppdb_values.proofs.Readings.{modifiers_are, body_is}
-use Rattle.ppdb_values_sound_laws.specs.Scopes.{SoundConstant, SoundScopes, stored_body}
-use Rattle.ppdb_values_sound_laws.proofs.Listed.{row_of_map}
-use Rattle.ppdb_build_canon.specs.Canonical.{canonical_tables, scope_row, constant_row, text_cell, blob_cell}
-use Rattle.ppdb_build_canon.specs.Uses.{constants_of, constant_blob}
+use Rattle.ppdb_tables.specs.{declared.rows.ScopeRow.{ScopeRow}, declared.rows.ConstantRow.{ConstantRow}, RawTables.{RawTables, numbered}}
+use Rattle.ppdb_values.specs.declared.{file.FileValue.{FileValue}, scope.ScopeValue.{ScopeValue}, scope.ConstantBody.{ConstantBody}}
+use Rattle.ppdb_values.specs.declared.scope.{ConstantBody.TheVariants.{Primitive, Enumerated, General, Object}, ConstantValue.{ConstantValue}}
+use Rattle.ppdb_values.specs.{Constants.{constant_of, body_value}, Ordered.{EachRow}, RawFile.{text, blob, records_of, begun_of, type_limits as raw_limits}}
+use Rattle.ppdb_values.{specs.Rules.{KeepsConstants, IsConstant}, specs.Value.{owned_by}, proofs.Readings.{modifiers_are, body_is}}
+use Rattle.ppdb_values_sound_laws.{specs.Scopes.{SoundConstant, SoundScopes, stored_body}, proofs.Listed.{row_of_map}}
+use Rattle.ppdb_build_canon.specs.{Canonical.{canonical_tables, scope_row, constant_row, text_cell, blob_cell}, Uses.{constants_of, constant_blob}}
 use Rattle.ppdb_build_canon.proofs.Counts.{type_limits_are}
-use Rattle.ppdb_build_scopes_laws.proofs.Heaps.{HasItems}
-use Rattle.ppdb_build_scopes_laws.proofs.Items.{among_pieces, each_item, read_is, read_there, differ_as}
-use Rattle.ppdb_build_scopes_laws.proofs.Lists.{IsShared, made_lists, owned_are, items_differ}
-use Rattle.ppdb_build_scopes_laws.proofs.Pieces.{made_again}
-use Rattle.ppdb_build_scopes_laws.proofs.Scopes.{lists_shared}
+use Rattle.ppdb_build_scopes_laws.proofs.{Heaps.{HasItems}, Items.{among_pieces, each_item, read_is, read_there, differ_as}, Lists.{IsShared, made_lists, owned_are}}
+use Rattle.ppdb_build_scopes_laws.proofs.{Lists.{items_differ}, Pieces.{made_again}, Scopes.{lists_shared}}
 
 abbrev part : ScopeValue → List ConstantValue
 part scope = scope.constants

@@ -1,12 +1,10 @@
 -- A table has as many rows in the canonical file of a value as in the value.
-use Rattle.std.proofs.Common.{◌≡◌, ℕ, ◌<◌, length, sym, slice_get}
-use Rattle.std.specs.Prelude.{Some}
+use Rattle.std.{proofs.Common.{◌≡◌, ℕ, ◌<◌, length, sym, slice_get}, specs.Prelude.{Some}}
 use Rattle.row_layout.specs.Columns.{parent_tables}
 use Rattle.ppdb_tables.specs.RawTables.{count}
 use Rattle.ppdb_values.specs.declared.file.FileValue.{FileValue}
 use Rattle.ppdb_values_sound_laws.specs.Named.{count as value_count}
-use Rattle.ppdb_build_canon.specs.Canonical.{canonical_tables}
-use Rattle.ppdb_build_canon.proofs.Counts.{type_system_named, counted_documents, counted_imports, parents_named}
+use Rattle.ppdb_build_canon.{specs.Canonical.{canonical_tables}, proofs.Counts.{type_system_named, counted_documents, counted_imports, parents_named}}
 
 module _ (value : FileValue) (entries : length value.rows ≡ 64) where
   pub documents_counted : count (canonical_tables value) 0x30 ≡ length value.documents

@@ -1,48 +1,24 @@
 -- The custom records of a canonical file.
-use Rattle.std.proofs.Common.{◌≡◌, ℕ, zero, suc, ◌≤◌, ◌/◌, ◌%◌, List, [], length, map, refl, sym, ap, ◌∙◌, subst, arith, slice_get}
-use Rattle.std.specs.Prelude.{Option, Some, None, All, IfSome, IsSome, unwrap_or, flat_map}
-use Rattle.std.specs.List.{Contains}
-use Rattle.std.specs.Option.{option_map}
-use Rattle.std.proofs.lemmas.List.{append-nil}
-use Rattle.std.proofs.lemmas.List.Elements.{All-weaker}
-use Rattle.std.proofs.lemmas.Simd.{map-map}
-use Rattle.blob_grammar.specs.Grammar.{Grammar}
-use Rattle.blob_grammar.specs.Reading.{Reading}
-use Rattle.custom_info.specs.declared.kinds.Kind.{Kind}
-use Rattle.custom_info.specs.declared.kinds.Kind.TheVariants.{Async as AsyncKind, Hoisted as HoistedKind, TypeDocuments as DocumentsKind, Free, Unknown}
-use Rattle.custom_info.specs.declared.slots.Slot.{Slot}
-use Rattle.custom_info.specs.declared.stepping.AsyncStep.{AsyncStep}
-use Rattle.custom_info.specs.AsyncStepping.{async_stepping, async_spelling, entries_of, IsStep}
-use Rattle.ppdb_values.specs.Names.{short_unsigned}
-use Rattle.custom_info.specs.HoistedScopes.{hoisted_scopes, slot_spelling}
-use Rattle.custom_info.specs.Kinds.{kind_of}
-use Rattle.custom_info.specs.TypeDocuments.{type_documents, IsRowNumber}
-use Rattle.custom_info.proofs.WrittenRows.{written_rows}
-use Rattle.custom_info.proofs.WrittenSlots.{written_slots}
+use Rattle.std.{proofs.Common.{◌≡◌, ℕ, zero, suc, ◌≤◌, ◌/◌, ◌%◌, List, [], length, map, refl, sym, ap, ◌∙◌, subst, arith, slice_get}, specs.Prelude.{Option, Some}}
+use Rattle.std.{specs.Prelude.{None, All, IfSome, IsSome, unwrap_or, flat_map}, specs.List.{Contains}, specs.Option.{option_map}, proofs.lemmas.List.{append-nil}}
+use Rattle.std.proofs.lemmas.{List.Elements.{All-weaker}, Simd.{map-map}}
+use Rattle.blob_grammar.specs.{Grammar.{Grammar}, Reading.{Reading}}
+use Rattle.custom_info.specs.declared.kinds.{Kind.{Kind}, Kind.TheVariants.{Async as AsyncKind, Hoisted as HoistedKind, TypeDocuments as DocumentsKind, Free}}
+use Rattle.custom_info.specs.declared.{kinds.Kind.TheVariants.{Unknown}, slots.Slot.{Slot}, stepping.AsyncStep.{AsyncStep}}
+use Rattle.custom_info.specs.{AsyncStepping.{async_stepping, async_spelling, entries_of, IsStep}, HoistedScopes.{hoisted_scopes, slot_spelling}, Kinds.{kind_of}}
+use Rattle.custom_info.{specs.TypeDocuments.{type_documents, IsRowNumber}, proofs.WrittenRows.{written_rows}, proofs.WrittenSlots.{written_slots}}
 use Rattle.custom_info.proofs.WrittenSteps.{written_steps}
+use Rattle.ppdb_values.specs.{Names.{short_unsigned}, declared.custom.CustomBody.{CustomBody}, declared.custom.CustomBody.TheVariants.{Async, Hoisted}}
+use Rattle.ppdb_values.specs.declared.{custom.CustomBody.TheVariants.{TypeDocuments, Unread}, custom.CustomValue.{CustomValue}, file.FileValue.{FileValue}}
+use Rattle.ppdb_values.specs.{Customs.{custom_body, custom_of, kind_in, parent_of}, Ordered.{IsSorted}, RawFile.{blob, records_of}, Rules.{HasRow, IsCustom}}
+use Rattle.ppdb_values.{specs.Rules.{IsWholeOfKind, KeepsCustoms, StandsOn}, proofs.Readings.{records_are, stepping_is}}
 use Rattle.row_layout.specs.Columns.{parent_tables}
 use Rattle.ppdb_heaps.specs.Heaps.{blob_at, guid_at}
-use Rattle.ppdb_tables.specs.declared.parent.Parent.{Parent}
-use Rattle.ppdb_tables.specs.declared.rows.CustomRow.{CustomRow}
-use Rattle.ppdb_tables.specs.Parents.{parent_in, coded_in, CodesAreParents, coded_of}
+use Rattle.ppdb_tables.specs.{declared.parent.Parent.{Parent}, declared.rows.CustomRow.{CustomRow}, Parents.{parent_in, coded_in, CodesAreParents, coded_of}}
 use Rattle.ppdb_tables.specs.RawTables.{RawTables, count, row_at}
-use Rattle.ppdb_values.specs.declared.custom.CustomBody.{CustomBody}
-use Rattle.ppdb_values.specs.declared.custom.CustomBody.TheVariants.{Async, Hoisted, TypeDocuments, Unread}
-use Rattle.ppdb_values.specs.declared.custom.CustomValue.{CustomValue}
-use Rattle.ppdb_values.specs.declared.file.FileValue.{FileValue}
-use Rattle.ppdb_values.specs.Customs.{custom_body, custom_of, kind_in, parent_of}
-use Rattle.ppdb_values.specs.Ordered.{IsSorted}
-use Rattle.ppdb_values.specs.RawFile.{blob, records_of}
-use Rattle.ppdb_values.specs.Rules.{HasRow, IsCustom, IsWholeOfKind, KeepsCustoms, StandsOn}
-use Rattle.ppdb_values.proofs.Readings.{records_are, stepping_is}
-use Rattle.ppdb_values_sound_laws.specs.Customs.{IsBodyOfKind, SoundCustom, SoundCustoms}
-use Rattle.ppdb_values_sound_laws.specs.Named.{HasRow as HasValueRow}
-use Rattle.ppdb_values_sound_laws.proofs.Listed.{row_of_map}
-use Rattle.ppdb_build_canon.specs.Canonical.{canonical_tables, custom_row, guid_cell}
-use Rattle.ppdb_build_canon.specs.Uses.{body_spelling}
-use Rattle.ppdb_build_scopes_laws.proofs.Counts.{documents_counted, type_system_counted, parents_counted}
-use Rattle.ppdb_build_scopes_laws.proofs.Heaps.{HasItems}
-use Rattle.ppdb_build_scopes_laws.proofs.Items.{among, read_is, read_there}
+use Rattle.ppdb_values_sound_laws.{specs.Customs.{IsBodyOfKind, SoundCustom, SoundCustoms}, specs.Named.{HasRow as HasValueRow}, proofs.Listed.{row_of_map}}
+use Rattle.ppdb_build_canon.specs.{Canonical.{canonical_tables, custom_row, guid_cell}, Uses.{body_spelling}}
+use Rattle.ppdb_build_scopes_laws.proofs.{Counts.{documents_counted, type_system_counted, parents_counted}, Heaps.{HasItems}, Items.{among, read_is, read_there}}
 use Rattle.ppdb_build_scopes_laws.proofs.Pieces.{made_again}
 
 -- ---- parents

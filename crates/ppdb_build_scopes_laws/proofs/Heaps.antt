@@ -1,24 +1,14 @@
 -- What the rows of a canonical file name stands in its heaps.
-use Rattle.std.proofs.Common.{◌≡◌, ℕ, List, [], ◌∷◌, ◌++◌, map, flat_map}
-use Rattle.std.specs.Prelude.{All, IfSome, Option, Some, None, option_to_list}
-use Rattle.std.specs.List.{Contains}
+use Rattle.std.{proofs.Common.{◌≡◌, ℕ, List, [], ◌∷◌, ◌++◌, map, flat_map}, specs.Prelude.{All, IfSome, Option, Some, None, option_to_list}, specs.List.{Contains}}
 use Rattle.std.proofs.lemmas.List.Elements.{All-nil, All-cons, All-head, All-tail, All-append, All-map}
 use Rattle.ppdb_heaps.specs.Heaps.{text_at, blob_at, guid_at}
-use Rattle.ppdb_values.specs.declared.custom.CustomValue.{CustomValue}
-use Rattle.ppdb_values.specs.declared.file.DocumentValue.{DocumentValue}
-use Rattle.ppdb_values.specs.declared.file.FileValue.{FileValue}
-use Rattle.ppdb_values.specs.declared.scope.ConstantValue.{ConstantValue}
-use Rattle.ppdb_values.specs.declared.scope.VariableValue.{VariableValue}
-use Rattle.ppdb_values.specs.Types.{HasGuids, HasTypes, IsGuid}
-use Rattle.ppdb_values_sound_laws.specs.Scopes.{HoldsNoZero}
-use Rattle.ppdb_values_sound_laws.specs.Sound.{SoundRows}
+use Rattle.ppdb_values.specs.declared.{custom.CustomValue.{CustomValue}, file.DocumentValue.{DocumentValue}, file.FileValue.{FileValue}}
+use Rattle.ppdb_values.specs.{declared.scope.ConstantValue.{ConstantValue}, declared.scope.VariableValue.{VariableValue}, Types.{HasGuids, HasTypes, IsGuid}}
+use Rattle.ppdb_values_sound_laws.specs.{Scopes.{HoldsNoZero}, Sound.{SoundRows}}
 use Rattle.ppdb_build_heaps.specs.Uses.{blob_bytes}
-use Rattle.ppdb_build_canon.specs.Canonical.{canonical_tables, text_cell, blob_cell, guid_cell}
-use Rattle.ppdb_build_canon.specs.Limits.{IsWithinLimits}
-use Rattle.ppdb_build_canon.specs.Uses.{variables_of, constants_of, constant_blob, custom_blob, blobs, guid_uses}
-use Rattle.ppdb_build_canon.proofs.Shape.{blobs_small}
-use Rattle.ppdb_build_canon.proofs.Stand.{text_stands, blob_stands, guid_stands}
-use Rattle.ppdb_build_canon.proofs.Uses.{variable_name_used, constant_name_used, kind_used, constant_named, custom_named, named_used}
+use Rattle.ppdb_build_canon.specs.{Canonical.{canonical_tables, text_cell, blob_cell, guid_cell}, Limits.{IsWithinLimits}, Uses.{variables_of, constants_of}}
+use Rattle.ppdb_build_canon.{specs.Uses.{constant_blob, custom_blob, blobs, guid_uses}, proofs.Shape.{blobs_small}, proofs.Stand.{text_stands, blob_stands}}
+use Rattle.ppdb_build_canon.proofs.{Stand.{guid_stands}, Uses.{variable_name_used, constant_name_used, kind_used, constant_named, custom_named, named_used}}
 
 -- The names, the signatures, the kinds and the contents are read at their indexes.
 pub record HasItems (value : FileValue) : Type 0 where

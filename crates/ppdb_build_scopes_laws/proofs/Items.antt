@@ -1,7 +1,5 @@
 -- The variables and the constants of a value, wherever they stand among those of all scopes.
-use Rattle.std.proofs.Common.{◌≡◌, ◌≢◌, ℕ, zero, suc, List, flat_map, slice_get, ap, sym, ◌∙◌}
-use Rattle.std.specs.Prelude.{Option, Some, unwrap_or}
-use Rattle.std.specs.List.{Contains}
+use Rattle.std.{proofs.Common.{◌≡◌, ◌≢◌, ℕ, zero, suc, List, flat_map, slice_get, ap, sym, ◌∙◌}, specs.Prelude.{Option, Some, unwrap_or}, specs.List.{Contains}}
 use Rattle.std.proofs.lemmas.Option.{slice_get_within, get_or_from_slice_get}
 use Rattle.ppdb_values.specs.Ordered.{EachRow, EachPair}
 use Rattle.ppdb_build_canon.proofs.Among.{among_flat_map}

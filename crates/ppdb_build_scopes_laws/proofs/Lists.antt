@@ -1,19 +1,10 @@
 -- The lists of scopes whose items stand one scope after the other: they are in order, and each scope owns its own items.
-use Rattle.std.proofs.Common.{◌≡◌, ◌≢◌, ℕ, zero, suc, ◌+◌, ◌-◌, ◌≤◌, ◌<◌, List, [], ◌∷◌, length, map, take, drop, flat_map, refl, sym}
-use Rattle.std.proofs.Common.{ap, ◌∙◌, subst, arith, inl, inr, slice_get}
-use Rattle.std.proofs.lemmas.Bool.{cases_lt}
-use Rattle.std.specs.Prelude.{Option, Some, None, unwrap_or}
-use Rattle.std.specs.Option.{option_map}
-use Rattle.std.proofs.lemmas.List.{length-map, take-map, drop-map}
-use Rattle.std.proofs.lemmas.Option.{slice_get_within}
-use Rattle.ppdb_tables.specs.declared.rows.ScopeRow.{ScopeRow}
-use Rattle.ppdb_tables.specs.RawTables.{numbered, row_at}
-use Rattle.ppdb_values.specs.Ordered.{EachPair}
-use Rattle.ppdb_values.specs.Owners.{list_end}
-use Rattle.ppdb_values.specs.Rules.{KeepsLists, DifferInScope}
-use Rattle.ppdb_values.specs.Value.{owner_of, owned_by}
+use Rattle.std.proofs.Common.{◌≡◌, ◌≢◌, ℕ, zero, suc, ◌+◌, ◌-◌, ◌≤◌, ◌<◌, List, [], ◌∷◌, length, map, take, drop, flat_map, refl, sym, ap, ◌∙◌, subst, arith, inl}
+use Rattle.std.{proofs.Common.{inr, slice_get}, proofs.lemmas.Bool.{cases_lt}, specs.Prelude.{Option, Some, None, unwrap_or}, specs.Option.{option_map}}
+use Rattle.std.proofs.lemmas.{List.{length-map, take-map, drop-map}, Option.{slice_get_within}, Simd.{map-map}}
+use Rattle.ppdb_tables.specs.{declared.rows.ScopeRow.{ScopeRow}, RawTables.{numbered, row_at}}
+use Rattle.ppdb_values.specs.{Ordered.{EachPair}, Owners.{list_end}, Rules.{KeepsLists, DifferInScope}, Value.{owner_of, owned_by}}
 use Rattle.ppdb_values.proofs.Lists.{owner_in_list, owned_is_list}
-use Rattle.std.proofs.lemmas.Simd.{map-map}
 use Rattle.ppdb_values_sound_laws.proofs.Listed.{row_of, row_of_map, key_at}
 use Rattle.ppdb_build_scopes_laws.proofs.Pieces.{unnumbered, before, before_all, before_next, before_within, before_rises, piece_at, IsIn, item_in}
 

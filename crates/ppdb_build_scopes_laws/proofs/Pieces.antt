@@ -1,12 +1,7 @@
 -- Lists that are joined from pieces, and where an item of a piece stands.
-use Rattle.std.proofs.Common.{◌≡◌, ℕ, zero, suc, ◌+◌, ◌-◌, ◌≤◌, ◌<◌, List, [], ◌∷◌, ◌++◌, length, map, take, drop, flat_map, refl, sym}
-use Rattle.std.proofs.Common.{ap, ◌∙◌, arith, inl, inr, slice_get, length-append}
-use Rattle.std.specs.Prelude.{Some}
-use Rattle.std.specs.List.{enumerate_from, sum_by}
-use Rattle.std.proofs.lemmas.Bool.{cases_lt}
-use Rattle.std.proofs.lemmas.List.{take_at}
-use Rattle.std.proofs.lemmas.List.Concat.{length-flat_map}
-use Rattle.std.proofs.lemmas.List.Sums.{sum_by-cons, sum_by-take-le}
+use Rattle.std.proofs.Common.{◌≡◌, ℕ, zero, suc, ◌+◌, ◌-◌, ◌≤◌, ◌<◌, List, [], ◌∷◌, ◌++◌, length, map, take, drop, flat_map, refl, sym, ap, ◌∙◌, arith, inl, inr}
+use Rattle.std.{proofs.Common.{slice_get, length-append}, specs.Prelude.{Some}, specs.List.{enumerate_from, sum_by}, proofs.lemmas.Bool.{cases_lt}}
+use Rattle.std.proofs.lemmas.{List.{take_at}, List.Concat.{length-flat_map}, List.Sums.{sum_by-cons, sum_by-take-le}}
 
 -- ---- lists
 

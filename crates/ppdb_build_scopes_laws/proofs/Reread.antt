@@ -1,21 +1,12 @@
 -- The scopes and the custom records of a canonical file, table by table.
-use Rattle.std.proofs.Common.{◌≡◌, ℕ, suc, ◌≤◌, length, refl, subst, arith}
-use Rattle.std.specs.Prelude.{map}
-use Rattle.ppdb_tables.specs.Parents.{CodesAreParents}
-use Rattle.ppdb_tables.specs.RawTables.{numbered}
-use Rattle.ppdb_values.specs.declared.file.FileValue.{FileValue}
-use Rattle.ppdb_values.specs.Types.{HasTypes}
-use Rattle.ppdb_values.specs.Value.{scope_of}
+use Rattle.std.{proofs.Common.{◌≡◌, ℕ, suc, ◌≤◌, length, refl, subst, arith}, specs.Prelude.{map}}
+use Rattle.ppdb_tables.specs.{Parents.{CodesAreParents}, RawTables.{numbered}}
+use Rattle.ppdb_values.specs.{declared.file.FileValue.{FileValue}, Types.{HasTypes}, Value.{scope_of}}
 use Rattle.ppdb_values_sound_laws.specs.Sound.{IsSound}
-use Rattle.ppdb_build_canon.specs.Canonical.{canonical_tables, scope_row}
-use Rattle.ppdb_build_canon.specs.Limits.{ValuesWithoutLimits}
-use Rattle.ppdb_build_canon.proofs.Counts.{counted_documents}
-use Rattle.ppdb_build_scopes_laws.specs.Reread.{ScopesAreReread, CanonicalScopesAreReread, CanonicalCustomsAreReread}
-use Rattle.ppdb_build_scopes_laws.proofs.Constants.{constants_kept, constants_read}
-use Rattle.ppdb_build_scopes_laws.proofs.Customs.{customs_kept, customs_read}
-use Rattle.ppdb_build_scopes_laws.proofs.Heaps.{HasItems, has_items}
-use Rattle.ppdb_build_scopes_laws.proofs.Scopes.{scopes_kept, range_back, rows_again}
-use Rattle.ppdb_build_scopes_laws.proofs.Variables.{variables_kept, variables_read}
+use Rattle.ppdb_build_canon.{specs.Canonical.{canonical_tables, scope_row}, specs.Limits.{ValuesWithoutLimits}, proofs.Counts.{counted_documents}}
+use Rattle.ppdb_build_scopes_laws.{specs.Reread.{ScopesAreReread, CanonicalScopesAreReread, CanonicalCustomsAreReread}, proofs.Constants.{constants_kept}}
+use Rattle.ppdb_build_scopes_laws.proofs.{Constants.{constants_read}, Customs.{customs_kept, customs_read}, Heaps.{HasItems, has_items}, Scopes.{scopes_kept}}
+use Rattle.ppdb_build_scopes_laws.proofs.{Scopes.{range_back, rows_again}, Variables.{variables_kept, variables_read}}
 
 module _ (value : FileValue) (sound : IsSound value) (types : HasTypes value) (items : HasItems value) where
   scopes_read : map (scope_of (canonical_tables value)) (numbered (canonical_tables value).scopes) ≡ value.scopes

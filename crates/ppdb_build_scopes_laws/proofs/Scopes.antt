@@ -1,25 +1,13 @@
 -- The rows of the scopes of a canonical file.
-use Rattle.std.proofs.Common.{◌≡◌, ℕ, suc, ◌+◌, ◌-◌, ◌<◌, ◌≤◌, ◌∷◌, [], List, length, map, refl, sym, ap, ◌∙◌, subst, arith, slice_get}
-use Rattle.std.specs.Prelude.{Some}
-use Rattle.std.specs.List.{enumerate_from}
-use Rattle.std.proofs.lemmas.List.{length-map}
-use Rattle.std.proofs.lemmas.List.FromFn.{length-enumerate_from}
+use Rattle.std.{proofs.Common.{◌≡◌, ℕ, suc, ◌+◌, ◌-◌, ◌<◌, ◌≤◌, ◌∷◌, [], List, length, map, refl, sym, ap, ◌∙◌, subst, arith, slice_get}, specs.Prelude.{Some}}
+use Rattle.std.{specs.List.{enumerate_from}, proofs.lemmas.List.{length-map}, proofs.lemmas.List.FromFn.{length-enumerate_from}}
 use Rattle.custom_info.specs.declared.slots.Range.{Range}
-use Rattle.ppdb_tables.specs.declared.rows.ScopeRow.{ScopeRow}
-use Rattle.ppdb_tables.specs.RawTables.{RawTables, numbered}
-use Rattle.ppdb_values.specs.declared.file.FileValue.{FileValue}
-use Rattle.ppdb_values.specs.declared.scope.ScopeValue.{ScopeValue}
-use Rattle.ppdb_values.specs.Ordered.{EachPair, IsSorted}
-use Rattle.ppdb_values.specs.Parts.{first_item}
-use Rattle.ppdb_values.specs.Ranges.{ComesAfter, IsInOrAfter}
-use Rattle.ppdb_values.specs.Rules.{IsScope, KeepsScopes}
-use Rattle.ppdb_values.specs.Value.{range_of}
-use Rattle.ppdb_values_sound_laws.specs.Scopes.{SoundScope, SoundScopes}
-use Rattle.ppdb_values_sound_laws.proofs.Listed.{row_of_numbered, keys_numbered}
+use Rattle.ppdb_tables.specs.{declared.rows.ScopeRow.{ScopeRow}, RawTables.{RawTables, numbered}}
+use Rattle.ppdb_values.specs.{declared.file.FileValue.{FileValue}, declared.scope.ScopeValue.{ScopeValue}, Ordered.{EachPair, IsSorted}, Parts.{first_item}}
+use Rattle.ppdb_values.specs.{Ranges.{ComesAfter, IsInOrAfter}, Rules.{IsScope, KeepsScopes}, Value.{range_of}}
+use Rattle.ppdb_values_sound_laws.{specs.Scopes.{SoundScope, SoundScopes}, proofs.Listed.{row_of_numbered, keys_numbered}}
 use Rattle.ppdb_build_canon.specs.Canonical.{canonical_tables, scope_row}
-use Rattle.ppdb_build_scopes_laws.proofs.Counts.{type_system_counted, imports_counted}
-use Rattle.ppdb_build_scopes_laws.proofs.Lists.{IsShared}
-use Rattle.ppdb_build_scopes_laws.proofs.Pieces.{before}
+use Rattle.ppdb_build_scopes_laws.proofs.{Counts.{type_system_counted, imports_counted}, Lists.{IsShared}, Pieces.{before}}
 
 -- the range of a row is that of its scope
 range_is : (range : Range) → range.start < range.end → record { start = range.start; end = range.start + (range.end - range.start) } ≡ range

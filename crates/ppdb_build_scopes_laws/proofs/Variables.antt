@@ -1,26 +1,13 @@
 -- The variables of a canonical file.
-use Rattle.std.proofs.Common.{◌≡◌, ℕ, zero, suc, List, map, refl, ◌∙◌, subst, slice_get}
-use Rattle.std.specs.Prelude.{Some, []}
+use Rattle.std.{proofs.Common.{◌≡◌, ℕ, zero, suc, List, map, refl, ◌∙◌, subst, slice_get}, specs.Prelude.{Some, []}}
 use Rattle.ppdb_heaps.specs.Heaps.{text_at}
-use Rattle.ppdb_tables.specs.declared.rows.ScopeRow.{ScopeRow}
-use Rattle.ppdb_tables.specs.declared.rows.VariableRow.{VariableRow}
-use Rattle.ppdb_tables.specs.RawTables.{RawTables, numbered}
-use Rattle.ppdb_values.specs.declared.file.FileValue.{FileValue}
-use Rattle.ppdb_values.specs.declared.scope.ScopeValue.{ScopeValue}
-use Rattle.ppdb_values.specs.declared.scope.VariableValue.{VariableValue}
-use Rattle.ppdb_values.specs.Ordered.{EachRow}
-use Rattle.ppdb_values.specs.RawFile.{text}
-use Rattle.ppdb_values.specs.Rules.{KeepsVariables, HasText}
-use Rattle.ppdb_values.specs.Value.{variable_of, owned_by}
-use Rattle.ppdb_values_sound_laws.specs.Scopes.{SoundScopes}
-use Rattle.ppdb_values_sound_laws.proofs.Listed.{row_of_map}
-use Rattle.ppdb_build_canon.specs.Canonical.{canonical_tables, scope_row, variable_row, text_cell}
-use Rattle.ppdb_build_canon.specs.Uses.{variables_of}
-use Rattle.ppdb_build_scopes_laws.proofs.Heaps.{HasItems}
-use Rattle.ppdb_build_scopes_laws.proofs.Items.{among_pieces, each_item, read_is, read_there, differ_as}
-use Rattle.ppdb_build_scopes_laws.proofs.Lists.{IsShared, made_lists, owned_are, items_differ}
-use Rattle.ppdb_build_scopes_laws.proofs.Pieces.{made_again}
-use Rattle.ppdb_build_scopes_laws.proofs.Scopes.{lists_shared}
+use Rattle.ppdb_tables.specs.{declared.rows.ScopeRow.{ScopeRow}, declared.rows.VariableRow.{VariableRow}, RawTables.{RawTables, numbered}}
+use Rattle.ppdb_values.specs.declared.{file.FileValue.{FileValue}, scope.ScopeValue.{ScopeValue}, scope.VariableValue.{VariableValue}}
+use Rattle.ppdb_values.specs.{Ordered.{EachRow}, RawFile.{text}, Rules.{KeepsVariables, HasText}, Value.{variable_of, owned_by}}
+use Rattle.ppdb_values_sound_laws.{specs.Scopes.{SoundScopes}, proofs.Listed.{row_of_map}}
+use Rattle.ppdb_build_canon.specs.{Canonical.{canonical_tables, scope_row, variable_row, text_cell}, Uses.{variables_of}}
+use Rattle.ppdb_build_scopes_laws.proofs.{Heaps.{HasItems}, Items.{among_pieces, each_item, read_is, read_there, differ_as}, Lists.{IsShared, made_lists, owned_are}}
+use Rattle.ppdb_build_scopes_laws.proofs.{Lists.{items_differ}, Pieces.{made_again}, Scopes.{lists_shared}}
 
 abbrev part : ScopeValue → List VariableValue
 part scope = scope.variables

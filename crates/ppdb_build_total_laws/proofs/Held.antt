@@ -1,18 +1,12 @@
 -- What a blob of a canonical file holds: each index is that of a blob that is there.
-use Rattle.std.proofs.Common.{◌≡◌, ℕ, ◌+◌, ◌<◌, ◌≤◌, List, [], ◌∷◌, length, map, refl, ap, subst, ◌∙◌, arith, min, sum_by, flat_map}
-use Rattle.std.specs.Prelude.{Some}
-use Rattle.std.specs.List.{Contains}
-use Rattle.std.proofs.lemmas.List.{append-nil}
-use Rattle.std.proofs.lemmas.List.Sums.{sum_by-cons, sum_by_push}
+use Rattle.std.{proofs.Common.{◌≡◌, ℕ, ◌+◌, ◌<◌, ◌≤◌, List, [], ◌∷◌, length, map, refl, ap, subst, ◌∙◌, arith, min, sum_by, flat_map}, specs.Prelude.{Some}}
+use Rattle.std.{specs.List.{Contains}, proofs.lemmas.List.{append-nil}, proofs.lemmas.List.Sums.{sum_by-cons, sum_by_push}}
 use Rattle.cli_ints.specs.Shortest.{short_unsigned}
 use Rattle.ppdb_heaps.specs.Heaps.{blob_at}
 use Rattle.ppdb_values.specs.declared.file.FileValue.{FileValue}
 use Rattle.ppdb_verify_total.specs.HeapUses.{len_of}
-use Rattle.ppdb_build_heaps.specs.Items.{index_of, as_blob, shortest}
-use Rattle.ppdb_build_heaps.specs.Uses.{Piece, index, held_by, plain, with_held, blob_bytes}
-use Rattle.ppdb_build_canon.specs.Uses.{blobs, cell_blobs}
-use Rattle.ppdb_build_canon.specs.Canonical.{blob_cell, canonical_tables}
-use Rattle.ppdb_build_canon.proofs.Stand.{blob_stands, blob_within}
+use Rattle.ppdb_build_heaps.specs.{Items.{index_of, as_blob, shortest}, Uses.{Piece, index, held_by, plain, with_held, blob_bytes}}
+use Rattle.ppdb_build_canon.{specs.Uses.{blobs, cell_blobs}, specs.Canonical.{blob_cell, canonical_tables}, proofs.Stand.{blob_stands, blob_within}}
 use Rattle.ppdb_build_canon.proofs.Uses.{held_used, named_used}
 
 -- the contents that some indexes name

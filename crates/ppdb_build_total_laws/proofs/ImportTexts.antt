@@ -1,44 +1,27 @@
 -- The references of a canonical import scope: its imports, and the texts that they name.
 use Rattle.std.proofs.Common.{◌≡◌, ℕ, ◌+◌, ◌<◌, ◌≤◌, ◌^◌, List, [], ◌∷◌, ◌++◌, length, map, flat_map, refl, sym, ap, subst, ◌∙◌, arith, inl, sum_by}
-use Rattle.std.specs.Prelude.{All, IsSome, Some, Option, unwrap_or}
-use Rattle.std.specs.List.{Contains}
-use Rattle.std.proofs.lemmas.List.Concat.{flat_map-append}
-use Rattle.std.proofs.lemmas.List.Elements.{All-cons, All-nil}
-use Rattle.std.proofs.lemmas.List.Sums.{sum_by-append, sum_by-cons}
+use Rattle.std.{specs.Prelude.{All, IsSome, Some, Option, unwrap_or}, specs.List.{Contains}, proofs.lemmas.List.Concat.{flat_map-append}}
+use Rattle.std.proofs.lemmas.List.{Elements.{All-cons, All-nil}, Sums.{sum_by-append, sum_by-cons}}
 use Rattle.cli_ints.specs.Shortest.{short_unsigned}
 use Rattle.blob_grammar.specs.declared.places.PlacedIndex.{PlacedIndex}
 use Rattle.ppdb_heaps.specs.Heaps.{blob_at}
-use Rattle.type_blobs.specs.declared.import_part.ImportPart.{ImportPart}
-use Rattle.type_blobs.specs.declared.import_part.ImportPart.TheVariants.{Kind, Alias as AliasPart, Assembly as AssemblyPart}
+use Rattle.type_blobs.specs.declared.import_part.{ImportPart.{ImportPart}, ImportPart.TheVariants.{Kind, Alias as AliasPart, Assembly as AssemblyPart}}
 use Rattle.type_blobs.specs.declared.import_part.ImportPart.TheVariants.{Namespace as NamespacePart, Target as TargetPart}
-use Rattle.type_blobs.specs.declared.import_writer.ImportNumbers.{ImportNumbers}
-use Rattle.type_blobs.specs.declared.types.TypeLimits.{TypeLimits}
-use Rattle.type_blobs.specs.Imports.{import_indexes, parts_of, text_index, text_of}
-use Rattle.type_blobs.specs.Spelling.{IsImport, IsPartThere, StandFor, fields_at, import_item, import_spelling, parts_at}
-use Rattle.type_blobs.specs.Types.{IsToken, number_of}
-use Rattle.type_blobs.proofs.WrittenImports.{written_indexes}
+use Rattle.type_blobs.specs.{declared.import_writer.ImportNumbers.{ImportNumbers}, declared.types.TypeLimits.{TypeLimits}, Imports.{import_indexes, parts_of}}
+use Rattle.type_blobs.specs.{Imports.{text_index, text_of}, Spelling.{IsImport, IsPartThere, StandFor, fields_at, import_item, import_spelling, parts_at}}
+use Rattle.type_blobs.{specs.Types.{IsToken, number_of}, proofs.WrittenImports.{written_indexes}}
 use Rattle.ppdb_verify_rules.specs.Blobs.{in_blob, type_limits as raw_limits}
-use Rattle.ppdb_values.specs.declared.file.FileValue.{FileValue}
-use Rattle.ppdb_values.specs.declared.import.ImportScopeValue.{ImportScopeValue}
-use Rattle.ppdb_values.specs.declared.import.ImportValue.{ImportValue}
-use Rattle.ppdb_values.specs.declared.import.ImportValue.TheVariants.{Namespace, AssemblyNamespace, Target, Xml, Alias, AssemblyAlias}
-use Rattle.ppdb_values.specs.declared.import.ImportValue.TheVariants.{NamespaceAlias, AssemblyNamespaceAlias, TargetAlias}
-use Rattle.ppdb_values.specs.WrittenImports.{alias_text, assembly_row, import_numbers, kind_of_import, namespace_text, stored_import, target_type}
-use Rattle.ppdb_values.proofs.StoredImports.{kind_from, kind_to, numbers_stand}
-use Rattle.ppdb_values_sound_laws.specs.Imports.{SoundImport}
-use Rattle.ppdb_values_sound_laws.specs.Named.{type_limits}
-use Rattle.ppdb_values_sound_laws.specs.Sound.{SoundRows}
+use Rattle.ppdb_values.specs.declared.{file.FileValue.{FileValue}, import.ImportScopeValue.{ImportScopeValue}, import.ImportValue.{ImportValue}}
+use Rattle.ppdb_values.specs.declared.import.ImportValue.TheVariants.{Namespace, AssemblyNamespace, Target, Xml, Alias, AssemblyAlias, NamespaceAlias}
+use Rattle.ppdb_values.specs.{declared.import.ImportValue.TheVariants.{AssemblyNamespaceAlias, TargetAlias}, WrittenImports.{alias_text, assembly_row}}
+use Rattle.ppdb_values.{specs.WrittenImports.{import_numbers, kind_of_import, namespace_text, stored_import, target_type}, proofs.StoredImports.{kind_from, kind_to}}
+use Rattle.ppdb_values.proofs.StoredImports.{numbers_stand}
+use Rattle.ppdb_values_sound_laws.specs.{Imports.{SoundImport}, Named.{type_limits}, Sound.{SoundRows}}
 use Rattle.ppdb_verify_total.specs.HeapUses.{HeapUse, blob_in, in_imports, len_of, named_inside, of_import}
-use Rattle.ppdb_build_heaps.specs.Items.{as_blob, index_of, shortest}
-use Rattle.ppdb_build_heaps.specs.Uses.{Piece, held_by, with_held, blob_bytes, piece_bytes}
-use Rattle.ppdb_build_heaps.proofs.Stable.{after-adds}
-use Rattle.ppdb_build_canon.specs.Uses.{blobs, blob_uses, cell_blobs, import_blob, import_pieces}
-use Rattle.ppdb_build_canon.specs.Canonical.{blob_cell, canonical_tables, import_row}
-use Rattle.ppdb_build_canon.proofs.Among.{among_first, among_flat_map, among_later}
-use Rattle.ppdb_build_canon.proofs.Stand.{blob_stands}
-use Rattle.ppdb_build_canon.proofs.Uses.{import_named, named_used}
-use Rattle.ppdb_build_total_laws.proofs.Held.{cell_len, held_small, held_there, least_form, place_of, spelled_len, with_held_len}
-use Rattle.ppdb_build_total_laws.proofs.Sums.{sum_map}
+use Rattle.ppdb_build_heaps.{specs.Items.{as_blob, index_of, shortest}, specs.Uses.{Piece, held_by, with_held, blob_bytes, piece_bytes}, proofs.Stable.{after-adds}}
+use Rattle.ppdb_build_canon.specs.{Uses.{blobs, blob_uses, cell_blobs, import_blob, import_pieces}, Canonical.{blob_cell, canonical_tables, import_row}}
+use Rattle.ppdb_build_canon.proofs.{Among.{among_first, among_flat_map, among_later}, Stand.{blob_stands}, Uses.{import_named, named_used}}
+use Rattle.ppdb_build_total_laws.proofs.{Held.{cell_len, held_small, held_there, least_form, place_of, spelled_len, with_held_len}, Sums.{sum_map}}
 
 abbrev index_len : List ℕ → PlacedIndex → ℕ
 index_len heap x = len_of (blob_at heap x.index)

@@ -1,25 +1,16 @@
 -- The references of a canonical document: its name, the parts of the name, and its hash.
-use Rattle.std.proofs.Common.{◌≡◌, ◌≢◌, ℕ, ◌+◌, ◌<◌, ◌≤◌, ◌^◌, Bool, true, false, List, [], ◌∷◌, ◌++◌, length, map, flat_map, refl, sym}
-use Rattle.std.proofs.Common.{ap, subst, ◌∙◌, arith, sum_by}
-use Rattle.std.specs.Prelude.{All, Some, ◌==◌, if◌then◌else◌}
-use Rattle.std.specs.List.{Contains, list_any, slice_split, onto_first}
-use Rattle.std.proofs.lemmas.List.Elements.{All-cons, All-nil}
-use Rattle.std.proofs.lemmas.List.Sums.{sum_by-append, sum_by-cons}
+use Rattle.std.proofs.Common.{◌≡◌, ◌≢◌, ℕ, ◌+◌, ◌<◌, ◌≤◌, ◌^◌, Bool, true, false, List, [], ◌∷◌, ◌++◌, length, map, flat_map, refl, sym, ap, subst, ◌∙◌, arith}
+use Rattle.std.{proofs.Common.{sum_by}, specs.Prelude.{All, Some, ◌==◌, if◌then◌else◌}, specs.List.{Contains, list_any, slice_split, onto_first}}
+use Rattle.std.proofs.lemmas.List.{Elements.{All-cons, All-nil}, Sums.{sum_by-append, sum_by-cons}}
 use Rattle.cli_ints.specs.Shortest.{short_unsigned}
 use Rattle.blob_grammar.specs.declared.places.PlacedIndex.{PlacedIndex}
-use Rattle.ppdb_heaps.specs.Heaps.{blob_at}
-use Rattle.ppdb_heaps.specs.Names.{IsWritable, indexes_at, name_indexes, name_spelling}
-use Rattle.ppdb_heaps.proofs.WrittenNames.{written_indexes}
-use Rattle.ppdb_values.specs.declared.file.DocumentValue.{DocumentValue}
-use Rattle.ppdb_values.specs.declared.file.FileValue.{FileValue}
+use Rattle.ppdb_heaps.{specs.Heaps.{blob_at}, specs.Names.{IsWritable, indexes_at, name_indexes, name_spelling}, proofs.WrittenNames.{written_indexes}}
+use Rattle.ppdb_values.specs.declared.file.{DocumentValue.{DocumentValue}, FileValue.{FileValue}}
 use Rattle.ppdb_verify_rules.specs.Blobs.{in_blob}
 use Rattle.ppdb_verify_total.specs.HeapUses.{HeapUse, blob_in, in_name, len_of, named_inside, of_document}
 use Rattle.ppdb_build_heaps.specs.Uses.{Piece, index, held_by, plain, with_held, blob_bytes, piece_bytes}
-use Rattle.ppdb_build_canon.specs.Uses.{blobs, cell_blobs, name_pieces, parts_of, separator_of}
-use Rattle.ppdb_build_canon.specs.Canonical.{blob_cell, canonical_tables, document_row}
-use Rattle.ppdb_build_canon.proofs.Among.{among_first, among_later}
-use Rattle.ppdb_build_canon.proofs.Stand.{blob_stands}
-use Rattle.ppdb_build_canon.proofs.Uses.{document_blobs, hash_named, name_named, named_used}
+use Rattle.ppdb_build_canon.specs.{Uses.{blobs, cell_blobs, name_pieces, parts_of, separator_of}, Canonical.{blob_cell, canonical_tables, document_row}}
+use Rattle.ppdb_build_canon.proofs.{Among.{among_first, among_later}, Stand.{blob_stands}, Uses.{document_blobs, hash_named, name_named, named_used}}
 use Rattle.ppdb_build_total_laws.proofs.Held.{cell_len, held_are, held_small, held_spelled, held_there, place_of, spelled_len, with_held_len}
 
 -- ---- the separator and the parts

@@ -1,15 +1,9 @@
 -- References that are few enough in all leave none that passes the limit.
-use Rattle.std.proofs.Common.{◌≡◌, ◌≤◌, arith, sum_by}
-use Rattle.std.proofs.lemmas.List.Sums.{sum_by_more_le}
-use Rattle.std.proofs.lemmas.Option.{get_or_from_slice_get, slice_get_within}
+use Rattle.std.proofs.{Common.{◌≡◌, ◌≤◌, arith, sum_by}, lemmas.List.Sums.{sum_by_more_le}, lemmas.Option.{get_or_from_slice_get, slice_get_within}}
 use Rattle.std.specs.Prelude.{get_or}
-use Rattle.ppdb_base.specs.declared.limits.TheConstants.{MAX_SPAN}
-use Rattle.ppdb_base.specs.declared.code.Code.{Code}
-use Rattle.ppdb_base.specs.declared.fault.Place.{Place}
+use Rattle.ppdb_base.specs.declared.{limits.TheConstants.{MAX_SPAN}, code.Code.{Code}, fault.Place.{Place}}
 use Rattle.ppdb_tables.specs.RawTables.{RawTables}
-use Rattle.ppdb_verify_total.specs.HeapUses.{HeapUse, heap_uses}
-use Rattle.ppdb_verify_total.specs.Spans.{SpanFaults}
-use Rattle.ppdb_verify_total.specs.Spans.SpanFaults.{span_total}
+use Rattle.ppdb_verify_total.specs.{HeapUses.{HeapUse, heap_uses}, Spans.{SpanFaults}, Spans.SpanFaults.{span_total}}
 
 pub none_passes : (raw : RawTables) → sum_by (λ (x : HeapUse). x.len) (heap_uses raw) ≤ MAX_SPAN → (code : Code) (at : Place) → SpanFaults raw code at → ⊥
 none_passes raw within _ _ (span_total k r here over) =

@@ -1,10 +1,7 @@
 -- Sums over the rows of a table, and over parts of parts.
 use Rattle.std.proofs.Common.{◌≡◌, ℕ, suc, ◌+◌, Bool, true, false, cond, List, [], ◌∷◌, map, flat_map, refl, ap, subst, ◌∙◌, arith, inl, inr, sum_by, zero-add}
-use Rattle.std.specs.Prelude.{Some}
-use Rattle.std.specs.List.{Contains, enumerate_from, find}
-use Rattle.std.proofs.lemmas.List.Elements.{Contains-append_cases}
-use Rattle.std.proofs.lemmas.List.Sums.{sum_by-append, sum_by-cons}
-use Rattle.std.proofs.lemmas.Option.{none-some, slice_get-get_or}
+use Rattle.std.{specs.Prelude.{Some}, specs.List.{Contains, enumerate_from, find}, proofs.lemmas.List.Elements.{Contains-append_cases}}
+use Rattle.std.proofs.lemmas.{List.Sums.{sum_by-append, sum_by-cons}, Option.{none-some, slice_get-get_or}}
 use Rattle.ppdb_values.specs.Ordered.{EachRow}
 use Rattle.ppdb_build_canon.proofs.Among.{among_first, among_later}
 

@@ -1,38 +1,20 @@
 -- The references of the rows of a canonical file, summed: table by table, and all together.
-use Rattle.std.proofs.Common.{◌≡◌, ℕ, ◌+◌, ◌≤◌, List, [], ◌∷◌, ◌++◌, length, map, flat_map, refl, sym, ap, ◌∙◌, arith, slice_index, sum_by}
-use Rattle.std.specs.Prelude.{Option, Some, None, ◌==◌}
-use Rattle.std.specs.List.{Contains, range_with_len}
-use Rattle.std.proofs.lemmas.List.Sums.{sum_by-append}
+use Rattle.std.{proofs.Common.{◌≡◌, ℕ, ◌+◌, ◌≤◌, List, [], ◌∷◌, ◌++◌, length, map, flat_map, refl, sym, ap, ◌∙◌, arith, slice_index, sum_by}, specs.Prelude.{Option}}
+use Rattle.std.{specs.Prelude.{Some, None, ◌==◌}, specs.List.{Contains, range_with_len}, proofs.lemmas.List.Sums.{sum_by-append}}
 use Rattle.ppdb_heaps.specs.Heaps.{blob_at, text_at}
 use Rattle.ppdb_tables.specs.RawTables.{numbered}
-use Rattle.ppdb_values.specs.declared.file.FileValue.{FileValue}
-use Rattle.ppdb_values.specs.declared.file.MethodValue.{MethodValue}
-use Rattle.ppdb_values.specs.declared.scope.ConstantValue.{ConstantValue}
-use Rattle.ppdb_values.specs.declared.scope.ScopeValue.{ScopeValue}
-use Rattle.ppdb_values.specs.declared.scope.VariableValue.{VariableValue}
-use Rattle.ppdb_values.specs.Parts.{method_at}
-use Rattle.ppdb_values.specs.Types.{HasTypes}
-use Rattle.ppdb_values_sound_laws.specs.Imports.{SoundImport, SoundImportScope}
-use Rattle.ppdb_values_sound_laws.specs.Scopes.{HoldsNoZero, SoundConstant, SoundScope, SoundVariable}
-use Rattle.ppdb_values_sound_laws.specs.Sound.{IsSound}
-use Rattle.ppdb_verify_total.specs.HeapUses.{HeapUse, blob_in, len_of, of_constant, of_custom, of_document, of_import, of_method}
-use Rattle.ppdb_verify_total.specs.HeapUses.{of_variable, heap_uses, text_in}
+use Rattle.ppdb_values.specs.declared.{file.FileValue.{FileValue}, file.MethodValue.{MethodValue}, scope.ConstantValue.{ConstantValue}}
+use Rattle.ppdb_values.specs.{declared.scope.ScopeValue.{ScopeValue}, declared.scope.VariableValue.{VariableValue}, Parts.{method_at}, Types.{HasTypes}}
+use Rattle.ppdb_values_sound_laws.specs.{Imports.{SoundImport, SoundImportScope}, Scopes.{HoldsNoZero, SoundConstant, SoundScope, SoundVariable}, Sound.{IsSound}}
+use Rattle.ppdb_verify_total.specs.HeapUses.{HeapUse, blob_in, len_of, of_constant, of_custom, of_document, of_import, of_method, of_variable, heap_uses, text_in}
 use Rattle.ppdb_build_heaps.specs.Uses.{Piece, with_held}
 use Rattle.ppdb_build_canon.specs.Uses.{cell_blobs, constant_blob, constants_of, custom_blob, import_blob, method_blob, text_uses, variables_of}
-use Rattle.ppdb_build_canon.specs.Canonical.{blob_cell, canonical_tables, constant_row, custom_row, document_row, import_row, method_row_of}
-use Rattle.ppdb_build_canon.specs.Canonical.{method_rows, text_cell, variable_row}
-use Rattle.ppdb_build_canon.specs.Limits.{span}
-use Rattle.ppdb_build_canon.proofs.Counts.{type_limits_are}
-use Rattle.ppdb_build_canon.proofs.Shape.{blobs_small}
-use Rattle.ppdb_build_canon.proofs.Stand.{text_stands}
-use Rattle.ppdb_build_canon.proofs.Uses.{document_blobs, constant_name_used, constant_named, custom_named, method_named, variable_name_used}
-use Rattle.ppdb_build_total_laws.specs.HeapUses.{HeapUsesAreFew, HeapUsesAreSummed}
-use Rattle.ppdb_build_total_laws.proofs.Held.{cell_len, spelled_len}
-use Rattle.ppdb_build_total_laws.proofs.ImportTexts.{import_len}
-use Rattle.ppdb_build_total_laws.proofs.MethodRows.{rows_size_is, size_by}
-use Rattle.ppdb_build_total_laws.proofs.NameParts.{document_len}
-use Rattle.ppdb_build_total_laws.proofs.Spans.{none_passes}
-use Rattle.ppdb_build_total_laws.proofs.Sums.{each_among, each_flat, found_among, rows_sum, sum_both, sum_flat, sum_map, sum_one}
+use Rattle.ppdb_build_canon.specs.Canonical.{blob_cell, canonical_tables, constant_row, custom_row, document_row, import_row, method_row_of, method_rows, text_cell}
+use Rattle.ppdb_build_canon.{specs.Canonical.{variable_row}, specs.Limits.{span}, proofs.Counts.{type_limits_are}, proofs.Shape.{blobs_small}}
+use Rattle.ppdb_build_canon.proofs.{Stand.{text_stands}, Uses.{document_blobs, constant_name_used, constant_named, custom_named, method_named, variable_name_used}}
+use Rattle.ppdb_build_total_laws.{specs.HeapUses.{HeapUsesAreFew, HeapUsesAreSummed}, proofs.Held.{cell_len, spelled_len}, proofs.ImportTexts.{import_len}}
+use Rattle.ppdb_build_total_laws.proofs.{MethodRows.{rows_size_is, size_by}, NameParts.{document_len}, Spans.{none_passes}, Sums.{each_among, each_flat}}
+use Rattle.ppdb_build_total_laws.proofs.Sums.{found_among, rows_sum, sum_both, sum_flat, sum_map, sum_one}
 
 abbrev heap_use_len : HeapUse → ℕ
 heap_use_len r = r.len

@@ -1,17 +1,11 @@
 -- A value meets the same limits with another identity.
-use Rattle.std.proofs.Common.{◌≡◌, ℕ, List, [], ◌∷◌, length, refl, ap, ◌∙◌}
-use Rattle.std.specs.Prelude.{Option}
-use Rattle.std.specs.List.{filter_map}
+use Rattle.std.{proofs.Common.{◌≡◌, ℕ, List, [], ◌∷◌, length, refl, ap, ◌∙◌}, specs.Prelude.{Option}, specs.List.{filter_map}}
 use Rattle.sequence_points.specs.Written.{first_of}
-use Rattle.ppdb_base.specs.declared.limits.Limit.{Limit}
-use Rattle.ppdb_base.specs.declared.limits.Limit.TheVariants.{FileSize, SpanTotal}
-use Rattle.ppdb_values.specs.declared.file.FileValue.{FileValue}
-use Rattle.ppdb_values.specs.RawFile.{RawFile}
+use Rattle.ppdb_base.specs.declared.limits.{Limit.{Limit}, Limit.TheVariants.{FileSize, SpanTotal}}
+use Rattle.ppdb_values.specs.{declared.file.FileValue.{FileValue}, RawFile.{RawFile}}
 use Rattle.ppdb_build_layout.specs.Bytes.{file_bytes}
-use Rattle.ppdb_build_canon.specs.Canon.{with_id}
-use Rattle.ppdb_build_canon.specs.Canonical.{canonical}
-use Rattle.ppdb_build_canon.specs.Laws.{CanonicalFilesForgetIds, IdsStandAfterTheRoot}
-use Rattle.ppdb_build_canon.specs.Limits.{above, first_limit, first_met, large_offset, large_step_of, list_past_end, span, tables, too_many_rows}
+use Rattle.ppdb_build_canon.specs.{Canon.{with_id}, Canonical.{canonical}, Laws.{CanonicalFilesForgetIds, IdsStandAfterTheRoot}, Limits.{above, first_limit}}
+use Rattle.ppdb_build_canon.specs.Limits.{first_met, large_offset, large_step_of, list_past_end, span, tables, too_many_rows}
 
 -- the first limit of a value whose file has so many bytes
 abbrev limit_by : FileValue → ℕ → Option Limit

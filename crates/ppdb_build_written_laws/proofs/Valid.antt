@@ -1,19 +1,14 @@
 -- A file that is laid out of rows that keep the rules is valid, and is read in one way.
 use Rattle.std.proofs.Common.{◌≡◌, sym, ap, ◌∙◌, inl}
 use Rattle.ppdb_base.specs.First.{IsAccepted}
-use Rattle.metadata_root.specs.declared.kind.StreamKind.TheVariants.{Pdb}
-use Rattle.metadata_root.specs.Streams.{Streams, bytes_of}
+use Rattle.metadata_root.specs.{declared.kind.StreamKind.TheVariants.{Pdb}, Streams.{Streams, bytes_of}}
 use Rattle.ppdb_verify_rules.specs.Rows.{RowFaults}
 use Rattle.ppdb_verify_total.specs.Spans.{SpanFaults}
 use Rattle.ppdb_values.specs.RawFile.{RawFile, raw_in}
-use Rattle.ppdb_build_layout.specs.Bytes.{file_bytes}
-use Rattle.ppdb_build_layout.specs.Laid.{IsReadBack, laid_streams}
+use Rattle.ppdb_build_layout.specs.{Bytes.{file_bytes}, Laid.{IsReadBack, laid_streams}}
 use Rattle.ppdb_tables.specs.Head.{head_in}
-use Rattle.ppdb_verify.specs.Files.{FileFaults, IsRawOf}
-use Rattle.ppdb_verify.proofs.Families.{both_accepted}
-use Rattle.ppdb_verify.proofs.Parts.{all_accepted}
+use Rattle.ppdb_verify.{specs.Files.{FileFaults, IsRawOf}, proofs.Families.{both_accepted}, proofs.Parts.{all_accepted}, proofs.Streamed.{same_streams}}
 use Rattle.ppdb_verify_valid_laws.proofs.ValidFiles.{head_is}
-use Rattle.ppdb_verify.proofs.Streamed.{same_streams}
 
 module _ (raw : RawFile) (read : IsReadBack raw) where
   abbrev root : Streams

@@ -1,8 +1,6 @@
 -- Calls one after another.
-use Rattle.std.proofs.Common.{◌≡◌, List, [], ◌∷◌, ◌++◌, Option, None, Some, refl, ap, subst, ◌∙◌, append_assoc}
-use Rattle.std.specs.Prelude.{option_map}
-use Rattle.ppdb_cli_files.specs.declared.place.{Made.{Made}}
-use Rattle.ppdb_cli_files.specs.Log.{Between}
+use Rattle.std.{proofs.Common.{◌≡◌, List, [], ◌∷◌, ◌++◌, Option, None, Some, refl, ap, subst, ◌∙◌, append_assoc}, specs.Prelude.{option_map}}
+use Rattle.ppdb_cli_files.specs.{declared.place.Made.{Made}, Log.{Between}}
 
 -- one call
 pub one : (old new : Option (List Made)) (m : Made) → new ≡ option_map (λ calls. calls ++ m ∷ []) old → Between old new (λ calls. calls ≡ m ∷ [])

@@ -1,14 +1,11 @@
 -- What may be found during each run of a replacement.
-use Rattle.std.proofs.Common.{ℕ, ◌≡◌, ◌⊎◌, Bool, true, false, List, [], ◌∷◌, ◌++◌, Option, refl, ap, ◌∙◌, sym, subst, inl, inr, lit<}
-use Rattle.std.specs.Prelude.{All, Any, Contains, Result, Ok, Err, is_ok, option_map}
-use Rattle.std.proofs.lemmas.List.Elements.{All-nil, All-cons, All-tail, All-append, All-push, All-weaker, All-contains_itself}
-use Rattle.std.specs.declared.io.Error.{Error}
+use Rattle.std.{proofs.Common.{ℕ, ◌≡◌, ◌⊎◌, Bool, true, false, List, [], ◌∷◌, ◌++◌, Option, refl, ap, ◌∙◌, sym, subst, inl, inr, lit<}, specs.Prelude.{All, Any}}
+use Rattle.std.{specs.Prelude.{Contains, Result, Ok, Err, is_ok, option_map}, proofs.lemmas.List.Elements.{All-nil, All-cons, All-tail, All-append, All-push}}
+use Rattle.std.{proofs.lemmas.List.Elements.{All-weaker, All-contains_itself}, specs.declared.io.Error.{Error}}
 use Rattle.ppdb_cli_files.specs.declared.place.{Call.TheVariants.{Create, Write, Flush, Rename, FlushFolder, Remove, Overwrite}, Made.{Made}}
-use Rattle.ppdb_cli_files.specs.declared.replace.ReplaceError.{ReplaceError, TheVariants.{NotMade, NotWritten, NotFlushed}}
-use Rattle.ppdb_cli_files.specs.Log.{Between}
-use Rattle.ppdb_cli_files.specs.Disk.{Found, Whole, Disk, found_at, newest}
-use Rattle.ppdb_cli_files.specs.Replaces.{made, refused, NeverLoses, IsKept, IsTidy, Replaces, Fills, Puts}
-use Rattle.ppdb_cli_files.proofs.Joined.{one, then, weaker}
+use Rattle.ppdb_cli_files.specs.declared.replace.{ReplaceError.{ReplaceError}, ReplaceError.TheVariants.{NotMade, NotWritten, NotFlushed}}
+use Rattle.ppdb_cli_files.specs.{Log.{Between}, Disk.{Found, Whole, Disk, found_at, newest}, Replaces.{made, refused, NeverLoses, IsKept, IsTidy, Replaces, Fills}}
+use Rattle.ppdb_cli_files.{specs.Replaces.{Puts}, proofs.Joined.{one, then, weaker}}
 
 abbrev Fine : List ℕ → Disk → Found → Type 0
 Fine bytes d f = Contains (found_at d) f ⊎ (f ≡ Whole bytes)

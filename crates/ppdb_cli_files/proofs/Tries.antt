@@ -1,8 +1,6 @@
 -- One more of several tries.
-use Rattle.std.proofs.Common.{ℕ, suc, ◌+◌, ◌<◌, ◌≡◌, arith, zero, Result, Err}
-use Rattle.std.specs.IoError.{error_kind}
-use Rattle.std.specs.declared.io.Error.{Error}
-use Rattle.std.specs.declared.io.ErrorKind.{TheVariants.{Interrupted, TimedOut}}
+use Rattle.std.{proofs.Common.{ℕ, suc, ◌+◌, ◌<◌, ◌≡◌, arith, zero, Result, Err}, specs.IoError.{error_kind}, specs.declared.io.Error.{Error}}
+use Rattle.std.specs.declared.io.ErrorKind.TheVariants.{Interrupted, TimedOut}
 use Rattle.ppdb_cli_files.specs.Retried.{IsRetried, Retries, answered, again, out_of_tries}
 
 -- what the tries that are left come to is what all of them come to

@@ -1,15 +1,9 @@
 -- A blob of the heap: what the look-up finds, and the bytes after a spelling of their number.
-use Rattle.std.proofs.Common.{◌≡◌, ℕ, zero, suc, ◌+◌, ◌-◌, ◌<◌, ◌≤◌, Bool, true, false, leb, List, [], ◌∷◌, ◌++◌, length, take, drop}
-use Rattle.std.proofs.Common.{Some, None, Result, Ok, Err, refl, sym, ap, subst, ◌∙◌, arith, length-append, if◌then◌else◌}
-use Rattle.std.specs.Prelude.{◌↔◌}
-use Rattle.std.proofs.Math.Seq.{take-append_seam}
-use Rattle.std.proofs.lemmas.List.{take-append-drop, length-take-le, length-drop, drop_all}
-use Rattle.std.proofs.lemmas.Bool.{le-leb, lt-leb, leb-true}
-use Rattle.cli_ints.specs.declared.IntFault.{IntFault}
-use Rattle.cli_ints.specs.Compressed.{SpellsUnsigned, StandsAt}
-use Rattle.blob_grammar.specs.Reader.{unsigned_at}
-use Rattle.blob_grammar.proofs.Fields.{IntFound, unsigned-is, unsigned-all}
-use Rattle.blob_grammar.proofs.Stored.{unsigned-stands}
+use Rattle.std.proofs.Common.{◌≡◌, ℕ, zero, suc, ◌+◌, ◌-◌, ◌<◌, ◌≤◌, Bool, true, false, leb, List, [], ◌∷◌, ◌++◌, length, take, drop, Some, None, Result, Ok, Err}
+use Rattle.std.{proofs.Common.{refl, sym, ap, subst, ◌∙◌, arith, length-append, if◌then◌else◌}, specs.Prelude.{◌↔◌}, proofs.Math.Seq.{take-append_seam}}
+use Rattle.std.proofs.lemmas.{List.{take-append-drop, length-take-le, length-drop, drop_all}, Bool.{le-leb, lt-leb, leb-true}}
+use Rattle.cli_ints.specs.{declared.IntFault.{IntFault}, Compressed.{SpellsUnsigned, StandsAt}}
+use Rattle.blob_grammar.{specs.Reader.{unsigned_at}, proofs.Fields.{IntFound, unsigned-is, unsigned-all}, proofs.Stored.{unsigned-stands}}
 use Rattle.ppdb_heaps.specs.Heaps.{counted, blob_at, BeginsWithBlob}
 
 pub counted-short : (bytes : List ℕ) (len width : ℕ) → StandsAt SpellsUnsigned bytes 0 len width → length bytes < width + len

@@ -1,13 +1,9 @@
 -- How the parts of a name are joined, a part at a time.
-use Rattle.std.proofs.Common.{◌≡◌, ℕ, List, [], ◌∷◌, ◌++◌, Option, Some, None, Ok, Err, refl, sym, ap, subst, ◌∙◌, append_assoc, append-nil}
-use Rattle.std.specs.List.{flat_map, join_by}
+use Rattle.std.{proofs.Common.{◌≡◌, ℕ, List, [], ◌∷◌, ◌++◌, Option, Some, None, Ok, Err, refl, sym, ap, subst, ◌∙◌, append_assoc, append-nil}, specs.List.{flat_map}}
+use Rattle.std.specs.{List.{join_by}, Borrow.{Bor}}
 use Rattle.ppdb_base.specs.declared.BlobFault.{BlobFault}
-use Rattle.blob_grammar.specs.Reading.{Reading}
-use Rattle.blob_grammar.specs.Reader.{Left, answer_from, answer, rest_of, tail}
-use Rattle.ppdb_heaps.specs.declared.join.NameError.TheVariants.{Blob}
-use Rattle.ppdb_heaps.specs.Names.{separator, names, without_zero, IsName, NameReading}
-use Rattle.std.specs.Borrow.{Bor}
-use Rattle.ppdb_heaps.specs.Cursor.{lent}
+use Rattle.blob_grammar.specs.{Reading.{Reading}, Reader.{Left, answer_from, answer, rest_of, tail}}
+use Rattle.ppdb_heaps.specs.{declared.join.NameError.TheVariants.{Blob}, Names.{separator, names, without_zero, IsName, NameReading}, Cursor.{lent}}
 use Rattle.ppdb_heaps.specs.Joining.{IsRefusal, HasAppended}
 
 some-of : {X : Type 0} (items : List X) (fault : Option BlobFault) (x : X) → Ok (Some x) ≡ answer_from items fault → items ≡ x ∷ tail items

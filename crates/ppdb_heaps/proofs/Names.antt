@@ -1,25 +1,16 @@
 -- How a document name is read, a field at a time.
-use Rattle.std.proofs.Common.{◌≡◌, ℕ, zero, suc, ◌+◌, ◌≤◌, Bool, true, false, ◌&&◌, List, [], ◌∷◌, ◌++◌, length, take, drop, Option}
-use Rattle.std.proofs.Common.{Some, None, Result, Ok, Err, refl, sym, ap, subst, ◌∙◌, zero-add, arith, ◌⊎◌, inl, inr, if◌then◌else◌}
-use Rattle.std.specs.Prelude.{◌==◌, is_some, option_map}
-use Rattle.std.proofs.lemmas.Bool.{cases_lt, eq-eqb, ne_eqb, and_right, and_left}
-use Rattle.ppdb_base.specs.declared.Code.{Code}
-use Rattle.ppdb_base.specs.declared.Code.TheVariants.{ValueRange, BlobEnd}
-use Rattle.ppdb_base.specs.declared.BlobFault.{BlobFault}
-use Rattle.blob_grammar.specs.Grammar.{Value, number, octets, Form, character, unsigned, Cut, closed}
-use Rattle.blob_grammar.specs.declared.places.PlacedIndex.{PlacedIndex}
-use Rattle.blob_grammar.specs.Places.{HasFields, HasEnd}
-use Rattle.blob_grammar.proofs.Walks.{walk-field, walk-out, walk-none, walk-end, walk-fields, walk-end_is, fields_left-alike, alike-begun, SameBegun}
-use Rattle.std.proofs.lemmas.List.{drop_all, drop-drop}
-use Rattle.blob_grammar.specs.Reading.{Reading}
-use Rattle.blob_grammar.specs.Reader.{Left, push, placed, unsigned_at, character_of, character_len, IsThere, IsMissing, is_empty}
-use Rattle.blob_grammar.specs.Reader.{read_from, close_and, fields_left}
-use Rattle.blob_grammar.proofs.Readers.{read_from-reads}
-use Rattle.blob_grammar.proofs.Placed.{unsigned_there, unsigned_not_there, placed_ok, unsigned_within}
-use Rattle.blob_grammar.proofs.Steps.{Alike, read_from-alike, nothing_left, left_at, left-field, left-out, left-none, left-end, not_empty}
-use Rattle.ppdb_heaps.specs.Heaps.{blob_at}
-use Rattle.ppdb_heaps.specs.Names.{NamePart, separator, part, form, allows, part_of, may_stop, names, part_index, without_zero, contents_of, NameReading}
-use Rattle.ppdb_heaps.specs.Cursor.{before_place, contents_left, parts_left, indexes_left}
+use Rattle.std.proofs.Common.{◌≡◌, ℕ, zero, suc, ◌+◌, ◌≤◌, Bool, true, false, ◌&&◌, List, [], ◌∷◌, ◌++◌, length, take, drop, Option, Some, None, Result, Ok, Err}
+use Rattle.std.{proofs.Common.{refl, sym, ap, subst, ◌∙◌, zero-add, arith, ◌⊎◌, inl, inr, if◌then◌else◌}, specs.Prelude.{◌==◌, is_some, option_map}}
+use Rattle.std.proofs.lemmas.{Bool.{cases_lt, eq-eqb, ne_eqb, and_right, and_left}, List.{drop_all, drop-drop}}
+use Rattle.ppdb_base.specs.declared.{Code.{Code}, Code.TheVariants.{ValueRange, BlobEnd}, BlobFault.{BlobFault}}
+use Rattle.blob_grammar.specs.{Grammar.{Value, number, octets, Form, character, unsigned, Cut, closed}, declared.places.PlacedIndex.{PlacedIndex}}
+use Rattle.blob_grammar.{specs.Places.{HasFields, HasEnd}, proofs.Walks.{walk-field, walk-out, walk-none, walk-end, walk-fields, walk-end_is, fields_left-alike}}
+use Rattle.blob_grammar.{proofs.Walks.{alike-begun, SameBegun}, specs.Reading.{Reading}, specs.Reader.{Left, push, placed, unsigned_at, character_of, character_len}}
+use Rattle.blob_grammar.{specs.Reader.{IsThere, IsMissing, is_empty, read_from, close_and, fields_left}, proofs.Readers.{read_from-reads}}
+use Rattle.blob_grammar.proofs.{Placed.{unsigned_there, unsigned_not_there, placed_ok, unsigned_within}, Steps.{Alike, read_from-alike, nothing_left, left_at}}
+use Rattle.blob_grammar.proofs.Steps.{left-field, left-out, left-none, left-end, not_empty}
+use Rattle.ppdb_heaps.specs.{Heaps.{blob_at}, Names.{NamePart, separator, part, form, allows, part_of, may_stop, names, part_index, without_zero, contents_of}}
+use Rattle.ppdb_heaps.specs.{Names.{NameReading}, Cursor.{before_place, contents_left, parts_left, indexes_left}}
 
 -- ---- what the grammar asks of the records before
 

@@ -1,9 +1,6 @@
 -- The text and the part indexes of a document name, as functions of the blob.
-use Rattle.std.proofs.Common.{◌≡◌, ℕ, List, None, ap, ◌∙◌}
-use Rattle.std.specs.Prelude.{◌↔◌}
-use Rattle.blob_grammar.specs.declared.places.PlacedIndex.{PlacedIndex}
-use Rattle.blob_grammar.specs.Places.{HasFields}
-use Rattle.blob_grammar.proofs.PrefixFields.{are-fields, records_are_cut}
+use Rattle.std.{proofs.Common.{◌≡◌, ℕ, List, None, ap, ◌∙◌}, specs.Prelude.{◌↔◌}}
+use Rattle.blob_grammar.{specs.declared.places.PlacedIndex.{PlacedIndex}, specs.Places.{HasFields}, proofs.PrefixFields.{are-fields, records_are_cut}}
 use Rattle.ppdb_heaps.specs.Names.{names, part_index, joined, IsName, name_of, name_indexes}
 
 -- A blob that is a whole name has one text, and it is name_of.

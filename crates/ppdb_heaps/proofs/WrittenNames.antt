@@ -1,18 +1,12 @@
 -- The shortest spelling of a document name is read again.
 use Rattle.std.proofs.Common.{◌≡◌, ℕ, ◌+◌, ◌^◌, ◌<◌, true, List, [], ◌∷◌, ◌++◌, length, Some, None, refl, sym, ap, subst, ◌∙◌, arith, append_assoc, append-nil}
-use Rattle.std.specs.Prelude.{◌≢◌, All, map, is_some, option_map}
-use Rattle.std.specs.List.{flat_map, join_by}
-use Rattle.std.proofs.lemmas.List.Elements.{All-head, All-tail}
+use Rattle.std.{specs.Prelude.{◌≢◌, All, map, is_some, option_map}, specs.List.{flat_map, join_by}, proofs.lemmas.List.Elements.{All-head, All-tail}}
 use Rattle.cli_ints.specs.Shortest.{short_unsigned}
-use Rattle.blob_grammar.specs.Grammar.{octets, number, character, Field, Cut, bytes_of, with_value, closed, cut, IsAllowed, is_character}
-use Rattle.blob_grammar.specs.Reading.{Reading}
-use Rattle.blob_grammar.specs.Places.{placed_from}
-use Rattle.blob_grammar.specs.Reader.{cut_from}
-use Rattle.blob_grammar.proofs.Written.{FollowFrom, fields_read, written_fields, number_field, number_allowed}
+use Rattle.blob_grammar.specs.{Grammar.{octets, number, character, Field, Cut, bytes_of, with_value, closed, cut, IsAllowed, is_character}, Reading.{Reading}}
+use Rattle.blob_grammar.{specs.Places.{placed_from}, specs.Reader.{cut_from}, proofs.Written.{FollowFrom, fields_read, written_fields, number_field, number_allowed}}
 use Rattle.blob_grammar.proofs.PrefixFields.{fields-are}
-use Rattle.ppdb_heaps.specs.Heaps.{blob_at}
-use Rattle.ppdb_heaps.specs.Names.{NamePart, separator, part, part_of, names, without_zero, contents_of, IsName, part_index}
-use Rattle.ppdb_heaps.specs.Names.{name_indexes, name_spelling, indexes_at, IsWritable}
+use Rattle.ppdb_heaps.specs.{Heaps.{blob_at}, Names.{NamePart, separator, part, part_of, names, without_zero, contents_of, IsName, part_index, name_indexes}}
+use Rattle.ppdb_heaps.specs.Names.{name_spelling, indexes_at, IsWritable}
 
 abbrev after : List NamePart → Cut NamePart
 after whole = record { whole = whole; begun = [] }

@@ -1,8 +1,6 @@
 -- After the last zero of #Strings stands no text.
-use Rattle.std.proofs.Common.{◌≡◌, ◌≢◌, ℕ, zero, suc, ◌+◌, ◌-◌, ◌≤◌, ◌==◌, ◌||◌, Bool, true, false, not, List, [], ◌∷◌, length, drop}
-use Rattle.std.proofs.Common.{None, refl, ap, subst, ◌∙◌, arith}
-use Rattle.std.specs.List.{list_any, prefix_len, position}
-use Rattle.std.proofs.lemmas.List.{drop_all, drop-drop}
+use Rattle.std.proofs.Common.{◌≡◌, ◌≢◌, ℕ, zero, suc, ◌+◌, ◌-◌, ◌≤◌, ◌==◌, ◌||◌, Bool, true, false, not, List, [], ◌∷◌, length, drop, None, refl, ap, subst, ◌∙◌}
+use Rattle.std.{proofs.Common.{arith}, specs.List.{list_any, prefix_len, position}, proofs.lemmas.List.{drop_all, drop-drop}}
 use Rattle.ppdb_heaps.specs.Heaps.{text_at}
 
 abbrev pub HasZero : List ℕ → Bool

@@ -1,21 +1,12 @@
 -- What a caller is given of a command that has run.
-use Rattle.std.proofs.Common.{ℕ, ◌≡◌, inl, inr, List, [], refl, sym, ◌∙◌, ap, subst}
-use Rattle.std.specs.Prelude.{Option, Some, None}
+use Rattle.std.{proofs.Common.{ℕ, ◌≡◌, inl, inr, List, [], refl, sym, ◌∙◌, ap, subst}, specs.Prelude.{Option, Some, None}}
 use Rattle.ppdb_base.specs.Files.{Files}
-use Rattle.ppdb_run_stops.specs.declared.status.Status.TheVariants.{Done, Usage}
-use Rattle.ppdb_run.specs.Ends.{AreSeen, Asks, LeavesFiles}
-use Rattle.ppdb_run.specs.Means.{WritesMeaning}
-use Rattle.ppdb_run_stops.specs.Refusals.{Outcome}
-use Rattle.ppdb_run.specs.Outcome.{IsOutcome}
+use Rattle.ppdb_run_stops.specs.{declared.status.Status.TheVariants.{Done, Usage}, Refusals.{Outcome}}
+use Rattle.ppdb_run.specs.{Ends.{AreSeen, Asks, LeavesFiles}, Means.{WritesMeaning}, Outcome.{IsOutcome}}
 use Rattle.ppdb_run_words.specs.Words.{Task, Words, texts, written_file}
-use Rattle.ppdb_library.specs.declared.answer.Ended.{Ended}
-use Rattle.ppdb_library.specs.declared.piece.PpdbPiece.{PpdbPiece}
-use Rattle.ppdb_library.specs.Calls.{IsCall, made_bytes}
-use Rattle.ppdb_library.specs.Ended.{CameTo, Ends, held}
-use Rattle.ppdb_library.specs.Pieces.{files_in}
-use Rattle.ppdb_library.proofs.OneList.{one_words}
-use Rattle.ppdb_library.proofs.Outputs.{has_output, output_held}
-use Rattle.ppdb_library.proofs.Statuses.{done_or_not, is_done, is_not}
+use Rattle.ppdb_library.specs.{declared.answer.Ended.{Ended}, declared.piece.PpdbPiece.{PpdbPiece}, Calls.{IsCall, made_bytes}, Ended.{CameTo, Ends, held}}
+use Rattle.ppdb_library.{specs.Pieces.{files_in}, proofs.OneList.{one_words}, proofs.Outputs.{has_output, output_held}, proofs.Statuses.{done_or_not, is_done}}
+use Rattle.ppdb_library.proofs.Statuses.{is_not}
 
 module _ (told : List (List ℕ)) (all : Files) (ended : Ended) (ends : Ends told all ended) where
   -- it came to its outcome

@@ -1,12 +1,8 @@
 -- What a folder with a written file holds under a name.
-use Rattle.std.proofs.Common.{ℕ, ◌≡◌, List, Bool, true, false, cond, Some, None, sym, ◌∙◌, ap, string_bytes}
-use Rattle.std.specs.Bool.{nat_eq}
-use Rattle.std.specs.Prelude.{Option}
-use Rattle.std.specs.Cmp.Lexicographic.{pointwise, nat_list_cmp_total, texts_ties}
-use Rattle.std.specs.FinMap.{get, get-insert}
+use Rattle.std.{proofs.Common.{ℕ, ◌≡◌, List, Bool, true, false, cond, Some, None, sym, ◌∙◌, ap, string_bytes}, specs.Bool.{nat_eq}, specs.Prelude.{Option}}
+use Rattle.std.specs.{Cmp.Lexicographic.{pointwise, nat_list_cmp_total, texts_ties}, FinMap.{get, get-insert}}
 use Rattle.ppdb_base.specs.Files.{Files}
-use Rattle.ppdb_library.specs.declared.folder.MadeFile.{MadeFile}
-use Rattle.ppdb_library.specs.Folder.{with_made}
+use Rattle.ppdb_library.specs.{declared.folder.MadeFile.{MadeFile}, Folder.{with_made}}
 
 pub made_or_lent : (files : Files) (made : MadeFile) (name : List ℕ)
     → get (with_made files (Some made)) name ≡ cond (pointwise nat_eq name (string_bytes made.name)) (Some made.bytes) (get files name)

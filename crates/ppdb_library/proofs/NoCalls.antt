@@ -1,12 +1,7 @@
 -- Calls that are none, and calls that are one.
-use Rattle.std.proofs.Common.{ℕ, ◌≡◌, List, length, sym, ◌∙◌, subst}
-use Rattle.std.specs.Str.{IsUtf8}
-use Rattle.ppdb_library.specs.declared.piece.PpdbPiece.{PpdbPiece}
-use Rattle.ppdb_library.specs.Calls.{NoCall}
-use Rattle.ppdb_library.specs.Pieces.{AreApart}
-use Rattle.ppdb_library.specs.Words.{AreWords, IsWhole}
-use Rattle.ppdb_library.proofs.Spelled.{spelling}
-use Rattle.ppdb_library.proofs.Splits.{ended_whole}
+use Rattle.std.{proofs.Common.{ℕ, ◌≡◌, List, length, sym, ◌∙◌, subst}, specs.Str.{IsUtf8}}
+use Rattle.ppdb_library.specs.{declared.piece.PpdbPiece.{PpdbPiece}, Calls.{NoCall}, Pieces.{AreApart}, Words.{AreWords, IsWhole}}
+use Rattle.ppdb_library.proofs.{Spelled.{spelling}, Splits.{ended_whole}}
 
 module _ (words files : List ℕ) (pieces : List PpdbPiece) where
   pub not_ended : (text : List ℕ) → text ≡ words → (IsWhole text → ⊥) → NoCall words files pieces

@@ -1,6 +1,5 @@
 -- Bytes have one list of words at most.
-use Rattle.std.proofs.Common.{ℕ, ◌≡◌, ◌≢◌, List, [], ◌∷◌, ◌++◌, suc, refl, sym, ◌∙◌, arith}
-use Rattle.std.specs.List.{All}
+use Rattle.std.{proofs.Common.{ℕ, ◌≡◌, ◌≢◌, List, [], ◌∷◌, ◌++◌, suc, refl, sym, ◌∙◌, arith}, specs.List.{All}}
 use Rattle.ppdb_library.specs.Words.{AreWords, ended}
 
 abbrev NoZero : List ℕ → Type 0

@@ -1,25 +1,14 @@
 -- The file that a command makes, by the name that its words have for it.
-use Rattle.std.proofs.Common.{ℕ, ◌≡◌, inl, inr, List, [], Bool, true, cond, sym, ◌∙◌, ap, subst}
-use Rattle.std.specs.Prelude.{Option, Some, None, Result, Ok, Err}
-use Rattle.std.specs.Ordering.{eq_by_cmp, is_eq, nat_cmp}
-use Rattle.std.specs.Cmp.Lexicographic.{slice_cmp, nat_list_cmp_total}
-use Rattle.std.specs.FinMap.{get, get-insert, insert}
-use Rattle.std.specs.Option.{option_map, unwrap_or}
-use Rattle.std.proofs.lemmas.Cmp.{tied_itself}
-use Rattle.ppdb_base.specs.declared.limits.Limit.{Limit}
-use Rattle.ppdb_base.specs.declared.limits.TheConstants.{MAX_FILE_BYTES}
-use Rattle.ppdb_base.specs.Files.{Files, Reading, Missing, Longer, Contents, reading}
+use Rattle.std.{proofs.Common.{ℕ, ◌≡◌, inl, inr, List, [], Bool, true, cond, sym, ◌∙◌, ap, subst}, specs.Prelude.{Option, Some, None, Result, Ok, Err}}
+use Rattle.std.specs.{Ordering.{eq_by_cmp, is_eq, nat_cmp}, Cmp.Lexicographic.{slice_cmp, nat_list_cmp_total}, FinMap.{get, get-insert, insert}, Option.{option_map}}
+use Rattle.std.{specs.Option.{unwrap_or}, proofs.lemmas.Cmp.{tied_itself}}
+use Rattle.ppdb_base.specs.{declared.limits.Limit.{Limit}, declared.limits.TheConstants.{MAX_FILE_BYTES}, Files.{Files, Reading, Missing, Longer, Contents, reading}}
 use Rattle.ppdb_maps.specs.Map.{Map}
-use Rattle.ppdb_run_stops.specs.declared.status.Status.TheVariants.{Done}
-use Rattle.ppdb_run.specs.Means.{WritesMeaning}
-use Rattle.ppdb_run_stops.specs.Refusals.{Outcome, absent, limited, prints, too_long}
-use Rattle.ppdb_run.specs.Outcome.{IsOutcome, composed_text, done, input_of, map_at, unless, written}
+use Rattle.ppdb_run_stops.specs.{declared.status.Status.TheVariants.{Done}, Refusals.{Outcome, absent, limited, prints, too_long}}
+use Rattle.ppdb_run.specs.{Means.{WritesMeaning}, Outcome.{IsOutcome, composed_text, done, input_of, map_at, unless, written}, Writes.{WritesAll}}
+use Rattle.ppdb_run.proofs.{Kept.{writes_none}, Lookups.{lookup_writes}}
 use Rattle.ppdb_run_words.specs.Words.{Task, Ask, Lookup, Rebuild, Compose, Merge, Sample, written_file}
-use Rattle.ppdb_run.specs.Writes.{WritesAll}
-use Rattle.ppdb_run.proofs.Kept.{writes_none}
-use Rattle.ppdb_run.proofs.Lookups.{lookup_writes}
-use Rattle.ppdb_library.specs.Calls.{made_bytes}
-use Rattle.ppdb_library.specs.Ended.{held}
+use Rattle.ppdb_library.specs.{Calls.{made_bytes}, Ended.{held}}
 
 -- where the task makes a file, the outcome writes one of its name
 abbrev pub HasOutput : Option (List ℕ) → Option (List ℕ × List ℕ) → Type 0

@@ -1,12 +1,8 @@
 -- Pieces that lie one after the other, and the file of a name among them.
 use Rattle.std.proofs.Common.{ℕ, ◌≡◌, ◌<◌, ◌≤◌, ◌+◌, List, [], ◌∷◌, length, drop, get_or, Bool, cond, Some, sym, ◌∙◌, ap, subst, zero, suc, add-one, arith}
-use Rattle.std.proofs.Math.Seq.{drop-cons}
-use Rattle.std.proofs.lemmas.List.Elements.{All-from_get_or}
-use Rattle.std.specs.FinMap.{get, get-insert}
-use Rattle.std.specs.Bool.{nat_eq}
+use Rattle.std.{proofs.Math.Seq.{drop-cons}, proofs.lemmas.List.Elements.{All-from_get_or}, specs.FinMap.{get, get-insert}, specs.Bool.{nat_eq}}
 use Rattle.std.specs.Cmp.Lexicographic.{pointwise, nat_list_cmp_total, texts_ties}
-use Rattle.ppdb_library.specs.declared.piece.PpdbPiece.{PpdbPiece}
-use Rattle.ppdb_library.specs.Pieces.{AreApart, AreWithin, contents_in, end_of, files_in, name_in}
+use Rattle.ppdb_library.specs.{declared.piece.PpdbPiece.{PpdbPiece}, Pieces.{AreApart, AreWithin, contents_in, end_of, files_in, name_in}}
 
 -- the piece that stands for a place where none is
 abbrev pub no_piece : PpdbPiece

@@ -1,8 +1,6 @@
 -- Items that are put one after the other into the places of a list.
-use Rattle.std.proofs.Common.{ℕ, ◌≡◌, ◌<◌, ◌+◌, List, [], ◌∷◌, ◌++◌, map, length, take, drop, get_or, sym, ◌∙◌, ap, add-one, append_assoc, arith}
-use Rattle.std.proofs.Math.ListN.{set}
-use Rattle.std.proofs.Math.Seq.{drop-cons, length-take-le, set_at, take-suc}
-use Rattle.std.proofs.lemmas.List.{length-map, map-append}
+use Rattle.std.proofs.{Common.{ℕ, ◌≡◌, ◌<◌, ◌+◌, List, [], ◌∷◌, ◌++◌, map, length, take, drop, get_or, sym, ◌∙◌, ap, add-one, append_assoc, arith}, Math.ListN.{set}}
+use Rattle.std.proofs.{Math.Seq.{drop-cons, length-take-le, set_at, take-suc}, lemmas.List.{length-map, map-append}}
 
 pub put_more : {X Y : Type 0} (f : X → Y) (xs : List X) (old ys : List Y) (i : ℕ) (d : X) (e y : Y) → i < length xs → i < length old
     → ys ≡ map f (take i xs) ++ drop i old → y ≡ f (get_or xs i d) → set ys i y ≡ map f (take (i + 1) xs) ++ drop (i + 1) old

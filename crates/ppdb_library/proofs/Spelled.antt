@@ -1,7 +1,6 @@
 -- Bytes that end with a zero byte, or are none, have words.
 use Rattle.std.proofs.Common.{ℕ, ◌≡◌, ◌≢◌, ◌<◌, ◌-◌, ◌==◌, List, [], ◌∷◌, Bool, true, false, zero, suc, length, get_or, refl, sym, ◌∙◌, ap, arith}
-use Rattle.std.proofs.lemmas.Bool.{eqb-true, eqb-false}
-use Rattle.std.specs.List.{All}
+use Rattle.std.{proofs.lemmas.Bool.{eqb-true, eqb-false}, specs.List.{All}}
 use Rattle.ppdb_library.specs.Words.{AreWords, IsWhole}
 
 pub record Spelled (bytes : List ℕ) : Type 0 where

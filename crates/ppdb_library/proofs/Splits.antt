@@ -1,7 +1,6 @@
 -- Words that are split off a text one after the other.
 use Rattle.std.proofs.Common.{ℕ, ◌≡◌, ◌≢◌, ◌<◌, ◌+◌, ◌-◌, List, [], ◌∷◌, ◌++◌, length, get_or, append_assoc, length-append, refl, sym, ◌∙◌, ap, arith}
-use Rattle.std.proofs.Math.Seq.{append_snoc}
-use Rattle.std.proofs.lemmas.List.{get_or-append_right}
+use Rattle.std.proofs.{Math.Seq.{append_snoc}, lemmas.List.{get_or-append_right}}
 use Rattle.ppdb_library.specs.Words.{IsWhole, ended}
 
 pub ended_push : (words : List (List ℕ)) (word : List ℕ) → ended (words ++ word ∷ []) ≡ ended words ++ (word ++ 0 ∷ [])

@@ -1,10 +1,7 @@
 -- Statuses and their numbers.
-use Rattle.std.proofs.Common.{ℕ, ◌≡◌, List, [], arith, refl}
-use Rattle.std.specs.Prelude.{Option}
-use Rattle.ppdb_run_stops.specs.declared.status.Status.{Status}
-use Rattle.ppdb_run_stops.specs.declared.status.Status.TheVariants.{Done, Refused, Usage, ReadFault, WriteFault, Memory, Absent, TooLong, Unfit, Limit}
-use Rattle.ppdb_run_stops.specs.declared.status.Status.TheVariants.{NoMethod, Unlinked, NoDocument, Uncomposed, Unlisted}
-use Rattle.ppdb_run_stops.specs.Status.{status_number}
+use Rattle.std.{proofs.Common.{ℕ, ◌≡◌, List, [], arith, refl}, specs.Prelude.{Option}}
+use Rattle.ppdb_run_stops.specs.declared.status.{Status.{Status}, Status.TheVariants.{Done, Refused, Usage, ReadFault, WriteFault, Memory, Absent, TooLong, Unfit}}
+use Rattle.ppdb_run_stops.specs.{declared.status.Status.TheVariants.{Limit, NoMethod, Unlinked, NoDocument, Uncomposed, Unlisted}, Status.{status_number}}
 use Rattle.ppdb_library.specs.Calls.{made_bytes}
 
 pub zero_is_done : (status : Status) → status_number status ≡ 0 → status ≡ Done

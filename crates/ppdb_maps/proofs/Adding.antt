@@ -1,45 +1,20 @@
 -- A draft holds a line that was added.
-use Rattle.std.proofs.Common.{inl, inr, ℕ, ◌≡◌, ◌≤◌, ◌&&◌, ◌||◌, ◌++◌, map, Bool, true, false, cond, List, [], ◌∷◌, Option, Some, None, Result, Ok, Err, OnOk}
-use Rattle.std.proofs.Common.{IfErr, lit≤, refl, sym, ap, ◌∙◌, subst}
-use Rattle.std.specs.Prelude.{nat_eq, bytes_eq, is_some, option_map}
-use Rattle.std.specs.List.{find, list_any, IsDistinct}
-use Rattle.std.specs.Option.{option_or}
-use Rattle.std.specs.Prelude.{Vec}
-use Rattle.std.specs.declared.alloc.Global.{Global}
-use Rattle.std.proofs.lemmas.List.{map-append}
-use Rattle.std.proofs.lemmas.List.Folds.{find-append, list_any-append}
-use Rattle.std.proofs.lemmas.Cmp.{nat_eq_equiv}
-use Rattle.std.proofs.lemmas.Map.Keys.{IsDistinct-push}
+use Rattle.std.proofs.Common.{inl, inr, ℕ, ◌≡◌, ◌≤◌, ◌&&◌, ◌||◌, ◌++◌, map, Bool, true, false, cond, List, [], ◌∷◌, Option, Some, None, Result, Ok, Err, OnOk, IfErr}
+use Rattle.std.{proofs.Common.{lit≤, refl, sym, ap, ◌∙◌, subst}, specs.Prelude.{nat_eq, bytes_eq, is_some, option_map, Vec}, specs.List.{find, list_any, IsDistinct}}
+use Rattle.std.{specs.Option.{option_or}, specs.declared.alloc.Global.{Global}, proofs.lemmas.List.{map-append}, proofs.lemmas.List.Folds.{find-append}}
+use Rattle.std.proofs.lemmas.{List.Folds.{list_any-append}, Cmp.{nat_eq_equiv}, Map.Keys.{IsDistinct-push}}
 use Rattle.std.specs.BTreeMap as tree
-use Rattle.std.specs.BTreeMap.{BTreeMap, is_at}
-use Rattle.std.proofs.lemmas.Bool.{false≢true, or_parts}
+use Rattle.std.{specs.BTreeMap.{BTreeMap, is_at}, proofs.lemmas.Bool.{false≢true, or_parts}, specs.Cmp.Lexicographic.{slice_cmp}, specs.Ordering.{nat_cmp}}
 use Rattle.ppdb_base.specs.declared.offsets.Run.{Run}
-use Rattle.ppdb_maps.specs.Map.{MethodLine, pair_cmp}
-use Rattle.ppdb_maps.specs.BitSets.{has_number, has_row}
-use Rattle.ppdb_maps.specs.Gathered.{row_key, cross_key, gone_key, method_key, signature_key, same_pair}
-use Rattle.ppdb_maps.specs.Before.{methods_of, follows_method, row_in, cross_in, gone_in, has_image_in, method_in, signature_in}
-use Rattle.ppdb_maps.specs.Rules.{kind_of, Breaks, BeginsEarly, EndsBeyond, run_alone, run_early, run_long}
-use Rattle.ppdb_maps.specs.Runs.{RefusesRun}
-use Rattle.ppdb_maps.specs.Drafts.{Holds, HoldsMethods, HasLines, IsClosed, RefusedBy, AddsLine}
-use Rattle.ppdb_maps.specs.declared.draft.Draft.{Draft}
-use Rattle.ppdb_maps.specs.declared.refusal.Refusal.{Refusal}
-use Rattle.ppdb_maps.specs.declared.refusal.Refusal.TheVariants.{Breaks as refused, Memory}
-use Rattle.ppdb_maps.specs.declared.line.Line.{Line}
-use Rattle.ppdb_maps.specs.declared.line.Line.TheVariants.{Row, Cross, Gone, Method, Kept, Slot, Signature, Document, Link, Shares}
-use Rattle.ppdb_maps.specs.declared.entries.NameLine.{NameLine}
-use Rattle.std.specs.Cmp.Lexicographic.{slice_cmp}
-use Rattle.std.specs.Ordering.{nat_cmp}
-use Rattle.ppdb_maps.specs.declared.rule.Rule.{Rule}
-use Rattle.ppdb_maps.specs.declared.rule.Rule.TheVariants.{NoMethod}
-use Rattle.ppdb_maps.specs.declared.bit_set.BitSet.{BitSet}
-use Rattle.ppdb_maps.specs.declared.bit_set.RowSet.{RowSet}
-use Rattle.ppdb_maps.specs.declared.entries.RowLine.{RowLine}
-use Rattle.ppdb_maps.specs.declared.entries.CrossLine.{CrossLine}
-use Rattle.ppdb_maps.specs.declared.entries.GoneLine.{GoneLine}
-use Rattle.ppdb_maps.specs.declared.entries.SignatureImage.{SignatureImage}
-use Rattle.ppdb_maps.proofs.OneMap.{pair_equal, pair_is, same_number}
-use Rattle.ppdb_maps.proofs.OneList.{any_is}
-use Rattle.ppdb_maps.proofs.Refusing.{at_pair}
+use Rattle.ppdb_maps.specs.{Map.{MethodLine, pair_cmp}, BitSets.{has_number, has_row}, Gathered.{row_key, cross_key, gone_key, method_key, signature_key, same_pair}}
+use Rattle.ppdb_maps.specs.{Before.{methods_of, follows_method, row_in, cross_in, gone_in, has_image_in, method_in, signature_in}, Rules.{kind_of, Breaks}}
+use Rattle.ppdb_maps.specs.{Rules.{BeginsEarly, EndsBeyond, run_alone, run_early, run_long}, Runs.{RefusesRun}, Drafts.{Holds, HoldsMethods, HasLines, IsClosed}}
+use Rattle.ppdb_maps.specs.{Drafts.{RefusedBy, AddsLine}, declared.draft.Draft.{Draft}, declared.refusal.Refusal.{Refusal}}
+use Rattle.ppdb_maps.specs.declared.{refusal.Refusal.TheVariants.{Breaks as refused, Memory}, line.Line.{Line}, line.Line.TheVariants.{Row, Cross, Gone, Method}}
+use Rattle.ppdb_maps.specs.declared.{line.Line.TheVariants.{Kept, Slot, Signature, Document, Link, Shares}, entries.NameLine.{NameLine}, rule.Rule.{Rule}}
+use Rattle.ppdb_maps.specs.declared.{rule.Rule.TheVariants.{NoMethod}, bit_set.BitSet.{BitSet}, bit_set.RowSet.{RowSet}, entries.RowLine.{RowLine}}
+use Rattle.ppdb_maps.specs.declared.entries.{CrossLine.{CrossLine}, GoneLine.{GoneLine}, SignatureImage.{SignatureImage}}
+use Rattle.ppdb_maps.proofs.{OneMap.{pair_equal, pair_is, same_number}, OneList.{any_is}, Refusing.{at_pair}}
 
 some_or : {A : Type 0} (b : Bool) (x : A) (o : Option A) → (b || is_some o) ≡ is_some (cond b (Some x) o)
 some_or true x o = refl

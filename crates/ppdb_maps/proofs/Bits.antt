@@ -1,13 +1,8 @@
 -- The bits of a set of numbers, when words are added and when a bit is set.
-use Rattle.std.proofs.Common.{inl, inr, ◌⊎◌, ℕ, ◌≡◌, ◌<◌, ◌*◌, ◌/◌, ◌%◌, ◌^◌, ◌||◌, false, List, length, sym, ap, ◌∙◌, arith, slice_index_or, slice_set}
-use Rattle.std.proofs.Common.{bit_or, w64}
-use Rattle.std.specs.Prelude.{nat_eq}
-use Rattle.std.specs.Int.{bit_at}
-use Rattle.std.proofs.lemmas.Bool.{eq-eqb, ne_eqb}
-use Rattle.std.proofs.lemmas.List.{get_or-set_same, get_or-set_other}
+use Rattle.std.proofs.Common.{inl, inr, ◌⊎◌, ℕ, ◌≡◌, ◌<◌, ◌*◌, ◌/◌, ◌%◌, ◌^◌, ◌||◌, false, List, length, sym, ap, ◌∙◌, arith, slice_index_or, slice_set, bit_or, w64}
+use Rattle.std.{specs.Prelude.{nat_eq}, specs.Int.{bit_at}, proofs.lemmas.Bool.{eq-eqb, ne_eqb}, proofs.lemmas.List.{get_or-set_same, get_or-set_other}}
 use Rattle.std.proofs.lemmas.Nat.Bits.{bit_at_set_same, bit_at_set_other}
-use Rattle.ppdb_maps.specs.BitSets.{has_bit}
-use Rattle.ppdb_maps.proofs.OneMap.{same_or_apart}
+use Rattle.ppdb_maps.{specs.BitSets.{has_bit}, proofs.OneMap.{same_or_apart}}
 
 apart_bits : (n k : ℕ) → (n / 64 ≡ k / 64 → ⊥) ⊎ (n % 64 ≡ k % 64 → ⊥) → nat_eq n k ≡ false
 apart_bits n k (inl words) = ne_eqb n k (λ e. words (ap (λ x. x / 64) e))

@@ -1,16 +1,9 @@
 -- Parts at a mark, the first line of a text and the words of a line.
-use Rattle.std.proofs.Common.{ℕ, zero, suc, ◌≡◌, ◌<◌, ◌≤◌, ◌+◌, ◌-◌, Bool, true, false, List, [], ◌∷◌, Option, Some, None, length, take, drop, get_or}
-use Rattle.std.proofs.Common.{add-one, ap, ◌∙◌, refl, inl, inr, arith, Bor, MatchOption}
-use Rattle.std.specs.Prelude.{◌==◌, position}
-use Rattle.std.specs.List.{onto_first, position_or_len}
-use Rattle.std.specs.Str.Lines.{lines, lines_of_parts, strip_carriage_return}
-use Rattle.std.proofs.Math.Seq.{take-length}
-use Rattle.std.proofs.lemmas.List.{length-drop}
-use Rattle.std.proofs.lemmas.List.Quantifiers.{position-Some}
-use Rattle.std.proofs.lemmas.Bool.{cases_lt, lt-ltb, ne_eqb, false≢true}
-use Rattle.std.specs.Option.{is_some}
-use Rattle.ppdb_maps.specs.Cuts.{IsLineOf}
-use Rattle.ppdb_maps.specs.Cuts.{parts_at}
+use Rattle.std.proofs.Common.{ℕ, zero, suc, ◌≡◌, ◌<◌, ◌≤◌, ◌+◌, ◌-◌, Bool, true, false, List, [], ◌∷◌, Option, Some, None, length, take, drop, get_or, add-one, ap}
+use Rattle.std.{proofs.Common.{◌∙◌, refl, inl, inr, arith, Bor, MatchOption}, specs.Prelude.{◌==◌, position}, specs.List.{onto_first, position_or_len}}
+use Rattle.std.{specs.Str.Lines.{lines, lines_of_parts, strip_carriage_return}, proofs.Math.Seq.{take-length}, proofs.lemmas.List.{length-drop}}
+use Rattle.std.{proofs.lemmas.List.Quantifiers.{position-Some}, proofs.lemmas.Bool.{cases_lt, lt-ltb, ne_eqb, false≢true}, specs.Option.{is_some}}
+use Rattle.ppdb_maps.specs.Cuts.{IsLineOf, parts_at}
 
 parts_at_place : (mark : ℕ) (xs : List ℕ) (i : ℕ) → i < length xs → (get_or xs i 0 == mark) ≡ true → ((k : ℕ) → k < i → (get_or xs k 0 == mark) ≡ false)
     → parts_at mark xs ≡ take i xs ∷ parts_at mark (drop (suc i) xs)

@@ -1,36 +1,16 @@
 -- The lists of a map answer as the maps in which they were gathered.
-use Rattle.std.proofs.Common.{ℕ, ◌≡◌, ◌&&◌, Bool, true, false, List, [], ◌∷◌, Some, map, refl, sym, ap, ◌∙◌, subst, arith}
-use Rattle.std.specs.Prelude.{find, nat_eq, bytes_eq, option_map, Vec}
-use Rattle.std.specs.declared.alloc.Global.{Global}
-use Rattle.std.specs.List.{list_any, AllByRecursion}
-use Rattle.std.specs.declared.cmp.Ordering.TheVariants.{Less}
-use Rattle.std.specs.List.Sorted.{IsStrictlySortedBy, IsSortedByKey, IsPermutation}
-use Rattle.std.specs.Ordering.{nat_cmp}
-use Rattle.std.specs.Cmp.Lexicographic.{slice_cmp}
-use Rattle.std.specs.Map.{lookup, keys_of}
+use Rattle.std.{proofs.Common.{ℕ, ◌≡◌, ◌&&◌, Bool, true, false, List, [], ◌∷◌, Some, map, refl, sym, ap, ◌∙◌, subst, arith}, specs.Prelude.{find, nat_eq, bytes_eq}}
+use Rattle.std.specs.{Prelude.{option_map, Vec}, declared.alloc.Global.{Global}, List.{list_any, AllByRecursion}, declared.cmp.Ordering.TheVariants.{Less}}
+use Rattle.std.specs.{List.Sorted.{IsStrictlySortedBy, IsSortedByKey, IsPermutation}, Ordering.{nat_cmp}, Cmp.Lexicographic.{slice_cmp}, Map.{lookup, keys_of}}
 use Rattle.std.specs.BTreeMap.{BTreeMap, is_at, IsOrdered, get, get_by}
 use Rattle.std.specs.BTreeSet as sorted
-use Rattle.std.proofs.lemmas.Bool.Decides.{nat_tests}
-use Rattle.std.proofs.lemmas.Cmp.{nat_cmp_total, nat_eq_equiv}
-use Rattle.std.proofs.lemmas.List.Sorted.{list_any-IsPermutation}
-use Rattle.std.proofs.lemmas.Map.Lookups.{exact_unsigned}
+use Rattle.std.proofs.lemmas.{Bool.Decides.{nat_tests}, Cmp.{nat_cmp_total, nat_eq_equiv}, List.Sorted.{list_any-IsPermutation}, Map.Lookups.{exact_unsigned}}
 use Rattle.std.proofs.lemmas.Map.Views.{exact_unsigned_eq}
-use Rattle.ppdb_maps.specs.Map.{Map, MethodLine, Ascends, pair_cmp}
-use Rattle.ppdb_maps.specs.Gathered.{count_entry, row_key, cross_key, gone_key, method_key, signature_key, same_pair, slot_entry, name_entry, name_cmp}
-use Rattle.ppdb_maps.specs.Drafts.{IsClosed}
-use Rattle.ppdb_maps.specs.Text.{HoldsWhat}
-use Rattle.ppdb_maps.specs.declared.entries.Count.{Count}
-use Rattle.ppdb_maps.specs.declared.entries.RowLine.{RowLine}
-use Rattle.ppdb_maps.specs.declared.entries.GoneLine.{GoneLine}
-use Rattle.ppdb_maps.specs.declared.entries.SlotImage.{SlotImage}
-use Rattle.ppdb_maps.specs.declared.entries.SignatureImage.{SignatureImage}
-use Rattle.ppdb_maps.specs.declared.entries.NameLine.{NameLine}
-use Rattle.ppdb_maps.specs.declared.draft.Draft.{Draft}
-use Rattle.ppdb_maps.specs.declared.line.Line.{Line}
-use Rattle.ppdb_maps.proofs.Named.{at_name}
-use Rattle.ppdb_maps.proofs.OneMap.{pair_equal, pair_exact, pair_is, pair_total, same_number}
-use Rattle.ppdb_maps.proofs.Refusing.{at_number, at_pair}
-use Rattle.ppdb_maps.proofs.Sorting.{found_alike, sorts_strictly}
+use Rattle.ppdb_maps.specs.{Map.{Map, MethodLine, Ascends, pair_cmp}, Gathered.{count_entry, row_key, cross_key, gone_key, method_key, signature_key, same_pair}}
+use Rattle.ppdb_maps.specs.{Gathered.{slot_entry, name_entry, name_cmp}, Drafts.{IsClosed}, Text.{HoldsWhat}, declared.entries.Count.{Count}}
+use Rattle.ppdb_maps.specs.declared.entries.{RowLine.{RowLine}, GoneLine.{GoneLine}, SlotImage.{SlotImage}, SignatureImage.{SignatureImage}, NameLine.{NameLine}}
+use Rattle.ppdb_maps.{specs.declared.draft.Draft.{Draft}, specs.declared.line.Line.{Line}, proofs.Named.{at_name}, proofs.OneMap.{pair_equal, pair_exact, pair_is}}
+use Rattle.ppdb_maps.proofs.{OneMap.{pair_total, same_number}, Refusing.{at_number, at_pair}, Sorting.{found_alike, sorts_strictly}}
 
 -- what is found among the entries is what the map has
 found_entry : {K X A : Type 0} (make : K × X → A) (test : A → Bool) (value : A → X) (at : K → Bool) → ((e : K × X) → test (make e) ≡ at e.0)

@@ -1,24 +1,12 @@
 -- What a list in order has at the place before which its keys are less.
-use Rattle.std.proofs.Common.{zero, suc, inl, inr, ℕ, ◌≡◌, ◌<◌, ◌≤◌, ◌+◌, ◌&&◌, ◌||◌, Bool, true, false, cond, List, [], ◌∷◌, Option, Some, None, length, map}
-use Rattle.std.proofs.Common.{Bor, refl, sym, ap, ◌∙◌, subst, arith}
-use Rattle.std.specs.Prelude.{slice_get, slice_index_or, find, filter, nat_eq, nat_lt}
-use Rattle.std.specs.List.{AllByRecursion, list_any}
-use Rattle.std.specs.Cmp.{IsTotalOrder}
-use Rattle.std.specs.List.Sorted.{IsStrictlySortedBy, IsPartitionedBy, IsPartitionPoint}
-use Rattle.std.specs.Ordering.{nat_cmp, is_lt}
-use Rattle.std.specs.declared.cmp.Ordering.{Ordering}
-use Rattle.std.specs.declared.cmp.Ordering.TheVariants.{Less, Equal, Greater}
-use Rattle.std.proofs.lemmas.Bool.{false≢true, cases_lt, le-ltb, lt-ltb, ne_eqb, eq-eqb, ltb-true, ltb-false}
-use Rattle.std.proofs.lemmas.Cmp.{tied_itself, nat_cmp_total, on_total, then_total}
-use Rattle.std.proofs.lemmas.Map.Views.{exact_unsigned_eq}
-use Rattle.ppdb_maps.specs.Map.{pair_cmp}
-use Rattle.std.specs.Option.{option_copied}
-use Rattle.std.specs.Slice.{IsItemAt}
-use Rattle.std.specs.Prelude.{is_some}
-use Rattle.ppdb_maps.specs.Search.{Parted, Grouped}
-use Rattle.std.proofs.lemmas.Option.{slice_get_past}
-use Rattle.ppdb_maps.proofs.Searching.{item_copied}
-use Rattle.std.proofs.lemmas.Bool.Decides.{nat_tests}
+use Rattle.std.proofs.Common.{zero, suc, inl, inr, ℕ, ◌≡◌, ◌<◌, ◌≤◌, ◌+◌, ◌&&◌, ◌||◌, Bool, true, false, cond, List, [], ◌∷◌, Option, Some, None, length, map, Bor}
+use Rattle.std.{proofs.Common.{refl, sym, ap, ◌∙◌, subst, arith}, specs.Prelude.{slice_get, slice_index_or, find, filter, nat_eq, nat_lt, is_some}}
+use Rattle.std.specs.{List.{AllByRecursion, list_any}, Cmp.{IsTotalOrder}, List.Sorted.{IsStrictlySortedBy, IsPartitionedBy, IsPartitionPoint}, Ordering.{nat_cmp}}
+use Rattle.std.specs.{Ordering.{is_lt}, declared.cmp.Ordering.{Ordering}, declared.cmp.Ordering.TheVariants.{Less, Equal, Greater}}
+use Rattle.std.proofs.lemmas.{Bool.{false≢true, cases_lt, le-ltb, lt-ltb, ne_eqb, eq-eqb, ltb-true, ltb-false}, Cmp.{tied_itself, nat_cmp_total, on_total}}
+use Rattle.std.{proofs.lemmas.Cmp.{then_total}, proofs.lemmas.Map.Views.{exact_unsigned_eq}, specs.Option.{option_copied}, specs.Slice.{IsItemAt}}
+use Rattle.std.proofs.lemmas.{Option.{slice_get_past}, Bool.Decides.{nat_tests}}
+use Rattle.ppdb_maps.{specs.Map.{pair_cmp}, specs.Search.{Parted, Grouped}, proofs.Searching.{item_copied}}
 
 -- the item, if it passes
 abbrev pub if_passes : {A : Type 0} → (A → Bool) → Option A → Option A

@@ -1,31 +1,17 @@
 -- What lines that break no rule say is in range and fits together.
 use Rattle.std.proofs.Common.{inl, inr, ◌⊎◌, ℕ, ◌≡◌, ◌<◌, ◌≤◌, ◌++◌, ◌&&◌, ◌||◌, Bool, true, false, cond, List, [], ◌∷◌, Option, Some, None, refl, sym, ap, ◌∙◌}
-use Rattle.std.proofs.Common.{subst, arith, ◌≢◌}
-use Rattle.std.specs.Prelude.{nat_eq, bytes_eq, is_some}
-use Rattle.std.specs.List.{find}
-use Rattle.std.proofs.lemmas.Bool.{false≢true, eqb-true, and_parts, or_left, or_right}
-use Rattle.ppdb_base.specs.declared.offsets.Run.{Run}
-use Rattle.ppdb_base.specs.Offsets.{Rise, lined}
-use Rattle.ppdb_maps.specs.Before.{count_in, row_in, cross_in, gone_in, has_image_in, method_in, methods_of, with_run, drop_in, slots_in, slot_in, signature_in, document_in}
-use Rattle.ppdb_maps.specs.Before.{link_in}
-use Rattle.ppdb_maps.specs.Forms.{AreBytes, MAX_SLOT, Values, Tells, silent, told, rows_line, row_line, method_line, run_line, drop_line, slots_line}
-use Rattle.ppdb_maps.specs.Forms.{slot_line, signature_line, document_line, link_line, cross_line, gone_line, shares_line, Crosses}
-use Rattle.ppdb_maps.specs.Map.{MethodLine}
-use Rattle.ppdb_maps.specs.Readable.{IsRow}
-use Rattle.ppdb_maps.specs.Rules.{Breaks, row_alone, slot_alone, run_early, run_long, drop_named, dropped_method, dropped_row, dropped_slots, dropped_signature}
-use Rattle.ppdb_maps.specs.Rules.{by_lines, second_row, second_cross, second_gone, cross_alone, gone_alone}
-use Rattle.ppdb_maps.specs.Text.{Read, start, further}
-use Rattle.ppdb_maps.specs.declared.line.Form.{Form}
-use Rattle.ppdb_maps.specs.declared.line.Line.{Line}
-use Rattle.ppdb_maps.specs.declared.line.Line.TheVariants.{Silent, Rows, Row, Cross, Gone, Method, Kept, Dropped, Slots, Slot, Signature, Document, Link, Shares}
-use Rattle.ppdb_maps.specs.declared.entries.CrossLine.{CrossLine}
-use Rattle.ppdb_maps.specs.declared.entries.NameLine.{NameLine}
-use Rattle.ppdb_maps.specs.declared.rule.Rule.{Rule}
-use Rattle.ppdb_maps.specs.declared.rule.Rule.TheVariants.{Repeated, Undeclared, Overlap, Beyond, NamesDropped}
-use Rattle.ppdb_maps.proofs.Finishing.{found_at_number}
-use Rattle.ppdb_maps.proofs.Named.{same_bytes}
-use Rattle.ppdb_maps.proofs.Rising.{rise_with, not_less}
-use Rattle.ppdb_base.specs.declared.limits.TheConstants.{MAX_ROWS, MAX_OFFSET}
+use Rattle.std.{proofs.Common.{subst, arith, ◌≢◌}, specs.Prelude.{nat_eq, bytes_eq, is_some}, specs.List.{find}, proofs.lemmas.Bool.{false≢true, eqb-true}}
+use Rattle.std.proofs.lemmas.Bool.{and_parts, or_left, or_right}
+use Rattle.ppdb_base.specs.{declared.offsets.Run.{Run}, Offsets.{Rise, lined}, declared.limits.TheConstants.{MAX_ROWS, MAX_OFFSET}}
+use Rattle.ppdb_maps.specs.Before.{count_in, row_in, cross_in, gone_in, has_image_in, method_in, methods_of, with_run, drop_in, slots_in, slot_in, signature_in}
+use Rattle.ppdb_maps.specs.{Before.{document_in, link_in}, Forms.{AreBytes, MAX_SLOT, Values, Tells, silent, told, rows_line, row_line, method_line, run_line}}
+use Rattle.ppdb_maps.specs.Forms.{drop_line, slots_line, slot_line, signature_line, document_line, link_line, cross_line, gone_line, shares_line, Crosses}
+use Rattle.ppdb_maps.specs.{Map.{MethodLine}, Readable.{IsRow}, Rules.{Breaks, row_alone, slot_alone, run_early, run_long, drop_named, dropped_method, dropped_row}}
+use Rattle.ppdb_maps.specs.{Rules.{dropped_slots, dropped_signature, by_lines, second_row, second_cross, second_gone, cross_alone, gone_alone}, Text.{Read, start}}
+use Rattle.ppdb_maps.specs.{Text.{further}, declared.line.Form.{Form}, declared.line.Line.{Line}, declared.line.Line.TheVariants.{Silent, Rows, Row, Cross, Gone}}
+use Rattle.ppdb_maps.specs.declared.{line.Line.TheVariants.{Method, Kept, Dropped, Slots, Slot, Signature, Document, Link, Shares}, entries.CrossLine.{CrossLine}}
+use Rattle.ppdb_maps.specs.declared.{entries.NameLine.{NameLine}, rule.Rule.{Rule}, rule.Rule.TheVariants.{Repeated, Undeclared, Overlap, Beyond, NamesDropped}}
+use Rattle.ppdb_maps.proofs.{Finishing.{found_at_number}, Named.{same_bytes}, Rising.{rise_with, not_less}}
 
 -- the numbers of a line
 abbrev InRange : Line → Type 0

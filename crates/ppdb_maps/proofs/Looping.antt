@@ -1,24 +1,12 @@
 -- Lines that are read one after another.
-use Rattle.std.proofs.Common.{ℕ, ◌≡◌, ◌<◌, ◌+◌, ◌++◌, List, [], ◌∷◌, Result, Ok, Err, length, append_assoc, length-append, refl, sym, ap, ◌∙◌}
-use Rattle.std.proofs.Common.{subst, arith}
-use Rattle.std.specs.Prelude.{MatchResult}
-use Rattle.std.specs.Str.Lines.{lines}
+use Rattle.std.proofs.Common.{ℕ, ◌≡◌, ◌<◌, ◌+◌, ◌++◌, List, [], ◌∷◌, Result, Ok, Err, length, append_assoc, length-append, refl, sym, ap, ◌∙◌, subst, arith}
+use Rattle.std.specs.{Prelude.{MatchResult}, Str.Lines.{lines}}
 use Rattle.ppdb_maps.specs.Forms.{Tells, Values, silent, told, run_line, rows_line, row_line, method_line, drop_line, slots_line, slot_line, signature_line, IsHead}
-use Rattle.ppdb_maps.specs.Forms.{document_line, link_line, cross_line, gone_line, shares_line}
-use Rattle.ppdb_maps.specs.Cuts.{IsLineOf}
-use Rattle.ppdb_maps.specs.Rules.{by_lines}
-use Rattle.ppdb_maps.specs.Text.{Read, start, further, Refused, at_line, at_head}
-use Rattle.ppdb_maps.specs.Drafts.{Holds, AddsLine, HasLength}
-use Rattle.ppdb_maps.specs.Loops.{TextAdded, TextRefused, IsAt, RefusedIn, RefusedAs}
-use Rattle.ppdb_maps.specs.Reading.{RefusedAlone}
-use Rattle.ppdb_maps.specs.declared.draft.Draft.{Draft}
-use Rattle.ppdb_maps.specs.declared.line.Form.{Form}
-use Rattle.ppdb_maps.specs.declared.line.Line.{Line}
-use Rattle.ppdb_maps.specs.declared.refusal.Refusal.{Refusal}
-use Rattle.ppdb_maps.specs.declared.refusal.Refusal.TheVariants.{Breaks as refused, Memory as no_memory}
-use Rattle.ppdb_maps.specs.declared.refusal.MapError.{MapError}
-use Rattle.ppdb_maps.specs.declared.refusal.MapError.TheVariants.{Line as refused_line, Memory as out_of_memory}
-use Rattle.ppdb_maps.proofs.Saying.{breaks_said}
+use Rattle.ppdb_maps.specs.{Forms.{document_line, link_line, cross_line, gone_line, shares_line}, Cuts.{IsLineOf}, Rules.{by_lines}, Text.{Read, start, further}}
+use Rattle.ppdb_maps.specs.{Text.{Refused, at_line, at_head}, Drafts.{Holds, AddsLine, HasLength}, Loops.{TextAdded, TextRefused, IsAt, RefusedIn, RefusedAs}}
+use Rattle.ppdb_maps.specs.{Reading.{RefusedAlone}, declared.draft.Draft.{Draft}, declared.line.Form.{Form}, declared.line.Line.{Line}}
+use Rattle.ppdb_maps.specs.declared.refusal.{Refusal.{Refusal}, Refusal.TheVariants.{Breaks as refused, Memory as no_memory}, MapError.{MapError}}
+use Rattle.ppdb_maps.{specs.declared.refusal.MapError.TheVariants.{Line as refused_line, Memory as out_of_memory}, proofs.Saying.{breaks_said}}
 
 -- a run that a line says has an offset
 values_length : (form : Form) (values : List (List ℕ)) (line : Line) → Values form values line → HasLength line

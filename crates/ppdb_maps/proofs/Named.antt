@@ -1,16 +1,9 @@
 -- What a map from names answers.
-use Rattle.std.proofs.Common.{◌≡◌, ℕ, true, cond, List, [], ◌∷◌, Some, Ordering, Vec, map, refl, sym, ap, ◌∙◌}
-use Rattle.std.specs.Prelude.{bytes_eq}
-use Rattle.std.specs.Ordering.{nat_cmp, is_eq, eq_by_cmp, match_ordering}
-use Rattle.std.specs.declared.alloc.Global.{Global}
-use Rattle.std.specs.declared.cmp.Ordering.TheVariants.{Less, Equal, Greater}
-use Rattle.std.specs.BTreeMap.{insert_entry, is_at}
-use Rattle.std.specs.Cmp.Lexicographic.{slice_cmp, nat_list_cmp_total, nat_list_eq_equiv}
-use Rattle.std.specs.Map.{lookup}
+use Rattle.std.{proofs.Common.{◌≡◌, ℕ, true, cond, List, [], ◌∷◌, Some, Ordering, Vec, map, refl, sym, ap, ◌∙◌}, specs.Prelude.{bytes_eq}, specs.Ordering.{nat_cmp}}
+use Rattle.std.specs.{Ordering.{is_eq, eq_by_cmp, match_ordering}, declared.alloc.Global.{Global}, declared.cmp.Ordering.TheVariants.{Less, Equal, Greater}}
+use Rattle.std.specs.{BTreeMap.{insert_entry, is_at}, Cmp.Lexicographic.{slice_cmp, nat_list_cmp_total, nat_list_eq_equiv}, Map.{lookup}}
 use Rattle.std.specs.FinMap as maps
-use Rattle.std.specs.FinMap.Entries.{find-put, by_order}
-use Rattle.std.proofs.lemmas.Bool.{false≢true}
-use Rattle.std.proofs.lemmas.Map.Lookups.{exact_bytes}
+use Rattle.std.{specs.FinMap.Entries.{find-put, by_order}, proofs.lemmas.Bool.{false≢true}, proofs.lemmas.Map.Lookups.{exact_bytes}}
 use Rattle.std.proofs.lemmas.Map.Text.{is_eq-slice_cmp}
 
 abbrev pub Name : Type 0

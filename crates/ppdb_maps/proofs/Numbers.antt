@@ -1,17 +1,10 @@
 -- How decimal numbers below 2^32 are spelled, and what a table's two digits say.
 use Rattle.std.proofs.Common.{zero, suc, ◌≡◌, ℕ, ◌+◌, ◌*◌, ◌<◌, ◌≤◌, ◌^◌, ◌≢◌, List, [], ◌∷◌, length, get_or, sym, ap, ◌∙◌, subst, arith, Result, Ok, Err, IfSome}
-use Rattle.std.proofs.Common.{IfNone}
-use Rattle.std.specs.Fmt.{decimal}
-use Rattle.std.specs.Result.{result_ok, OkIff}
-use Rattle.std.specs.Char.{digit_value}
-use Rattle.std.specs.Str.Parse.{AllDigits, IsNumeral, digits_value}
-use Rattle.std.proofs.lemmas.Bool.Decides.{nat_tests}
-use Rattle.std.proofs.lemmas.Str.Parse.{IsNumeralModel, numerals_by_value, tells_digits, digits_value_short}
-use Rattle.std.proofs.lemmas.Fmt.{digits_decimal, digits_value-decimal, length-decimal-le, decimal_nonempty, first_decimal, decimal_digit}
-use Rattle.std.proofs.lemmas.Fmt.{decimal-digits_value, decimal_injective}
-use Rattle.ppdb_maps.specs.Spelling.{MaySpell}
-use Rattle.ppdb_maps.specs.Forms.{IsNumber, IsTable}
-use Rattle.ppdb_maps.specs.Spelling.{IsHexDigit}
+use Rattle.std.{proofs.Common.{IfNone}, specs.Fmt.{decimal}, specs.Result.{result_ok, OkIff}, specs.Char.{digit_value}, specs.Str.Parse.{AllDigits, IsNumeral}}
+use Rattle.std.{specs.Str.Parse.{digits_value}, proofs.lemmas.Bool.Decides.{nat_tests}, proofs.lemmas.Str.Parse.{IsNumeralModel, numerals_by_value, tells_digits}}
+use Rattle.std.proofs.lemmas.{Str.Parse.{digits_value_short}, Fmt.{digits_decimal, digits_value-decimal, length-decimal-le, decimal_nonempty, first_decimal}}
+use Rattle.std.proofs.lemmas.Fmt.{decimal_digit, decimal-digits_value, decimal_injective}
+use Rattle.ppdb_maps.specs.{Spelling.{MaySpell, IsHexDigit}, Forms.{IsNumber, IsTable}}
 
 pub numerals : IsNumeralModel (AllDigits 10) (digits_value 10)
 numerals = numerals_by_value (AllDigits 10) tells_digits

@@ -1,12 +1,7 @@
 -- Lists that strictly ascend by a key: each item is found by its own, and lists that answer alike are the same.
-use Rattle.std.proofs.Common.{◌≡◌, ◌||◌, Bool, true, false, cond, List, [], ◌∷◌, Option, Some, None, refl, sym, ◌∙◌, ap, map, subst}
-use Rattle.std.specs.List.{find, list_any, AllByRecursion}
-use Rattle.std.specs.Prelude.{is_some}
-use Rattle.std.specs.List.Sorted.{IsStrictlySortedBy}
-use Rattle.std.specs.Ordering.{ordering_reverse}
-use Rattle.std.specs.Cmp.{IsTotalOrder}
-use Rattle.std.specs.declared.cmp.Ordering.{Ordering}
-use Rattle.std.specs.declared.cmp.Ordering.TheVariants.{Less, Equal, Greater}
+use Rattle.std.{proofs.Common.{◌≡◌, ◌||◌, Bool, true, false, cond, List, [], ◌∷◌, Option, Some, None, refl, sym, ◌∙◌, ap, map, subst}, specs.List.{find, list_any}}
+use Rattle.std.specs.{List.{AllByRecursion}, Prelude.{is_some}, List.Sorted.{IsStrictlySortedBy}, Ordering.{ordering_reverse}, Cmp.{IsTotalOrder}}
+use Rattle.std.specs.declared.cmp.{Ordering.{Ordering}, Ordering.TheVariants.{Less, Equal, Greater}}
 
 -- an item passes exactly where one is found
 pub any_is : {X : Type 0} (p : X → Bool) (xs : List X) → list_any p xs ≡ is_some (find p xs)

@@ -1,31 +1,13 @@
 -- A text has one map: its lines say one thing, and a map that holds it is one.
-use Rattle.std.proofs.Common.{◌≡◌, ℕ, ◌+◌, ◌⊎◌, ◌&&◌, ◌||◌, ◌++◌, Bool, true, false, cond, List, [], ◌∷◌, Option, Some, None, refl, sym, ◌∙◌, ap, arith, inl, inr, map, subst}
-use Rattle.std.specs.Prelude.{nat_eq, bytes_eq, codes}
-use Rattle.std.specs.List.{find, list_any}
-use Rattle.std.specs.List.Sorted.{IsStrictlySortedBy}
-use Rattle.std.specs.Option.{option_map}
-use Rattle.std.specs.Ordering.{nat_cmp}
-use Rattle.std.specs.Cmp.Lexicographic.{slice_cmp, nat_list_cmp_total}
-use Rattle.std.specs.Cmp.{IsTotalOrder, IsEquivalence}
-use Rattle.std.proofs.lemmas.Map.Lookups.{CmpEqualImpliesEq, exact_pairs, exact_unsigned}
-use Rattle.std.proofs.lemmas.Bool.{cases_lt, eq-eqb, ne_eqb, eqb-true, and_parts, and_from}
-use Rattle.std.proofs.lemmas.Cmp.{then_total, on_total, nat_cmp_total, nat_eq_equiv}
-use Rattle.std.proofs.lemmas.List.{append_cancel_left}
-use Rattle.ppdb_maps.specs.declared.entries.Count.{Count}
-use Rattle.ppdb_maps.specs.declared.entries.RowLine.{RowLine}
-use Rattle.ppdb_maps.specs.declared.entries.CrossLine.{CrossLine}
-use Rattle.ppdb_maps.specs.declared.entries.GoneLine.{GoneLine}
-use Rattle.ppdb_maps.specs.declared.entries.SlotImage.{SlotImage}
-use Rattle.ppdb_maps.specs.declared.entries.SignatureImage.{SignatureImage}
-use Rattle.ppdb_maps.specs.declared.entries.NameLine.{NameLine}
-use Rattle.ppdb_maps.specs.declared.line.Line.{Line}
-use Rattle.ppdb_maps.specs.Gathered.{same_pair}
-use Rattle.ppdb_maps.specs.Map.{Map, MethodLine, map_of, pair_cmp}
-use Rattle.ppdb_maps.specs.Text.{Read, HoldsWhat}
-use Rattle.ppdb_maps.specs.Readable.{TextsHaveOneMap}
-use Rattle.ppdb_maps.proofs.OneList.{one_list}
-use Rattle.ppdb_maps.proofs.OneReading.{read_same}
-use Rattle.ppdb_maps.proofs.Named.{same_bytes, bytes_same}
+use Rattle.std.proofs.Common.{◌≡◌, ℕ, ◌+◌, ◌⊎◌, ◌&&◌, ◌||◌, ◌++◌, Bool, true, false, cond, List, [], ◌∷◌, Option, Some, None, refl, sym, ◌∙◌, ap, arith, inl, inr}
+use Rattle.std.{proofs.Common.{map, subst}, specs.Prelude.{nat_eq, bytes_eq, codes}, specs.List.{find, list_any}, specs.List.Sorted.{IsStrictlySortedBy}}
+use Rattle.std.specs.{Option.{option_map}, Ordering.{nat_cmp}, Cmp.Lexicographic.{slice_cmp, nat_list_cmp_total}, Cmp.{IsTotalOrder, IsEquivalence}}
+use Rattle.std.proofs.lemmas.{Map.Lookups.{CmpEqualImpliesEq, exact_pairs, exact_unsigned}, Bool.{cases_lt, eq-eqb, ne_eqb, eqb-true, and_parts, and_from}}
+use Rattle.std.proofs.lemmas.{Cmp.{then_total, on_total, nat_cmp_total, nat_eq_equiv}, List.{append_cancel_left}}
+use Rattle.ppdb_maps.specs.declared.entries.{Count.{Count}, RowLine.{RowLine}, CrossLine.{CrossLine}, GoneLine.{GoneLine}, SlotImage.{SlotImage}}
+use Rattle.ppdb_maps.specs.{declared.entries.SignatureImage.{SignatureImage}, declared.entries.NameLine.{NameLine}, declared.line.Line.{Line}, Gathered.{same_pair}}
+use Rattle.ppdb_maps.{specs.Map.{Map, MethodLine, map_of, pair_cmp}, specs.Text.{Read, HoldsWhat}, specs.Readable.{TextsHaveOneMap}, proofs.OneList.{one_list}}
+use Rattle.ppdb_maps.proofs.{OneReading.{read_same}, Named.{same_bytes, bytes_same}}
 
 -- an item that is found is made of what it was found by and what it says
 pub rebuilt : {X V : Type 0} (p : X → Bool) (val : X → V) (make : V → X) → ((x : X) → p x ≡ true → make (val x) ≡ x) → (xs : List X)

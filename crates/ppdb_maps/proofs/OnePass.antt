@@ -1,32 +1,16 @@
 -- A line of words that stand apart by one space, ended by LF.
-use Rattle.std.proofs.Common.{inl, inr, ℕ, zero, suc, ◌≡◌, ◌<◌, ◌≤◌, ◌+◌, ◌-◌, ◌++◌, List, [], ◌∷◌, length, take, drop, get_or, false}
-use Rattle.std.proofs.Common.{◌≢◌, append_assoc, length-append, add-one, ◌^◌, refl, sym, ap, ◌∙◌, subst, arith}
-use Rattle.std.specs.Prelude.{◌==◌, codes}
-use Rattle.std.specs.List.{All, AllByRecursion, slice_index}
-use Rattle.std.specs.Fmt.{decimal}
-use Rattle.std.specs.Str.Lines.{strip_carriage_return}
-use Rattle.std.specs.Str.Parse.{AllDigits, digits_value}
-use Rattle.std.proofs.lemmas.Bool.{ne_eqb}
-use Rattle.std.proofs.lemmas.List.Elements.{All-nil, All-cons}
-use Rattle.std.proofs.lemmas.List.Splits.{slice_split_at, slice_split_none}
-use Rattle.std.proofs.lemmas.Fmt.{digits_decimal}
+use Rattle.std.proofs.Common.{inl, inr, ℕ, zero, suc, ◌≡◌, ◌<◌, ◌≤◌, ◌+◌, ◌-◌, ◌++◌, List, [], ◌∷◌, length, take, drop, get_or, false, ◌≢◌, append_assoc}
+use Rattle.std.{proofs.Common.{length-append, add-one, ◌^◌, refl, sym, ap, ◌∙◌, subst, arith}, specs.Prelude.{◌==◌, codes}, specs.List.{All, AllByRecursion}}
+use Rattle.std.specs.{List.{slice_index}, Fmt.{decimal}, Str.Lines.{strip_carriage_return}, Str.Parse.{AllDigits, digits_value}}
+use Rattle.std.proofs.lemmas.{Bool.{ne_eqb}, List.Elements.{All-nil, All-cons}, List.Splits.{slice_split_at, slice_split_none}, Fmt.{digits_decimal}}
 use Rattle.std.proofs.lemmas.Str.Parse.{digit_from_value, digits_value_short}
-use Rattle.ppdb_base.specs.declared.offsets.Run.{Run}
-use Rattle.ppdb_maps.specs.Cuts.{IsLineOf}
-use Rattle.ppdb_maps.specs.Spelling.{MaySpell}
-use Rattle.ppdb_maps.specs.Words.{line_words, IsSilent}
-use Rattle.ppdb_maps.specs.Forms.{told, Values, run_line, method_line, row_line, cross_line, gone_line, signature_line, Crosses, name_of, words_in, since, IsTable}
-use Rattle.ppdb_maps.specs.OnePass.{IsNumberBefore, IsRunBefore, IsLineBefore}
-use Rattle.ppdb_maps.specs.declared.entries.CrossLine.{CrossLine}
-use Rattle.ppdb_maps.specs.declared.line.Form.{Form}
-use Rattle.ppdb_maps.specs.declared.line.Form.TheVariants.{OffsetRun, MethodSizes, RowMove, CrossMove, RowGone, MethodSignature}
-use Rattle.ppdb_maps.specs.declared.line.Line.{Line}
-use Rattle.ppdb_maps.specs.declared.line.Line.TheVariants.{Method, Row, Cross, Gone, Signature, Kept}
-use Rattle.ppdb_maps.proofs.Cutting.{line_ended, end_of_slice}
+use Rattle.ppdb_base.specs.declared.{offsets.Run.{Run}, limits.TheConstants.{MAX_ROWS, MAX_OFFSET}}
+use Rattle.ppdb_maps.specs.{Cuts.{IsLineOf, parts_at}, Spelling.{MaySpell, IsHexDigit}, Words.{line_words, IsSilent}, Forms.{told, Values, run_line, method_line}}
+use Rattle.ppdb_maps.specs.{Forms.{row_line, cross_line, gone_line, signature_line, Crosses, name_of, words_in, since, IsTable}, OnePass.{IsNumberBefore}}
+use Rattle.ppdb_maps.specs.{OnePass.{IsRunBefore, IsLineBefore}, declared.entries.CrossLine.{CrossLine}, declared.line.Form.{Form}}
+use Rattle.ppdb_maps.specs.declared.line.{Form.TheVariants.{OffsetRun, MethodSizes, RowMove, CrossMove, RowGone, MethodSignature}, Line.{Line}}
+use Rattle.ppdb_maps.{specs.declared.line.Line.TheVariants.{Method, Row, Cross, Gone, Signature, Kept}, proofs.Cutting.{line_ended, end_of_slice}}
 use Rattle.ppdb_maps.proofs.Numbers.{digits_of_table, numerals, decimal_of_digits}
-use Rattle.ppdb_maps.specs.Cuts.{parts_at}
-use Rattle.ppdb_base.specs.declared.limits.TheConstants.{MAX_ROWS, MAX_OFFSET}
-use Rattle.ppdb_maps.specs.Spelling.{IsHexDigit}
 
 -- nine digits are below 10^9, and eight below 10^8
 pub few_digits : (ds : List ℕ) (count : ℕ) → AllDigits 10 ds → length ds ≤ count → digits_value 10 ds < 10 ^ count

@@ -1,9 +1,7 @@
 -- Names of parts of what a map says.
-use Rattle.std.specs.Prelude.{ℕ, ◌+◌, ◌-◌, Option}
-use Rattle.std.specs.Option.{option_map_or}
+use Rattle.std.specs.{Prelude.{ℕ, ◌+◌, ◌-◌, Option}, Option.{option_map_or}}
 use Rattle.ppdb_base.specs.Offsets.{Offsets, every, lined}
-use Rattle.ppdb_maps.specs.declared.entries.RowLine.{RowLine}
-use Rattle.ppdb_maps.specs.Map.{MethodLine}
+use Rattle.ppdb_maps.specs.{declared.entries.RowLine.{RowLine}, Map.{MethodLine}}
 
 abbrev pub line_offsets : Option MethodLine → Offsets
 line_offsets line = option_map_or (λ line. lined line.runs line.old_size line.new_size) line every

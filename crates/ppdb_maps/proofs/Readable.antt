@@ -1,30 +1,13 @@
 -- A map that a text has is readable.
-use Rattle.std.proofs.Common.{ℕ, ◌≡◌, ◌&&◌, ◌||◌, Bool, true, false, List, [], ◌∷◌, Option, Some, None, IfSome, refl, sym, ap, ◌∙◌}
-use Rattle.std.specs.Prelude.{nat_eq, bytes_eq, is_some}
-use Rattle.std.specs.List.{AllByRecursion, list_any}
-use Rattle.std.specs.List.Sorted.{IsStrictlySortedBy}
-use Rattle.std.specs.Option.{option_map}
-use Rattle.std.specs.Ordering.{nat_cmp}
-use Rattle.std.specs.Cmp.Lexicographic.{slice_cmp, nat_list_cmp_total}
-use Rattle.std.proofs.lemmas.Bool.{eq-eqb}
-use Rattle.std.proofs.lemmas.Cmp.{nat_cmp_total}
-use Rattle.ppdb_maps.specs.Gathered.{same_pair}
-use Rattle.ppdb_maps.specs.Map.{Map, MethodLine, pair_cmp}
-use Rattle.ppdb_maps.specs.Readable.{IsReadable, IsCount, IsRow, IsRowOf, IsCrossOf, IsGoneOf, IsLineOf, IsSlottedOf, IsSlotOf, IsSignatureOf, AreNames, MapsAreReadable}
-use Rattle.ppdb_maps.specs.Forms.{AreBytes}
-use Rattle.ppdb_maps.specs.Text.{HoldsWhat, Read}
-use Rattle.ppdb_maps.specs.declared.entries.Count.{Count}
-use Rattle.ppdb_maps.specs.declared.entries.RowLine.{RowLine}
-use Rattle.ppdb_maps.specs.declared.entries.CrossLine.{CrossLine}
-use Rattle.ppdb_maps.specs.declared.entries.GoneLine.{GoneLine}
-use Rattle.ppdb_maps.specs.declared.entries.SlotImage.{SlotImage}
-use Rattle.ppdb_maps.specs.declared.entries.SignatureImage.{SignatureImage}
-use Rattle.ppdb_maps.specs.declared.entries.NameLine.{NameLine}
-use Rattle.ppdb_maps.specs.declared.line.Line.{Line}
-use Rattle.ppdb_maps.proofs.InRange.{Fits, read_fits}
-use Rattle.ppdb_maps.proofs.Named.{same_bytes, bytes_same}
-use Rattle.ppdb_maps.proofs.OneList.{any_is, each_found}
-use Rattle.ppdb_maps.proofs.OneMap.{same_number, number_same, pair_is, is_pair, pair_total}
+use Rattle.std.{proofs.Common.{ℕ, ◌≡◌, ◌&&◌, ◌||◌, Bool, true, false, List, [], ◌∷◌, Option, Some, None, IfSome, refl, sym, ap, ◌∙◌}, specs.Prelude.{nat_eq}}
+use Rattle.std.specs.{Prelude.{bytes_eq, is_some}, List.{AllByRecursion, list_any}, List.Sorted.{IsStrictlySortedBy}, Option.{option_map}, Ordering.{nat_cmp}}
+use Rattle.std.{specs.Cmp.Lexicographic.{slice_cmp, nat_list_cmp_total}, proofs.lemmas.Bool.{eq-eqb}, proofs.lemmas.Cmp.{nat_cmp_total}}
+use Rattle.ppdb_maps.specs.{Gathered.{same_pair}, Map.{Map, MethodLine, pair_cmp}, Readable.{IsReadable, IsCount, IsRow, IsRowOf, IsCrossOf, IsGoneOf, IsLineOf}}
+use Rattle.ppdb_maps.specs.{Readable.{IsSlottedOf, IsSlotOf, IsSignatureOf, AreNames, MapsAreReadable}, Forms.{AreBytes}, Text.{HoldsWhat, Read}}
+use Rattle.ppdb_maps.specs.declared.entries.{Count.{Count}, RowLine.{RowLine}, CrossLine.{CrossLine}, GoneLine.{GoneLine}, SlotImage.{SlotImage}}
+use Rattle.ppdb_maps.specs.declared.{entries.SignatureImage.{SignatureImage}, entries.NameLine.{NameLine}, line.Line.{Line}}
+use Rattle.ppdb_maps.proofs.{InRange.{Fits, read_fits}, Named.{same_bytes, bytes_same}, OneList.{any_is, each_found}, OneMap.{same_number, number_same, pair_is}}
+use Rattle.ppdb_maps.proofs.OneMap.{is_pair, pair_total}
 
 still_any : (b c : Bool) → c ≡ true → (b || c) ≡ true
 still_any true c is = refl

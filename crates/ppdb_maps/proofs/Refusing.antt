@@ -1,23 +1,13 @@
 -- Which rules a line breaks, by what the lines before it say.
-use Rattle.std.proofs.Common.{ℕ, ◌≡◌, ◌≤◌, ◌&&◌, Bool, true, false, List, Option, Some, None, lit≤, refl, sym, ◌∙◌, arith}
-use Rattle.std.specs.Prelude.{IsSome, IsTrue, nat_eq, is_some}
-use Rattle.std.specs.Ordering.{nat_cmp}
-use Rattle.std.proofs.lemmas.Bool.{false≢true}
-use Rattle.std.proofs.lemmas.Bool.Decides.{nat_tests}
-use Rattle.std.specs.BTreeMap.{is_at}
-use Rattle.ppdb_maps.specs.Map.{pair_cmp}
-use Rattle.ppdb_maps.specs.Before.{count_in, has_image_in, method_in, drop_in, slots_in, slot_in, signature_in, document_in, link_in, shares_in}
-use Rattle.ppdb_maps.specs.Rules.{kind_of, Breaks, second_row, second_method, second_drop, second_slots, second_slot, row_alone, slot_alone, drop_named}
-use Rattle.ppdb_maps.specs.Rules.{IsNamed, dropped_method, dropped_row, dropped_slots, second_signature, dropped_signature, second_document, second_link}
-use Rattle.ppdb_maps.specs.Rules.{second_cross, second_gone, second_shares, cross_alone, gone_alone}
-use Rattle.ppdb_maps.specs.Drafts.{RefusedBy}
-use Rattle.ppdb_maps.specs.declared.refusal.Refusal.TheVariants.{Breaks as refused}
-use Rattle.ppdb_maps.specs.declared.line.Line.{Line}
-use Rattle.ppdb_maps.specs.declared.line.Line.TheVariants.{Row, Cross, Gone, Method, Dropped, Slots, Slot, Signature, Document, Link, Shares}
-use Rattle.ppdb_maps.specs.declared.entries.CrossLine.{CrossLine}
-use Rattle.ppdb_maps.specs.declared.entries.NameLine.{NameLine}
-use Rattle.ppdb_maps.specs.declared.rule.Rule.{Rule}
-use Rattle.ppdb_maps.specs.declared.rule.Rule.TheVariants.{Repeated, Undeclared, NamesDropped}
+use Rattle.std.{proofs.Common.{ℕ, ◌≡◌, ◌≤◌, ◌&&◌, Bool, true, false, List, Option, Some, None, lit≤, refl, sym, ◌∙◌, arith}, specs.Prelude.{IsSome, IsTrue, nat_eq}}
+use Rattle.std.{specs.Prelude.{is_some}, specs.Ordering.{nat_cmp}, proofs.lemmas.Bool.{false≢true}, proofs.lemmas.Bool.Decides.{nat_tests}, specs.BTreeMap.{is_at}}
+use Rattle.ppdb_maps.specs.{Map.{pair_cmp}, Before.{count_in, has_image_in, method_in, drop_in, slots_in, slot_in, signature_in, document_in, link_in, shares_in}}
+use Rattle.ppdb_maps.specs.Rules.{kind_of, Breaks, second_row, second_method, second_drop, second_slots, second_slot, row_alone, slot_alone, drop_named, IsNamed}
+use Rattle.ppdb_maps.specs.Rules.{dropped_method, dropped_row, dropped_slots, second_signature, dropped_signature, second_document, second_link, second_cross}
+use Rattle.ppdb_maps.specs.{Rules.{second_gone, second_shares, cross_alone, gone_alone}, Drafts.{RefusedBy}}
+use Rattle.ppdb_maps.specs.declared.{refusal.Refusal.TheVariants.{Breaks as refused}, line.Line.{Line}, line.Line.TheVariants.{Row, Cross, Gone, Method, Dropped}}
+use Rattle.ppdb_maps.specs.declared.{line.Line.TheVariants.{Slots, Slot, Signature, Document, Link, Shares}, entries.CrossLine.{CrossLine}}
+use Rattle.ppdb_maps.specs.declared.{entries.NameLine.{NameLine}, rule.Rule.{Rule}, rule.Rule.TheVariants.{Repeated, Undeclared, NamesDropped}}
 use Rattle.ppdb_maps.proofs.Saying.{from_four}
 
 pub none_of : {A : Type 0} (o : Option A) → is_some o ≡ false → o ≡ None

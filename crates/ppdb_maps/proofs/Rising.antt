@@ -1,9 +1,7 @@
 -- The last of a method's runs, and runs that rise when one is added.
-use Rattle.std.proofs.Common.{zero, suc, inl, inr, ◌⊎◌, ℕ, ◌≡◌, ◌<◌, ◌≤◌, ◌++◌, ◌↔◌, List, [], ◌∷◌, length, refl, arith}
-use Rattle.std.specs.Prelude.{slice_index_or}
+use Rattle.std.{proofs.Common.{zero, suc, inl, inr, ◌⊎◌, ℕ, ◌≡◌, ◌<◌, ◌≤◌, ◌++◌, ◌↔◌, List, [], ◌∷◌, length, refl, arith}, specs.Prelude.{slice_index_or}}
 use Rattle.std.proofs.lemmas.Bool.{cases_lt}
-use Rattle.ppdb_base.specs.declared.offsets.Run.{Run}
-use Rattle.ppdb_base.specs.Offsets.{end_of, new_end_of, RiseFrom}
+use Rattle.ppdb_base.specs.{declared.offsets.Run.{Run}, Offsets.{end_of, new_end_of, RiseFrom}}
 use Rattle.ppdb_maps.specs.Rules.{BeginsEarly}
 
 -- the run begins before the end of the other

@@ -1,23 +1,11 @@
 -- The sample's map keeps what maps keep.
-use Rattle.std.proofs.Common.{◌≡◌, ℕ, Bool, false, zero, suc, ◌+◌, ◌<◌, ◌≤◌, List, [], ◌∷◌, Option, None, map, refl, sym, arith}
-use Rattle.std.specs.List.{range_with_len, AllByRecursion}
-use Rattle.std.specs.List.Sorted.{IsStrictlySortedBy}
-use Rattle.std.specs.Ordering.{nat_cmp}
-use Rattle.std.specs.Cmp.Lexicographic.{slice_cmp}
-use Rattle.std.specs.Cmp.{nat_cmp_is}
+use Rattle.std.{proofs.Common.{◌≡◌, ℕ, Bool, false, zero, suc, ◌+◌, ◌<◌, ◌≤◌, List, [], ◌∷◌, Option, None, map, refl, sym, arith}, specs.List.{range_with_len}}
+use Rattle.std.specs.{List.{AllByRecursion}, List.Sorted.{IsStrictlySortedBy}, Ordering.{nat_cmp}, Cmp.Lexicographic.{slice_cmp}, Cmp.{nat_cmp_is}}
 use Rattle.std.specs.declared.cmp.Ordering.TheVariants.{Less}
 use Rattle.ppdb_base.specs.Offsets.{Rise, lined}
-use Rattle.ppdb_maps.specs.declared.entries.Count.{Count}
-use Rattle.ppdb_maps.specs.declared.entries.RowLine.{RowLine}
-use Rattle.ppdb_maps.specs.declared.entries.CrossLine.{CrossLine}
-use Rattle.ppdb_maps.specs.declared.entries.GoneLine.{GoneLine}
-use Rattle.ppdb_maps.specs.declared.entries.SlotImage.{SlotImage}
-use Rattle.ppdb_maps.specs.declared.entries.SignatureImage.{SignatureImage}
-use Rattle.ppdb_maps.specs.declared.entries.NameLine.{NameLine}
-use Rattle.ppdb_maps.specs.Map.{MethodLine, pair_cmp, map_of}
-use Rattle.ppdb_maps.specs.Readable.{IsRowOf, IsLineOf, IsReadable}
-use Rattle.ppdb_maps.specs.Sample.{sample_method, sample_runs, sample_map_of}
-use Rattle.ppdb_maps.proofs.OneMap.{maps_made}
+use Rattle.ppdb_maps.specs.declared.entries.{Count.{Count}, RowLine.{RowLine}, CrossLine.{CrossLine}, GoneLine.{GoneLine}, SlotImage.{SlotImage}}
+use Rattle.ppdb_maps.specs.{declared.entries.SignatureImage.{SignatureImage}, declared.entries.NameLine.{NameLine}, Map.{MethodLine, pair_cmp, map_of}}
+use Rattle.ppdb_maps.{specs.Readable.{IsRowOf, IsLineOf, IsReadable}, specs.Sample.{sample_method, sample_runs, sample_map_of}, proofs.OneMap.{maps_made}}
 use Rattle.ppdb_maps.proofs.Parts.{sample_row}
 
 pub sample_rise : Rise (lined sample_runs 16 20)

@@ -1,19 +1,10 @@
 -- The texts of three samples have the samples' maps.
-use Rattle.std.proofs.Common.{◌≡◌, ℕ, Bool, true, false, [], ◌∷◌, Some, None, refl, arith}
-use Rattle.std.specs.Prelude.{codes, cond, nat_eq, ◌&&◌}
-use Rattle.std.specs.Option.{option_map}
+use Rattle.std.{proofs.Common.{◌≡◌, ℕ, Bool, true, false, [], ◌∷◌, Some, None, refl, arith}, specs.Prelude.{codes, cond, nat_eq, ◌&&◌}, specs.Option.{option_map}}
 use Rattle.std.proofs.lemmas.Bool.Decides.{nat_tests}
-use Rattle.ppdb_maps.specs.Map.{MethodLine, count_of}
-use Rattle.ppdb_maps.specs.declared.entries.Count.{Count}
-use Rattle.ppdb_maps.specs.declared.entries.RowLine.{RowLine}
-use Rattle.ppdb_maps.specs.Sample.{sample_map_of}
-use Rattle.ppdb_maps.specs.Forms.{IsHead, Tells}
-use Rattle.ppdb_maps.specs.Text.{Read, start, further, HoldsWhat}
-use Rattle.ppdb_maps.specs.SampleTexts.{SampleTexts}
-use Rattle.ppdb_maps.specs.declared.line.Line.TheVariants.{Rows, Row, Method, Kept}
-use Rattle.ppdb_maps.proofs.SampleMap.{sample_readable}
-use Rattle.ppdb_maps.proofs.TextSteps.{tells_rows, tells_row, tells_method, keeps_rows, keeps_row, keeps_method, with_runs}
-use Rattle.ppdb_maps.proofs.TextSteps.{number_of_digit, row_of_digit, prefix_run, back_run}
+use Rattle.ppdb_maps.specs.{Map.{MethodLine, count_of}, declared.entries.Count.{Count}, declared.entries.RowLine.{RowLine}, Sample.{sample_map_of}, Forms.{IsHead}}
+use Rattle.ppdb_maps.specs.{Forms.{Tells}, Text.{Read, start, further, HoldsWhat}, SampleTexts.{SampleTexts}, declared.line.Line.TheVariants.{Rows, Row, Method}}
+use Rattle.ppdb_maps.{specs.declared.line.Line.TheVariants.{Kept}, proofs.SampleMap.{sample_readable}, proofs.TextSteps.{tells_rows, tells_row, tells_method}}
+use Rattle.ppdb_maps.proofs.TextSteps.{keeps_rows, keeps_row, keeps_method, with_runs, number_of_digit, row_of_digit, prefix_run, back_run}
 use Rattle.ppdb_base.specs.declared.limits.TheConstants.{MAX_ROWS}
 
 head_1 : IsHead (codes "ppdbmap 1") 1

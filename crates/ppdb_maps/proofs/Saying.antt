@@ -1,30 +1,18 @@
 -- A line of a form has its values; a line says one thing.
 use Rattle.std.proofs.Common.{zero, suc, inl, inr, lit<, lit≤, ℕ, ◌≡◌, ◌<◌, ◌≤◌, List, [], ◌∷◌, Option, Some, length, take, refl, sym, ap, ◌∙◌, subst, arith}
-use Rattle.ppdb_base.specs.declared.offsets.Run.{Run}
-use Rattle.ppdb_maps.specs.Words.{IsSilent, line_words}
-use Rattle.ppdb_maps.specs.Forms.{Crosses, name_of, words_in, HasForm, IsNumber, IsTable, Values, Tells, rows_line, row_line, method_line, run_line, drop_line}
-use Rattle.ppdb_maps.specs.Forms.{slots_line, slot_line, signature_line, document_line, link_line, cross_line, gone_line, shares_line, silent, told}
-use Rattle.ppdb_maps.specs.declared.entries.CrossLine.{CrossLine}
-use Rattle.ppdb_maps.specs.declared.entries.NameLine.{NameLine}
-use Rattle.ppdb_maps.specs.declared.line.Form.{Form}
-use Rattle.ppdb_maps.specs.declared.line.Form.TheVariants.{TableRows, RowMove, MethodSizes, OffsetRun, MethodDrop, MethodSlots, SlotMove, MethodSignature}
-use Rattle.ppdb_maps.specs.declared.line.Form.TheVariants.{DocumentRename, LinkValue, CrossMove, RowGone, Sharing}
-use Rattle.ppdb_maps.specs.declared.line.Line.{Line}
-use Rattle.ppdb_maps.specs.declared.line.Line.TheVariants.{Cross, Kept, Document, Link}
-use Rattle.std.specs.Prelude.{find, bytes_eq, nat_eq, ◌&&◌}
-use Rattle.std.proofs.lemmas.Bool.{cases_lt}
-use Rattle.std.proofs.lemmas.List.{length-take-le}
-use Rattle.ppdb_maps.specs.Cuts.{AreWordsOf}
-use Rattle.ppdb_maps.specs.Reading.{FitsForm, values_of}
-use Rattle.ppdb_maps.specs.Rules.{kind_of, Breaks, BreaksLine, BreaksFirst, no_form, no_value, by_lines, second_rows, second_row, second_method, second_drop}
-use Rattle.ppdb_maps.specs.Rules.{second_slots, second_slot, second_signature, row_alone, slot_alone, run_alone, run_early, run_long, drop_named, dropped_method, dropped_row}
+use Rattle.std.{specs.Prelude.{find, bytes_eq, nat_eq, ◌&&◌}, proofs.lemmas.Bool.{cases_lt}, proofs.lemmas.List.{length-take-le}}
+use Rattle.ppdb_base.specs.declared.{offsets.Run.{Run}, limits.TheConstants.{MAX_ROWS}}
+use Rattle.ppdb_maps.specs.{Words.{IsSilent, line_words}, Forms.{Crosses, name_of, words_in, HasForm, IsNumber, IsTable, Values, Tells, rows_line, row_line}}
+use Rattle.ppdb_maps.specs.Forms.{method_line, run_line, drop_line, slots_line, slot_line, signature_line, document_line, link_line, cross_line, gone_line}
+use Rattle.ppdb_maps.specs.{Forms.{shares_line, silent, told}, declared.entries.CrossLine.{CrossLine}, declared.entries.NameLine.{NameLine}}
+use Rattle.ppdb_maps.specs.declared.line.{Form.{Form}, Form.TheVariants.{TableRows, RowMove, MethodSizes, OffsetRun, MethodDrop, MethodSlots, SlotMove}}
+use Rattle.ppdb_maps.specs.declared.line.{Form.TheVariants.{MethodSignature, DocumentRename, LinkValue, CrossMove, RowGone, Sharing}, Line.{Line}}
+use Rattle.ppdb_maps.specs.{declared.line.Line.TheVariants.{Cross, Kept, Document, Link}, Cuts.{AreWordsOf}, Reading.{FitsForm, values_of}, Rules.{kind_of, Breaks}}
+use Rattle.ppdb_maps.specs.Rules.{BreaksLine, BreaksFirst, no_form, no_value, by_lines, second_rows, second_row, second_method, second_drop, second_slots}
+use Rattle.ppdb_maps.specs.Rules.{second_slot, second_signature, row_alone, slot_alone, run_alone, run_early, run_long, drop_named, dropped_method, dropped_row}
 use Rattle.ppdb_maps.specs.Rules.{dropped_slots, dropped_signature, second_document, second_link, second_cross, second_gone, second_shares, cross_alone, gone_alone}
-use Rattle.ppdb_maps.specs.declared.rule.Rule.{Rule}
-use Rattle.ppdb_maps.specs.declared.rule.Rule.TheVariants.{UnknownForm, NumberFaults}
-use Rattle.ppdb_maps.specs.declared.words.Words.{Words}
-use Rattle.ppdb_maps.proofs.Numbers.{one_number, one_table}
-use Rattle.ppdb_maps.proofs.Spelled.{one_spelling}
-use Rattle.ppdb_base.specs.declared.limits.TheConstants.{MAX_ROWS}
+use Rattle.ppdb_maps.specs.declared.{rule.Rule.{Rule}, rule.Rule.TheVariants.{UnknownForm, NumberFaults}, words.Words.{Words}}
+use Rattle.ppdb_maps.proofs.{Numbers.{one_number, one_table}, Spelled.{one_spelling}}
 
 pub rows_values : (a b : List ℕ) (line : Line) → Values TableRows (a ∷ b ∷ []) line → ((t : ℕ) × IsTable a t) × ((n : ℕ) × IsNumber b 0 MAX_ROWS n)
 rows_values a b line (rows_line t n) = ((_, t), (_, n))

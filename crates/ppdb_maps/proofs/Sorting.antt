@@ -1,17 +1,10 @@
 -- A list of distinct keys that was sorted ascends strictly, and what is found in it by a key is what was found before.
-use Rattle.std.proofs.Common.{zero, suc, ◌≡◌, ◌<◌, ◌+◌, ℕ, Bool, true, false, cond, List, [], ◌∷◌, Option, Some, None, length, map, refl, sym, ap, ◌∙◌, subst}
-use Rattle.std.proofs.Common.{arith, slice_index_or}
-use Rattle.std.specs.Cmp.{IsTotalOrder, IsEquivalence}
-use Rattle.std.specs.List.{find, AllByRecursion, Contains, IsDistinct}
-use Rattle.std.specs.List.Sorted.{IsStrictlySortedBy, IsSortedByKey, IsPermutation}
-use Rattle.std.specs.Ordering.{ordering_reverse, is_lt}
-use Rattle.std.specs.declared.cmp.Ordering.{Ordering}
-use Rattle.std.specs.declared.cmp.Ordering.TheVariants.{Less, Equal, Greater}
-use Rattle.std.proofs.lemmas.Bool.{false≢true}
-use Rattle.std.proofs.lemmas.List.{get_or-map, length-map}
-use Rattle.std.proofs.lemmas.List.Sorted.{IsPermutation-map, IsPermutation-sym, Contains-permutation}
-use Rattle.std.proofs.lemmas.Map.Keys.{IsDistinct-IsPermutation, apart_from_distinct, sorted_from_all_adjacent}
-use Rattle.std.proofs.lemmas.Map.Lookups.{CmpEqualImpliesEq}
+use Rattle.std.proofs.Common.{zero, suc, ◌≡◌, ◌<◌, ◌+◌, ℕ, Bool, true, false, cond, List, [], ◌∷◌, Option, Some, None, length, map, refl, sym, ap, ◌∙◌, subst, arith}
+use Rattle.std.{proofs.Common.{slice_index_or}, specs.Cmp.{IsTotalOrder, IsEquivalence}, specs.List.{find, AllByRecursion, Contains, IsDistinct}}
+use Rattle.std.specs.{List.Sorted.{IsStrictlySortedBy, IsSortedByKey, IsPermutation}, Ordering.{ordering_reverse, is_lt}, declared.cmp.Ordering.{Ordering}}
+use Rattle.std.{specs.declared.cmp.Ordering.TheVariants.{Less, Equal, Greater}, proofs.lemmas.Bool.{false≢true}, proofs.lemmas.List.{get_or-map, length-map}}
+use Rattle.std.proofs.lemmas.{List.Sorted.{IsPermutation-map, IsPermutation-sym, Contains-permutation}, Map.Keys.{IsDistinct-IsPermutation, apart_from_distinct}}
+use Rattle.std.proofs.lemmas.Map.{Keys.{sorted_from_all_adjacent}, Lookups.{CmpEqualImpliesEq}}
 use Rattle.ppdb_maps.proofs.OneList.{each_found}
 
 module _ {X K : Type 0} (key : X → K) (same : K → K → Bool) (cmp : K → K → Ordering) (equal : IsEquivalence same)

@@ -1,17 +1,11 @@
 -- Bytes have one spelling, and a spelling is of one list of bytes.
-use Rattle.std.proofs.Common.{zero, suc, ◌≡◌, ℕ, ◌+◌, ◌*◌, ◌/◌, ◌%◌, ◌<◌, ◌≤◌, ◌⊎◌, ◌&&◌, ◌++◌, Bool, true, false, cond, List, [], ◌∷◌, length, get_or, refl}
-use Rattle.std.proofs.Common.{Option, Some, None, IfNone, inl, inr, sym, ap, ◌∙◌, subst, arith}
-use Rattle.std.specs.Prelude.{◌==◌, if◌then◌else◌, codes, nat_lt}
-use Rattle.std.specs.List.{flat_map, slice_index}
-use Rattle.std.proofs.lemmas.Bool.{false≢true, and_parts, cases_lt, eqb-true}
-use Rattle.std.proofs.lemmas.Bool.Decides.{nat_tests}
+use Rattle.std.proofs.Common.{zero, suc, ◌≡◌, ℕ, ◌+◌, ◌*◌, ◌/◌, ◌%◌, ◌<◌, ◌≤◌, ◌⊎◌, ◌&&◌, ◌++◌, Bool, true, false, cond, List, [], ◌∷◌, length, get_or, refl, Option}
+use Rattle.std.{proofs.Common.{Some, None, IfNone, inl, inr, sym, ap, ◌∙◌, subst, arith}, specs.Prelude.{◌==◌, if◌then◌else◌, codes, nat_lt}, specs.List.{flat_map}}
+use Rattle.std.{specs.List.{slice_index}, proofs.lemmas.Bool.{false≢true, and_parts, cases_lt, eqb-true}, proofs.lemmas.Bool.Decides.{nat_tests}}
 use Rattle.std.proofs.lemmas.List.{append_assoc, append-nil}
 use Rattle.hex.specs.Hex.{encode_with, lower_digits}
 use Rattle.ppdb_base.specs.Escaped.{is_plain, code_of, escaped_byte, escaped}
-use Rattle.ppdb_maps.specs.Escapes.{IsLowerDigit}
-use Rattle.ppdb_maps.specs.Forms.{AreBytes, IsEscaped}
-use Rattle.ppdb_maps.proofs.Cutting.{end_of_slice}
-use Rattle.ppdb_maps.proofs.OnePass.{after}
+use Rattle.ppdb_maps.{specs.Escapes.{IsLowerDigit}, specs.Forms.{AreBytes, IsEscaped}, proofs.Cutting.{end_of_slice}, proofs.OnePass.{after}}
 
 -- ---- digits
 

@@ -1,24 +1,12 @@
 -- Lines that report something and break no rule.
-use Rattle.std.proofs.Common.{◌≡◌, ℕ, ◌+◌, ◌<◌, ◌≤◌, ◌++◌, Bool, true, false, List, [], ◌∷◌, length, Option, Some, None, refl}
-use Rattle.std.proofs.Common.{sym, ap, subst, ◌∙◌, arith, inl, inr}
-use Rattle.std.specs.Prelude.{codes, IsSome, IsTrue}
-use Rattle.std.specs.Fmt.{decimal}
-use Rattle.std.proofs.lemmas.Fmt.{decimal_digit, decimal_step}
-use Rattle.ppdb_base.specs.declared.offsets.Run.{Run}
-use Rattle.ppdb_maps.specs.Map.{MethodLine}
-use Rattle.ppdb_maps.specs.Words.{IsSilent, line_words}
-use Rattle.ppdb_maps.specs.Forms.{IsNumber, IsTable, Tells, told, rows_line, row_line, method_line, run_line}
-use Rattle.ppdb_maps.specs.Before.{count_in, has_image_in, method_in, drop_in, methods_of, follows_method}
-use Rattle.ppdb_maps.specs.Rules.{Breaks, Keeps, BeginsEarly, EndsBeyond, second_rows, second_row, row_alone, dropped_row, second_method}
-use Rattle.ppdb_maps.specs.Rules.{dropped_method, run_alone, run_early, run_long}
-use Rattle.ppdb_maps.specs.declared.line.Form.TheVariants.{TableRows, RowMove, MethodSizes, OffsetRun}
-use Rattle.ppdb_maps.specs.declared.line.Line.{Line}
-use Rattle.ppdb_maps.specs.declared.line.Line.TheVariants.{Rows, Row, Method, Kept}
-use Rattle.ppdb_maps.specs.declared.rule.Rule.{Rule}
-use Rattle.ppdb_maps.proofs.Saying.{breaks_said}
-use Rattle.ppdb_maps.specs.Text.{Read, further}
-use Rattle.ppdb_base.specs.declared.limits.TheConstants.{MAX_ROWS, MAX_OFFSET}
-use Rattle.ppdb_maps.proofs.Numbers.{table_of_digits}
+use Rattle.std.proofs.Common.{◌≡◌, ℕ, ◌+◌, ◌<◌, ◌≤◌, ◌++◌, Bool, true, false, List, [], ◌∷◌, length, Option, Some, None, refl, sym, ap, subst, ◌∙◌, arith, inl, inr}
+use Rattle.std.{specs.Prelude.{codes, IsSome, IsTrue}, specs.Fmt.{decimal}, proofs.lemmas.Fmt.{decimal_digit, decimal_step}}
+use Rattle.ppdb_base.specs.declared.{offsets.Run.{Run}, limits.TheConstants.{MAX_ROWS, MAX_OFFSET}}
+use Rattle.ppdb_maps.specs.{Map.{MethodLine}, Words.{IsSilent, line_words}, Forms.{IsNumber, IsTable, Tells, told, rows_line, row_line, method_line, run_line}}
+use Rattle.ppdb_maps.specs.{Before.{count_in, has_image_in, method_in, drop_in, methods_of, follows_method}, Rules.{Breaks, Keeps, BeginsEarly, EndsBeyond}}
+use Rattle.ppdb_maps.specs.Rules.{second_rows, second_row, row_alone, dropped_row, second_method, dropped_method, run_alone, run_early, run_long}
+use Rattle.ppdb_maps.specs.declared.line.{Form.TheVariants.{TableRows, RowMove, MethodSizes, OffsetRun}, Line.{Line}, Line.TheVariants.{Rows, Row, Method, Kept}}
+use Rattle.ppdb_maps.{specs.declared.rule.Rule.{Rule}, proofs.Saying.{breaks_said}, specs.Text.{Read, further}, proofs.Numbers.{table_of_digits}}
 
 digit : (n : ℕ) → n < 10 → (48 + n) ∷ [] ≡ decimal n
 digit n h = sym (decimal_digit n h)

@@ -1,7 +1,6 @@
 -- What the search over rising runs finds is what the relations say.
 use Rattle.std.proofs.Common.{◌≡◌, ℕ, Option, Some, None, ap, arith, subst}
-use Rattle.ppdb_base.specs.Offsets.{Offsets, Rise, IsNextImage, KeepsBetween, next_image, stop_runs, Moves}
-use Rattle.ppdb_base.proofs.Moved.{is_kept, keeps_between, moved_kept}
+use Rattle.ppdb_base.{specs.Offsets.{Offsets, Rise, IsNextImage, KeepsBetween, next_image, stop_runs, Moves}, proofs.Moved.{is_kept, keeps_between, moved_kept}}
 use Rattle.ppdb_base.proofs.Stops.{is_next, moves_same, next_is, NextIs}
 use Rattle.ppdb_maps_laws.specs.Searched.{OffsetsAreMoved}
 

@@ -1,15 +1,8 @@
 -- What the lines before one answer, where the entries from there on are still ahead, and all of them together answer as the map does.
-use Rattle.std.proofs.Common.{ℕ, ◌≡◌, ◌||◌, Bool, true, false, cond, List, [], ◌∷◌, Option, Some, None, refl, sym, ◌∙◌, ap, map, subst}
-use Rattle.std.specs.Prelude.{nat_eq, is_some}
-use Rattle.std.specs.List.{find, list_any, AllByRecursion}
-use Rattle.std.specs.List.Sorted.{IsStrictlySortedBy}
-use Rattle.std.specs.Option.{option_map, option_or}
-use Rattle.std.specs.Ordering.{nat_cmp, ordering_reverse}
-use Rattle.std.specs.Cmp.{IsTotalOrder}
-use Rattle.std.specs.declared.cmp.Ordering.{Ordering}
-use Rattle.std.specs.declared.cmp.Ordering.TheVariants.{Less, Equal, Greater}
-use Rattle.std.proofs.lemmas.Bool.{false≢true, eqb-true, eq-eqb}
-use Rattle.std.proofs.lemmas.Cmp.{nat_cmp_total, nat_eq_equiv}
+use Rattle.std.{proofs.Common.{ℕ, ◌≡◌, ◌||◌, Bool, true, false, cond, List, [], ◌∷◌, Option, Some, None, refl, sym, ◌∙◌, ap, map, subst}, specs.Prelude.{nat_eq}}
+use Rattle.std.specs.{Prelude.{is_some}, List.{find, list_any, AllByRecursion}, List.Sorted.{IsStrictlySortedBy}, Option.{option_map, option_or}, Ordering.{nat_cmp}}
+use Rattle.std.specs.{Ordering.{ordering_reverse}, Cmp.{IsTotalOrder}, declared.cmp.Ordering.{Ordering}, declared.cmp.Ordering.TheVariants.{Less, Equal, Greater}}
+use Rattle.std.proofs.lemmas.{Bool.{false≢true, eqb-true, eq-eqb}, Cmp.{nat_cmp_total, nat_eq_equiv}}
 
 -- what is answered is below all that is ahead, and what is answered or ahead is what all answer
 pub record Ahead {X K V : Type 0} (key : X → K) (val : X → V) (same : K → K → Bool) (cmp : K → K → Ordering) (answers : K → Option V) (xs : List X)

@@ -1,14 +1,8 @@
 -- Items that are put in the order of their keys, in place of an item with the same key.
-use Rattle.std.proofs.Common.{ℕ, ◌≡◌, ◌||◌, Bool, true, false, cond, List, [], ◌∷◌, Option, Some, map, refl, sym, ap, ◌∙◌, subst, arith}
-use Rattle.std.specs.Prelude.{nat_eq, is_some}
-use Rattle.std.specs.Cmp.{IsTotalOrder}
-use Rattle.std.specs.List.{find, list_any, AllByRecursion}
-use Rattle.std.specs.List.Sorted.{IsStrictlySortedBy}
-use Rattle.std.specs.Ordering.{match_ordering, ordering_reverse}
-use Rattle.std.specs.declared.cmp.Ordering.{Ordering}
-use Rattle.std.specs.declared.cmp.Ordering.TheVariants.{Less, Equal, Greater}
-use Rattle.std.proofs.lemmas.Bool.Decides.{nat_tests}
-use Rattle.std.proofs.lemmas.Map.Lookups.{CmpEqualImpliesEq}
+use Rattle.std.{proofs.Common.{ℕ, ◌≡◌, ◌||◌, Bool, true, false, cond, List, [], ◌∷◌, Option, Some, map, refl, sym, ap, ◌∙◌, subst, arith}, specs.Prelude.{nat_eq}}
+use Rattle.std.specs.{Prelude.{is_some}, Cmp.{IsTotalOrder}, List.{find, list_any, AllByRecursion}, List.Sorted.{IsStrictlySortedBy}, Ordering.{match_ordering}}
+use Rattle.std.specs.{Ordering.{ordering_reverse}, declared.cmp.Ordering.{Ordering}, declared.cmp.Ordering.TheVariants.{Less, Equal, Greater}}
+use Rattle.std.proofs.lemmas.{Bool.Decides.{nat_tests}, Map.Lookups.{CmpEqualImpliesEq}}
 
 module _ {X K : Type 0} (key : X → K) (same : K → K → Bool) (cmp : K → K → Ordering) (is_same : (a b : K) → same a b ≡ true → a ≡ b)
     (total : IsTotalOrder cmp) (exact : CmpEqualImpliesEq cmp) where

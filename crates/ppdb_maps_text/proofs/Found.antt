@@ -1,11 +1,7 @@
 -- What is found by its number in a list that is made from numbers.
-use Rattle.std.proofs.Common.{◌≡◌, ℕ, ◌&&◌, ◌||◌, ◌++◌, Bool, true, false, cond, List, [], ◌∷◌, Option, Some, None, refl, sym, ◌∙◌, ap, inl, inr}
-use Rattle.std.proofs.Common.{map, subst}
-use Rattle.std.specs.Prelude.{nat_eq, is_some}
-use Rattle.std.specs.List.{filter, filter_map, flat_map, find, list_any, cons_option}
-use Rattle.std.specs.Option.{option_or}
-use Rattle.std.proofs.lemmas.Bool.{cases_lt, eq-eqb, ne_eqb, lt-ltb, le-ltb}
-use Rattle.std.proofs.lemmas.List.Folds.{find-append}
+use Rattle.std.proofs.Common.{◌≡◌, ℕ, ◌&&◌, ◌||◌, ◌++◌, Bool, true, false, cond, List, [], ◌∷◌, Option, Some, None, refl, sym, ◌∙◌, ap, inl, inr, map, subst}
+use Rattle.std.specs.{Prelude.{nat_eq, is_some}, List.{filter, filter_map, flat_map, find, list_any, cons_option}, Option.{option_or}}
+use Rattle.std.proofs.lemmas.{Bool.{cases_lt, eq-eqb, ne_eqb, lt-ltb, le-ltb}, List.Folds.{find-append}}
 use Rattle.ppdb_maps_text.specs.Ascending.{put_once, ascending}
 use Rattle.ppdb_maps.proofs.OneMap.{same_or_apart}
 

@@ -1,42 +1,20 @@
 -- What is known once the lines of a text were read down to some line: what they answer, and what is still ahead.
-use Rattle.std.proofs.Common.{ℕ, ◌≡◌, ◌≤◌, ◌⊎◌, ◌&&◌, ◌||◌, ◌++◌, Bool, true, false, cond, List, [], ◌∷◌, Option, Some, None, refl, sym, ap, ◌∙◌, subst, inl, inr, map, lit≤}
-use Rattle.std.proofs.Common.{arith}
-use Rattle.std.specs.Prelude.{nat_eq, bytes_eq, is_some}
-use Rattle.std.specs.Cmp.Lexicographic.{slice_cmp, nat_list_cmp_total}
-use Rattle.std.specs.List.{AllByRecursion, find}
-use Rattle.std.specs.Ordering.{nat_cmp}
-use Rattle.std.specs.declared.cmp.Ordering.TheVariants.{Less}
-use Rattle.std.proofs.lemmas.Bool.{false≢true, eq-eqb}
-use Rattle.std.proofs.lemmas.Cmp.{nat_cmp_total}
-use Rattle.std.proofs.lemmas.List.{append_assoc}
-use Rattle.ppdb_maps.specs.declared.entries.Count.{Count}
-use Rattle.ppdb_maps.specs.declared.entries.RowLine.{RowLine}
-use Rattle.ppdb_maps.specs.declared.entries.CrossLine.{CrossLine}
-use Rattle.ppdb_maps.specs.declared.entries.GoneLine.{GoneLine}
-use Rattle.ppdb_maps.specs.declared.entries.SlotImage.{SlotImage}
-use Rattle.ppdb_maps.specs.declared.entries.SignatureImage.{SignatureImage}
-use Rattle.ppdb_maps.specs.declared.entries.NameLine.{NameLine}
-use Rattle.ppdb_maps.specs.declared.line.Line.{Line}
-use Rattle.ppdb_maps.specs.declared.line.Line.TheVariants.{Rows, Row, Cross, Gone, Dropped, Slots, Document}
-use Rattle.ppdb_maps.specs.declared.rule.Rule.{Rule}
-use Rattle.ppdb_maps.specs.Before.{count_in, row_in, cross_in, gone_in, has_image_in, shares_in, method_in, methods_of, drop_in, slots_in, slot_in, signature_in, document_in}
-use Rattle.ppdb_maps.specs.Before.{link_in}
-use Rattle.ppdb_maps.specs.Gathered.{same_pair}
-use Rattle.ppdb_maps.specs.Map.{Map, MethodLine, pair_cmp, count_of, row_line, cross_line, has_gone_line, is_dropped, has_slots, slot_line, signature_line, document_line}
-use Rattle.ppdb_maps.specs.Readable.{IsCount, IsRow, IsRowOf, IsCrossOf, IsGoneOf, IsSlottedOf, IsSlotOf, IsSignatureOf, AreNames}
-use Rattle.ppdb_maps.specs.Rules.{Breaks, second_rows, second_drop, second_slots}
-use Rattle.ppdb_maps.specs.Rules.{drop_named, dropped_slots}
-use Rattle.ppdb_maps.specs.Text.{Read, further}
-use Rattle.ppdb_maps.proofs.OneMap.{same_number, pair_is, pair_total}
-use Rattle.ppdb_maps.proofs.Named.{same_bytes}
-use Rattle.ppdb_maps.proofs.Refusing.{slot_keeps, signature_keeps, document_keeps, row_keeps, cross_keeps, gone_keeps}
-use Rattle.ppdb_maps.proofs.Saying.{breaks_said}
-use Rattle.ppdb_maps_text.specs.MapTexts.{version_of, has_items, line_text}
-use Rattle.ppdb_maps_text.proofs.Ahead.{Ahead, AheadOf, ahead_same, none_ahead, not_yet, steps, not_before, before, not_yet_of, steps_of, not_before_of, none_of_them}
-use Rattle.ppdb_maps_text.proofs.Ahead.{before_of}
-use Rattle.ppdb_maps_text.proofs.OneLine.{has_line}
-use Rattle.ppdb_maps_text.proofs.Told.{IsTold, rows_told, row_told, cross_told, gone_told, drop_told, slots_told, slot_told, signature_told, document_told}
-use Rattle.ppdb_maps_text.proofs.Words.{IsPlain}
+use Rattle.std.proofs.Common.{ℕ, ◌≡◌, ◌≤◌, ◌⊎◌, ◌&&◌, ◌||◌, ◌++◌, Bool, true, false, cond, List, [], ◌∷◌, Option, Some, None, refl, sym, ap, ◌∙◌, subst, inl, inr}
+use Rattle.std.{proofs.Common.{map, lit≤, arith}, specs.Prelude.{nat_eq, bytes_eq, is_some}, specs.Cmp.Lexicographic.{slice_cmp, nat_list_cmp_total}}
+use Rattle.std.{specs.List.{AllByRecursion, find}, specs.Ordering.{nat_cmp}, specs.declared.cmp.Ordering.TheVariants.{Less}, proofs.lemmas.Bool.{false≢true, eq-eqb}}
+use Rattle.std.proofs.lemmas.{Cmp.{nat_cmp_total}, List.{append_assoc}}
+use Rattle.ppdb_maps.specs.declared.entries.{Count.{Count}, RowLine.{RowLine}, CrossLine.{CrossLine}, GoneLine.{GoneLine}, SlotImage.{SlotImage}}
+use Rattle.ppdb_maps.specs.declared.{entries.SignatureImage.{SignatureImage}, entries.NameLine.{NameLine}, line.Line.{Line}, line.Line.TheVariants.{Rows, Row}}
+use Rattle.ppdb_maps.specs.{declared.line.Line.TheVariants.{Cross, Gone, Dropped, Slots, Document}, declared.rule.Rule.{Rule}, Before.{count_in, row_in, cross_in}}
+use Rattle.ppdb_maps.specs.Before.{gone_in, has_image_in, shares_in, method_in, methods_of, drop_in, slots_in, slot_in, signature_in, document_in, link_in}
+use Rattle.ppdb_maps.specs.{Gathered.{same_pair}, Map.{Map, MethodLine, pair_cmp, count_of, row_line, cross_line, has_gone_line, is_dropped, has_slots, slot_line}}
+use Rattle.ppdb_maps.specs.{Map.{signature_line, document_line}, Readable.{IsCount, IsRow, IsRowOf, IsCrossOf, IsGoneOf, IsSlottedOf, IsSlotOf, IsSignatureOf}}
+use Rattle.ppdb_maps.specs.{Readable.{AreNames}, Rules.{Breaks, second_rows, second_drop, second_slots, drop_named, dropped_slots}, Text.{Read, further}}
+use Rattle.ppdb_maps.proofs.{OneMap.{same_number, pair_is, pair_total}, Named.{same_bytes}, Refusing.{slot_keeps, signature_keeps, document_keeps, row_keeps}}
+use Rattle.ppdb_maps.proofs.{Refusing.{cross_keeps, gone_keeps}, Saying.{breaks_said}}
+use Rattle.ppdb_maps_text.{specs.MapTexts.{version_of, has_items, line_text}, proofs.Ahead.{Ahead, AheadOf, ahead_same, none_ahead, not_yet, steps, not_before}}
+use Rattle.ppdb_maps_text.proofs.{Ahead.{before, not_yet_of, steps_of, not_before_of, none_of_them, before_of}, OneLine.{has_line}, Told.{IsTold, rows_told}}
+use Rattle.ppdb_maps_text.proofs.{Told.{row_told, cross_told, gone_told, drop_told, slots_told, slot_told, signature_told, document_told}, Words.{IsPlain}}
 use Rattle.ppdb_maps_text.proofs.Parts.{slot_says, signature_says, has_newer}
 
 -- a row with a line, by its table and its number

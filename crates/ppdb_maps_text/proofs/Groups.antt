@@ -1,11 +1,7 @@
 -- Entries that ascend by a number, kept apart by the numbers that they have, are the entries in their order.
 use Rattle.std.proofs.Common.{ℕ, ◌≡◌, ◌<◌, ◌≤◌, ◌||◌, ◌++◌, Bool, true, false, cond, List, [], ◌∷◌, Some, refl, sym, ◌∙◌, ap, map, subst, arith, inl, inr}
-use Rattle.std.specs.Prelude.{nat_eq, filter}
-use Rattle.std.specs.List.{find, list_any, flat_map, AllByRecursion}
-use Rattle.std.specs.List.Sorted.{IsStrictlySortedBy}
-use Rattle.std.specs.Ordering.{nat_cmp}
-use Rattle.std.specs.declared.cmp.Ordering.TheVariants.{Less, Equal, Greater}
-use Rattle.std.proofs.lemmas.Bool.{false≢true, eqb-true, ne_eqb, cases_lt, le-ltb}
+use Rattle.std.specs.{Prelude.{nat_eq, filter}, List.{find, list_any, flat_map, AllByRecursion}, List.Sorted.{IsStrictlySortedBy}, Ordering.{nat_cmp}}
+use Rattle.std.{specs.declared.cmp.Ordering.TheVariants.{Less, Equal, Greater}, proofs.lemmas.Bool.{false≢true, eqb-true, ne_eqb, cases_lt, le-ltb}}
 use Rattle.ppdb_maps.specs.Map.{pair_cmp}
 
 -- below by the order is below

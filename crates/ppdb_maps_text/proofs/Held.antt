@@ -1,29 +1,14 @@
 -- The map that lines say, whichever they are.
-use Rattle.std.proofs.Common.{ℕ, ◌≡◌, ◌++◌, Bool, true, false, cond, List, [], ◌∷◌, Option, Some, None, map, refl, sym, ap, ◌∙◌, subst}
-use Rattle.std.specs.Prelude.{nat_eq, bytes_eq, is_some, option_map}
-use Rattle.std.specs.Cmp.Lexicographic.{slice_cmp, nat_list_cmp_total}
-use Rattle.std.specs.List.{find, list_any}
-use Rattle.std.specs.List.Sorted.{IsStrictlySortedBy}
-use Rattle.std.specs.Ordering.{nat_cmp}
-use Rattle.std.proofs.lemmas.Cmp.{nat_cmp_total}
-use Rattle.std.proofs.lemmas.Map.Lookups.{exact_unsigned, exact_bytes}
+use Rattle.std.{proofs.Common.{ℕ, ◌≡◌, ◌++◌, Bool, true, false, cond, List, [], ◌∷◌, Option, Some, None, map, refl, sym, ap, ◌∙◌, subst}, specs.Prelude.{nat_eq}}
+use Rattle.std.specs.{Prelude.{bytes_eq, is_some, option_map}, Cmp.Lexicographic.{slice_cmp, nat_list_cmp_total}, List.{find, list_any}}
+use Rattle.std.{specs.List.Sorted.{IsStrictlySortedBy}, specs.Ordering.{nat_cmp}, proofs.lemmas.Cmp.{nat_cmp_total}, proofs.lemmas.Map.Lookups.{exact_unsigned}}
+use Rattle.std.proofs.lemmas.Map.Lookups.{exact_bytes}
 use Rattle.ppdb_base.specs.declared.offsets.Run.{Run}
-use Rattle.ppdb_maps.specs.declared.entries.Count.{Count}
-use Rattle.ppdb_maps.specs.declared.entries.RowLine.{RowLine}
-use Rattle.ppdb_maps.specs.declared.entries.CrossLine.{CrossLine}
-use Rattle.ppdb_maps.specs.declared.entries.GoneLine.{GoneLine}
-use Rattle.ppdb_maps.specs.declared.entries.SlotImage.{SlotImage}
-use Rattle.ppdb_maps.specs.declared.entries.SignatureImage.{SignatureImage}
-use Rattle.ppdb_maps.specs.declared.entries.NameLine.{NameLine}
-use Rattle.ppdb_maps.specs.declared.line.Line.{Line}
-use Rattle.ppdb_maps.specs.declared.line.Line.TheVariants.{Silent, Rows, Row, Cross, Gone, Method, Kept, Dropped, Slots, Slot, Signature, Document, Link, Shares}
-use Rattle.ppdb_maps.specs.Before.{gone_in, methods_of}
-use Rattle.ppdb_maps.specs.Gathered.{same_pair}
-use Rattle.ppdb_maps.specs.Map.{Map, MethodLine, map_of, pair_cmp, method_line}
-use Rattle.ppdb_maps.specs.Text.{HoldsWhat}
-use Rattle.ppdb_maps.proofs.Named.{same_bytes}
-use Rattle.ppdb_maps.proofs.OneMap.{same_number, pair_is, pair_total, pair_exact}
-use Rattle.ppdb_maps.proofs.OneList.{any_is}
+use Rattle.ppdb_maps.specs.declared.entries.{Count.{Count}, RowLine.{RowLine}, CrossLine.{CrossLine}, GoneLine.{GoneLine}, SlotImage.{SlotImage}}
+use Rattle.ppdb_maps.specs.declared.{entries.SignatureImage.{SignatureImage}, entries.NameLine.{NameLine}, line.Line.{Line}, line.Line.TheVariants.{Silent, Rows}}
+use Rattle.ppdb_maps.specs.declared.line.Line.TheVariants.{Row, Cross, Gone, Method, Kept, Dropped, Slots, Slot, Signature, Document, Link, Shares}
+use Rattle.ppdb_maps.specs.{Before.{gone_in, methods_of}, Gathered.{same_pair}, Map.{Map, MethodLine, map_of, pair_cmp, method_line}, Text.{HoldsWhat}}
+use Rattle.ppdb_maps.proofs.{Named.{same_bytes}, OneMap.{same_number, pair_is, pair_total, pair_exact}, OneList.{any_is}}
 use Rattle.ppdb_maps_text.proofs.Entries.{put, put_found, put_rises, any_found}
 
 -- ---- an item more in each list

@@ -1,21 +1,11 @@
 -- Each text has a map or a refused line: it cannot be that it has neither.
 use Rattle.std.proofs.Common.{ℕ, zero, suc, ◌≡◌, ◌<◌, ◌++◌, Bool, true, false, List, [], ◌∷◌, length, refl, sym, ap, ◌∙◌, subst, inl, inr, arith}
-use Rattle.std.specs.Prelude.{◌==◌}
-use Rattle.std.specs.Str.Lines.{lines_of_parts, strip_carriage_return}
-use Rattle.std.proofs.lemmas.Bool.{cases_lt, ne_eqb}
+use Rattle.std.{specs.Prelude.{◌==◌}, specs.Str.Lines.{lines_of_parts, strip_carriage_return}, proofs.lemmas.Bool.{cases_lt, ne_eqb}}
 use Rattle.std.proofs.lemmas.List.{append-nil, append_assoc}
-use Rattle.ppdb_maps.specs.declared.line.Line.{Line}
-use Rattle.ppdb_maps.specs.declared.line.Line.TheVariants.{Silent}
-use Rattle.ppdb_maps.specs.declared.rule.Rule.{Rule}
-use Rattle.ppdb_maps.specs.declared.rule.Rule.TheVariants.{UnknownForm, NumberFaults}
-use Rattle.ppdb_maps.specs.Forms.{IsHead, Tells, silent, told}
-use Rattle.ppdb_maps.specs.Map.{Map}
-use Rattle.ppdb_maps.specs.Rules.{BreaksLine, BreaksFirst, Keeps, kind_of, no_form, no_value}
-use Rattle.ppdb_maps.specs.Text.{IsMapOf, Read, Refused, start, further, at_head, at_line}
-use Rattle.ppdb_maps.specs.Words.{IsSilent, text_lines}
-use Rattle.ppdb_maps_text.specs.Laws.{TextsAreJudged}
-use Rattle.ppdb_maps_text.proofs.Held.{held}
-use Rattle.ppdb_maps.specs.Cuts.{parts_at}
+use Rattle.ppdb_maps.specs.declared.{line.Line.{Line}, line.Line.TheVariants.{Silent}, rule.Rule.{Rule}, rule.Rule.TheVariants.{UnknownForm, NumberFaults}}
+use Rattle.ppdb_maps.specs.{Forms.{IsHead, Tells, silent, told}, Map.{Map}, Rules.{BreaksLine, BreaksFirst, Keeps, kind_of, no_form, no_value}, Text.{IsMapOf, Read}}
+use Rattle.ppdb_maps.specs.{Text.{Refused, start, further, at_head, at_line}, Words.{IsSilent, text_lines}, Cuts.{parts_at}}
+use Rattle.ppdb_maps_text.{specs.Laws.{TextsAreJudged}, proofs.Held.{held}}
 
 -- ---- each text has a first line
 

@@ -1,28 +1,13 @@
 -- The methods of a map's text are read with their runs.
-use Rattle.std.proofs.Common.{ℕ, ◌≡◌, ◌<◌, ◌≤◌, ◌++◌, true, false, List, [], ◌∷◌, Option, refl, sym, ap, ◌∙◌, subst, arith, inl, inr, map}
-use Rattle.std.specs.Prelude.{nat_eq, is_some}
-use Rattle.std.specs.List.{AllByRecursion, find, flat_map}
-use Rattle.std.specs.Option.{option_map}
-use Rattle.std.specs.Ordering.{nat_cmp}
-use Rattle.std.proofs.lemmas.Bool.{false≢true}
-use Rattle.std.proofs.lemmas.Cmp.{nat_cmp_total}
-use Rattle.std.proofs.lemmas.List.{append_assoc, append-nil}
-use Rattle.ppdb_base.specs.declared.offsets.Run.{Run}
-use Rattle.ppdb_base.specs.Offsets.{RiseFrom, end_of, new_end_of}
-use Rattle.ppdb_maps.specs.declared.line.Line.{Line}
-use Rattle.ppdb_maps.specs.declared.line.Line.TheVariants.{Method, Kept}
-use Rattle.ppdb_maps.specs.declared.rule.Rule.{Rule}
-use Rattle.ppdb_maps.specs.Before.{methods_of, follows_method, with_run, drop_in}
-use Rattle.ppdb_maps.specs.Map.{Map, MethodLine, is_dropped}
-use Rattle.ppdb_maps.specs.Readable.{IsLineOf}
-use Rattle.ppdb_maps.specs.Rules.{Breaks, BeginsEarly, EndsBeyond, run_alone, run_early, run_long}
-use Rattle.ppdb_maps.proofs.OneMap.{same_number}
-use Rattle.ppdb_maps.proofs.Refusing.{method_keeps}
-use Rattle.ppdb_maps_text.specs.MapTexts.{version_of, line_text, method_says}
-use Rattle.ppdb_maps_text.proofs.Ahead.{Ahead, not_yet, steps, not_before_of}
-use Rattle.ppdb_maps_text.proofs.Got.{Got, from_three, read_on}
-use Rattle.ppdb_maps_text.proofs.Told.{method_told, run_told}
-use Rattle.ppdb_base.specs.declared.limits.TheConstants.{MAX_OFFSET}
+use Rattle.std.{proofs.Common.{ℕ, ◌≡◌, ◌<◌, ◌≤◌, ◌++◌, true, false, List, [], ◌∷◌, Option, refl, sym, ap, ◌∙◌, subst, arith, inl, inr, map}, specs.Prelude.{nat_eq}}
+use Rattle.std.specs.{Prelude.{is_some}, List.{AllByRecursion, find, flat_map}, Option.{option_map}, Ordering.{nat_cmp}}
+use Rattle.std.proofs.lemmas.{Bool.{false≢true}, Cmp.{nat_cmp_total}, List.{append_assoc, append-nil}}
+use Rattle.ppdb_base.specs.{declared.offsets.Run.{Run}, Offsets.{RiseFrom, end_of, new_end_of}, declared.limits.TheConstants.{MAX_OFFSET}}
+use Rattle.ppdb_maps.specs.{declared.line.Line.{Line}, declared.line.Line.TheVariants.{Method, Kept}, declared.rule.Rule.{Rule}, Before.{methods_of, follows_method}}
+use Rattle.ppdb_maps.specs.{Before.{with_run, drop_in}, Map.{Map, MethodLine, is_dropped}, Readable.{IsLineOf}, Rules.{Breaks, BeginsEarly, EndsBeyond, run_alone}}
+use Rattle.ppdb_maps.{specs.Rules.{run_early, run_long}, proofs.OneMap.{same_number}, proofs.Refusing.{method_keeps}}
+use Rattle.ppdb_maps_text.{specs.MapTexts.{version_of, line_text, method_says}, proofs.Ahead.{Ahead, not_yet, steps, not_before_of}, proofs.Got.{Got, from_three}}
+use Rattle.ppdb_maps_text.proofs.{Got.{read_on}, Told.{method_told, run_told}}
 
 -- the method's line among these
 abbrev pub line_among : List MethodLine → ℕ → Option MethodLine

@@ -1,20 +1,10 @@
 -- A row has one line at most: of four words, of five, or `gone`.
 use Rattle.std.proofs.Common.{ℕ, ◌≡◌, ◌&&◌, ◌||◌, Bool, true, false, cond, List, [], ◌∷◌, Option, Some, None, refl, sym, ap, ◌∙◌, subst, arith, inl, inr}
-use Rattle.std.specs.Prelude.{nat_eq, is_some}
-use Rattle.std.specs.List.{find}
-use Rattle.std.specs.Option.{option_map}
-use Rattle.std.proofs.lemmas.Bool.{false≢true, eqb-true, and_parts, eq-eqb, ne_eqb}
-use Rattle.ppdb_maps.specs.declared.entries.RowLine.{RowLine}
-use Rattle.ppdb_maps.specs.declared.entries.CrossLine.{CrossLine}
-use Rattle.ppdb_maps.specs.declared.entries.GoneLine.{GoneLine}
-use Rattle.ppdb_maps.specs.declared.line.Line.{Line}
-use Rattle.ppdb_maps.specs.declared.line.Line.TheVariants.{Row, Cross, Gone}
-use Rattle.ppdb_maps.specs.Forms.{Crosses}
-use Rattle.ppdb_maps.specs.Map.{Map, row_line, cross_line, has_gone_line, told_image, line_image}
-use Rattle.ppdb_maps.specs.Readable.{IsReadable, IsRowOf, IsCrossOf, IsGoneOf}
-use Rattle.ppdb_maps.proofs.OneList.{any_is}
-use Rattle.ppdb_maps_text.specs.MapTexts.{image_says, has_items}
-use Rattle.ppdb_maps_text.proofs.Groups.{of_found}
+use Rattle.std.{specs.Prelude.{nat_eq, is_some}, specs.List.{find}, specs.Option.{option_map}, proofs.lemmas.Bool.{false≢true, eqb-true, and_parts, eq-eqb, ne_eqb}}
+use Rattle.ppdb_maps.specs.declared.{entries.RowLine.{RowLine}, entries.CrossLine.{CrossLine}, entries.GoneLine.{GoneLine}, line.Line.{Line}}
+use Rattle.ppdb_maps.specs.{declared.line.Line.TheVariants.{Row, Cross, Gone}, Forms.{Crosses}, Map.{Map, row_line, cross_line, has_gone_line, told_image}}
+use Rattle.ppdb_maps.{specs.Map.{line_image}, specs.Readable.{IsReadable, IsRowOf, IsCrossOf, IsGoneOf}, proofs.OneList.{any_is}}
+use Rattle.ppdb_maps_text.{specs.MapTexts.{image_says, has_items}, proofs.Groups.{of_found}}
 
 -- ---- the line that is found
 

@@ -1,15 +1,9 @@
 -- What is made from numbers that ascend, in their order, ascends by them.
-use Rattle.std.proofs.Common.{ℕ, ◌+◌, ◌≡◌, ◌<◌, ◌≤◌, ◌++◌, Bool, true, false, cond, List, [], ◌∷◌, Option, Some, None, refl, sym, ◌∙◌, map, subst, arith, inl}
-use Rattle.std.proofs.Common.{inr}
-use Rattle.std.specs.Prelude.{nat_eq, nat_lt}
-use Rattle.std.specs.List.{filter, filter_map, flat_map, AllByRecursion, cons_option, range_with_len}
-use Rattle.std.specs.List.Sorted.{IsStrictlySortedBy}
-use Rattle.std.specs.Ordering.{nat_cmp}
-use Rattle.std.specs.declared.cmp.Ordering.TheVariants.{Less, Equal, Greater}
+use Rattle.std.proofs.Common.{ℕ, ◌+◌, ◌≡◌, ◌<◌, ◌≤◌, ◌++◌, Bool, true, false, cond, List, [], ◌∷◌, Option, Some, None, refl, sym, ◌∙◌, map, subst, arith, inl, inr}
+use Rattle.std.{proofs.Common.{zero, suc}, specs.Prelude.{nat_eq, nat_lt}, specs.List.{filter, filter_map, flat_map, AllByRecursion, cons_option, range_with_len}}
+use Rattle.std.specs.{List.Sorted.{IsStrictlySortedBy}, Ordering.{nat_cmp}, declared.cmp.Ordering.TheVariants.{Less, Equal, Greater}}
 use Rattle.std.proofs.lemmas.Bool.{eqb-true, eq-eqb, ne_eqb, cases_lt, lt-ltb, le-ltb}
-use Rattle.std.proofs.Common.{zero, suc}
-use Rattle.ppdb_maps.specs.Map.{pair_cmp}
-use Rattle.ppdb_maps.proofs.OneMap.{same_or_apart}
+use Rattle.ppdb_maps.{specs.Map.{pair_cmp}, proofs.OneMap.{same_or_apart}}
 use Rattle.ppdb_maps_text.specs.Ascending.{put_once, ascending}
 
 -- below by the order is below

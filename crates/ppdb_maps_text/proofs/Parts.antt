@@ -1,10 +1,7 @@
 -- Names of parts of a map's text.
 use Rattle.std.specs.Prelude.{ℕ, ◌||◌, Bool, cond, List, [], ◌∷◌, Option, is_some, map, option_to_list}
-use Rattle.ppdb_maps.specs.declared.entries.SlotImage.{SlotImage}
-use Rattle.ppdb_maps.specs.declared.entries.SignatureImage.{SignatureImage}
-use Rattle.ppdb_maps.specs.declared.line.Line.{Line}
-use Rattle.ppdb_maps.specs.declared.line.Line.TheVariants.{Slot, Signature, Link, Shares}
-use Rattle.ppdb_maps.specs.Map.{Map}
+use Rattle.ppdb_maps.specs.declared.{entries.SlotImage.{SlotImage}, entries.SignatureImage.{SignatureImage}, line.Line.{Line}, line.Line.TheVariants.{Slot}}
+use Rattle.ppdb_maps.specs.{declared.line.Line.TheVariants.{Signature, Link, Shares}, Map.{Map}}
 use Rattle.ppdb_maps_text.specs.MapTexts.{has_items}
 
 abbrev pub slot_says : SlotImage → Line

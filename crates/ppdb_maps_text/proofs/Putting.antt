@@ -1,11 +1,7 @@
 -- What is put one after the other is put as one text.
-use Rattle.std.proofs.Common.{ℕ, zero, suc, ◌≡◌, ◌+◌, ◌<◌, ◌++◌, List, [], ◌∷◌, length, get_or, map, take, sym, ap, ◌∙◌, arith, add-one, subst, Result, Ok, Err, OnOk}
-use Rattle.std.specs.Fmt.{decimal}
-use Rattle.std.proofs.Math.Seq.{take-length}
-use Rattle.std.proofs.lemmas.List.{append_assoc, append-nil, length-append}
-use Rattle.ppdb_maps_text.specs.declared.counted.Counted.{Counted}
-use Rattle.ppdb_maps_text.specs.MapTexts.{spaced, ended}
-use Rattle.ppdb_maps_text.specs.Putting.{Puts}
+use Rattle.std.proofs.Common.{ℕ, zero, suc, ◌≡◌, ◌+◌, ◌<◌, ◌++◌, List, [], ◌∷◌, length, get_or, map, take, sym, ap, ◌∙◌, arith, add-one, subst, Result, Ok, Err}
+use Rattle.std.{proofs.Common.{OnOk}, specs.Fmt.{decimal}, proofs.Math.Seq.{take-length}, proofs.lemmas.List.{append_assoc, append-nil, length-append}}
+use Rattle.ppdb_maps_text.specs.{declared.counted.Counted.{Counted}, MapTexts.{spaced, ended}, Putting.{Puts}}
 
 pub puts_then : (old mid new : Counted) (s t : List ℕ) → Puts old mid s → Puts mid new t → Puts old new (s ++ t)
 puts_then old mid new s t h k =

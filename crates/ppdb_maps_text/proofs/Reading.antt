@@ -1,46 +1,22 @@
 -- The canonical text of a readable map is read as this map.
 use Rattle.std.proofs.Common.{ℕ, ◌≡◌, ◌≤◌, ◌++◌, Bool, true, false, List, [], ◌∷◌, Option, Some, None, refl, sym, ap, ◌∙◌, subst, arith, map, inl, inr}
-use Rattle.std.specs.Prelude.{nat_eq, bytes_eq, is_some, IfSome}
-use Rattle.std.specs.Cmp.Lexicographic.{slice_cmp, nat_list_cmp_total}
-use Rattle.std.specs.List.{AllByRecursion, find, flat_map, list_any}
-use Rattle.std.specs.List.Sorted.{IsStrictlySortedBy}
-use Rattle.std.specs.Option.{option_map}
-use Rattle.std.specs.Ordering.{nat_cmp}
-use Rattle.std.specs.declared.cmp.Ordering.TheVariants.{Less}
-use Rattle.std.proofs.lemmas.Bool.{false≢true, eqb-true}
-use Rattle.std.proofs.lemmas.Cmp.{nat_cmp_total}
-use Rattle.std.proofs.lemmas.List.{append_assoc, append-nil}
-use Rattle.ppdb_maps.specs.declared.entries.Count.{Count}
-use Rattle.ppdb_maps.specs.declared.entries.SlotImage.{SlotImage}
-use Rattle.ppdb_maps.specs.declared.entries.SignatureImage.{SignatureImage}
-use Rattle.ppdb_maps.specs.declared.entries.NameLine.{NameLine}
-use Rattle.ppdb_maps.specs.declared.line.Line.{Line}
-use Rattle.ppdb_maps.specs.declared.line.Line.TheVariants.{Rows, Dropped, Slots, Document, Link, Shares}
-use Rattle.ppdb_maps.specs.Before.{drop_in, shares_in, link_in}
-use Rattle.ppdb_maps.specs.Gathered.{same_pair}
-use Rattle.ppdb_maps.specs.Map.{Map, MethodLine, pair_cmp, count_of, line_image, is_dropped, has_slots, slot_line, signature_line, document_line, slots_of}
-use Rattle.ppdb_maps.specs.Readable.{IsReadable, IsCount, IsRow, IsSlottedOf, IsSlotOf, IsSignatureOf, AreNames}
-use Rattle.ppdb_maps.specs.Forms.{AreBytes, IsHead}
-use Rattle.ppdb_maps.specs.Rules.{Breaks, second_shares}
-use Rattle.ppdb_maps.specs.declared.rule.Rule.{Rule}
-use Rattle.ppdb_maps.specs.Text.{Read, HoldsWhat, start}
-use Rattle.ppdb_maps.proofs.Named.{same_bytes}
-use Rattle.ppdb_maps.proofs.Refusing.{link_keeps}
-use Rattle.ppdb_maps.proofs.OneMap.{same_number, pair_is, pair_total}
-use Rattle.ppdb_maps_text.specs.Laws.{TextsAreRead}
-use Rattle.ppdb_maps_text.specs.MapTexts.{version_of, head_text, line_text, image_says, olds_of, count_says}
-use Rattle.ppdb_maps_text.specs.MapTexts.{slots_say, method_says, map_says}
-use Rattle.ppdb_maps_text.proofs.Ahead.{ahead_same, ahead_of_same, starts, ends, starts_of, ends_of, one_of}
-use Rattle.ppdb_maps_text.proofs.Got.{Got, NoMethods, RowKey, key_of, no_value, there_if, SameImage, add_count, add_row, add_cross, add_gone, add_drop, add_slots, add_slot}
-use Rattle.ppdb_maps_text.proofs.Got.{add_signature, add_document}
+use Rattle.std.specs.{Prelude.{nat_eq, bytes_eq, is_some, IfSome}, Cmp.Lexicographic.{slice_cmp, nat_list_cmp_total}, List.{AllByRecursion, find, flat_map}}
+use Rattle.std.specs.{List.{list_any}, List.Sorted.{IsStrictlySortedBy}, Option.{option_map}, Ordering.{nat_cmp}, declared.cmp.Ordering.TheVariants.{Less}}
+use Rattle.std.proofs.lemmas.{Bool.{false≢true, eqb-true}, Cmp.{nat_cmp_total}, List.{append_assoc, append-nil}}
+use Rattle.ppdb_maps.specs.declared.entries.{Count.{Count}, SlotImage.{SlotImage}, SignatureImage.{SignatureImage}, NameLine.{NameLine}}
+use Rattle.ppdb_maps.specs.{declared.line.Line.{Line}, declared.line.Line.TheVariants.{Rows, Dropped, Slots, Document, Link, Shares}, Before.{drop_in, shares_in}}
+use Rattle.ppdb_maps.specs.{Before.{link_in}, Gathered.{same_pair}, Map.{Map, MethodLine, pair_cmp, count_of, line_image, is_dropped, has_slots, slot_line}}
+use Rattle.ppdb_maps.specs.{Map.{signature_line, document_line, slots_of}, Readable.{IsReadable, IsCount, IsRow, IsSlottedOf, IsSlotOf, IsSignatureOf, AreNames}}
+use Rattle.ppdb_maps.specs.{Forms.{AreBytes, IsHead}, Rules.{Breaks, second_shares}, declared.rule.Rule.{Rule}, Text.{Read, HoldsWhat, start}}
+use Rattle.ppdb_maps.proofs.{Named.{same_bytes}, Refusing.{link_keeps}, OneMap.{same_number, pair_is, pair_total}}
+use Rattle.ppdb_maps_text.specs.{Laws.{TextsAreRead}, MapTexts.{version_of, head_text, line_text, image_says, olds_of, count_says, slots_say, method_says, map_says}}
+use Rattle.ppdb_maps_text.proofs.{Ahead.{ahead_same, ahead_of_same, starts, ends, starts_of, ends_of, one_of}, Got.{Got, NoMethods, RowKey, key_of, no_value}}
+use Rattle.ppdb_maps_text.proofs.Got.{there_if, SameImage, add_count, add_row, add_cross, add_gone, add_drop, add_slots, add_slot, add_signature, add_document}
 use Rattle.ppdb_maps_text.proofs.Got.{read_on, from_three, version_known, shares_newer, crossed_newer, gone_newer, signatures_newer, documents_newer, link_newer}
-use Rattle.ppdb_maps_text.proofs.Told.{link_told, shares_told}
-use Rattle.ppdb_maps_text.proofs.OneLine.{has_line, OneLine, by_row, by_cross, by_gone, one_line, methods_stay, says_row, says_cross, says_gone}
-use Rattle.ppdb_maps_text.proofs.Starting.{keys_of, olds_lined, images_start, same_read, Silent, none_silent, shares_silent, link_silent}
-use Rattle.ppdb_maps_text.proofs.Groups.{regrouped, of_found, of_any, of_passed, of_each}
-use Rattle.ppdb_maps_text.proofs.Methods.{MethodsAhead, LinesAhead, line_among, add_methods}
-use Rattle.ppdb_maps_text.proofs.Words.{IsPlain, lines_ended}
-use Rattle.ppdb_maps_text.proofs.Parts.{slot_says, signature_says, link_says, shares_says}
+use Rattle.ppdb_maps_text.proofs.{Told.{link_told, shares_told}, OneLine.{has_line, OneLine, by_row, by_cross, by_gone, one_line, methods_stay, says_row}}
+use Rattle.ppdb_maps_text.proofs.{OneLine.{says_cross, says_gone}, Starting.{keys_of, olds_lined, images_start, same_read, Silent, none_silent, shares_silent}}
+use Rattle.ppdb_maps_text.proofs.{Starting.{link_silent}, Groups.{regrouped, of_found, of_any, of_passed, of_each}, Methods.{MethodsAhead, LinesAhead, line_among}}
+use Rattle.ppdb_maps_text.proofs.{Methods.{add_methods}, Words.{IsPlain, lines_ended}, Parts.{slot_says, signature_says, link_says, shares_says}}
 
 -- what stands at the start is below what is ahead
 first_below : (c : Count) (cs : List Count) → IsStrictlySortedBy nat_cmp (map (λ (c : Count). c.table) (c ∷ cs))

@@ -1,28 +1,14 @@
 -- Before the lines of tables are read: the rows that have a line are ahead, table by table and by OLD.
 use Rattle.std.proofs.Common.{ℕ, ◌≡◌, ◌&&◌, ◌||◌, ◌++◌, Bool, true, false, List, [], ◌∷◌, Option, Some, None, refl, sym, ap, ◌∙◌, subst, map}
-use Rattle.std.specs.Prelude.{nat_eq, is_some}
-use Rattle.std.specs.List.{AllByRecursion, find, flat_map}
-use Rattle.std.specs.List.Sorted.{IsStrictlySortedBy}
-use Rattle.std.specs.Option.{option_map}
+use Rattle.std.specs.{Prelude.{nat_eq, is_some}, List.{AllByRecursion, find, flat_map}, List.Sorted.{IsStrictlySortedBy}, Option.{option_map}}
 use Rattle.std.proofs.lemmas.Bool.{false≢true, eq-eqb}
-use Rattle.ppdb_maps.specs.declared.entries.Count.{Count}
-use Rattle.ppdb_maps.specs.declared.entries.RowLine.{RowLine}
-use Rattle.ppdb_maps.specs.declared.entries.CrossLine.{CrossLine}
-use Rattle.ppdb_maps.specs.declared.entries.GoneLine.{GoneLine}
-use Rattle.ppdb_maps.specs.declared.line.Line.{Line}
-use Rattle.ppdb_maps.specs.declared.line.Line.TheVariants.{Link, Shares}
-use Rattle.ppdb_maps.specs.Before.{count_in, has_image_in, methods_of, drop_in, slots_in, slot_in, signature_in, document_in}
-use Rattle.ppdb_maps.specs.Gathered.{same_pair}
-use Rattle.ppdb_maps.specs.Map.{Map, pair_cmp, count_of, row_line, cross_line, has_gone_line, rows_of, crossed_of, gone_of}
-use Rattle.ppdb_maps.specs.Readable.{IsReadable}
-use Rattle.ppdb_maps.proofs.OneMap.{pair_is, pair_total}
-use Rattle.ppdb_maps.proofs.OneList.{any_is}
-use Rattle.ppdb_maps_text.specs.MapTexts.{olds_of}
-use Rattle.ppdb_maps_text.proofs.Ahead.{Ahead, starts}
-use Rattle.ppdb_maps_text.proofs.Found.{has, given, has_append, has_ascending, has_key, find_filter, flat_found}
-use Rattle.ppdb_maps_text.proofs.Got.{RowKey, key_of, no_value, there_if, SameImage, Unsaid, unsaid}
-use Rattle.ppdb_maps_text.proofs.OneLine.{has_line, OneLine, by_row, by_cross, by_gone, one_line}
-use Rattle.ppdb_maps_text.proofs.Orders.{Up, ascending_up, flat_pairs}
+use Rattle.ppdb_maps.specs.declared.{entries.Count.{Count}, entries.RowLine.{RowLine}, entries.CrossLine.{CrossLine}, entries.GoneLine.{GoneLine}, line.Line.{Line}}
+use Rattle.ppdb_maps.specs.{declared.line.Line.TheVariants.{Link, Shares}, Before.{count_in, has_image_in, methods_of, drop_in, slots_in, slot_in, signature_in}}
+use Rattle.ppdb_maps.specs.{Before.{document_in}, Gathered.{same_pair}, Map.{Map, pair_cmp, count_of, row_line, cross_line, has_gone_line, rows_of, crossed_of}}
+use Rattle.ppdb_maps.{specs.Map.{gone_of}, specs.Readable.{IsReadable}, proofs.OneMap.{pair_is, pair_total}, proofs.OneList.{any_is}}
+use Rattle.ppdb_maps_text.{specs.MapTexts.{olds_of}, proofs.Ahead.{Ahead, starts}, proofs.Found.{has, given, has_append, has_ascending, has_key, find_filter}}
+use Rattle.ppdb_maps_text.proofs.{Found.{flat_found}, Got.{RowKey, key_of, no_value, there_if, SameImage, Unsaid, unsaid}, OneLine.{has_line, OneLine, by_row}}
+use Rattle.ppdb_maps_text.proofs.{OneLine.{by_cross, by_gone, one_line}, Orders.{Up, ascending_up, flat_pairs}}
 
 -- ---- the rows with a line
 

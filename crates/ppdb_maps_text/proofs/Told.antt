@@ -1,27 +1,16 @@
 -- Each line of a map's text says what it was spelled from.
-use Rattle.std.proofs.Common.{ℕ, ◌≡◌, ◌≢◌, ◌<◌, ◌≤◌, ◌/◌, ◌%◌, List, [], ◌∷◌, length, refl, ap, ◌∙◌, subst, arith, inl, inr}
-use Rattle.std.specs.Char.{digit_char}
-use Rattle.std.specs.Fmt.{decimal}
-use Rattle.std.specs.List.{AllByRecursion}
-use Rattle.std.proofs.lemmas.Bool.{cases_lt, lt-ltb, le-ltb}
-use Rattle.ppdb_base.specs.declared.offsets.Run.{Run}
-use Rattle.ppdb_maps.specs.Words.{IsSilent}
-use Rattle.ppdb_maps.specs.Forms.{name_of, words_in, since, IsNumber, IsTable, MAX_SLOT, Values, Tells, told}
-use Rattle.ppdb_maps.specs.Forms.{rows_line, row_line, method_line, run_line, drop_line, slots_line, slot_line, signature_line, document_line, link_line, AreBytes, IsEscaped}
-use Rattle.ppdb_maps.specs.Forms.{cross_line, gone_line, shares_line, IsTypeTable, Crosses}
-use Rattle.ppdb_maps.specs.declared.line.Form.{Form}
-use Rattle.ppdb_maps.specs.declared.line.Form.TheVariants.{TableRows, RowMove, MethodSizes, OffsetRun, MethodDrop, MethodSlots, SlotMove, MethodSignature}
-use Rattle.ppdb_maps.specs.declared.line.Form.TheVariants.{DocumentRename, LinkValue, CrossMove, RowGone, Sharing}
-use Rattle.ppdb_maps.specs.declared.line.Line.{Line}
-use Rattle.ppdb_maps.specs.declared.line.Line.TheVariants.{Rows, Row, Cross, Gone, Method, Kept, Dropped, Slots, Slot, Signature, Document, Link, Shares}
-use Rattle.ppdb_maps.specs.declared.entries.CrossLine.{CrossLine}
-use Rattle.ppdb_maps.specs.declared.entries.NameLine.{NameLine}
-use Rattle.ppdb_base.specs.Escaped.{escaped}
-use Rattle.ppdb_maps_text.specs.MapTexts.{spaced, table_word, line_text}
-use Rattle.ppdb_maps_text.proofs.Words.{IsWord, IsPlain, line_words_spaced, spaced_is_plain, decimal_is_word, escaped_is_word}
-use Rattle.ppdb_base.specs.declared.limits.TheConstants.{MAX_ROWS, MAX_OFFSET}
-use Rattle.ppdb_maps.specs.Spelling.{IsHexDigit}
-use Rattle.ppdb_maps.proofs.Numbers.{table_of_digits}
+use Rattle.std.{proofs.Common.{ℕ, ◌≡◌, ◌≢◌, ◌<◌, ◌≤◌, ◌/◌, ◌%◌, List, [], ◌∷◌, length, refl, ap, ◌∙◌, subst, arith, inl, inr}, specs.Char.{digit_char}}
+use Rattle.std.{specs.Fmt.{decimal}, specs.List.{AllByRecursion}, proofs.lemmas.Bool.{cases_lt, lt-ltb, le-ltb}}
+use Rattle.ppdb_base.specs.{declared.offsets.Run.{Run}, Escaped.{escaped}, declared.limits.TheConstants.{MAX_ROWS, MAX_OFFSET}}
+use Rattle.ppdb_maps.specs.{Words.{IsSilent}, Forms.{name_of, words_in, since, IsNumber, IsTable, MAX_SLOT, Values, Tells, told, rows_line, row_line, method_line}}
+use Rattle.ppdb_maps.specs.Forms.{run_line, drop_line, slots_line, slot_line, signature_line, document_line, link_line, AreBytes, IsEscaped, cross_line, gone_line}
+use Rattle.ppdb_maps.specs.{Forms.{shares_line, IsTypeTable, Crosses}, declared.line.Form.{Form}, declared.line.Form.TheVariants.{TableRows, RowMove, MethodSizes}}
+use Rattle.ppdb_maps.specs.declared.line.Form.TheVariants.{OffsetRun, MethodDrop, MethodSlots, SlotMove, MethodSignature, DocumentRename, LinkValue, CrossMove}
+use Rattle.ppdb_maps.specs.declared.line.{Form.TheVariants.{RowGone, Sharing}, Line.{Line}, Line.TheVariants.{Rows, Row, Cross, Gone, Method, Kept, Dropped, Slots}}
+use Rattle.ppdb_maps.specs.declared.{line.Line.TheVariants.{Slot, Signature, Document, Link, Shares}, entries.CrossLine.{CrossLine}, entries.NameLine.{NameLine}}
+use Rattle.ppdb_maps.{specs.Spelling.{IsHexDigit}, proofs.Numbers.{table_of_digits}}
+use Rattle.ppdb_maps_text.{specs.MapTexts.{spaced, table_word, line_text}, proofs.Words.{IsWord, IsPlain, line_words_spaced, spaced_is_plain, decimal_is_word}}
+use Rattle.ppdb_maps_text.proofs.Words.{escaped_is_word}
 
 -- a line that says what it was spelled from, and that a text of the version can have
 pub record IsTold (version : ℕ) (line : Line) : Type 0 where

@@ -1,23 +1,12 @@
 -- The lines of a text whose lines are ended, and the words of a line whose words stand apart.
-use Rattle.std.proofs.Common.{ℕ, zero, suc, ◌≡◌, ◌<◌, ◌≤◌, ◌-◌, ◌^◌, ◌/◌, ◌%◌, ◌++◌, Bool, true, false, inl, inr, List, [], ◌∷◌, length, refl, sym, ap, ◌∙◌, subst, arith}
-use Rattle.std.specs.Prelude.{◌==◌}
-use Rattle.std.specs.Fmt.{decimal}
-use Rattle.std.specs.List.{AllByRecursion, flat_map, slice_index}
-use Rattle.std.specs.Str.Lines.{lines_of_parts, strip_carriage_return}
-use Rattle.std.specs.Str.Parse.{AllDigits}
-use Rattle.std.proofs.lemmas.Bool.{eq-eqb, ne_eqb}
-use Rattle.std.proofs.lemmas.Bool.Decides.{nat_tests}
-use Rattle.std.proofs.lemmas.Fmt.{digits_decimal}
-use Rattle.std.proofs.lemmas.List.{append_assoc, append-nil}
-use Rattle.std.proofs.lemmas.Str.Parse.{digit_from_value}
-use Rattle.ppdb_maps.specs.Words.{line_words}
+use Rattle.std.proofs.Common.{ℕ, zero, suc, ◌≡◌, ◌<◌, ◌≤◌, ◌-◌, ◌^◌, ◌/◌, ◌%◌, ◌++◌, Bool, true, false, inl, inr, List, [], ◌∷◌, length, refl, sym, ap, ◌∙◌, subst}
+use Rattle.std.{proofs.Common.{arith}, specs.Prelude.{◌==◌}, specs.Fmt.{decimal}, specs.List.{AllByRecursion, flat_map, slice_index}}
+use Rattle.std.{specs.Str.Lines.{lines_of_parts, strip_carriage_return}, specs.Str.Parse.{AllDigits}, proofs.lemmas.Bool.{eq-eqb, ne_eqb}}
+use Rattle.std.proofs.lemmas.{Bool.Decides.{nat_tests}, Fmt.{digits_decimal}, List.{append_assoc, append-nil}, Str.Parse.{digit_from_value}}
+use Rattle.ppdb_maps.{specs.Words.{line_words}, specs.Escapes.{IsLowerDigit}, specs.Forms.{AreBytes}, proofs.Numbers.{numerals}, proofs.Spelled.{digit, digit_lower}}
+use Rattle.ppdb_maps.{proofs.Spelled.{plain_text, code_text}, specs.Cuts.{parts_at}}
 use Rattle.ppdb_base.specs.Escaped.{is_plain, escaped_byte, escaped}
-use Rattle.ppdb_maps.specs.Escapes.{IsLowerDigit}
-use Rattle.ppdb_maps.specs.Forms.{AreBytes}
-use Rattle.ppdb_maps.proofs.Numbers.{numerals}
-use Rattle.ppdb_maps.proofs.Spelled.{digit, digit_lower, plain_text, code_text}
 use Rattle.ppdb_maps_text.specs.MapTexts.{spaced, ended}
-use Rattle.ppdb_maps.specs.Cuts.{parts_at}
 
 -- printed characters and spaces alone
 abbrev pub IsPlain : List ℕ → Type 0

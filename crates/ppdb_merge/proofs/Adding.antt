@@ -1,59 +1,27 @@
 -- The inputs with a further one that is not refused, and what they come to.
-use Rattle.std.proofs.Common.{◌≡◌, ◌≢◌, ℕ, suc, ◌+◌, ◌<◌, ◌≤◌, Bool, true, List, [], ◌∷◌, ◌++◌, Option, Some, None, map, length, take}
-use Rattle.std.proofs.Common.{refl, sym, ◌∙◌, ap, subst, arith}
-use Rattle.std.specs.Prelude.{slice_get, Result, Ok, Err, IfOk}
-use Rattle.std.specs.Option.{option_or}
-use Rattle.ppdb_base.specs.declared.merge_error.MergeError.{MergeError}
-use Rattle.ppdb_base.specs.declared.list.Memory.{Memory}
-use Rattle.ppdb_maps.specs.Map.{Map}
-use Rattle.ppdb_maps.specs.Readable.{IsReadable}
-use Rattle.ppdb_tables.specs.declared.rows.CustomRow.{CustomRow}
-use Rattle.ppdb_tables.specs.declared.rows.DocumentRow.{DocumentRow}
-use Rattle.ppdb_tables.specs.RawTables.{HasShape}
-use Rattle.ppdb_values.specs.Customs.{custom_of}
-use Rattle.ppdb_values.specs.Documents.{document_of}
-use Rattle.ppdb_values.specs.declared.custom.CustomValue.{CustomValue}
-use Rattle.ppdb_values.specs.declared.file.DocumentValue.{DocumentValue}
-use Rattle.ppdb_values.specs.declared.file.FileValue.{FileValue}
-use Rattle.ppdb_values.specs.declared.annotation.Annotation.{Annotation}
-use Rattle.ppdb_values.specs.Meaning.{annotated_from}
-use Rattle.ppdb_values.specs.RawFile.{RawFile}
-use Rattle.ppdb_values.specs.Rules.{KeepsRules}
-use Rattle.ppdb_values.specs.Value.{value_of}
+use Rattle.std.proofs.Common.{◌≡◌, ◌≢◌, ℕ, suc, ◌+◌, ◌<◌, ◌≤◌, Bool, true, List, [], ◌∷◌, ◌++◌, Option, Some, None, map, length, take, refl, sym, ◌∙◌, ap, subst}
+use Rattle.std.{proofs.Common.{arith}, specs.Prelude.{slice_get, Result, Ok, Err, IfOk}, specs.Option.{option_or}}
+use Rattle.ppdb_base.specs.declared.{merge_error.MergeError.{MergeError}, list.Memory.{Memory}}
+use Rattle.ppdb_maps.specs.{Map.{Map}, Readable.{IsReadable}}
+use Rattle.ppdb_tables.specs.{declared.rows.CustomRow.{CustomRow}, declared.rows.DocumentRow.{DocumentRow}, RawTables.{HasShape}}
+use Rattle.ppdb_values.specs.{Customs.{custom_of}, Documents.{document_of}, declared.custom.CustomValue.{CustomValue}, declared.file.DocumentValue.{DocumentValue}}
+use Rattle.ppdb_values.specs.{declared.file.FileValue.{FileValue}, declared.annotation.Annotation.{Annotation}, Meaning.{annotated_from}, RawFile.{RawFile}}
+use Rattle.ppdb_values.specs.{Rules.{KeepsRules}, Value.{value_of}}
 use Rattle.ppdb_values_sound_laws.specs.Sound.{IsSound}
-use Rattle.ppdb_merge_items.specs.declared.file.AnnotatedFile.{AnnotatedFile}
-use Rattle.ppdb_merge_items.specs.Each.{Pairs}
-use Rattle.ppdb_merge_items.specs.Laws.{SoundnessIsAnnotated}
-use Rattle.ppdb_merge_items.specs.Annotated.{annotated_file, items_of, with_item}
-use Rattle.ppdb_merge_items.specs.Unannotated.{value_of_annotated}
-use Rattle.ppdb_merge_items.proofs.Lists.{Each-append, Each-map, Each-weaker, Pairs-map}
-use Rattle.ppdb_merge_names_laws.specs.Laws.{ReferencesAreNamed}
-use Rattle.ppdb_merge_joined.specs.Joined.{joined}
-use Rattle.ppdb_merge_joined.specs.Laws.{JoinedIsSound}
+use Rattle.ppdb_merge_items.specs.{declared.file.AnnotatedFile.{AnnotatedFile}, Each.{Pairs}, Laws.{SoundnessIsAnnotated}, Annotated.{annotated_file, items_of}}
+use Rattle.ppdb_merge_items.{specs.Annotated.{with_item}, specs.Unannotated.{value_of_annotated}, proofs.Lists.{Each-append, Each-map, Each-weaker, Pairs-map}}
 use Rattle.ppdb_merge_items.specs.SoundParts.{SoundMoved}
-use Rattle.ppdb_merge_moved.specs.Fits.{Fits}
-use Rattle.ppdb_merge_moved.specs.Moved.{moved_file, moved_document}
-use Rattle.ppdb_merge_moved.proofs.SoundMoves.{moved_sound}
-use Rattle.ppdb_merge_meaning_laws.specs.Kept.{MovedBy, InputsFit, joined_inputs}
+use Rattle.ppdb_merge_names_laws.specs.Laws.{ReferencesAreNamed}
+use Rattle.ppdb_merge_joined.specs.{Joined.{joined}, Laws.{JoinedIsSound}, Small.{AreFew, HasFewRows}}
+use Rattle.ppdb_merge_moved.{specs.Fits.{Fits}, specs.Moved.{moved_file, moved_document}, proofs.SoundMoves.{moved_sound}}
+use Rattle.ppdb_merge_meaning_laws.{specs.Kept.{MovedBy, InputsFit, joined_inputs}, proofs.Counts.{moved_counts_sound}}
 use Rattle.ppdb_merge_names.specs.declared.imaged.Imaged.{Imaged}
-use Rattle.ppdb_merge_fits.specs.Clashes.{first_clash}
-use Rattle.ppdb_merge_fits.specs.Signatures.{all_images}
-use Rattle.ppdb_merge_fits.proofs.First.{nil_parts, no_first}
-use Rattle.ppdb_merge.specs.declared.index.Index.{Index}
-use Rattle.ppdb_merge.specs.declared.trace.Trace.{Trace}
-use Rattle.ppdb_merge.specs.Indexes.{Indexes}
-use Rattle.ppdb_merge.specs.Kept.{AreInputs}
-use Rattle.ppdb_merge.specs.Merged.{trace_of, moved_files, is_first, unless}
-use Rattle.ppdb_merge.specs.Refusals.{methods_taken, documents_differ, links_differ, clashes_before, refusal_of, added}
-use Rattle.ppdb_merge_joined.specs.Small.{AreFew, HasFewRows}
-use Rattle.ppdb_merge.specs.Sound.{SoundTrace, SoundTraces, AreMethodsApart, HasEntry, documents_in}
-use Rattle.ppdb_merge.specs.Together.{misfit_of}
-use Rattle.ppdb_merge.proofs.Apart.{all_apart, one_by_name, Pairs-push}
-use Rattle.ppdb_merge.proofs.Counted.{can_be_joined, counts_rows}
-use Rattle.ppdb_merge.proofs.Few.{few_rows}
-use Rattle.ppdb_merge.proofs.Indexing.{documents_more}
-use Rattle.ppdb_merge_meaning_laws.proofs.Counts.{moved_counts_sound}
-use Rattle.ppdb_merge.proofs.Traced.{file_sound, moved_images, moved_entry}
+use Rattle.ppdb_merge_fits.{specs.Clashes.{first_clash}, specs.Signatures.{all_images}, proofs.First.{nil_parts, no_first}}
+use Rattle.ppdb_merge.specs.{declared.index.Index.{Index}, declared.trace.Trace.{Trace}, Indexes.{Indexes}, Kept.{AreInputs}, Merged.{trace_of, moved_files}}
+use Rattle.ppdb_merge.specs.{Merged.{is_first, unless}, Refusals.{methods_taken, documents_differ, links_differ, clashes_before, refusal_of, added}}
+use Rattle.ppdb_merge.{specs.Sound.{SoundTrace, SoundTraces, AreMethodsApart, HasEntry, documents_in}, specs.Together.{misfit_of}, proofs.Apart.{all_apart}}
+use Rattle.ppdb_merge.proofs.{Apart.{one_by_name, Pairs-push}, Counted.{can_be_joined, counts_rows}, Few.{few_rows}, Indexing.{documents_more}, Traced.{file_sound}}
+use Rattle.ppdb_merge.proofs.Traced.{moved_images, moved_entry}
 
 -- the documents of a moved file, with their records, are its documents with the names that the map gives
 pub items_are : (m : Map) (value : FileValue) (n : ℕ) (ds : List DocumentValue)

@@ -1,27 +1,17 @@
 -- A further input that does not clash with those before it: what holds of all of them together.
 use Rattle.std.proofs.Common.{◌≡◌, ◌≢◌, ℕ, ◌+◌, ◌||◌, Bool, true, false, cond, List, [], ◌∷◌, ◌++◌, Option, Some, None, map, refl, sym, ◌∙◌, ap, subst}
-use Rattle.std.specs.Prelude.{nat_eq, find, bytes_eq}
-use Rattle.std.specs.List.{filter_map, cons_option, enumerate_from, list_any}
-use Rattle.std.specs.Option.{option_eq, option_map, option_and_then}
+use Rattle.std.specs.{Prelude.{nat_eq, find, bytes_eq}, List.{filter_map, cons_option, enumerate_from, list_any}, Option.{option_eq, option_map, option_and_then}}
 use Rattle.std.proofs.lemmas.Bool.{both_ways, eq-eqb, and_parts}
 use Rattle.ppdb_base.specs.declared.merge_error.MergeError.TheVariants.{MethodTaken, DocumentConflict}
 use Rattle.ppdb_maps.specs.Map.{Map}
 use Rattle.ppdb_tables.specs.RawTables.{numbered}
 use Rattle.ppdb_values.specs.declared.file.DocumentValue.{DocumentValue}
-use Rattle.ppdb_merge_items.specs.Each.{Each, Pairs}
-use Rattle.ppdb_merge_items.specs.Sorted.{in_order}
-use Rattle.ppdb_merge_items.proofs.Lists.{Each-weaker, Each-unmap, Each-append, Pairs-weaker}
-use Rattle.ppdb_merge_joined.specs.Joined.{firsts}
-use Rattle.ppdb_merge_joined.proofs.Names.{same_bytes, bytes_same}
-use Rattle.ppdb_merge_joined.proofs.Each.{Pairs-append}
-use Rattle.ppdb_merge_moved.specs.Moved.{moved_document}
-use Rattle.ppdb_merge_moved.proofs.Elements.{each_made}
-use Rattle.ppdb_merge_moved.proofs.Lists.{Each-both}
+use Rattle.ppdb_merge_items.{specs.Each.{Each, Pairs}, specs.Sorted.{in_order}, proofs.Lists.{Each-weaker, Each-unmap, Each-append, Pairs-weaker}}
+use Rattle.ppdb_merge_joined.{specs.Joined.{firsts}, proofs.Names.{same_bytes, bytes_same}, proofs.Each.{Pairs-append}}
+use Rattle.ppdb_merge_moved.{specs.Moved.{moved_document}, proofs.Elements.{each_made}, proofs.Lists.{Each-both}}
 use Rattle.ppdb_merge_names.specs.declared.imaged.Imaged.{Imaged}
-use Rattle.ppdb_merge.specs.declared.trace.Trace.{Trace}
-use Rattle.ppdb_merge.specs.Refusals.{methods_in, claims, taken, methods_taken, same_contents, conflict, moved_conflict}
-use Rattle.ppdb_merge.specs.Sound.{AreMethodsApart}
-use Rattle.ppdb_merge.proofs.Imaged.{Each-unsorted}
+use Rattle.ppdb_merge.specs.{declared.trace.Trace.{Trace}, Refusals.{methods_in, claims, taken, methods_taken, same_contents, conflict, moved_conflict}}
+use Rattle.ppdb_merge.{specs.Sound.{AreMethodsApart}, proofs.Imaged.{Each-unsorted}}
 
 -- ---- lists
 

@@ -1,37 +1,20 @@
 -- Inputs that fit each other can be joined, and the first counts all rows that they name.
-use Rattle.std.proofs.Common.{◌≡◌, ◌≢◌, ℕ, zero, suc, ◌+◌, ◌<◌, ◌≤◌, Bool, true, false, cond, List, [], ◌∷◌, ◌++◌, Option, Some, None, map, flat_map, filter}
-use Rattle.std.proofs.Common.{refl, sym, ◌∙◌, ap, subst, arith, inl, inr}
-use Rattle.std.specs.Prelude.{nat_eq, slice_index, Contains}
-use Rattle.std.specs.List.{filter_map, enumerate_from, range_with_len}
-use Rattle.std.proofs.lemmas.Bool.{eqb-true, eq-eqb, cases_lt, lt-ltb}
-use Rattle.ppdb_base.specs.declared.merge_error.MergeError.{MergeError}
-use Rattle.ppdb_base.specs.declared.merge_error.MergeError.TheVariants.{RowsDiffer, ImageRange}
-use Rattle.ppdb_tables.specs.declared.rows.MachineRow.{MachineRow}
-use Rattle.ppdb_tables.specs.RawTables.{numbered}
-use Rattle.ppdb_values.specs.declared.custom.CustomValue.{CustomValue}
-use Rattle.ppdb_values.specs.declared.file.DocumentValue.{DocumentValue}
-use Rattle.ppdb_values.specs.declared.file.MethodValue.{MethodValue}
-use Rattle.ppdb_values.specs.declared.import.ImportScopeValue.{ImportScopeValue}
-use Rattle.ppdb_values.specs.declared.annotation.Annotation.{Annotation}
-use Rattle.ppdb_merge_items.specs.declared.file.AnnotatedFile.{AnnotatedFile}
-use Rattle.ppdb_merge_items.specs.declared.file.AnnotatedScope.{AnnotatedScope}
-use Rattle.ppdb_merge_items.specs.Each.{Each, Pairs}
-use Rattle.ppdb_merge_items.specs.NamedRows.{Named, names, names_some, all_named, in_constant, in_import, in_steps}
-use Rattle.ppdb_merge_items.specs.Annotated.{items_of}
-use Rattle.ppdb_merge_items.specs.SoundParts.{SoundMoved}
+use Rattle.std.proofs.Common.{◌≡◌, ◌≢◌, ℕ, zero, suc, ◌+◌, ◌<◌, ◌≤◌, Bool, true, false, cond, List, [], ◌∷◌, ◌++◌, Option, Some, None, map, flat_map, filter, refl}
+use Rattle.std.{proofs.Common.{sym, ◌∙◌, ap, subst, arith, inl, inr}, specs.Prelude.{nat_eq, slice_index, Contains}, specs.List.{filter_map, enumerate_from}}
+use Rattle.std.{specs.List.{range_with_len}, proofs.lemmas.Bool.{eqb-true, eq-eqb, cases_lt, lt-ltb}}
+use Rattle.ppdb_base.specs.declared.merge_error.{MergeError.{MergeError}, MergeError.TheVariants.{RowsDiffer, ImageRange}}
+use Rattle.ppdb_tables.specs.{declared.rows.MachineRow.{MachineRow}, RawTables.{numbered}}
+use Rattle.ppdb_values.specs.declared.{custom.CustomValue.{CustomValue}, file.DocumentValue.{DocumentValue}, file.MethodValue.{MethodValue}}
+use Rattle.ppdb_values.specs.declared.{import.ImportScopeValue.{ImportScopeValue}, annotation.Annotation.{Annotation}}
+use Rattle.ppdb_merge_items.specs.{declared.file.AnnotatedFile.{AnnotatedFile}, declared.file.AnnotatedScope.{AnnotatedScope}, Each.{Each, Pairs}, NamedRows.{Named}}
+use Rattle.ppdb_merge_items.specs.{NamedRows.{names, names_some, all_named, in_constant, in_import, in_steps}, Annotated.{items_of}, SoundParts.{SoundMoved}}
 use Rattle.ppdb_merge_items.proofs.Lists.{Each-weaker, Each-map, Each-unmap, Each-append, Each-filter, Pairs-map}
-use Rattle.ppdb_merge_joined.specs.Joinable.{AreJoinable, CountsRows, AreApart, AgreeOnDocuments, methods_of}
-use Rattle.ppdb_merge_joined.proofs.Each.{Each-flat}
+use Rattle.ppdb_merge_joined.{specs.Joinable.{AreJoinable, CountsRows, AreApart, AgreeOnDocuments, methods_of}, proofs.Each.{Each-flat}}
 use Rattle.ppdb_merge_moved.proofs.Elements.{each_parts, each_made, each_left, in_each}
 use Rattle.ppdb_merge_names.specs.declared.imaged.Imaged.{Imaged}
-use Rattle.ppdb_merge.specs.declared.trace.Trace.{Trace}
-use Rattle.ppdb_merge.specs.Merged.{moved_files}
-use Rattle.ppdb_merge.specs.Refusals.{methods_in}
-use Rattle.ppdb_merge.specs.Sound.{SoundTrace, SoundTraces, IsImageIn, AreMethodsApart}
-use Rattle.ppdb_merge.specs.Together.{count_in, differs, rows_differ, above, images_above, misfit_of}
-use Rattle.ppdb_merge.proofs.Apart.{none_made, Each-unnumbered}
-use Rattle.ppdb_merge_fits.proofs.First.{nil_parts, no_first}
-use Rattle.ppdb_merge_fits.proofs.Fitting.{flat_none}
+use Rattle.ppdb_merge.specs.{declared.trace.Trace.{Trace}, Merged.{moved_files}, Refusals.{methods_in}, Sound.{SoundTrace, SoundTraces, IsImageIn, AreMethodsApart}}
+use Rattle.ppdb_merge.{specs.Together.{count_in, differs, rows_differ, above, images_above, misfit_of}, proofs.Apart.{none_made, Each-unnumbered}}
+use Rattle.ppdb_merge_fits.proofs.{First.{nil_parts, no_first}, Fitting.{flat_none}}
 use Rattle.ppdb_merge_meaning_laws.proofs.Inputs.{pairs_given}
 
 -- ---- lists

@@ -1,14 +1,10 @@
 -- Inputs that count and name the same are reported the same of.
-use Rattle.std.proofs.Common.{◌≡◌, ℕ, ◌+◌, ◌<◌, true, false, List, [], ◌∷◌, ◌++◌, Option, length, map, take, flat_map, refl, sym, ap, ◌∙◌}
-use Rattle.std.specs.Prelude.{is_some, slice_get, get_or}
-use Rattle.std.specs.List.{filter_map, cons_option, enumerate_from, range_with_len}
+use Rattle.std.{proofs.Common.{◌≡◌, ℕ, ◌+◌, ◌<◌, true, false, List, [], ◌∷◌, ◌++◌, Option, length, map, take, flat_map, refl, sym, ap, ◌∙◌}, specs.Prelude.{is_some}}
+use Rattle.std.specs.{Prelude.{slice_get, get_or}, List.{filter_map, cons_option, enumerate_from, range_with_len}}
 use Rattle.ppdb_base.specs.declared.merge_error.MergeError.{MergeError}
 use Rattle.ppdb_merge_items.proofs.Mapped.{map_map_both}
-use Rattle.ppdb_merge.specs.declared.row_trace.RowTrace.{RowTrace}
-use Rattle.ppdb_merge.specs.declared.trace.Trace.{Trace}
-use Rattle.ppdb_merge.specs.Rows.{counting, row_trace}
-use Rattle.ppdb_merge.specs.Together.{above, differs, images_above, misfit_of, rows_differ}
-use Rattle.ppdb_merge.proofs.Told.{numbered_told, numbered_past, several_told, several_past}
+use Rattle.ppdb_merge.specs.{declared.row_trace.RowTrace.{RowTrace}, declared.trace.Trace.{Trace}, Rows.{counting, row_trace}, Together.{above, differs}}
+use Rattle.ppdb_merge.{specs.Together.{images_above, misfit_of, rows_differ}, proofs.Told.{numbered_told, numbered_past, several_told, several_past}}
 
 -- ---- of items that are made of others
 

@@ -1,30 +1,16 @@
 -- A moved file has no more rows than the file, and the rows of a file have numbers of three bytes.
-use Rattle.std.proofs.Common.{◌≡◌, ℕ, suc, ◌+◌, ◌<◌, ◌≤◌, Bool, true, false, cond, List, [], ◌∷◌, Option, Some, None, length, map, filter}
-use Rattle.std.specs.Option.{option_map_or}
-use Rattle.std.proofs.Common.{refl, ◌∙◌, ap, subst, arith}
-use Rattle.std.specs.Prelude.{◌==◌, nat_eq, sum_by}
-use Rattle.std.specs.List.{filter_map, cons_option, enumerate_from}
-use Rattle.std.proofs.lemmas.Bool.{eqb-true}
-use Rattle.std.proofs.lemmas.List.Sums.{sum_by-cons}
+use Rattle.std.proofs.Common.{◌≡◌, ℕ, suc, ◌+◌, ◌<◌, ◌≤◌, Bool, true, false, cond, List, [], ◌∷◌, Option, Some, None, length, map, filter, refl, ◌∙◌, ap, subst}
+use Rattle.std.{proofs.Common.{arith}, specs.Option.{option_map_or}, specs.Prelude.{◌==◌, nat_eq, sum_by}, specs.List.{filter_map, cons_option, enumerate_from}}
+use Rattle.std.proofs.lemmas.{Bool.{eqb-true}, List.Sums.{sum_by-cons}}
 use Rattle.ppdb_maps.specs.Map.{Map}
-use Rattle.ppdb_tables.specs.RawTables.{HasShape, numbered}
-use Rattle.ppdb_tables.specs.declared.rows.VariableRow.{VariableRow}
-use Rattle.ppdb_tables.specs.declared.rows.ConstantRow.{ConstantRow}
-use Rattle.ppdb_values.specs.declared.scope.ScopeValue.{ScopeValue}
-use Rattle.ppdb_values.specs.declared.file.FileValue.{FileValue}
-use Rattle.ppdb_values.specs.Meaning.{annotated_from}
-use Rattle.ppdb_values.specs.RawFile.{RawFile}
-use Rattle.ppdb_values.specs.Value.{value_of, scope_of, variable_of, owned_by, owner_of}
-use Rattle.ppdb_values.specs.Constants.{constant_of}
-use Rattle.ppdb_values.specs.Documents.{document_of}
-use Rattle.ppdb_values.specs.Imports.{import_scope_of}
-use Rattle.ppdb_values.specs.Parts.{first_item}
-use Rattle.ppdb_merge_items.specs.declared.file.AnnotatedScope.{AnnotatedScope}
-use Rattle.ppdb_merge_items.specs.Annotated.{annotated_file, annotated_scope, with_item}
-use Rattle.ppdb_merge_items.specs.NamedRows.{live_constants, with_live_body}
+use Rattle.ppdb_tables.specs.{RawTables.{HasShape, numbered}, declared.rows.VariableRow.{VariableRow}, declared.rows.ConstantRow.{ConstantRow}}
+use Rattle.ppdb_values.specs.{declared.scope.ScopeValue.{ScopeValue}, declared.file.FileValue.{FileValue}, Meaning.{annotated_from}, RawFile.{RawFile}}
+use Rattle.ppdb_values.specs.{Value.{value_of, scope_of, variable_of, owned_by, owner_of}, Constants.{constant_of}, Documents.{document_of}}
+use Rattle.ppdb_values.specs.{Imports.{import_scope_of}, Parts.{first_item}}
+use Rattle.ppdb_merge_items.specs.{declared.file.AnnotatedScope.{AnnotatedScope}, Annotated.{annotated_file, annotated_scope, with_item}, NamedRows.{live_constants}}
+use Rattle.ppdb_merge_items.{specs.NamedRows.{with_live_body}, proofs.Parts.{live_constant}}
 use Rattle.ppdb_merge_moved.specs.Moved.{moved_document, moved_variable, moved_constant, moved_scope, moved_import_scope, moved_file, scope_image, is_empty}
 use Rattle.ppdb_merge_joined.specs.Small.{HasFewRows}
-use Rattle.ppdb_merge_items.proofs.Parts.{live_constant}
 use Rattle.ppdb_values_reading.proofs.Rows.{length-numbered}
 
 -- ---- sums

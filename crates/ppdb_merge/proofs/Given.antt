@@ -1,21 +1,13 @@
 -- The local signatures that a map gives stand among the images of an input.
-use Rattle.std.proofs.Common.{◌≡◌, ℕ, Bool, true, false, cond, List, [], ◌∷◌, ◌++◌, Some, None, refl, ◌∙◌, ap}
-use Rattle.std.specs.Prelude.{nat_eq, Contains}
+use Rattle.std.{proofs.Common.{◌≡◌, ℕ, Bool, true, false, cond, List, [], ◌∷◌, ◌++◌, Some, None, refl, ◌∙◌, ap}, specs.Prelude.{nat_eq, Contains}}
 use Rattle.std.specs.Option.{option_and_then}
 use Rattle.ppdb_maps.specs.Map.{Map, signature_line}
-use Rattle.ppdb_values.specs.RawFile.{RawFile}
-use Rattle.ppdb_values.specs.Value.{value_of}
-use Rattle.ppdb_values.specs.declared.file.MethodValue.{MethodValue}
-use Rattle.ppdb_merge_items.specs.Each.{Each}
-use Rattle.ppdb_merge_items.specs.NamedRows.{names, names_some}
-use Rattle.ppdb_merge_items.specs.Sorted.{in_order}
-use Rattle.ppdb_merge_items.proofs.Lists.{Each-weaker}
+use Rattle.ppdb_values.specs.{RawFile.{RawFile}, Value.{value_of}, declared.file.MethodValue.{MethodValue}}
+use Rattle.ppdb_merge_items.{specs.Each.{Each}, specs.NamedRows.{names, names_some}, specs.Sorted.{in_order}, proofs.Lists.{Each-weaker}}
 use Rattle.ppdb_merge_moved.proofs.Elements.{each_in, in_each, each_parts}
 use Rattle.ppdb_merge_names.specs.declared.imaged.Imaged.{Imaged}
-use Rattle.ppdb_merge_fits.specs.Rows.{image_key, imaged_rows}
-use Rattle.ppdb_merge_fits.specs.Signatures.{given, given_signature, given_signatures, with_given, all_images}
-use Rattle.ppdb_merge.specs.Sound.{IsImageIn}
-use Rattle.ppdb_merge.proofs.Imaged.{Each-unmapped, Each-unsorted}
+use Rattle.ppdb_merge_fits.specs.{Rows.{image_key, imaged_rows}, Signatures.{given, given_signature, given_signatures, with_given, all_images}}
+use Rattle.ppdb_merge.{specs.Sound.{IsImageIn}, proofs.Imaged.{Each-unmapped, Each-unsorted}}
 
 -- what holds of all images holds of the rows and of the local signatures
 both_parts : (P : Imaged → Type 0) (rows further : List Imaged) → Each P (with_given rows further) → Each P rows × Each P further

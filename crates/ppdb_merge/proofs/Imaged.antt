@@ -1,25 +1,12 @@
 -- The rows that a file names stand among its rows with images.
 use Rattle.std.proofs.Common.{◌≡◌, ℕ, ◌⊎◌, ◌&&◌, Bool, true, false, cond, List, [], ◌∷◌, Option, Some, None, refl, sym, ◌∙◌, ap, subst, inl, inr}
-use Rattle.std.specs.Prelude.{nat_eq, nat_le, Contains}
-use Rattle.std.specs.List.{filter_map, cons_option, dedup, dedup_from}
-use Rattle.std.proofs.lemmas.Bool.{eqb-true, and_parts}
-use Rattle.ppdb_maps.specs.Map.{Map, row_image}
-use Rattle.ppdb_maps.specs.declared.image.RowImage.{RowImage}
-use Rattle.ppdb_maps.specs.declared.image.RowImage.TheVariants.{Row, Gone, Missing}
-use Rattle.ppdb_values.specs.RawFile.{RawFile}
-use Rattle.ppdb_values.specs.Rules.{KeepsRules}
-use Rattle.ppdb_values.specs.Value.{value_of}
-use Rattle.ppdb_merge_items.specs.Each.{Each}
-use Rattle.ppdb_merge_items.specs.NamedRows.{Named, named_rows}
-use Rattle.ppdb_merge_items.specs.Annotated.{annotated_file}
-use Rattle.ppdb_merge_items.specs.Sorted.{put, in_order}
-use Rattle.ppdb_merge_items.proofs.Lists.{Each-weaker, Each-map, each_of}
-use Rattle.ppdb_merge_items.proofs.Orders.{in_order_each}
-use Rattle.ppdb_merge_moved.specs.Moved.{table_in, row_in}
-use Rattle.ppdb_merge_moved.proofs.Elements.{each_in}
-use Rattle.ppdb_merge_moved.proofs.Lists.{Each-both, Each-filter_map}
-use Rattle.ppdb_merge_names.specs.declared.imaged.Imaged.{Imaged}
-use Rattle.ppdb_merge_names.specs.References.{Reference, references}
+use Rattle.std.{specs.Prelude.{nat_eq, nat_le, Contains}, specs.List.{filter_map, cons_option, dedup, dedup_from}, proofs.lemmas.Bool.{eqb-true, and_parts}}
+use Rattle.ppdb_maps.specs.{Map.{Map, row_image}, declared.image.RowImage.{RowImage}, declared.image.RowImage.TheVariants.{Row, Gone, Missing}}
+use Rattle.ppdb_values.specs.{RawFile.{RawFile}, Rules.{KeepsRules}, Value.{value_of}}
+use Rattle.ppdb_merge_items.specs.{Each.{Each}, NamedRows.{Named, named_rows}, Annotated.{annotated_file}, Sorted.{put, in_order}}
+use Rattle.ppdb_merge_items.proofs.{Lists.{Each-weaker, Each-map, each_of}, Orders.{in_order_each}}
+use Rattle.ppdb_merge_moved.{specs.Moved.{table_in, row_in}, proofs.Elements.{each_in}, proofs.Lists.{Each-both, Each-filter_map}}
+use Rattle.ppdb_merge_names.specs.{declared.imaged.Imaged.{Imaged}, References.{Reference, references}}
 use Rattle.ppdb_merge_names_laws.specs.Laws.{ReferencesAreNamed, named_by}
 use Rattle.ppdb_merge_fits.specs.Rows.{imaged, imaged_rows, imaged_to}
 

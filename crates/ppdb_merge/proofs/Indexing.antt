@@ -1,17 +1,12 @@
 -- The index of inputs, with one further input.
-use Rattle.std.proofs.Common.{◌≡◌, ℕ, suc, ◌+◌, List, [], ◌∷◌, ◌++◌, length, map, flat_map, sym, ◌∙◌, ap, subst, arith}
-use Rattle.std.specs.List.{enumerate_from}
+use Rattle.std.{proofs.Common.{◌≡◌, ℕ, suc, ◌+◌, List, [], ◌∷◌, ◌++◌, length, map, flat_map, sym, ◌∙◌, ap, subst, arith}, specs.List.{enumerate_from}}
 use Rattle.std.proofs.lemmas.List.{append-nil, append_assoc}
 use Rattle.ppdb_values.specs.declared.file.DocumentValue.{DocumentValue}
-use Rattle.ppdb_merge_items.specs.declared.file.AnnotatedFile.{AnnotatedFile}
-use Rattle.ppdb_merge_items.specs.Annotated.{items_of}
+use Rattle.ppdb_merge_items.specs.{declared.file.AnnotatedFile.{AnnotatedFile}, Annotated.{items_of}}
 use Rattle.ppdb_merge_names.specs.declared.imaged.Imaged.{Imaged}
 use Rattle.ppdb_merge_joined.specs.Joined.{firsts}
-use Rattle.ppdb_merge.specs.declared.index.Index.{Index}
-use Rattle.ppdb_merge.specs.declared.trace.Trace.{Trace}
-use Rattle.ppdb_merge.specs.Indexes.{Indexes, HoldsMethods, HoldsDocuments, claims_of}
-use Rattle.ppdb_merge.specs.Merged.{moved_files}
-use Rattle.ppdb_merge.specs.Refusals.{claims, methods_in}
+use Rattle.ppdb_merge.specs.{declared.index.Index.{Index}, declared.trace.Trace.{Trace}, Indexes.{Indexes, HoldsMethods, HoldsDocuments, claims_of}}
+use Rattle.ppdb_merge.specs.{Merged.{moved_files}, Refusals.{claims, methods_in}}
 
 claims_from : ℕ → List Trace → List (ℕ × Imaged)
 claims_from n traces = flat_map (λ (t : ℕ × Trace). map (λ i. (t.0, i)) (methods_in t.1.rows)) (enumerate_from n traces)

@@ -1,18 +1,12 @@
 -- The first Source Link record that differs from one of an earlier input.
-use Rattle.std.proofs.Common.{◌≡◌, ℕ, ◌&&◌, ◌||◌, Bool, true, false, cond, List, [], ◌∷◌, Option, Some, None, refl, sym, ◌∙◌, ap}
-use Rattle.std.specs.Prelude.{slice_get, flat_map}
-use Rattle.std.specs.List.{filter_map, list_any, cons_option}
-use Rattle.std.specs.Option.{option_map, option_to_list}
-use Rattle.std.proofs.lemmas.List.{append-nil}
-use Rattle.ppdb_base.specs.declared.merge_error.MergeError.{MergeError}
-use Rattle.ppdb_base.specs.declared.merge_error.MergeError.TheVariants.{LinkDiffers}
+use Rattle.std.{proofs.Common.{◌≡◌, ℕ, ◌&&◌, ◌||◌, Bool, true, false, cond, List, [], ◌∷◌, Option, Some, None, refl, sym, ◌∙◌, ap}, specs.Prelude.{slice_get}}
+use Rattle.std.{specs.Prelude.{flat_map}, specs.List.{filter_map, list_any, cons_option}, specs.Option.{option_map, option_to_list}, proofs.lemmas.List.{append-nil}}
+use Rattle.ppdb_base.specs.declared.merge_error.{MergeError.{MergeError}, MergeError.TheVariants.{LinkDiffers}}
 use Rattle.ppdb_maps.specs.Map.{Map}
 use Rattle.ppdb_tables.specs.RawTables.{numbered}
-use Rattle.ppdb_values.specs.declared.custom.CustomValue.{CustomValue}
-use Rattle.ppdb_values.specs.Parts.{is_link}
-use Rattle.ppdb_merge.specs.declared.trace.Trace.{Trace}
-use Rattle.ppdb_merge.specs.Indexes.{link_row}
-use Rattle.ppdb_merge.specs.Refusals.{has_other_link, is_other_link, link_differs, links_differ, says_other_before}
+use Rattle.ppdb_values.specs.{declared.custom.CustomValue.{CustomValue}, Parts.{is_link}}
+use Rattle.ppdb_merge.specs.{declared.trace.Trace.{Trace}, Indexes.{link_row}, Refusals.{has_other_link, is_other_link, link_differs, links_differ}}
+use Rattle.ppdb_merge.specs.Refusals.{says_other_before}
 
 -- ---- among the inputs
 

@@ -1,24 +1,15 @@
 -- The documents of inputs by their names, one further document after the other.
-use Rattle.std.proofs.Common.{◌≡◌, ℕ, zero, suc, ◌+◌, ◌<◌, ◌≤◌, ◌||◌, Bool, true, false, cond, List, [], ◌∷◌, ◌++◌, Option, Some, None}
-use Rattle.std.proofs.Common.{length, take, refl, sym, ◌∙◌, ap, subst, arith}
-use Rattle.std.specs.Prelude.{find, is_some, bytes_eq, get_or}
-use Rattle.std.specs.List.{enumerate_from, list_any}
-use Rattle.std.specs.Option.{option_map, option_and_then}
+use Rattle.std.proofs.Common.{◌≡◌, ℕ, zero, suc, ◌+◌, ◌<◌, ◌≤◌, ◌||◌, Bool, true, false, cond, List, [], ◌∷◌, ◌++◌, Option, Some, None, length, take, refl, sym, ◌∙◌}
+use Rattle.std.{proofs.Common.{ap, subst, arith}, specs.Prelude.{find, is_some, bytes_eq, get_or}, specs.List.{enumerate_from, list_any}, specs.Option.{option_map}}
+use Rattle.std.specs.Option.{option_and_then}
 use Rattle.std.specs.BTreeMap as tree
-use Rattle.std.specs.BTreeMap.{insert_entry, is_at}
-use Rattle.std.specs.Map.{lookup}
-use Rattle.std.proofs.lemmas.List.{append_assoc, take_more}
-use Rattle.ppdb_base.specs.declared.merge_error.MergeError.{MergeError}
-use Rattle.ppdb_base.specs.declared.merge_error.MergeError.TheVariants.{DocumentConflict}
+use Rattle.std.{specs.BTreeMap.{insert_entry, is_at}, specs.Map.{lookup}, proofs.lemmas.List.{append_assoc, take_more}}
+use Rattle.ppdb_base.specs.declared.merge_error.{MergeError.{MergeError}, MergeError.TheVariants.{DocumentConflict}}
 use Rattle.ppdb_tables.specs.RawTables.{numbered}
-use Rattle.ppdb_values.specs.declared.file.DocumentValue.{DocumentValue}
-use Rattle.ppdb_values.specs.declared.annotation.Annotation.{Annotation}
+use Rattle.ppdb_values.specs.declared.{file.DocumentValue.{DocumentValue}, annotation.Annotation.{Annotation}}
 use Rattle.ppdb_merge_items.specs.Annotated.{items_of}
-use Rattle.ppdb_merge_joined.specs.Joined.{firsts}
-use Rattle.ppdb_merge_joined.proofs.Names.{same_bytes}
-use Rattle.ppdb_merge.specs.declared.documents.Documents.{Documents}
-use Rattle.ppdb_merge.specs.declared.documents.Standing.{Standing}
-use Rattle.ppdb_merge.specs.Indexes.{HoldsDocuments, standing}
+use Rattle.ppdb_merge_joined.{specs.Joined.{firsts}, proofs.Names.{same_bytes}}
+use Rattle.ppdb_merge.specs.{declared.documents.Documents.{Documents}, declared.documents.Standing.{Standing}, Indexes.{HoldsDocuments, standing}}
 use Rattle.ppdb_merge.specs.Refusals.{conflict, same_contents}
 use Rattle.ppdb_merge_fits.proofs.Looking.{absent, some_mapped}
 use Rattle.ppdb_maps.proofs.Named.{Name, names, found_after}

@@ -1,44 +1,25 @@
 -- The inputs of a merger of rows with a further one, and what they come to.
 use Rattle.std.proofs.Common.{◌≡◌, ◌≢◌, ℕ, zero, suc, ◌+◌, ◌<◌, ◌≤◌, List, [], ◌∷◌, ◌++◌, Option, Some, None, length, map, take, refl, sym, ◌∙◌, ap, subst, arith}
-use Rattle.std.proofs.Common.{◌⊎◌, inl, inr}
-use Rattle.std.specs.Prelude.{Result, Ok, Err, IfErr, nat_eq}
-use Rattle.std.proofs.lemmas.List.{length-map, take_all}
-use Rattle.ppdb_base.specs.declared.merge_error.MergeError.{MergeError}
-use Rattle.ppdb_base.specs.declared.merge_error.MergeError.TheVariants.{Memory as NoMemory}
-use Rattle.ppdb_maps.specs.Map.{Map}
-use Rattle.ppdb_maps.specs.Readable.{IsReadable}
-use Rattle.ppdb_values.specs.RawFile.{RawFile}
-use Rattle.ppdb_values.specs.Rules.{KeepsRules}
-use Rattle.ppdb_values.specs.Value.{value_of}
+use Rattle.std.{proofs.Common.{◌⊎◌, inl, inr}, specs.Prelude.{Result, Ok, Err, IfErr, nat_eq}, proofs.lemmas.List.{length-map, take_all}}
+use Rattle.ppdb_base.specs.declared.merge_error.{MergeError.{MergeError}, MergeError.TheVariants.{Memory as NoMemory}}
+use Rattle.ppdb_maps.specs.{Map.{Map}, Readable.{IsReadable}}
+use Rattle.ppdb_values.specs.{RawFile.{RawFile}, Rules.{KeepsRules}, Value.{value_of}}
 use Rattle.ppdb_values_sound_laws.specs.Sound.{IsSound}
 use Rattle.ppdb_verify.specs.Views.{raw_file}
-use Rattle.ppdb_merge_items.specs.Laws.{SoundnessIsAnnotated}
-use Rattle.ppdb_merge_items.proofs.Mapped.{map_map_both}
-use Rattle.ppdb_merge_items.specs.Unannotated.{value_of_annotated}
-use Rattle.ppdb_merge_joined.specs.Joined.{joined}
-use Rattle.ppdb_merge_joined.specs.Laws.{JoinedIsSound}
+use Rattle.ppdb_merge_items.{specs.Laws.{SoundnessIsAnnotated}, proofs.Mapped.{map_map_both}, specs.Unannotated.{value_of_annotated}}
+use Rattle.ppdb_merge_joined.specs.{Joined.{joined}, Laws.{JoinedIsSound}}
 use Rattle.ppdb_merge_names_laws.specs.Laws.{ReferencesAreNamed}
 use Rattle.ppdb_merge_names.specs.declared.imaged.Imaged.{Imaged}
 use Rattle.ppdb_merge_moved.specs.Moved.{moved_counts}
-use Rattle.ppdb_merge_fits.specs.Clashes.{first_clash}
-use Rattle.ppdb_merge_fits.specs.Signatures.{all_images}
-use Rattle.ppdb_merge_fits.specs.Laws.{NothingClashes}
+use Rattle.ppdb_merge_fits.specs.{Clashes.{first_clash}, Signatures.{all_images}, Laws.{NothingClashes}}
 use Rattle.ppdb_merge_meaning_laws.specs.Kept.{joined_inputs}
-use Rattle.ppdb_merge_rows.specs.Inputs.{moved_by, moved_inputs}
-use Rattle.ppdb_merge_rows.specs.declared.inputs.RowInput.{RowInput}
-use Rattle.ppdb_merge.specs.declared.row_index.RowIndex.{RowIndex}
-use Rattle.ppdb_merge.specs.declared.row_trace.RowTrace.{RowTrace}
-use Rattle.ppdb_merge.specs.declared.trace.Trace.{Trace}
-use Rattle.ppdb_merge.specs.Inputs.{AreFitting, ReadInput, traces_of}
+use Rattle.ppdb_merge_rows.specs.{Inputs.{moved_by, moved_inputs}, declared.inputs.RowInput.{RowInput}}
+use Rattle.ppdb_merge.specs.{declared.row_index.RowIndex.{RowIndex}, declared.row_trace.RowTrace.{RowTrace}, declared.trace.Trace.{Trace}, Inputs.{AreFitting}}
+use Rattle.ppdb_merge.specs.Inputs.{ReadInput, traces_of}
 use Rattle.ppdb_merge.specs.Inputs as read
-use Rattle.ppdb_merge.specs.Kept.{AreInputs}
-use Rattle.ppdb_merge.specs.Merged.{trace_of, is_first, moved_files, unless}
-use Rattle.ppdb_merge.specs.Refusals.{added, refusal_of}
-use Rattle.ppdb_merge.specs.Rows.{AreKept, IndexesRows, IsIndexOf, read_input, read_inputs, row_trace, row_traces, traces_in}
-use Rattle.ppdb_merge.specs.Together.{joined_of, misfit_of}
-use Rattle.ppdb_merge.proofs.Adding.{added_as, joined_sound, refused_first}
-use Rattle.ppdb_merge.proofs.RowIndexing.{many_traces}
-use Rattle.ppdb_merge.proofs.Turns.{are_inputs_of, one_fits, traces_more}
+use Rattle.ppdb_merge.specs.{Kept.{AreInputs}, Merged.{trace_of, is_first, moved_files, unless}, Refusals.{added, refusal_of}, Rows.{AreKept, IndexesRows}}
+use Rattle.ppdb_merge.specs.{Rows.{IsIndexOf, read_input, read_inputs, row_trace, row_traces, traces_in}, Together.{joined_of, misfit_of}}
+use Rattle.ppdb_merge.proofs.{Adding.{added_as, joined_sound, refused_first}, RowIndexing.{many_traces}, Turns.{are_inputs_of, one_fits, traces_more}}
 
 map_push : {A B : Type 0} (f : A → B) (xs : List A) (x : A) → map f (xs ++ x ∷ []) ≡ map f xs ++ f x ∷ []
 map_push f [] x = refl

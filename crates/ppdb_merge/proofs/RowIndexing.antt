@@ -1,41 +1,23 @@
 -- The index of inputs whose rows are read again, with one further input.
 use Rattle.std.proofs.Common.{◌≡◌, ℕ, zero, suc, ◌+◌, ◌<◌, ◌&&◌, not, Bool, true, false, cond, List, [], ◌∷◌, ◌++◌, Option, Some, None, length, map, flat_map, take}
-use Rattle.std.proofs.Common.{refl, sym, ◌∙◌, ap, subst, arith}
-use Rattle.std.specs.Prelude.{get_or, slice_get}
-use Rattle.std.specs.List.{filter_map, cons_option}
-use Rattle.std.specs.Option.{option_to_list}
-use Rattle.std.proofs.lemmas.List.{get_or-map, length-map, take_more}
-use Rattle.ppdb_base.specs.declared.merge_error.MergeError.{MergeError}
-use Rattle.ppdb_base.specs.declared.merge_error.MergeError.TheVariants.{LinkDiffers}
+use Rattle.std.{proofs.Common.{refl, sym, ◌∙◌, ap, subst, arith}, specs.Prelude.{get_or, slice_get}, specs.List.{filter_map, cons_option}}
+use Rattle.std.{specs.Option.{option_to_list}, proofs.lemmas.List.{get_or-map, length-map, take_more}}
+use Rattle.ppdb_base.specs.declared.merge_error.{MergeError.{MergeError}, MergeError.TheVariants.{LinkDiffers}}
 use Rattle.ppdb_maps.specs.Map.{Map, is_gone_row}
 use Rattle.ppdb_tables.specs.RawTables.{numbered}
-use Rattle.ppdb_values.specs.RawFile.{RawFile}
-use Rattle.ppdb_values.specs.Value.{value_of}
-use Rattle.ppdb_values.specs.declared.custom.CustomValue.{CustomValue}
-use Rattle.ppdb_values.specs.declared.file.DocumentValue.{DocumentValue}
-use Rattle.ppdb_values.specs.declared.file.FileValue.{FileValue}
+use Rattle.ppdb_values.specs.{RawFile.{RawFile}, Value.{value_of}, declared.custom.CustomValue.{CustomValue}, declared.file.DocumentValue.{DocumentValue}}
+use Rattle.ppdb_values.specs.{declared.file.FileValue.{FileValue}, Parts.{is_link}}
 use Rattle.ppdb_verify.specs.Views.{raw_file}
-use Rattle.ppdb_merge_items.specs.declared.file.AnnotatedFile.{AnnotatedFile}
-use Rattle.ppdb_merge_items.specs.Each.{Each}
-use Rattle.ppdb_merge_items.specs.Sorted.{in_order}
-use Rattle.ppdb_merge_items.specs.Annotated.{annotated_file}
+use Rattle.ppdb_merge_items.specs.{declared.file.AnnotatedFile.{AnnotatedFile}, Each.{Each}, Sorted.{in_order}, Annotated.{annotated_file}}
 use Rattle.ppdb_merge_joined.specs.Joined.{firsts}
-use Rattle.ppdb_values.specs.Parts.{is_link}
 use Rattle.ppdb_merge_moved.specs.Moved.{moved_document, moved_file}
 use Rattle.ppdb_merge_names.specs.declared.imaged.Imaged.{Imaged}
 use Rattle.ppdb_merge_fits.specs.Signatures.{all_images}
 use Rattle.ppdb_merge_rows.specs.declared.inputs.RowInput.{RowInput}
-use Rattle.ppdb_merge.specs.declared.row_index.RowIndex.{RowIndex}
-use Rattle.ppdb_merge.specs.declared.row_trace.RowTrace.{RowTrace}
-use Rattle.ppdb_merge.specs.declared.trace.Trace.{Trace}
-use Rattle.ppdb_merge.specs.Indexes.{HoldsMethods, HoldsDocuments, claims_of}
-use Rattle.ppdb_merge.specs.Inputs.{trace_by}
-use Rattle.ppdb_merge.specs.Merged.{trace_of}
-use Rattle.ppdb_merge.specs.Refusals.{claims, clashes_before, documents_differ, link_differs, links_differ, methods_in, moved_conflict, says_other_before, taken}
-use Rattle.ppdb_merge.specs.Rows.{IndexesRows, link_after, read_input, row_trace, row_traces, traces_in}
-use Rattle.ppdb_merge.specs.Sound.{SoundTrace, SoundTraces}
-use Rattle.ppdb_merge.proofs.Adding.{items_are}
-use Rattle.ppdb_merge.proofs.Indexing.{index_more}
+use Rattle.ppdb_merge.specs.{declared.row_index.RowIndex.{RowIndex}, declared.row_trace.RowTrace.{RowTrace}, declared.trace.Trace.{Trace}, Indexes.{HoldsMethods}}
+use Rattle.ppdb_merge.specs.{Indexes.{HoldsDocuments, claims_of}, Inputs.{trace_by}, Merged.{trace_of}, Refusals.{claims, clashes_before, documents_differ}}
+use Rattle.ppdb_merge.specs.{Refusals.{link_differs, links_differ, methods_in, moved_conflict, says_other_before, taken}, Rows.{IndexesRows, link_after, read_input}}
+use Rattle.ppdb_merge.{specs.Rows.{row_trace, row_traces, traces_in}, specs.Sound.{SoundTrace, SoundTraces}, proofs.Adding.{items_are}, proofs.Indexing.{index_more}}
 use Rattle.ppdb_merge.proofs.RowLinks.{links_more}
 
 -- ---- one more input

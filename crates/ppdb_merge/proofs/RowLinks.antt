@@ -1,23 +1,15 @@
 -- The Source Link records of inputs, read from their rows.
 use Rattle.std.proofs.Common.{◌≡◌, ℕ, ◌&&◌, ◌||◌, not, Bool, true, false, cond, List, [], ◌∷◌, ◌++◌, Option, Some, None, filter, refl, sym, ◌∙◌, ap}
-use Rattle.std.specs.Prelude.{bytes_eq, nat_lt, slice_get}
-use Rattle.std.specs.List.{filter_map, list_any, cons_option}
+use Rattle.std.specs.{Prelude.{bytes_eq, nat_lt, slice_get}, List.{filter_map, list_any, cons_option}}
 use Rattle.ppdb_base.specs.declared.merge_error.MergeError.TheVariants.{LinkDiffers}
 use Rattle.custom_info.specs.Kinds.{source_link}
 use Rattle.ppdb_maps.specs.Map.{Map, moved_row, is_gone_row}
 use Rattle.ppdb_tables.specs.RawTables.{numbered}
-use Rattle.ppdb_values.specs.Parts.{is_at}
-use Rattle.ppdb_values.specs.RawFile.{RawFile}
-use Rattle.ppdb_values.specs.Value.{value_of}
-use Rattle.ppdb_values.specs.declared.custom.CustomValue.{CustomValue}
+use Rattle.ppdb_values.specs.{Parts.{is_at}, RawFile.{RawFile}, Value.{value_of}, declared.custom.CustomValue.{CustomValue}}
 use Rattle.ppdb_merge_items.specs.NamedRows.{live_custom}
 use Rattle.ppdb_merge_moved.specs.Moved.{linked, moved_body, moved_custom, moved_parent}
-use Rattle.ppdb_merge.specs.declared.trace.Trace.{Trace}
-use Rattle.ppdb_merge.specs.Indexes.{link_row}
-use Rattle.ppdb_merge.specs.Merged.{trace_of}
-use Rattle.ppdb_merge.specs.Refusals.{has_other_link, is_other_link, links_differ, says_other, says_other_before}
-use Rattle.ppdb_merge.specs.Rows.{HoldsLinks, link_after}
-use Rattle.ppdb_merge.proofs.Linked.{told_of}
+use Rattle.ppdb_merge.specs.{declared.trace.Trace.{Trace}, Indexes.{link_row}, Merged.{trace_of}, Refusals.{has_other_link, is_other_link, links_differ, says_other}}
+use Rattle.ppdb_merge.{specs.Refusals.{says_other_before}, specs.Rows.{HoldsLinks, link_after}, proofs.Linked.{told_of}}
 
 or_assoc : (a b c : Bool) → (a || (b || c)) ≡ ((a || b) || c)
 or_assoc true b c = refl

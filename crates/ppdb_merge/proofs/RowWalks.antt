@@ -1,11 +1,7 @@
 -- Rows of a file that are read one after the other, and which is reported first.
-use Rattle.std.proofs.Common.{◌≡◌, ℕ, zero, suc, ◌+◌, ◌-◌, ◌<◌, true, false, List, [], ◌∷◌, ◌++◌, Option, Some, None, length, map, take, refl}
-use Rattle.std.proofs.Common.{sym, ap, ◌∙◌, subst, arith, append_assoc, append-nil}
-use Rattle.std.specs.Prelude.{IfSome, is_some, slice_get}
-use Rattle.std.specs.List.{filter_map, cons_option}
-use Rattle.std.specs.Option.{option_to_list}
-use Rattle.std.proofs.lemmas.List.Elements.{filter_map-append}
-use Rattle.std.proofs.lemmas.List.{map-append}
+use Rattle.std.proofs.Common.{◌≡◌, ℕ, zero, suc, ◌+◌, ◌-◌, ◌<◌, true, false, List, [], ◌∷◌, ◌++◌, Option, Some, None, length, map, take, refl, sym, ap, ◌∙◌, subst}
+use Rattle.std.{proofs.Common.{arith, append_assoc, append-nil}, specs.Prelude.{IfSome, is_some, slice_get}, specs.List.{filter_map, cons_option}}
+use Rattle.std.{specs.Option.{option_to_list}, proofs.lemmas.List.Elements.{filter_map-append}, proofs.lemmas.List.{map-append}}
 use Rattle.ppdb_tables.specs.RawTables.{numbered, row_at}
 use Rattle.ppdb_values_reading.proofs.Rows.{given_all, given_more, numbered_row, take_row}
 use Rattle.ppdb_merge.proofs.Told.{none_left, some_of}

@@ -1,21 +1,15 @@
 -- The methods that inputs name by their images, one further row after the other, and which row is reported first.
-use Rattle.std.proofs.Common.{◌≡◌, ℕ, zero, suc, ◌+◌, ◌-◌, ◌<◌, ◌≤◌, ◌&&◌, Bool, true, false, cond, List, [], ◌∷◌, ◌++◌, Option, Some, None}
-use Rattle.std.proofs.Common.{map, take, drop, length, refl, sym, ◌∙◌, ap, subst, arith, inl, inr}
-use Rattle.std.specs.Prelude.{nat_eq, find, is_some, filter, slice_get, get_or}
-use Rattle.std.specs.List.{filter_map, cons_option}
-use Rattle.std.specs.Option.{option_and_then}
-use Rattle.std.specs.Ordering.{nat_cmp}
+use Rattle.std.proofs.Common.{◌≡◌, ℕ, zero, suc, ◌+◌, ◌-◌, ◌<◌, ◌≤◌, ◌&&◌, Bool, true, false, cond, List, [], ◌∷◌, ◌++◌, Option, Some, None, map, take, drop, length}
+use Rattle.std.{proofs.Common.{refl, sym, ◌∙◌, ap, subst, arith, inl, inr}, specs.Prelude.{nat_eq, find, is_some, filter, slice_get, get_or}}
+use Rattle.std.specs.{List.{filter_map, cons_option}, Option.{option_and_then}, Ordering.{nat_cmp}}
 use Rattle.std.specs.BTreeMap as tree
-use Rattle.std.proofs.lemmas.Bool.{eqb-true, cases_lt, lt-ltb, le-ltb, le-leb, lt-leb}
-use Rattle.std.proofs.lemmas.List.{append_assoc, take_more}
+use Rattle.std.proofs.lemmas.{Bool.{eqb-true, cases_lt, lt-ltb, le-ltb, le-leb, lt-leb}, List.{append_assoc, take_more}}
 use Rattle.ppdb_maps.proofs.Refusing.{at_number}
-use Rattle.ppdb_merge_items.specs.Sorted.{put, in_order}
-use Rattle.ppdb_merge_items.proofs.Orders.{in_order_filter}
+use Rattle.ppdb_merge_items.{specs.Sorted.{put, in_order}, proofs.Orders.{in_order_filter}}
 use Rattle.ppdb_merge_names.specs.declared.imaged.Imaged.{Imaged}
 use Rattle.ppdb_merge_fits.proofs.Looking.{present, absent, some_mapped}
-use Rattle.ppdb_merge.specs.declared.methods.Methods.{Methods}
-use Rattle.ppdb_merge.specs.Indexes.{HoldsMethods, claims_of, claim_of, before, lesser, least_taken}
-use Rattle.ppdb_merge.specs.Refusals.{methods_in, taken}
+use Rattle.ppdb_merge.specs.{declared.methods.Methods.{Methods}, Indexes.{HoldsMethods, claims_of, claim_of, before, lesser, least_taken}, Refusals.{methods_in}}
+use Rattle.ppdb_merge.specs.Refusals.{taken}
 
 -- ---- one further row
 

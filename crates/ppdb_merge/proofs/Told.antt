@@ -1,8 +1,6 @@
 -- The first that is reported of the items of a list, found one after the other.
-use Rattle.std.proofs.Common.{◌≡◌, ℕ, zero, suc, ◌+◌, ◌<◌, ◌≤◌, true, false, List, [], ◌∷◌, ◌++◌, Option, Some, None, length, take, refl}
-use Rattle.std.proofs.Common.{sym, ap, ◌∙◌, subst, arith}
-use Rattle.std.specs.Prelude.{is_some, slice_get, get_or, flat_map}
-use Rattle.std.specs.List.{filter_map, cons_option, enumerate_from, range_with_len}
+use Rattle.std.proofs.Common.{◌≡◌, ℕ, zero, suc, ◌+◌, ◌<◌, ◌≤◌, true, false, List, [], ◌∷◌, ◌++◌, Option, Some, None, length, take, refl, sym, ap, ◌∙◌, subst, arith}
+use Rattle.std.specs.{Prelude.{is_some, slice_get, get_or, flat_map}, List.{filter_map, cons_option, enumerate_from, range_with_len}}
 use Rattle.ppdb_merge_fits.proofs.First.{there, nil_parts, no_first, first_back}
 use Rattle.ppdb_maps.proofs.Refusing.{none_of}
 

@@ -1,38 +1,19 @@
 -- What is kept of an input whose map fits it is sound.
-use Rattle.std.proofs.Common.{◌≡◌, ℕ, zero, suc, ◌≤◌, Bool, true, false, cond, List, Option, Some, None}
-use Rattle.std.proofs.Common.{refl, sym, ◌∙◌, ap, subst, arith}
-use Rattle.std.specs.Prelude.{nat_eq, Contains, unwrap_or}
-use Rattle.ppdb_maps.specs.Map.{Map, row_image, moved_row, is_dropped, count_of, row_line}
-use Rattle.ppdb_maps.specs.declared.image.RowImage.TheVariants.{Row}
-use Rattle.ppdb_maps.specs.Readable.{IsReadable}
-use Rattle.ppdb_values.specs.RawFile.{RawFile}
-use Rattle.ppdb_values.specs.Rules.{KeepsRules}
-use Rattle.ppdb_values.specs.Value.{value_of}
+use Rattle.std.{proofs.Common.{◌≡◌, ℕ, zero, suc, ◌≤◌, Bool, true, false, cond, List, Option, Some, None, refl, sym, ◌∙◌, ap, subst, arith}, specs.Prelude.{nat_eq}}
+use Rattle.std.specs.Prelude.{Contains, unwrap_or}
+use Rattle.ppdb_maps.specs.{Map.{Map, row_image, moved_row, is_dropped, count_of, row_line}, declared.image.RowImage.TheVariants.{Row}, Readable.{IsReadable}}
+use Rattle.ppdb_values.specs.{RawFile.{RawFile}, Rules.{KeepsRules}, Value.{value_of}}
 use Rattle.ppdb_values_sound_laws.specs.Sound.{IsSound}
-use Rattle.ppdb_merge_items.specs.declared.file.AnnotatedFile.{AnnotatedFile}
-use Rattle.ppdb_merge_items.specs.Each.{Each}
-use Rattle.ppdb_merge_items.specs.Laws.{SoundnessIsAnnotated}
-use Rattle.ppdb_merge_items.specs.NamedRows.{Named, names, names_some, named_rows, live_file, all_named}
-use Rattle.ppdb_merge_items.specs.Annotated.{annotated_file}
-use Rattle.ppdb_merge_items.specs.SoundParts.{SoundMoved}
-use Rattle.ppdb_merge_items.proofs.Lists.{Each-weaker}
+use Rattle.ppdb_merge_items.specs.{declared.file.AnnotatedFile.{AnnotatedFile}, Each.{Each}, Laws.{SoundnessIsAnnotated}, NamedRows.{Named, names, names_some}}
+use Rattle.ppdb_merge_items.specs.{NamedRows.{named_rows, live_file, all_named}, Annotated.{annotated_file}, SoundParts.{SoundMoved}}
+use Rattle.ppdb_merge_items.proofs.{Lists.{Each-weaker}, Parts.{in_entry}}
 use Rattle.ppdb_merge_names.specs.declared.imaged.Imaged.{Imaged}
 use Rattle.ppdb_merge_names_laws.specs.Laws.{ReferencesAreNamed}
-use Rattle.ppdb_merge_moved.specs.Fits.{Fits, IsImaged}
-use Rattle.ppdb_merge_moved.specs.Moved.{moved_file, table_in, row_in}
-use Rattle.ppdb_merge_moved.proofs.ImageRows.{image_stays, assembly_stays}
-use Rattle.ppdb_merge_moved.proofs.Lists.{each_of_three}
-use Rattle.ppdb_merge_moved.proofs.NamedParts.{NamedParts, named_parts}
-use Rattle.ppdb_merge_moved.proofs.NamedRows.{named_rows_are_rows}
-use Rattle.ppdb_merge_moved.proofs.RowImages.{moved_is_image}
-use Rattle.ppdb_merge_meaning_laws.proofs.MoreRows.{sound_moved}
-use Rattle.ppdb_merge_fits.specs.Rows.{imaged_rows}
-use Rattle.ppdb_merge_fits.specs.Signatures.{all_images}
-use Rattle.ppdb_merge.specs.Sound.{IsImageIn}
-use Rattle.ppdb_merge.proofs.Given.{row_in_all, given_in_all}
-use Rattle.ppdb_merge.proofs.Imaged.{named_in_rows}
-use Rattle.ppdb_merge_meaning_laws.proofs.MovedRows.{Moves, some_moves, all_move}
-use Rattle.ppdb_merge_items.proofs.Parts.{in_entry}
+use Rattle.ppdb_merge_moved.{specs.Fits.{Fits, IsImaged}, specs.Moved.{moved_file, table_in, row_in}, proofs.ImageRows.{image_stays, assembly_stays}}
+use Rattle.ppdb_merge_moved.proofs.{Lists.{each_of_three}, NamedParts.{NamedParts, named_parts}, NamedRows.{named_rows_are_rows}, RowImages.{moved_is_image}}
+use Rattle.ppdb_merge_meaning_laws.proofs.{MoreRows.{sound_moved}, MovedRows.{Moves, some_moves, all_move}}
+use Rattle.ppdb_merge_fits.specs.{Rows.{imaged_rows}, Signatures.{all_images}}
+use Rattle.ppdb_merge.{specs.Sound.{IsImageIn}, proofs.Given.{row_in_all, given_in_all}, proofs.Imaged.{named_in_rows}}
 
 -- ---- the images of the rows that it names
 

@@ -1,41 +1,22 @@
 -- Inputs that were added one after the other are inputs that fit.
-use Rattle.std.proofs.Common.{◌≡◌, ◌≢◌, ℕ, suc, ◌+◌, ◌<◌, ◌≤◌, Bool, true, false, List, [], ◌∷◌, ◌++◌, Option, Some, None, map, length}
-use Rattle.std.proofs.Common.{refl, sym, ◌∙◌, ap, subst, arith, append_assoc, append-nil}
-use Rattle.std.specs.Prelude.{Ok, Contains, nat_eq, slice_get}
-use Rattle.std.specs.Option.{option_or}
-use Rattle.std.proofs.lemmas.Bool.{ne_eqb}
-use Rattle.std.proofs.lemmas.List.{length-append}
+use Rattle.std.proofs.Common.{◌≡◌, ◌≢◌, ℕ, suc, ◌+◌, ◌<◌, ◌≤◌, Bool, true, false, List, [], ◌∷◌, ◌++◌, Option, Some, None, map, length, refl, sym, ◌∙◌, ap, subst}
+use Rattle.std.{proofs.Common.{arith, append_assoc, append-nil}, specs.Prelude.{Ok, Contains, nat_eq, slice_get}, specs.Option.{option_or}}
+use Rattle.std.proofs.lemmas.{Bool.{ne_eqb}, List.{length-append}}
 use Rattle.ppdb_base.specs.declared.merge_error.MergeError.{MergeError}
-use Rattle.ppdb_maps.specs.Map.{row_image, row_within}
-use Rattle.ppdb_maps.specs.declared.image.RowImage.TheVariants.{Row}
-use Rattle.ppdb_values.specs.RawFile.{RawFile}
-use Rattle.ppdb_values.specs.Rules.{KeepsRules}
-use Rattle.ppdb_values.specs.Value.{value_of}
+use Rattle.ppdb_maps.specs.{Map.{row_image, row_within}, declared.image.RowImage.TheVariants.{Row}}
+use Rattle.ppdb_values.specs.{RawFile.{RawFile}, Rules.{KeepsRules}, Value.{value_of}}
 use Rattle.ppdb_values_sound_laws.specs.Sound.{IsSound}
-use Rattle.ppdb_merge_items.specs.Each.{Each, Pairs}
-use Rattle.ppdb_merge_items.specs.Laws.{SoundnessIsAnnotated}
-use Rattle.ppdb_merge_items.specs.NamedRows.{names, named_rows}
-use Rattle.ppdb_merge_items.specs.Annotated.{annotated_file}
-use Rattle.ppdb_merge_items.proofs.Lists.{Each-append, Each-map, Each-weaker, Pairs-map, Pairs-unmap}
-use Rattle.ppdb_merge_items.proofs.Mapped.{map_map_both}
+use Rattle.ppdb_merge_items.specs.{Each.{Each, Pairs}, Laws.{SoundnessIsAnnotated}, NamedRows.{names, named_rows}, Annotated.{annotated_file}}
+use Rattle.ppdb_merge_items.proofs.{Lists.{Each-append, Each-map, Each-weaker, Pairs-map, Pairs-unmap}, Mapped.{map_map_both}}
 use Rattle.ppdb_merge_names_laws.specs.Laws.{ReferencesAreNamed}
 use Rattle.ppdb_merge_names.specs.declared.imaged.Imaged.{Imaged}
 use Rattle.ppdb_merge_joined.specs.Joinable.{AgreeOnDocuments}
-use Rattle.ppdb_merge_moved.proofs.Elements.{each_left, in_each}
-use Rattle.ppdb_merge_moved.proofs.ImageRows.{within_is}
+use Rattle.ppdb_merge_moved.proofs.{Elements.{each_left, in_each}, ImageRows.{within_is}}
 use Rattle.ppdb_merge_meaning_laws.specs.Kept.{Input, FitsAlone, MethodsApart, InputsFit, in_turn, moved_input}
-use Rattle.ppdb_merge_fits.specs.Clashes.{first_clash}
-use Rattle.ppdb_merge_fits.specs.Laws.{NothingClashes}
-use Rattle.ppdb_merge_fits.specs.Rows.{imaged_rows}
-use Rattle.ppdb_merge.specs.declared.trace.Trace.{Trace}
-use Rattle.ppdb_merge.specs.Inputs.{ReadInput, IsValidInput, AreAdded, IsFitting, AreFitting, moved_by, trace_by, traces_of}
-use Rattle.ppdb_merge.specs.Kept.{AreInputs}
-use Rattle.ppdb_merge.specs.Merged.{trace_of, is_first, unless}
-use Rattle.ppdb_merge.specs.Refusals.{added, clashes_before, methods_in, refusal_of}
-use Rattle.ppdb_merge.specs.Sound.{SoundTraces, AreMethodsApart}
-use Rattle.ppdb_merge.proofs.Adding.{added_sound}
-use Rattle.ppdb_merge.proofs.Counted.{can_be_joined}
-use Rattle.ppdb_merge.proofs.Given.{row_in_all}
+use Rattle.ppdb_merge_fits.specs.{Clashes.{first_clash}, Laws.{NothingClashes}, Rows.{imaged_rows}}
+use Rattle.ppdb_merge.specs.{declared.trace.Trace.{Trace}, Inputs.{ReadInput, IsValidInput, AreAdded, IsFitting, AreFitting, moved_by, trace_by, traces_of}}
+use Rattle.ppdb_merge.specs.{Kept.{AreInputs}, Merged.{trace_of, is_first, unless}, Refusals.{added, clashes_before, methods_in, refusal_of}, Sound.{SoundTraces}}
+use Rattle.ppdb_merge.{specs.Sound.{AreMethodsApart}, proofs.Adding.{added_sound}, proofs.Counted.{can_be_joined}, proofs.Given.{row_in_all}}
 use Rattle.ppdb_merge.proofs.Imaged.{named_in_rows}
 
 -- ---- inputs in turn

@@ -1,14 +1,9 @@
 -- Items of a group of which nothing is reported have one image only where they have one number.
-use Rattle.std.proofs.Common.{◌≡◌, ℕ, ◌<◌, ◌≤◌, ◌⊎◌, Bool, true, false, cond, List, [], ◌∷◌, refl, sym, ◌∙◌, subst, inl, inr, arith}
-use Rattle.std.specs.Prelude.{nat_eq, nat_le}
-use Rattle.std.specs.List.{dedup, dedup_from}
-use Rattle.std.proofs.lemmas.Bool.{cases_lt, eq-eqb, eqb-true, and_parts, le-leb, lt-leb}
-use Rattle.ppdb_merge_items.specs.Each.{Each, Pairs}
-use Rattle.ppdb_merge_items.specs.Sorted.{put, in_order}
-use Rattle.ppdb_merge_items.proofs.Orders.{in_order_each, in_order_rises, pairs_of, put_each}
+use Rattle.std.{proofs.Common.{◌≡◌, ℕ, ◌<◌, ◌≤◌, ◌⊎◌, Bool, true, false, cond, List, [], ◌∷◌, refl, sym, ◌∙◌, subst, inl, inr, arith}, specs.Prelude.{nat_eq}}
+use Rattle.std.{specs.Prelude.{nat_le}, specs.List.{dedup, dedup_from}, proofs.lemmas.Bool.{cases_lt, eq-eqb, eqb-true, and_parts, le-leb, lt-leb}}
+use Rattle.ppdb_merge_items.{specs.Each.{Each, Pairs}, specs.Sorted.{put, in_order}, proofs.Orders.{in_order_each, in_order_rises, pairs_of, put_each}}
 use Rattle.ppdb_merge_items.proofs.Lists.{Each-weaker}
-use Rattle.ppdb_merge_fits.specs.Twice.{beside, beside_from, each_once, is_same, if_one_image, twice}
-use Rattle.ppdb_merge_fits.proofs.First.{nil_parts}
+use Rattle.ppdb_merge_fits.{specs.Twice.{beside, beside_from, each_once, is_same, if_one_image, twice}, proofs.First.{nil_parts}}
 
 pub each_both : {A : Type 0} (P Q R : A → Type 0) → ((x : A) → P x → Q x → R x) → (xs : List A) → Each P xs → Each Q xs → Each R xs
 each_both P Q R holds [] p q = tt

@@ -1,16 +1,10 @@
 -- Scopes and records of custom debug information, row after row.
-use Rattle.std.proofs.Common.{◌≡◌, ℕ, Bool, true, false, cond, List, [], Some, None, length, slice_get, sym, ◌∙◌, ap}
-use Rattle.std.proofs.lemmas.List.{length-map}
+use Rattle.std.proofs.{Common.{◌≡◌, ℕ, Bool, true, false, cond, List, [], Some, None, length, slice_get, sym, ◌∙◌, ap}, lemmas.List.{length-map}}
 use Rattle.std.proofs.lemmas.List.FromFn.{length-enumerate_from}
 use Rattle.ppdb_base.specs.declared.merge_error.MergeError.{MergeError}
 use Rattle.ppdb_maps.specs.Map.{Map}
-use Rattle.ppdb_tables.specs.declared.rows.CustomRow.{CustomRow}
-use Rattle.ppdb_tables.specs.declared.rows.ScopeRow.{ScopeRow}
-use Rattle.ppdb_tables.specs.RawTables.{numbered, row_at}
-use Rattle.ppdb_values.specs.declared.custom.CustomBody.{CustomBody}
-use Rattle.ppdb_values.specs.declared.custom.CustomValue.{CustomValue}
-use Rattle.ppdb_values.specs.Customs.{custom_of}
-use Rattle.ppdb_values.specs.RawFile.{RawFile}
+use Rattle.ppdb_tables.specs.{declared.rows.CustomRow.{CustomRow}, declared.rows.ScopeRow.{ScopeRow}, RawTables.{numbered, row_at}}
+use Rattle.ppdb_values.specs.{declared.custom.CustomBody.{CustomBody}, declared.custom.CustomValue.{CustomValue}, Customs.{custom_of}, RawFile.{RawFile}}
 use Rattle.ppdb_values.specs.Value.{scope_of, value_of}
 use Rattle.ppdb_values_reading.proofs.Rows.{numbered_row, row_made}
 use Rattle.ppdb_merge_items.specs.NamedRows.{live_custom}

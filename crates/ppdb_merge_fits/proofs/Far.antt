@@ -1,14 +1,9 @@
 -- The last offset that is a number of 32 bits is kept where all are.
-use Rattle.std.proofs.Common.{◌≡◌, ℕ, ◌≤◌, ◌&&◌, Bool, true, false, cond, List, Option, Some, None, refl, arith}
-use Rattle.std.specs.Prelude.{is_some, not, IfSome, nat_eq}
-use Rattle.ppdb_base.specs.declared.offsets.Run.{Run}
-use Rattle.ppdb_base.specs.Offsets.{Rise, gone, lined, is_kept_between, KeepsBetween}
-use Rattle.ppdb_base.proofs.Moved.{is_kept, kept_below}
-use Rattle.ppdb_maps.specs.Map.{Map, MethodLine, offsets_in, method_line, is_dropped}
-use Rattle.ppdb_maps.specs.Readable.{IsReadable, IsLineOf}
-use Rattle.ppdb_maps.specs.Says.{sizes_of}
-use Rattle.ppdb_merge_moved.proofs.RowImages.{found_holds}
+use Rattle.std.{proofs.Common.{◌≡◌, ℕ, ◌≤◌, ◌&&◌, Bool, true, false, cond, List, Option, Some, None, refl, arith}, specs.Prelude.{is_some, not, IfSome, nat_eq}}
+use Rattle.ppdb_base.{specs.declared.offsets.Run.{Run}, specs.Offsets.{Rise, gone, lined, is_kept_between, KeepsBetween}, proofs.Moved.{is_kept, kept_below}}
+use Rattle.ppdb_maps.specs.{Map.{Map, MethodLine, offsets_in, method_line, is_dropped}, Readable.{IsReadable, IsLineOf}, Says.{sizes_of}}
 use Rattle.ppdb_maps.proofs.Parts.{line_offsets}
+use Rattle.ppdb_merge_moved.proofs.RowImages.{found_holds}
 
 in_line : (runs : List Run) (old new : ℕ) → Rise (lined runs old new) → old ≤ 2147483647 → (b : Bool)
     → is_kept_between (lined runs old new) 4294967295 4294967296 ≡ b → b ≡ false

@@ -1,10 +1,7 @@
 -- The first of what is reported of items, one after the other.
-use Rattle.std.proofs.Common.{◌≡◌, ℕ, zero, suc, ◌+◌, ◌<◌, ◌≤◌, ◌++◌, List, [], ◌∷◌, Option, Some, None, length, take, flat_map, slice_get, get_or, refl, sym}
-use Rattle.std.proofs.Common.{Bool, true, false, ◌||◌, append-nil}
-use Rattle.std.specs.Option.{option_to_list}
-use Rattle.std.specs.List.{enumerate_from, filter_map, cons_option, list_any}
-use Rattle.std.proofs.lemmas.List.FromFn.{length-enumerate_from}
-use Rattle.std.proofs.Common.{◌∙◌, ap, subst, arith}
+use Rattle.std.proofs.Common.{◌≡◌, ℕ, zero, suc, ◌+◌, ◌<◌, ◌≤◌, ◌++◌, List, [], ◌∷◌, Option, Some, None, length, take, flat_map, slice_get, get_or, refl, sym, Bool}
+use Rattle.std.{proofs.Common.{true, false, ◌||◌, append-nil, ◌∙◌, ap, subst, arith}, specs.Option.{option_to_list}, specs.List.{enumerate_from, filter_map}}
+use Rattle.std.{specs.List.{cons_option, list_any}, proofs.lemmas.List.FromFn.{length-enumerate_from}}
 
 pub nil_parts : {A : Type 0} (xs ys : List A) → xs ++ ys ≡ [] → (xs ≡ []) × (ys ≡ [])
 nil_parts [] ys e = (refl, e)

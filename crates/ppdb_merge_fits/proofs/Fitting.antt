@@ -1,47 +1,26 @@
 -- A map that does not clash with a file fits it.
-use Rattle.std.proofs.Common.{◌≡◌, ℕ, ◌+◌, ◌<◌, ◌≤◌, ◌&&◌, ◌||◌, ◌++◌, Bool, true, false, cond, List, [], ◌∷◌, Option, Some, None, flat_map}
-use Rattle.std.proofs.Common.{refl, sym, ◌∙◌, ap, subst, arith}
-use Rattle.std.specs.Prelude.{IfSome, nat_le, nat_lt, nat_eq, not}
-use Rattle.std.specs.List.{enumerate_from}
-use Rattle.std.proofs.lemmas.Bool.{leb-false, ltb-false}
-use Rattle.ppdb_base.specs.Offsets.{Offsets, Kept, KeepsBetween, every, gone, lined, old_size}
-use Rattle.ppdb_base.proofs.Moved.{is_kept as kept_between}
-use Rattle.custom_info.specs.HoistedScopes.{IsSlot}
-use Rattle.custom_info.specs.declared.kinds.Kind.{Kind}
+use Rattle.std.proofs.Common.{◌≡◌, ℕ, ◌+◌, ◌<◌, ◌≤◌, ◌&&◌, ◌||◌, ◌++◌, Bool, true, false, cond, List, [], ◌∷◌, Option, Some, None, flat_map, refl, sym, ◌∙◌, ap}
+use Rattle.std.{proofs.Common.{subst, arith}, specs.Prelude.{IfSome, nat_le, nat_lt, nat_eq, not}, specs.List.{enumerate_from}, proofs.lemmas.Bool.{leb-false}}
+use Rattle.std.proofs.lemmas.Bool.{ltb-false}
+use Rattle.ppdb_base.{specs.Offsets.{Offsets, Kept, KeepsBetween, every, gone, lined, old_size}, proofs.Moved.{is_kept as kept_between}}
+use Rattle.custom_info.specs.{HoistedScopes.{IsSlot}, declared.kinds.Kind.{Kind}}
 use Rattle.custom_info.specs.declared.kinds.Kind.TheVariants as kinds
-use Rattle.custom_info.specs.declared.slots.Slot.{Slot}
-use Rattle.custom_info.specs.declared.slots.Slot.TheVariants.{Empty, Held}
-use Rattle.custom_info.specs.declared.stepping.AsyncStep.{AsyncStep}
-use Rattle.custom_info.specs.Kinds.{kind_of}
-use Rattle.ppdb_maps.specs.Map.{Map, offsets_in, method_line, is_dropped, is_gone_row}
-use Rattle.ppdb_maps.specs.Readable.{IsReadable}
-use Rattle.ppdb_maps.specs.Says.{sizes_of}
-use Rattle.sequence_points.specs.declared.point.Point.{Point}
-use Rattle.ppdb_values.specs.Rules.{StandsOn}
-use Rattle.ppdb_values_sound_laws.specs.Customs.{SoundCustom, IsBodyOfKind}
-use Rattle.ppdb_values_sound_laws.specs.Methods.{SoundMethod, SoundPoint}
-use Rattle.ppdb_values.specs.declared.custom.CustomBody.{CustomBody}
-use Rattle.ppdb_values.specs.declared.custom.CustomBody.TheVariants.{Async, Hoisted, TypeDocuments, Unread}
-use Rattle.ppdb_values.specs.declared.custom.CustomValue.{CustomValue}
-use Rattle.ppdb_values.specs.declared.file.FileValue.{FileValue}
-use Rattle.ppdb_values.specs.declared.file.MethodValue.{MethodValue}
-use Rattle.ppdb_values.specs.declared.scope.ScopeValue.{ScopeValue}
-use Rattle.ppdb_merge_items.specs.Each.{Each}
-use Rattle.ppdb_merge_items.specs.NamedRows.{is_type_documents, live_custom}
-use Rattle.ppdb_merge_items.specs.Annotated.{annotated_file, annotated_scope}
-use Rattle.ppdb_merge_items.specs.SoundParts.{SoundAnnotatedScope}
-use Rattle.ppdb_merge_items.specs.declared.file.AnnotatedScope.{AnnotatedScope}
-use Rattle.ppdb_merge_items.proofs.Lists.{Each-weaker, Each-map, Each-filter, Each-enumerate}
-use Rattle.ppdb_merge_moved.specs.Fits.{IsKept, KeepsStep, KeepsAsync, EndsWithin, AreWithin}
-use Rattle.ppdb_merge_moved.proofs.Fitting.{offsets_rise}
-use Rattle.ppdb_merge_moved.proofs.ImageRows.{no_gone_method}
-use Rattle.ppdb_merge_moved.proofs.SoundItems.{each_all}
-use Rattle.ppdb_merge_fits.specs.Offsets.{offset_in, step_offsets, handler_offsets, async_offsets, if_past, offset_beyond, end_beyond, points_beyond}
-use Rattle.ppdb_merge_fits.specs.Offsets.{scope_beyond, slot_beyond, body_beyond, is_kept, if_lost, lost}
-use Rattle.ppdb_merge_fits.proofs.Apart.{each_both}
-use Rattle.ppdb_merge_fits.proofs.First.{nil_parts, flat_append, flat_nested}
-use Rattle.ppdb_merge_fits.proofs.Parts.{custom_beyond, custom_lost}
+use Rattle.custom_info.specs.{declared.slots.Slot.{Slot}, declared.slots.Slot.TheVariants.{Empty, Held}, declared.stepping.AsyncStep.{AsyncStep}, Kinds.{kind_of}}
+use Rattle.ppdb_maps.specs.{Map.{Map, offsets_in, method_line, is_dropped, is_gone_row}, Readable.{IsReadable}, Says.{sizes_of}}
 use Rattle.ppdb_maps.proofs.Parts.{line_offsets}
+use Rattle.sequence_points.specs.declared.point.Point.{Point}
+use Rattle.ppdb_values.specs.{Rules.{StandsOn}, declared.custom.CustomBody.{CustomBody}, declared.custom.CustomBody.TheVariants.{Async, Hoisted, TypeDocuments}}
+use Rattle.ppdb_values.specs.declared.{custom.CustomBody.TheVariants.{Unread}, custom.CustomValue.{CustomValue}, file.FileValue.{FileValue}}
+use Rattle.ppdb_values.specs.declared.{file.MethodValue.{MethodValue}, scope.ScopeValue.{ScopeValue}}
+use Rattle.ppdb_values_sound_laws.specs.{Customs.{SoundCustom, IsBodyOfKind}, Methods.{SoundMethod, SoundPoint}}
+use Rattle.ppdb_merge_items.specs.{Each.{Each}, NamedRows.{is_type_documents, live_custom}, Annotated.{annotated_file, annotated_scope}}
+use Rattle.ppdb_merge_items.{specs.SoundParts.{SoundAnnotatedScope}, specs.declared.file.AnnotatedScope.{AnnotatedScope}, proofs.Lists.{Each-weaker, Each-map}}
+use Rattle.ppdb_merge_items.proofs.Lists.{Each-filter, Each-enumerate}
+use Rattle.ppdb_merge_moved.{specs.Fits.{IsKept, KeepsStep, KeepsAsync, EndsWithin, AreWithin}, proofs.Fitting.{offsets_rise}, proofs.ImageRows.{no_gone_method}}
+use Rattle.ppdb_merge_moved.proofs.SoundItems.{each_all}
+use Rattle.ppdb_merge_fits.specs.Offsets.{offset_in, step_offsets, handler_offsets, async_offsets, if_past, offset_beyond, end_beyond, points_beyond, scope_beyond}
+use Rattle.ppdb_merge_fits.{specs.Offsets.{slot_beyond, body_beyond, is_kept, if_lost, lost}, proofs.Apart.{each_both}, proofs.First.{nil_parts, flat_append}}
+use Rattle.ppdb_merge_fits.proofs.{First.{flat_nested}, Parts.{custom_beyond, custom_lost}}
 
 pub flat_none : {A B : Type 0} (f : A → List B) (xs : List A) → flat_map f xs ≡ [] → Each (λ x. f x ≡ []) xs
 flat_none f [] none = tt

@@ -1,35 +1,20 @@
 -- A map that does not clash with a file gives each row and each slot its own image.
 use Rattle.std.proofs.Common.{◌≡◌, ℕ, ◌+◌, ◌||◌, Bool, true, false, cond, List, [], ◌∷◌, Option, Some, None, map, refl, sym, ◌∙◌, ap, subst}
-use Rattle.std.specs.Prelude.{is_some, IfSome, not, unwrap_or}
-use Rattle.std.specs.List.{filter_map, cons_option, enumerate_from}
-use Rattle.std.specs.Option.{option_map}
-use Rattle.ppdb_maps.specs.Map.{Map, row_image, slot_image, is_dropped}
-use Rattle.ppdb_maps.specs.declared.image.RowImage.{RowImage}
-use Rattle.ppdb_maps.specs.declared.image.RowImage.TheVariants.{Row, Gone, Missing}
-use Rattle.ppdb_merge_names.specs.declared.imaged.Imaged.{Imaged}
-use Rattle.ppdb_merge_names.specs.References.{Reference, references}
+use Rattle.std.specs.{Prelude.{is_some, IfSome, not, unwrap_or}, List.{filter_map, cons_option, enumerate_from}, Option.{option_map}}
+use Rattle.ppdb_maps.specs.{Map.{Map, row_image, slot_image, is_dropped}, declared.image.RowImage.{RowImage}, declared.image.RowImage.TheVariants.{Row, Gone}}
+use Rattle.ppdb_maps.specs.declared.image.RowImage.TheVariants.{Missing}
+use Rattle.ppdb_merge_names.specs.{declared.imaged.Imaged.{Imaged}, References.{Reference, references}}
 use Rattle.ppdb_merge_names_laws.specs.Laws.{named_by}
 use Rattle.ppdb_tables.specs.RawTables.{numbered}
-use Rattle.ppdb_values.specs.RawFile.{RawFile}
-use Rattle.ppdb_values.specs.declared.file.FileValue.{FileValue}
-use Rattle.ppdb_values.specs.declared.scope.ScopeValue.{ScopeValue}
-use Rattle.ppdb_values.specs.declared.scope.VariableValue.{VariableValue}
-use Rattle.ppdb_values.specs.declared.annotation.Annotation.{Annotation}
-use Rattle.ppdb_merge_items.specs.Each.{Each}
-use Rattle.ppdb_merge_items.specs.NamedRows.{live_scope}
-use Rattle.ppdb_merge_items.specs.Annotated.{annotated_file, annotated_scope}
-use Rattle.ppdb_merge_items.specs.declared.file.AnnotatedScope.{AnnotatedScope}
+use Rattle.ppdb_values.specs.{RawFile.{RawFile}, declared.file.FileValue.{FileValue}, declared.scope.ScopeValue.{ScopeValue}}
+use Rattle.ppdb_values.specs.declared.{scope.VariableValue.{VariableValue}, annotation.Annotation.{Annotation}}
+use Rattle.ppdb_merge_items.specs.{Each.{Each}, NamedRows.{live_scope}, Annotated.{annotated_file, annotated_scope}, declared.file.AnnotatedScope.{AnnotatedScope}}
 use Rattle.ppdb_merge_items.proofs.Lists.{Each-weaker, Each-map, Each-unmap, Each-enumerate}
-use Rattle.ppdb_merge_moved.specs.Fits.{IsImaged, AreApart, may_share, HasSlot, SlotsAreApart}
-use Rattle.ppdb_merge_moved.specs.Moved.{table_in, row_in}
-use Rattle.ppdb_merge_moved.proofs.Elements.{in_each, each_made}
-use Rattle.ppdb_merge_fits.specs.declared.used.MethodSlot.{MethodSlot}
-use Rattle.ppdb_merge_fits.specs.declared.used.UsedSlot.{UsedSlot}
-use Rattle.ppdb_merge_fits.specs.Rows.{imaged, imaged_to, image_key, image_twice, is_row, unmapped, unshared, imaged_rows, rows_twice}
-use Rattle.ppdb_merge_fits.specs.Slots.{scope_slots, variable_slots, if_slot_unmapped, slots_unmapped, used, slot_twice, slots_twice}
-use Rattle.ppdb_merge_fits.specs.Twice.{each_once}
-use Rattle.ppdb_merge_fits.proofs.Apart.{apart, OneNumber}
-use Rattle.ppdb_merge_fits.proofs.Fitting.{flat_none, holds}
+use Rattle.ppdb_merge_moved.{specs.Fits.{IsImaged, AreApart, may_share, HasSlot, SlotsAreApart}, specs.Moved.{table_in, row_in}, proofs.Elements.{in_each}}
+use Rattle.ppdb_merge_moved.proofs.Elements.{each_made}
+use Rattle.ppdb_merge_fits.specs.{declared.used.MethodSlot.{MethodSlot}, declared.used.UsedSlot.{UsedSlot}, Rows.{imaged, imaged_to, image_key, image_twice, is_row}}
+use Rattle.ppdb_merge_fits.specs.{Rows.{unmapped, unshared, imaged_rows, rows_twice}, Slots.{scope_slots, variable_slots, if_slot_unmapped, slots_unmapped, used}}
+use Rattle.ppdb_merge_fits.{specs.Slots.{slot_twice, slots_twice}, specs.Twice.{each_once}, proofs.Apart.{apart, OneNumber}, proofs.Fitting.{flat_none, holds}}
 use Rattle.ppdb_merge_fits.proofs.Parts.{if_unmapped}
 
 some_of : {A : Type 0} (o : Option A) → is_some o ≡ true → (x : A) × (o ≡ Some x)

@@ -1,15 +1,10 @@
 -- The images of the rows that are named.
-use Rattle.std.proofs.Common.{◌≡◌, ℕ, zero, suc, ◌<◌, ◌++◌, cond, List, [], ◌∷◌, Some, slice_get, flat_map, refl, sym, ◌∙◌, ap, arith}
-use Rattle.std.specs.List.{filter_map, cons_option}
+use Rattle.std.{proofs.Common.{◌≡◌, ℕ, zero, suc, ◌<◌, ◌++◌, cond, List, [], ◌∷◌, Some, slice_get, flat_map, refl, sym, ◌∙◌, ap, arith}, specs.List.{filter_map}}
+use Rattle.std.specs.List.{cons_option}
 use Rattle.ppdb_base.specs.declared.merge_error.MergeError.TheVariants.{Unmapped}
-use Rattle.ppdb_maps.specs.Map.{Map}
-use Rattle.ppdb_maps.specs.declared.image.RowImage.{RowImage}
-use Rattle.ppdb_maps.specs.declared.image.RowImage.TheVariants.{Row, Missing}
-use Rattle.ppdb_merge_names.specs.declared.imaged.Imaged.{Imaged}
-use Rattle.ppdb_merge_names.specs.Imaging.{AreImagesOf, IsImageOf, image_of}
-use Rattle.ppdb_merge_names.specs.References.{Reference}
-use Rattle.ppdb_merge_fits.specs.Rows.{imaged, imaged_to, is_row}
-use Rattle.ppdb_merge_fits.proofs.Parts.{if_unmapped}
+use Rattle.ppdb_maps.specs.{Map.{Map}, declared.image.RowImage.{RowImage}, declared.image.RowImage.TheVariants.{Row, Missing}}
+use Rattle.ppdb_merge_names.specs.{declared.imaged.Imaged.{Imaged}, Imaging.{AreImagesOf, IsImageOf, image_of}, References.{Reference}}
+use Rattle.ppdb_merge_fits.{specs.Rows.{imaged, imaged_to, is_row}, proofs.Parts.{if_unmapped}}
 
 one_image : (m : Map) (r : Reference) (i : Imaged) → IsImageOf m r i → imaged m r ≡ Some i
 one_image m r i is =

@@ -1,15 +1,11 @@
 -- Items whose images are their numbers: nothing is reported of two of them.
-use Rattle.std.proofs.Common.{◌≡◌, ℕ, ◌&&◌, Bool, true, false, cond, List, [], ◌∷◌, ◌++◌, refl, ap, ◌∙◌, arith}
-use Rattle.std.specs.Prelude.{All, nat_eq, nat_le, not}
-use Rattle.std.proofs.lemmas.Bool.{eqb-true, eq-eqb}
-use Rattle.std.proofs.lemmas.List.Elements.{All-cons, All-filter, All-head, All-tail}
-use Rattle.std.proofs.lemmas.List.Filters.{All-dedup}
+use Rattle.std.{proofs.Common.{◌≡◌, ℕ, ◌&&◌, Bool, true, false, cond, List, [], ◌∷◌, ◌++◌, refl, ap, ◌∙◌, arith}, specs.Prelude.{All, nat_eq, nat_le, not}}
+use Rattle.std.proofs.lemmas.{Bool.{eqb-true, eq-eqb}, List.Elements.{All-cons, All-filter, All-head, All-tail}, List.Filters.{All-dedup}}
 use Rattle.ppdb_maps.specs.Map.{Map}
 use Rattle.ppdb_merge_items.specs.Sorted.{put, in_order}
 use Rattle.ppdb_merge_moved.specs.Fits.{may_share}
 use Rattle.ppdb_merge_names.specs.declared.imaged.Imaged.{Imaged}
-use Rattle.ppdb_merge_fits.specs.Rows.{Stays, image_key, image_twice, rows_twice, unshared}
-use Rattle.ppdb_merge_fits.specs.Twice.{beside, beside_from, each_once, if_one_image, is_same, twice}
+use Rattle.ppdb_merge_fits.specs.{Rows.{Stays, image_key, image_twice, rows_twice, unshared}, Twice.{beside, beside_from, each_once, if_one_image, is_same, twice}}
 
 module _ {A : Type 0} (P : A → Type 0) where
   all_put : (key : A → ℕ) (x : A) (ys : List A) → P x → All P ys → All P (put key x ys)

@@ -1,21 +1,12 @@
 -- What a map that has no line of a method says of the method, and what it says of the points of one that has.
-use Rattle.std.proofs.Common.{◌≡◌, ℕ, Bool, true, false, cond, List, [], ◌∷◌, Option, Some, None, slice_get, flat_map, refl, sym, ◌∙◌, ap}
-use Rattle.std.specs.Prelude.{find, nat_eq, nat_le}
-use Rattle.std.specs.List.{cons_option, filter_map}
-use Rattle.std.specs.Option.{option_and_then, option_map}
-use Rattle.std.proofs.lemmas.Bool.{eqb-true}
+use Rattle.std.{proofs.Common.{◌≡◌, ℕ, Bool, true, false, cond, List, [], ◌∷◌, Option, Some, None, slice_get, flat_map, refl, sym, ◌∙◌, ap}, specs.Prelude.{find}}
+use Rattle.std.{specs.Prelude.{nat_eq, nat_le}, specs.List.{cons_option, filter_map}, specs.Option.{option_and_then, option_map}, proofs.lemmas.Bool.{eqb-true}}
 use Rattle.ppdb_base.specs.declared.merge_error.MergeError.{MergeError}
-use Rattle.ppdb_maps.specs.declared.entries.SignatureImage.{SignatureImage}
-use Rattle.ppdb_maps.specs.Map.{Map, offsets_in, signature_line}
-use Rattle.ppdb_maps.specs.Says.{sizes_of}
+use Rattle.ppdb_maps.specs.{declared.entries.SignatureImage.{SignatureImage}, Map.{Map, offsets_in, signature_line}, Says.{sizes_of}}
 use Rattle.sequence_points.specs.declared.point.Point.{Point}
-use Rattle.ppdb_values.specs.declared.file.FileValue.{FileValue}
-use Rattle.ppdb_values.specs.declared.file.MethodValue.{MethodValue}
-use Rattle.ppdb_values.specs.Parts.{method_at}
+use Rattle.ppdb_values.specs.{declared.file.FileValue.{FileValue}, declared.file.MethodValue.{MethodValue}, Parts.{method_at}}
 use Rattle.ppdb_merge_names.specs.declared.imaged.Imaged.{Imaged}
-use Rattle.ppdb_merge_fits.specs.Offsets.{if_past, points_beyond}
-use Rattle.ppdb_merge_fits.specs.Signatures.{given, given_signature, given_signatures}
-use Rattle.ppdb_merge_fits.specs.Walks.{points_past, told_of}
+use Rattle.ppdb_merge_fits.specs.{Offsets.{if_past, points_beyond}, Signatures.{given, given_signature, given_signatures}, Walks.{points_past, told_of}}
 
 found : (row : ℕ) (methods : List MethodValue) (e : MethodValue) → find (λ (x : MethodValue). nat_eq x.method row) methods ≡ Some e → e.method ≡ row
 found row [] e is = absurd cc

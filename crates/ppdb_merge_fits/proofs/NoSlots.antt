@@ -1,17 +1,12 @@
 -- A map without a `slots` line: each slot is its own image, and nothing is reported of slots.
 use Rattle.std.proofs.Common.{◌≡◌, ℕ, ◌+◌, ◌||◌, ◌++◌, Bool, true, false, cond, List, [], ◌∷◌, Option, Some, None, slice_get, refl, ◌∙◌, ap, flat_map}
-use Rattle.std.specs.Prelude.{All, is_some, nat_eq}
-use Rattle.std.specs.List.{cons_option, enumerate_from, filter_map, list_any}
-use Rattle.std.specs.Option.{option_map}
+use Rattle.std.specs.{Prelude.{All, is_some, nat_eq}, List.{cons_option, enumerate_from, filter_map, list_any}, Option.{option_map}}
 use Rattle.std.proofs.lemmas.List.Elements.{All-cons, All-nil}
-use Rattle.ppdb_base.specs.declared.merge_error.MergeError.{MergeError}
-use Rattle.ppdb_base.specs.declared.merge_error.MergeError.TheVariants.{SlotUnmapped}
+use Rattle.ppdb_base.specs.declared.merge_error.{MergeError.{MergeError}, MergeError.TheVariants.{SlotUnmapped}}
 use Rattle.ppdb_maps.specs.Map.{Map, is_dropped, slot_image, slot_line}
 use Rattle.ppdb_values.specs.declared.file.FileValue.{FileValue}
-use Rattle.ppdb_merge_fits.specs.declared.used.MethodSlot.{MethodSlot}
-use Rattle.ppdb_merge_fits.specs.declared.used.UsedSlot.{UsedSlot}
-use Rattle.ppdb_merge_fits.specs.Slots.{if_slot_unmapped, slot_twice, slots_twice, slots_unmapped, used, variable_slots}
-use Rattle.ppdb_merge_fits.proofs.Kept.{none_twice_once}
+use Rattle.ppdb_merge_fits.specs.{declared.used.MethodSlot.{MethodSlot}, declared.used.UsedSlot.{UsedSlot}, Slots.{if_slot_unmapped, slot_twice, slots_twice}}
+use Rattle.ppdb_merge_fits.{specs.Slots.{slots_unmapped, used, variable_slots}, proofs.Kept.{none_twice_once}}
 
 -- a list without a first item is empty
 pub no_line : {X : Type 0} (lines : List X) (first : Option X) → first ≡ slice_get lines 0 → is_some first ≡ false → lines ≡ []

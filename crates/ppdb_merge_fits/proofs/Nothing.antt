@@ -1,40 +1,21 @@
 -- Where nothing is reported of a map and a file, the map fits the file.
-use Rattle.std.proofs.Common.{◌≡◌, ◌≢◌, ℕ, ◌+◌, ◌&&◌, Bool, true, false, List, [], ◌∷◌, None, flat_map, refl, sym, ◌∙◌, ap, subst}
-use Rattle.std.specs.Prelude.{not}
+use Rattle.std.{proofs.Common.{◌≡◌, ◌≢◌, ℕ, ◌+◌, ◌&&◌, Bool, true, false, List, [], ◌∷◌, None, flat_map, refl, sym, ◌∙◌, ap, subst}, specs.Prelude.{not}}
 use Rattle.std.specs.List.{enumerate_from}
-use Rattle.custom_info.specs.Kinds.{kind_of}
-use Rattle.custom_info.specs.declared.kinds.Kind.TheVariants.{Unknown}
+use Rattle.custom_info.specs.{Kinds.{kind_of}, declared.kinds.Kind.TheVariants.{Unknown}}
 use Rattle.ppdb_merge_names_laws.proofs.Whole.{all-named}
 use Rattle.ppdb_maps.specs.Map.{Map, moved_name}
 use Rattle.ppdb_tables.specs.Parents.{CodesAreParents}
-use Rattle.ppdb_values.specs.Owners.{ListsAreOwned}
-use Rattle.ppdb_values.specs.RawFile.{RawFile}
-use Rattle.ppdb_values.specs.Value.{value_of}
-use Rattle.ppdb_values.specs.declared.annotation.Annotation.{Annotation}
-use Rattle.ppdb_values.specs.declared.custom.CustomValue.{CustomValue}
-use Rattle.ppdb_values.specs.declared.file.DocumentValue.{DocumentValue}
-use Rattle.ppdb_values.specs.declared.file.FileValue.{FileValue}
+use Rattle.ppdb_values.specs.{Owners.{ListsAreOwned}, RawFile.{RawFile}, Value.{value_of}, declared.annotation.Annotation.{Annotation}}
+use Rattle.ppdb_values.specs.declared.{custom.CustomValue.{CustomValue}, file.DocumentValue.{DocumentValue}, file.FileValue.{FileValue}}
 use Rattle.ppdb_values_sound_laws.proofs.Values.{value_sound}
-use Rattle.ppdb_merge_items.specs.Each.{Each, Pairs}
-use Rattle.ppdb_merge_items.specs.NamedRows.{named_rows}
-use Rattle.ppdb_merge_items.specs.Annotated.{annotated_file}
-use Rattle.ppdb_merge_items.specs.SoundParts.{SoundParts}
-use Rattle.ppdb_merge_items.proofs.Lists.{Pairs-unmap}
-use Rattle.ppdb_merge_items.proofs.Soundness.{parts_sound}
-use Rattle.ppdb_merge_items.proofs.Values.{items_back}
-use Rattle.ppdb_merge_moved.specs.Fits.{IsImaged, AreApart}
-use Rattle.ppdb_merge_moved.proofs.Elements.{in_each}
-use Rattle.ppdb_merge_fits.specs.Clashes.{first_clash, clashes, unknown_kinds, if_unknown, is_unknown, is_at_gone}
-use Rattle.ppdb_merge_fits.specs.Documents.{documents_twice}
-use Rattle.ppdb_merge_fits.specs.Laws.{NothingClashes}
-use Rattle.ppdb_merge_fits.specs.Offsets.{beyond, lost, points_beyond, scope_beyond}
-use Rattle.ppdb_merge_fits.specs.Rows.{unmapped, imaged_rows, rows_twice}
-use Rattle.ppdb_merge_fits.specs.Slots.{slots_unmapped, slots_twice, variable_slots}
-use Rattle.ppdb_merge_fits.proofs.OneName.{names_differ}
-use Rattle.ppdb_merge_fits.proofs.First.{nil_parts, no_first}
-use Rattle.ppdb_merge_fits.proofs.Fitting.{flat_none, fails, points_fit, ranges_fit, hoisted_fits, async_fit}
-use Rattle.ppdb_merge_fits.proofs.FittingRows.{rows_fit, rows_apart, slots_fit, slots_apart}
-use Rattle.ppdb_merge_fits.proofs.Parts.{custom_beyond}
+use Rattle.ppdb_merge_items.specs.{Each.{Each, Pairs}, NamedRows.{named_rows}, Annotated.{annotated_file}, SoundParts.{SoundParts}}
+use Rattle.ppdb_merge_items.proofs.{Lists.{Pairs-unmap}, Soundness.{parts_sound}, Values.{items_back}}
+use Rattle.ppdb_merge_moved.{specs.Fits.{IsImaged, AreApart}, proofs.Elements.{in_each}}
+use Rattle.ppdb_merge_fits.specs.{Clashes.{first_clash, clashes, unknown_kinds, if_unknown, is_unknown, is_at_gone}, Documents.{documents_twice}}
+use Rattle.ppdb_merge_fits.specs.{Laws.{NothingClashes}, Offsets.{beyond, lost, points_beyond, scope_beyond}, Rows.{unmapped, imaged_rows, rows_twice}}
+use Rattle.ppdb_merge_fits.{specs.Slots.{slots_unmapped, slots_twice, variable_slots}, proofs.OneName.{names_differ}, proofs.First.{nil_parts, no_first}}
+use Rattle.ppdb_merge_fits.proofs.{Fitting.{flat_none, fails, points_fit, ranges_fit, hoisted_fits, async_fit}, FittingRows.{rows_fit, rows_apart, slots_fit}}
+use Rattle.ppdb_merge_fits.proofs.{FittingRows.{slots_apart}, Parts.{custom_beyond}}
 
 known_kind : (a b : Bool) → (a && not b) ≡ false → b ≡ false → a ≡ false
 known_kind true true e f = absurd cc

@@ -1,27 +1,14 @@
 -- Documents that get one name, found one after the other.
-use Rattle.std.proofs.Common.{◌≡◌, ◌≢◌, ℕ, zero, suc, ◌+◌, ◌<◌, ◌≤◌, ◌&&◌, Bool, true, false, cond, List, [], ◌∷◌, ◌++◌, Option, Some, None}
-use Rattle.std.proofs.Common.{length, take, flat_map, slice_get, get_or, refl, sym, ◌∙◌, ap, subst, arith}
-use Rattle.std.specs.Prelude.{find, is_some, bytes_eq, nat_lt}
-use Rattle.std.specs.List.{enumerate_from}
-use Rattle.std.specs.Option.{option_map}
-use Rattle.std.proofs.lemmas.Bool.{lt-ltb, le-ltb, both_ways}
+use Rattle.std.proofs.Common.{◌≡◌, ◌≢◌, ℕ, zero, suc, ◌+◌, ◌<◌, ◌≤◌, ◌&&◌, Bool, true, false, cond, List, [], ◌∷◌, ◌++◌, Option, Some, None, length, take, flat_map}
+use Rattle.std.{proofs.Common.{slice_get, get_or, refl, sym, ◌∙◌, ap, subst, arith}, specs.Prelude.{find, is_some, bytes_eq, nat_lt}, specs.List.{enumerate_from}}
+use Rattle.std.{specs.Option.{option_map}, proofs.lemmas.Bool.{lt-ltb, le-ltb, both_ways}}
 use Rattle.ppdb_base.specs.declared.merge_error.MergeError.TheVariants.{DocumentTwice}
-use Rattle.ppdb_maps.specs.Map.{Map, moved_name}
-use Rattle.ppdb_maps.specs.declared.entries.NameLine.{NameLine}
-use Rattle.ppdb_maps.proofs.Named.{same_bytes, bytes_same}
+use Rattle.ppdb_maps.{specs.Map.{Map, moved_name}, specs.declared.entries.NameLine.{NameLine}, proofs.Named.{same_bytes, bytes_same}}
 use Rattle.ppdb_tables.specs.RawTables.{numbered}
-use Rattle.ppdb_values.specs.Ordered.{EachPair}
-use Rattle.ppdb_values.specs.declared.file.DocumentValue.{DocumentValue}
-use Rattle.ppdb_merge_items.specs.Each.{Each, Pairs}
-use Rattle.ppdb_merge_items.proofs.Lists.{Each-weaker, Pairs-weaker, pairs_row}
-use Rattle.ppdb_merge_fits.specs.declared.documents.Names.{Names}
-use Rattle.ppdb_merge_fits.specs.Documents.{if_one_name, documents_twice}
-use Rattle.ppdb_merge_fits.specs.Names.{row_of}
-use Rattle.ppdb_merge_fits.proofs.Apart.{each_both}
-use Rattle.ppdb_merge_fits.proofs.First.{row_is, inside, take_next}
-use Rattle.ppdb_merge_fits.proofs.Fitting.{flat_none, fails}
-use Rattle.ppdb_merge_fits.proofs.Looking.{absent}
-use Rattle.ppdb_merge_fits.proofs.Parts.{name_twice}
+use Rattle.ppdb_values.specs.{Ordered.{EachPair}, declared.file.DocumentValue.{DocumentValue}}
+use Rattle.ppdb_merge_items.{specs.Each.{Each, Pairs}, proofs.Lists.{Each-weaker, Pairs-weaker, pairs_row}}
+use Rattle.ppdb_merge_fits.{specs.declared.documents.Names.{Names}, specs.Documents.{if_one_name, documents_twice}, specs.Names.{row_of}, proofs.Apart.{each_both}}
+use Rattle.ppdb_merge_fits.proofs.{First.{row_is, inside, take_next}, Fitting.{flat_none, fails}, Looking.{absent}, Parts.{name_twice}}
 
 module _ (m : Map) where
   abbrev pub gets : List ℕ → ℕ × DocumentValue → Bool

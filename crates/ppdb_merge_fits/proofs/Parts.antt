@@ -1,18 +1,12 @@
 -- Names of parts of what is reported of a file that a map does not fit.
 use Rattle.std.specs.Prelude.{ℕ, ◌&&◌, Bool, cond, nat_lt, bytes_eq, List, [], ◌∷◌, map, flat_map}
 use Rattle.ppdb_base.specs.declared.merge_error.MergeError.TheVariants.{Unmapped}
-use Rattle.ppdb_values.specs.Names.{MergeError, numbered}
+use Rattle.ppdb_values.specs.{Names.{MergeError, numbered}, declared.file.FileValue.{FileValue}, declared.file.DocumentValue.{DocumentValue}}
+use Rattle.ppdb_values.specs.declared.{scope.ScopeValue.{ScopeValue}, scope.ConstantValue.{ConstantValue}, custom.CustomValue.{CustomValue}}
 use Rattle.ppdb_maps.specs.Map.{Map, moved_name, row_image}
-use Rattle.ppdb_values.specs.declared.file.FileValue.{FileValue}
-use Rattle.ppdb_values.specs.declared.file.DocumentValue.{DocumentValue}
-use Rattle.ppdb_values.specs.declared.scope.ScopeValue.{ScopeValue}
-use Rattle.ppdb_values.specs.declared.scope.ConstantValue.{ConstantValue}
-use Rattle.ppdb_values.specs.declared.custom.CustomValue.{CustomValue}
 use Rattle.ppdb_merge_items.specs.NamedRows.{live_custom}
 use Rattle.ppdb_merge_names.specs.References.{Reference}
-use Rattle.ppdb_merge_fits.specs.Documents.{if_one_name}
-use Rattle.ppdb_merge_fits.specs.Offsets.{async_offsets, body_beyond, if_lost}
-use Rattle.ppdb_merge_fits.specs.Rows.{is_row}
+use Rattle.ppdb_merge_fits.specs.{Documents.{if_one_name}, Offsets.{async_offsets, body_beyond, if_lost}, Rows.{is_row}}
 
 abbrev pub scope_methods : FileValue → List ℕ
 scope_methods value = map (λ (s : ScopeValue). s.method) value.scopes

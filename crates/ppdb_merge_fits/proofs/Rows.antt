@@ -1,21 +1,12 @@
 -- What is reported of the rows of a table that are read one after the other.
-use Rattle.std.proofs.Common.{◌≡◌, ℕ, zero, suc, ◌+◌, ◌<◌, ◌≤◌, ◌++◌, Bool, true, false, List, [], ◌∷◌, Option, Some, None, length, take, flat_map, slice_get, get_or}
-use Rattle.std.proofs.Common.{refl, sym, ◌∙◌, ap, arith}
-use Rattle.std.specs.List.{cons_option, filter_map, list_any}
-use Rattle.std.specs.Option.{option_and_then, option_to_list}
+use Rattle.std.proofs.Common.{◌≡◌, ℕ, zero, suc, ◌+◌, ◌<◌, ◌≤◌, ◌++◌, Bool, true, false, List, [], ◌∷◌, Option, Some, None, length, take, flat_map, slice_get}
+use Rattle.std.{proofs.Common.{get_or, refl, sym, ◌∙◌, ap, arith}, specs.List.{cons_option, filter_map, list_any}, specs.Option.{option_and_then, option_to_list}}
 use Rattle.std.proofs.lemmas.List.FromFn.{length-enumerate_from}
-use Rattle.ppdb_tables.specs.declared.rows.MethodDebugRow.{MethodDebugRow}
-use Rattle.ppdb_tables.specs.RawTables.{numbered, row_at}
-use Rattle.ppdb_tables.proofs.NumberedRows.{row_there}
-use Rattle.ppdb_values.specs.declared.file.MethodValue.{MethodValue}
-use Rattle.ppdb_values.specs.Documents.{method_of}
-use Rattle.ppdb_values.specs.Parts.{method_at}
-use Rattle.ppdb_values.specs.RawFile.{RawFile}
-use Rattle.ppdb_values.specs.Rows.{ValuesAreRows, method_in}
+use Rattle.ppdb_tables.{specs.declared.rows.MethodDebugRow.{MethodDebugRow}, specs.RawTables.{numbered, row_at}, proofs.NumberedRows.{row_there}}
+use Rattle.ppdb_values.specs.{declared.file.MethodValue.{MethodValue}, Documents.{method_of}, Parts.{method_at}, RawFile.{RawFile}, Rows.{ValuesAreRows, method_in}}
 use Rattle.ppdb_values.specs.Value.{value_of}
 use Rattle.ppdb_values_reading.proofs.Rows.{numbered_row}
-use Rattle.ppdb_merge_fits.specs.Walks.{told_of}
-use Rattle.ppdb_merge_fits.proofs.First.{any_hit, any_miss, filter_next, hit, miss, none_left, take_all}
+use Rattle.ppdb_merge_fits.{specs.Walks.{told_of}, proofs.First.{any_hit, any_miss, filter_next, hit, miss, none_left, take_all}}
 
 get_at : {X : Type 0} (xs : List X) (i : ℕ) (x : X) → slice_get xs i ≡ Some x → (i < length xs) × (x ≡ get_or xs i x)
 get_at [] i x there = absurd cc

@@ -1,14 +1,10 @@
 -- The slots of variables, row after row and scope after scope.
 use Rattle.std.proofs.Common.{◌≡◌, ℕ, ◌+◌, ◌-◌, ◌≤◌, ◌++◌, List, [], ◌∷◌, Some, map, flat_map, append-nil, append_assoc, refl, sym, ◌∙◌, ap, arith}
-use Rattle.std.specs.Prelude.{slice_range}
-use Rattle.std.proofs.lemmas.List.{map-append}
+use Rattle.std.{specs.Prelude.{slice_range}, proofs.lemmas.List.{map-append}}
 use Rattle.ppdb_tables.specs.RawTables.{row_at}
-use Rattle.ppdb_values.specs.declared.scope.ScopeValue.{ScopeValue}
-use Rattle.ppdb_values.specs.declared.scope.VariableValue.{VariableValue}
-use Rattle.ppdb_values_reading.specs.declared.scopes.Scope.{Scope}
-use Rattle.ppdb_values_reading.proofs.Lists.{slice_more, slice_none}
-use Rattle.ppdb_merge_fits.specs.declared.used.MethodSlot.{MethodSlot}
-use Rattle.ppdb_merge_fits.specs.Slots.{scope_slots}
+use Rattle.ppdb_values.specs.declared.scope.{ScopeValue.{ScopeValue}, VariableValue.{VariableValue}}
+use Rattle.ppdb_values_reading.{specs.declared.scopes.Scope.{Scope}, proofs.Lists.{slice_more, slice_none}}
+use Rattle.ppdb_merge_fits.specs.{declared.used.MethodSlot.{MethodSlot}, Slots.{scope_slots}}
 
 -- ---- the variables of a list
 

@@ -1,17 +1,11 @@
 -- The parts of what is reported, one after the other.
 use Rattle.std.proofs.Common.{◌≡◌, ℕ, ◌⊎◌, ◌++◌, Bool, List, [], Some, None, slice_get, sym, ◌∙◌, ap, subst, inl, inr}
-use Rattle.ppdb_base.specs.declared.merge_error.MergeError.{MergeError}
-use Rattle.ppdb_base.specs.declared.merge_error.MergeError.TheVariants.{Memory}
+use Rattle.ppdb_base.specs.declared.merge_error.{MergeError.{MergeError}, MergeError.TheVariants.{Memory}}
 use Rattle.ppdb_maps.specs.Map.{Map}
-use Rattle.ppdb_values.specs.RawFile.{RawFile}
-use Rattle.ppdb_values.specs.Value.{value_of}
-use Rattle.ppdb_merge_fits.specs.Clashes.{unknown_kinds, clashes, first_clash}
-use Rattle.ppdb_merge_fits.specs.Documents.{documents_twice}
-use Rattle.ppdb_merge_fits.specs.FirstOf.{IsTold}
-use Rattle.ppdb_merge_fits.specs.Offsets.{beyond, lost}
-use Rattle.ppdb_merge_fits.specs.Rows.{unmapped, imaged_rows, rows_twice}
-use Rattle.ppdb_merge_fits.specs.Slots.{slots_unmapped, slots_twice, variable_slots}
-use Rattle.ppdb_merge_fits.proofs.First.{append_is, first_prefix}
+use Rattle.ppdb_values.specs.{RawFile.{RawFile}, Value.{value_of}}
+use Rattle.ppdb_merge_fits.specs.{Clashes.{unknown_kinds, clashes, first_clash}, Documents.{documents_twice}, FirstOf.{IsTold}, Offsets.{beyond, lost}}
+use Rattle.ppdb_merge_fits.{specs.Rows.{unmapped, imaged_rows, rows_twice}, specs.Slots.{slots_unmapped, slots_twice, variable_slots}, proofs.First.{append_is}}
+use Rattle.ppdb_merge_fits.proofs.First.{first_prefix}
 
 pub then_fine : (xs ys : List MergeError) (e : MergeError) → xs ≡ [] → IsTold ys e → IsTold (xs ++ ys) e
 then_fine xs ys e none is = subst (λ l. IsTold (l ++ ys) e) (sym none) is

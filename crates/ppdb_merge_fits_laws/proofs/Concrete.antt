@@ -1,22 +1,13 @@
 -- What is reported first of two rows, and of two slots, with one image is reported of the least two.
-use Rattle.std.proofs.Common.{◌≡◌, ℕ, Bool, true, false, cond, List, [], ◌∷◌, Option, Some, None, refl, sym, ap, ◌∙◌, subst}
-use Rattle.std.specs.Prelude.{not, unwrap_or}
-use Rattle.std.specs.List.{filter, filter_map}
-use Rattle.std.specs.Option.{option_map}
-use Rattle.ppdb_maps.specs.Map.{Map, is_dropped, row_image, slot_image}
-use Rattle.ppdb_maps.specs.declared.image.RowImage.{RowImage}
-use Rattle.ppdb_maps.specs.declared.image.RowImage.TheVariants.{Row, Gone, Missing}
-use Rattle.ppdb_merge_names.specs.declared.imaged.Imaged.{Imaged}
-use Rattle.ppdb_merge_names.specs.References.{Reference, references}
+use Rattle.std.{proofs.Common.{◌≡◌, ℕ, Bool, true, false, cond, List, [], ◌∷◌, Option, Some, None, refl, sym, ap, ◌∙◌, subst}, specs.Prelude.{not, unwrap_or}}
+use Rattle.std.specs.{List.{filter, filter_map}, Option.{option_map}}
+use Rattle.ppdb_maps.specs.{Map.{Map, is_dropped, row_image, slot_image}, declared.image.RowImage.{RowImage}, declared.image.RowImage.TheVariants.{Row, Gone}}
+use Rattle.ppdb_maps.specs.declared.image.RowImage.TheVariants.{Missing}
+use Rattle.ppdb_merge_names.specs.{declared.imaged.Imaged.{Imaged}, References.{Reference, references}}
 use Rattle.ppdb_merge_items.proofs.Lists.{each_of}
-use Rattle.ppdb_merge_moved.specs.Fits.{may_share}
-use Rattle.ppdb_merge_moved.specs.Moved.{table_in, row_in}
-use Rattle.ppdb_merge_moved.proofs.Lists.{Each-filter_map}
-use Rattle.ppdb_merge_fits.specs.Rows.{image_key, image_twice, imaged, imaged_to}
-use Rattle.ppdb_merge_fits.specs.Slots.{slot_twice, used, variable_slots}
-use Rattle.ppdb_merge_fits.specs.Twice.{each_once, twice}
-use Rattle.ppdb_merge_fits_laws.specs.Least.{LeastRowsAreTold, LeastSlotsAreTold, Made, TellsLeast}
-use Rattle.ppdb_merge_fits_laws.proofs.Least.{tells_least}
+use Rattle.ppdb_merge_moved.{specs.Fits.{may_share}, specs.Moved.{table_in, row_in}, proofs.Lists.{Each-filter_map}}
+use Rattle.ppdb_merge_fits.specs.{Rows.{image_key, image_twice, imaged, imaged_to}, Slots.{slot_twice, used, variable_slots}, Twice.{each_once, twice}}
+use Rattle.ppdb_merge_fits_laws.{specs.Least.{LeastRowsAreTold, LeastSlotsAreTold, Made, TellsLeast}, proofs.Least.{tells_least}}
 
 -- ---- rows
 

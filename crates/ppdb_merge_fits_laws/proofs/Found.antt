@@ -1,11 +1,8 @@
 -- Among items in order, the first two side by side that have one image are the least two.
 use Rattle.std.proofs.Common.{◌≡◌, ℕ, ◌<◌, ◌≤◌, ◌⊎◌, ◌++◌, ◌∙◌, Bool, true, false, cond, List, [], ◌∷◌, Some, slice_get, refl, sym, ap, subst, inl, inr, arith}
-use Rattle.std.specs.Prelude.{nat_eq, not}
-use Rattle.std.proofs.lemmas.Bool.{cases_lt, eq-eqb, eqb-true, and_parts}
-use Rattle.ppdb_merge_items.specs.Each.{Each, Pairs}
-use Rattle.ppdb_merge_items.proofs.Lists.{Each-weaker}
-use Rattle.ppdb_merge_fits.specs.Twice.{beside_from, have_one_image, if_one_image}
-use Rattle.ppdb_merge_fits.proofs.Apart.{each_both}
+use Rattle.std.{specs.Prelude.{nat_eq, not}, proofs.lemmas.Bool.{cases_lt, eq-eqb, eqb-true, and_parts}}
+use Rattle.ppdb_merge_items.{specs.Each.{Each, Pairs}, proofs.Lists.{Each-weaker}}
+use Rattle.ppdb_merge_fits.{specs.Twice.{beside_from, have_one_image, if_one_image}, proofs.Apart.{each_both}}
 use Rattle.ppdb_merge_fits_laws.specs.Least.{HaveOneImage, IsUpTo, place_of}
 
 module _ {A : Type 0} (group number image : A → ℕ) where

@@ -1,19 +1,11 @@
 -- Of items whose images go by their groups and numbers, what is reported first is reported of the least two.
-use Rattle.std.proofs.Common.{◌≡◌, ℕ, ◌≤◌, Bool, true, false, cond, List, [], ◌∷◌, Some, slice_get, refl, sym, ◌∙◌, ap, inl, inr, arith}
-use Rattle.std.specs.Prelude.{nat_eq, Contains}
-use Rattle.std.specs.List.{filter}
-use Rattle.std.proofs.lemmas.Bool.{eqb-true, and_parts}
-use Rattle.ppdb_merge_items.specs.Each.{Each, Pairs}
-use Rattle.ppdb_merge_items.specs.Sorted.{in_order}
-use Rattle.ppdb_merge_items.proofs.Lists.{Each-filter, Each-weaker, Pairs-weaker}
-use Rattle.ppdb_merge_items.proofs.Orders.{in_order_each}
+use Rattle.std.{proofs.Common.{◌≡◌, ℕ, ◌≤◌, Bool, true, false, cond, List, [], ◌∷◌, Some, slice_get, refl, sym, ◌∙◌, ap, inl, inr, arith}, specs.Prelude.{nat_eq}}
+use Rattle.std.{specs.Prelude.{Contains}, specs.List.{filter}, proofs.lemmas.Bool.{eqb-true, and_parts}}
+use Rattle.ppdb_merge_items.{specs.Each.{Each, Pairs}, specs.Sorted.{in_order}, proofs.Lists.{Each-filter, Each-weaker, Pairs-weaker}, proofs.Orders.{in_order_each}}
 use Rattle.ppdb_merge_moved.proofs.Elements.{each_in, in_each}
-use Rattle.ppdb_merge_fits.specs.Twice.{beside, each_once, if_one_image, is_same, twice}
-use Rattle.ppdb_merge_fits.proofs.Apart.{apart, OneNumber}
-use Rattle.ppdb_merge_fits_laws.specs.Least.{AreLeast, HaveOneImage, IsUpTo, TellsLeast, place_of}
-use Rattle.ppdb_merge_fits_laws.proofs.Found.{Found, InOrder, found}
-use Rattle.ppdb_merge_fits_laws.proofs.Keyed.{By, in_order_by, each_once as each_kept, pairs_once}
-use Rattle.ppdb_merge_fits_laws.proofs.Sources.{once_of, order_of}
+use Rattle.ppdb_merge_fits.{specs.Twice.{beside, each_once, if_one_image, is_same, twice}, proofs.Apart.{apart, OneNumber}}
+use Rattle.ppdb_merge_fits_laws.{specs.Least.{AreLeast, HaveOneImage, IsUpTo, TellsLeast, place_of}, proofs.Found.{Found, InOrder, found}, proofs.Keyed.{By}}
+use Rattle.ppdb_merge_fits_laws.proofs.{Keyed.{in_order_by, each_once as each_kept, pairs_once}, Sources.{once_of, order_of}}
 
 -- two lists of which each comes before the other or is the same are the same
 one_place : (ns ms : List ℕ) → IsUpTo ns ms → IsUpTo ms ns → ns ≡ ms

@@ -1,24 +1,14 @@
 -- What a file means is what it means with its records at their items.
-use Rattle.std.proofs.Common.{◌≡◌, ℕ, ◌&&◌, List, [], ◌∷◌, map, refl, ap, sym, ◌∙◌, Bool, true, false, cond, Option}
-use Rattle.std.specs.Prelude.{Some, None, is_none, nat_eq, nat_lt, nat_le}
-use Rattle.std.specs.List.{filter, find, last_or}
-use Rattle.std.specs.Option.{option_map, option_and_then, option_map_or}
+use Rattle.std.{proofs.Common.{◌≡◌, ℕ, ◌&&◌, List, [], ◌∷◌, map, refl, ap, sym, ◌∙◌, Bool, true, false, cond, Option}, specs.Prelude.{Some, None, is_none, nat_eq}}
+use Rattle.std.specs.{Prelude.{nat_lt, nat_le}, List.{filter, find, last_or}, Option.{option_map, option_and_then, option_map_or}}
 use Rattle.std.proofs.lemmas.Bool.{eqb-true, and_parts}
 use Rattle.sequence_points.specs.declared.point.Point.{Point}
 use Rattle.ppdb_tables.specs.RawTables.{numbered, row_at}
-use Rattle.ppdb_values.specs.declared.file.FileValue.{FileValue}
-use Rattle.ppdb_values.specs.declared.file.MethodValue.{MethodValue}
-use Rattle.ppdb_values.specs.declared.file.DocumentValue.{DocumentValue}
-use Rattle.ppdb_values.specs.declared.scope.ScopeValue.{ScopeValue}
-use Rattle.ppdb_values.specs.declared.import.ImportScopeValue.{ImportScopeValue}
-use Rattle.ppdb_values.specs.declared.custom.CustomValue.{CustomValue}
-use Rattle.ppdb_values.specs.Parts.{slots_in, points_of, last_point, scopes_at, import_chain, is_at}
-use Rattle.ppdb_values.specs.declared.annotation.Annotation.{Annotation}
-use Rattle.ppdb_values.specs.Links.{links}
-use Rattle.ppdb_values.specs.Meaning.{meaning, point_meaning, scope_meaning, slots_at, annotated_on, without_parent}
-use Rattle.ppdb_values.proofs.Mapped.{filter_map_both}
-use Rattle.ppdb_merge_items.specs.declared.file.AnnotatedScope.{AnnotatedScope}
-use Rattle.ppdb_merge_items.specs.Annotated.{annotated_scope, annotated_file}
+use Rattle.ppdb_values.specs.declared.{file.FileValue.{FileValue}, file.MethodValue.{MethodValue}, file.DocumentValue.{DocumentValue}, scope.ScopeValue.{ScopeValue}}
+use Rattle.ppdb_values.specs.{declared.import.ImportScopeValue.{ImportScopeValue}, declared.custom.CustomValue.{CustomValue}, Parts.{slots_in, points_of}}
+use Rattle.ppdb_values.specs.{Parts.{last_point, scopes_at, import_chain, is_at}, declared.annotation.Annotation.{Annotation}, Links.{links}, Meaning.{meaning}}
+use Rattle.ppdb_values.{specs.Meaning.{point_meaning, scope_meaning, slots_at, annotated_on, without_parent}, proofs.Mapped.{filter_map_both}}
+use Rattle.ppdb_merge_items.specs.{declared.file.AnnotatedScope.{AnnotatedScope}, Annotated.{annotated_scope, annotated_file}}
 use Rattle.ppdb_merge_items.specs.AnnotatedMeaning as annotated
 use Rattle.ppdb_merge_items.specs.AnnotatedMeaning.{annotated_meaning, annotated_links, last_of, imported}
 use Rattle.ppdb_merge_items.proofs.Mapped.{map_map_both, row_numbered, chain_of_numbered}

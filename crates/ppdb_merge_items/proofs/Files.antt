@@ -1,28 +1,14 @@
 -- A file whose records are at their items is the form of its value with the records at their items (`annotated_file`).
 use Rattle.std.proofs.Common.{◌≡◌, ℕ, suc, ◌+◌, ◌-◌, ◌<◌, ◌≤◌, ◌++◌, Bool, false, List, [], ◌∷◌, refl, sym, ◌∙◌, ap, arith, map, length, take, append-nil}
-use Rattle.std.proofs.Common.{append_assoc}
-use Rattle.std.specs.Prelude.{nat_lt, filter, sum_by}
-use Rattle.std.specs.List.{enumerate_from, flat_map}
-use Rattle.std.proofs.lemmas.Bool.{lt-ltb, ne_eqb}
-use Rattle.std.proofs.lemmas.List.{map-append, length-map, length-append}
-use Rattle.std.proofs.lemmas.List.Elements.{filter-append}
-use Rattle.std.proofs.lemmas.List.Sums.{sum_by-append}
-use Rattle.ppdb_values.specs.declared.custom.CustomValue.{CustomValue}
-use Rattle.ppdb_values.specs.declared.file.FileValue.{FileValue}
-use Rattle.ppdb_values.specs.declared.scope.ScopeValue.{ScopeValue}
-use Rattle.ppdb_values.specs.declared.annotation.Custom.{Custom}
-use Rattle.ppdb_values.specs.declared.annotation.Annotation.{Annotation}
-use Rattle.ppdb_values.specs.Meaning.{without_parent, annotated_on, annotated_from}
-use Rattle.ppdb_values.specs.Parts.{first_item}
+use Rattle.std.{proofs.Common.{append_assoc}, specs.Prelude.{nat_lt, filter, sum_by}, specs.List.{enumerate_from, flat_map}, proofs.lemmas.Bool.{lt-ltb, ne_eqb}}
+use Rattle.std.proofs.lemmas.{List.{map-append, length-map, length-append}, List.Elements.{filter-append}, List.Sums.{sum_by-append}}
+use Rattle.ppdb_values.specs.declared.{custom.CustomValue.{CustomValue}, file.FileValue.{FileValue}, scope.ScopeValue.{ScopeValue}, annotation.Custom.{Custom}}
+use Rattle.ppdb_values.specs.{declared.annotation.Annotation.{Annotation}, Meaning.{without_parent, annotated_on, annotated_from}, Parts.{first_item}}
 use Rattle.ppdb_tables.specs.Parents.{coded_of}
-use Rattle.ppdb_merge_items.specs.declared.file.AnnotatedScope.{AnnotatedScope}
-use Rattle.ppdb_merge_items.specs.declared.file.AnnotatedFile.{AnnotatedFile}
-use Rattle.ppdb_merge_items.specs.Each.{Each, Pairs}
-use Rattle.ppdb_merge_items.specs.Annotated.{placed, on_row, items_of, customs_of, all_customs, scope_of, annotated_scope, annotated_file}
-use Rattle.ppdb_merge_items.specs.Sorted.{in_order}
-use Rattle.ppdb_merge_items.specs.Unannotated.{value_of_annotated}
-use Rattle.ppdb_merge_items.proofs.Orders.{in_order_is, in_order_filter, in_order_keeps, rises_of}
-use Rattle.ppdb_merge_items.proofs.Rows.{at, records_at, AreRows, rows_append, rows_same, none_placed, placed_rows, items_at, one_parent}
+use Rattle.ppdb_merge_items.specs.{declared.file.AnnotatedScope.{AnnotatedScope}, declared.file.AnnotatedFile.{AnnotatedFile}, Each.{Each, Pairs}}
+use Rattle.ppdb_merge_items.specs.{Annotated.{placed, on_row, items_of, customs_of, all_customs, scope_of, annotated_scope, annotated_file}, Sorted.{in_order}}
+use Rattle.ppdb_merge_items.{specs.Unannotated.{value_of_annotated}, proofs.Orders.{in_order_is, in_order_filter, in_order_keeps, rises_of}, proofs.Rows.{at}}
+use Rattle.ppdb_merge_items.proofs.Rows.{records_at, AreRows, rows_append, rows_same, none_placed, placed_rows, items_at, one_parent}
 
 -- ---- what passes a test, of each part of the records
 

@@ -1,7 +1,6 @@
 -- Facts of each item, and of each item and each later one, by recursion and by rows.
 use Rattle.std.proofs.Common.{◌≡◌, ℕ, zero, suc, ◌+◌, ◌<◌, ◌++◌, List, [], ◌∷◌, Bool, true, false, cond, length, map, refl, arith, subst, get_or}
-use Rattle.std.specs.Prelude.{Some}
-use Rattle.std.specs.List.{filter, enumerate_from}
+use Rattle.std.specs.{Prelude.{Some}, List.{filter, enumerate_from}}
 use Rattle.ppdb_tables.specs.RawTables.{row_at}
 use Rattle.ppdb_values.specs.Ordered.{EachRow, EachPair}
 use Rattle.ppdb_merge_items.specs.Each.{Each, Pairs}

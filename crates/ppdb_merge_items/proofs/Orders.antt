@@ -1,11 +1,7 @@
 -- Setting items in order by a key keeps the items of each key as they were.
-use Rattle.std.proofs.Common.{◌≡◌, ℕ, ◌≤◌, ◌<◌, Bool, true, false, cond, List, [], ◌∷◌, refl, sym, ◌∙◌, ap, inl, inr, arith, subst}
-use Rattle.std.specs.Prelude.{nat_eq, nat_le}
-use Rattle.std.specs.List.{filter}
-use Rattle.std.proofs.lemmas.Bool.{cases_lt, le-leb, lt-leb, eq-eqb, ne_eqb, eqb-true}
-use Rattle.ppdb_merge_items.specs.Each.{Each, Pairs}
-use Rattle.ppdb_merge_items.specs.Sorted.{put, in_order}
-use Rattle.ppdb_merge_items.proofs.Lists.{Each-weaker}
+use Rattle.std.{proofs.Common.{◌≡◌, ℕ, ◌≤◌, ◌<◌, Bool, true, false, cond, List, [], ◌∷◌, refl, sym, ◌∙◌, ap, inl, inr, arith, subst}, specs.Prelude.{nat_eq, nat_le}}
+use Rattle.std.{specs.List.{filter}, proofs.lemmas.Bool.{cases_lt, le-leb, lt-leb, eq-eqb, ne_eqb, eqb-true}}
+use Rattle.ppdb_merge_items.{specs.Each.{Each, Pairs}, specs.Sorted.{put, in_order}, proofs.Lists.{Each-weaker}}
 use Rattle.ppdb_maps.proofs.OneMap.{same_or_apart}
 
 -- items that pass the test have one key

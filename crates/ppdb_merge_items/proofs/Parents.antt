@@ -1,16 +1,11 @@
 -- The tables that a parent may be of, and the one parent of each coded index.
-use Rattle.std.proofs.Common.{◌≡◌, ◌≢◌, ℕ, ◌+◌, ◌<◌, Bool, true, false, cond, List, [], ◌∷◌, length, refl, sym, ◌∙◌, ap, subst, arith}
-use Rattle.std.specs.Prelude.{◌==◌, nat_eq, nat_lt, Option, Some, None, IsSome, IfSome, not, position, unwrap_or, filter}
-use Rattle.std.specs.List.{position_or_len}
-use Rattle.std.specs.Option.{option_map}
+use Rattle.std.{proofs.Common.{◌≡◌, ◌≢◌, ℕ, ◌+◌, ◌<◌, Bool, true, false, cond, List, [], ◌∷◌, length, refl, sym, ◌∙◌, ap, subst, arith}, specs.Prelude.{◌==◌}}
+use Rattle.std.specs.{Prelude.{nat_eq, nat_lt, Option, Some, None, IsSome, IfSome, not, position, unwrap_or, filter}, List.{position_or_len}, Option.{option_map}}
 use Rattle.std.proofs.lemmas.Bool.{ltb-true, eqb-true, eq-eqb, and_parts}
 use Rattle.row_layout.specs.Columns.{parent_tables}
-use Rattle.ppdb_tables.specs.declared.parent.Parent.{Parent}
-use Rattle.ppdb_tables.specs.Parents.{parent_in, coded_in, CodesAreParents, coded_of}
+use Rattle.ppdb_tables.specs.{declared.parent.Parent.{Parent}, Parents.{parent_in, coded_in, CodesAreParents, coded_of}}
 use Rattle.ppdb_values.specs.declared.custom.CustomValue.{CustomValue}
-use Rattle.ppdb_merge_items.specs.Each.{Each}
-use Rattle.ppdb_merge_items.proofs.Orders.{of_key}
-use Rattle.ppdb_merge_items.proofs.Rows.{at}
+use Rattle.ppdb_merge_items.{specs.Each.{Each}, proofs.Orders.{of_key}, proofs.Rows.{at}}
 
 -- ---- the tables that have a tag
 

@@ -1,14 +1,10 @@
 -- Names of parts of what is kept of a file, and of the rows that it names.
 use Rattle.std.specs.Prelude.{not, Bool, cond, List, [], filter}
 use Rattle.ppdb_maps.specs.Map.{Map, is_dropped}
-use Rattle.ppdb_values.specs.declared.file.MethodValue.{MethodValue}
-use Rattle.ppdb_values.specs.declared.scope.ConstantValue.{ConstantValue}
-use Rattle.ppdb_values.specs.declared.import.ImportScopeValue.{ImportScopeValue}
-use Rattle.ppdb_values.specs.declared.import.ImportValue.{ImportValue}
-use Rattle.ppdb_values.specs.declared.annotation.Annotation.{Annotation}
-use Rattle.ppdb_merge_items.specs.declared.file.AnnotatedScope.{AnnotatedScope}
-use Rattle.ppdb_merge_items.specs.declared.file.AnnotatedFile.{AnnotatedFile}
-use Rattle.ppdb_merge_items.specs.NamedRows.{Named, names_some, goes_constant, live_signature, live_constants, live_import}
+use Rattle.ppdb_values.specs.declared.{file.MethodValue.{MethodValue}, scope.ConstantValue.{ConstantValue}, import.ImportScopeValue.{ImportScopeValue}}
+use Rattle.ppdb_values.specs.declared.{import.ImportValue.{ImportValue}, annotation.Annotation.{Annotation}}
+use Rattle.ppdb_merge_items.specs.{declared.file.AnnotatedScope.{AnnotatedScope}, declared.file.AnnotatedFile.{AnnotatedFile}, NamedRows.{Named, names_some}}
+use Rattle.ppdb_merge_items.specs.NamedRows.{goes_constant, live_signature, live_constants, live_import}
 
 abbrev pub live_method : Map → MethodValue → Bool
 live_method m method = not (is_dropped m method.method)

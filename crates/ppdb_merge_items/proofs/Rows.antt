@@ -1,14 +1,9 @@
 -- The records of a file whose rows are numbered by their places stand at their rows.
 use Rattle.std.proofs.Common.{◌≡◌, ℕ, ◌+◌, ◌<◌, ◌≤◌, ◌++◌, Bool, true, false, List, [], ◌∷◌, refl, sym, ◌∙◌, ap, arith, map, length, append-nil}
-use Rattle.std.specs.Prelude.{nat_eq, filter}
-use Rattle.std.specs.List.{enumerate_from}
-use Rattle.std.proofs.lemmas.Bool.{eq-eqb, ne_eqb, eqb-true, and_parts}
+use Rattle.std.{specs.Prelude.{nat_eq, filter}, specs.List.{enumerate_from}, proofs.lemmas.Bool.{eq-eqb, ne_eqb, eqb-true, and_parts}}
 use Rattle.std.proofs.lemmas.List.Elements.{filter-append}
-use Rattle.ppdb_values.specs.declared.custom.CustomValue.{CustomValue}
-use Rattle.ppdb_values.specs.declared.annotation.Custom.{Custom}
-use Rattle.ppdb_values.specs.declared.annotation.Annotation.{Annotation}
-use Rattle.ppdb_values.specs.Meaning.{without_parent}
-use Rattle.ppdb_values.specs.Parts.{is_at}
+use Rattle.ppdb_values.specs.declared.{custom.CustomValue.{CustomValue}, annotation.Custom.{Custom}, annotation.Annotation.{Annotation}}
+use Rattle.ppdb_values.specs.{Meaning.{without_parent}, Parts.{is_at}}
 use Rattle.ppdb_merge_items.specs.Annotated.{placed, on_row, items_of, customs_of}
 
 -- a record is on a row

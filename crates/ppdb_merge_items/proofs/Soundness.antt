@@ -1,45 +1,21 @@
 -- A value is sound if and only if the parts of the form with its records at their items (`annotated_file`) are.
 use Rattle.std.proofs.Common.{◌≡◌, ◌≢◌, ℕ, zero, suc, ◌+◌, ◌<◌, ◌≤◌, true, List, [], ◌∷◌, length, map, refl, sym, ◌∙◌, ap, subst, arith, get_or, inl, inr}
-use Rattle.std.specs.Prelude.{nat_eq, nat_lt, filter, Option, Some, None, IsSome, unwrap_or}
-use Rattle.std.specs.Option.{option_map}
-use Rattle.std.specs.List.{enumerate_from, flat_map, sum_by}
-use Rattle.std.proofs.lemmas.List.{length-append, length-map}
-use Rattle.std.proofs.lemmas.List.Sums.{sum_by-cons}
-use Rattle.std.proofs.lemmas.Bool.{cases_lt, eqb-true, and_parts, ltb-true}
+use Rattle.std.specs.{Prelude.{nat_eq, nat_lt, filter, Option, Some, None, IsSome, unwrap_or}, Option.{option_map}, List.{enumerate_from, flat_map, sum_by}}
+use Rattle.std.proofs.lemmas.{List.{length-append, length-map}, List.Sums.{sum_by-cons}, Bool.{cases_lt, eqb-true, and_parts, ltb-true}}
 use Rattle.custom_info.specs.Kinds.{kind_of}
-use Rattle.ppdb_tables.specs.Parents.{CodesAreParents, coded_in, coded_of}
-use Rattle.ppdb_tables.specs.RawTables.{row_at}
-use Rattle.ppdb_values.specs.declared.custom.CustomValue.{CustomValue}
-use Rattle.ppdb_values.specs.declared.file.FileValue.{FileValue}
-use Rattle.ppdb_values.specs.declared.import.ImportScopeValue.{ImportScopeValue}
-use Rattle.ppdb_values.specs.declared.scope.ScopeValue.{ScopeValue}
-use Rattle.ppdb_values.specs.declared.annotation.Custom.{Custom}
-use Rattle.ppdb_values.specs.declared.annotation.Annotation.{Annotation}
-use Rattle.ppdb_values.specs.Chains.{NeverEnds, parent_at, ancestor_of}
-use Rattle.ppdb_values.specs.Meaning.{without_parent, annotated_on, annotated_from}
-use Rattle.ppdb_values.specs.Ordered.{IsSorted}
-use Rattle.ppdb_values.specs.Parts.{first_item}
-use Rattle.ppdb_values.specs.Ranges.{ComesAfter, IsInOrAfter}
-use Rattle.ppdb_values.specs.Rules.{StandsOn}
-use Rattle.ppdb_values.proofs.Mapped.{row_map}
-use Rattle.ppdb_values_sound_laws.specs.Customs.{SoundCustom}
-use Rattle.ppdb_values_sound_laws.specs.Imports.{SoundImportScope}
-use Rattle.ppdb_values_sound_laws.specs.Methods.{SoundMethod}
-use Rattle.ppdb_values_sound_laws.specs.Named.{count, HasRowOrNone}
-use Rattle.ppdb_values_sound_laws.specs.Scopes.{SoundScope}
+use Rattle.ppdb_tables.specs.{Parents.{CodesAreParents, coded_in, coded_of}, RawTables.{row_at}}
+use Rattle.ppdb_values.specs.declared.{custom.CustomValue.{CustomValue}, file.FileValue.{FileValue}, import.ImportScopeValue.{ImportScopeValue}}
+use Rattle.ppdb_values.specs.declared.{scope.ScopeValue.{ScopeValue}, annotation.Custom.{Custom}, annotation.Annotation.{Annotation}}
+use Rattle.ppdb_values.specs.{Chains.{NeverEnds, parent_at, ancestor_of}, Meaning.{without_parent, annotated_on, annotated_from}, Ordered.{IsSorted}}
+use Rattle.ppdb_values.{specs.Parts.{first_item}, specs.Ranges.{ComesAfter, IsInOrAfter}, specs.Rules.{StandsOn}, proofs.Mapped.{row_map}}
+use Rattle.ppdb_values_sound_laws.specs.{Customs.{SoundCustom}, Imports.{SoundImportScope}, Methods.{SoundMethod}, Named.{count, HasRowOrNone}, Scopes.{SoundScope}}
 use Rattle.ppdb_values_sound_laws.specs.Sound.{IsSound, SoundMachine}
-use Rattle.ppdb_merge_items.specs.declared.file.AnnotatedScope.{AnnotatedScope}
-use Rattle.ppdb_merge_items.specs.declared.file.AnnotatedFile.{AnnotatedFile}
-use Rattle.ppdb_merge_items.specs.Each.{Each, Pairs}
-use Rattle.ppdb_merge_items.specs.Annotated.{placed, on_row, all_customs, items_of, customs_of, scope_of, annotated_scope, annotated_file}
-use Rattle.ppdb_merge_items.specs.SoundParts.{SoundNote, SoundAnnotatedScope, SoundIn, SoundParts}
-use Rattle.ppdb_merge_items.specs.Unannotated.{value_of_annotated}
-use Rattle.ppdb_merge_items.proofs.Lists.{each_row, row_each, pairs_row, row_pairs, key_pairs, pairs_key, Each-append, Each-filter, Each-weaker, Each-map}
-use Rattle.ppdb_merge_items.proofs.Lists.{Pairs-map, Pairs-unmap, Pairs-weaker}
-use Rattle.ppdb_merge_items.proofs.Orders.{in_order_each, in_order_rises, rises_filter, rises_of, pairs_of}
-use Rattle.ppdb_merge_items.proofs.Rows.{at}
-use Rattle.ppdb_merge_items.proofs.Files.{both_lengths, scopes_of, variables_of, constants_of}
-use Rattle.ppdb_merge_items.proofs.Values.{value_back, by_parent, items_back, scope_back, scopes_back}
+use Rattle.ppdb_merge_items.specs.{declared.file.AnnotatedScope.{AnnotatedScope}, declared.file.AnnotatedFile.{AnnotatedFile}, Each.{Each, Pairs}}
+use Rattle.ppdb_merge_items.specs.{Annotated.{placed, on_row, all_customs, items_of, customs_of, scope_of, annotated_scope, annotated_file}, SoundParts.{SoundNote}}
+use Rattle.ppdb_merge_items.{specs.SoundParts.{SoundAnnotatedScope, SoundIn, SoundParts}, specs.Unannotated.{value_of_annotated}, proofs.Lists.{each_row, row_each}}
+use Rattle.ppdb_merge_items.proofs.Lists.{pairs_row, row_pairs, key_pairs, pairs_key, Each-append, Each-filter, Each-weaker, Each-map, Pairs-map, Pairs-unmap}
+use Rattle.ppdb_merge_items.proofs.{Lists.{Pairs-weaker}, Orders.{in_order_each, in_order_rises, rises_filter, rises_of, pairs_of}, Rows.{at}, Files.{both_lengths}}
+use Rattle.ppdb_merge_items.proofs.{Files.{scopes_of, variables_of, constants_of}, Values.{value_back, by_parent, items_back, scope_back, scopes_back}}
 
 -- ---- chains of import scopes
 

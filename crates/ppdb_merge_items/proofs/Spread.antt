@@ -1,17 +1,10 @@
 -- The records of a value, row by row of a table.
-use Rattle.std.proofs.Common.{◌≡◌, ℕ, zero, suc, ◌+◌, ◌<◌, ◌≤◌, ◌++◌, Bool, true, false, cond, List, [], ◌∷◌, length, map, refl, sym, ◌∙◌, ap, subst}
-use Rattle.std.proofs.Common.{arith, inl, inr, append-nil}
-use Rattle.std.specs.Prelude.{nat_eq, filter}
-use Rattle.std.proofs.lemmas.Bool.{cases_lt, eqb-true, and_parts}
+use Rattle.std.proofs.Common.{◌≡◌, ℕ, zero, suc, ◌+◌, ◌<◌, ◌≤◌, ◌++◌, Bool, true, false, cond, List, [], ◌∷◌, length, map, refl, sym, ◌∙◌, ap, subst, arith, inl}
+use Rattle.std.{proofs.Common.{inr, append-nil}, specs.Prelude.{nat_eq, filter}, proofs.lemmas.Bool.{cases_lt, eqb-true, and_parts}}
 use Rattle.std.proofs.lemmas.List.Elements.{filter-append}
-use Rattle.ppdb_values.specs.declared.custom.CustomValue.{CustomValue}
-use Rattle.ppdb_values.specs.declared.file.FileValue.{FileValue}
-use Rattle.ppdb_values.specs.declared.annotation.Custom.{Custom}
+use Rattle.ppdb_values.specs.declared.{custom.CustomValue.{CustomValue}, file.FileValue.{FileValue}, annotation.Custom.{Custom}}
 use Rattle.ppdb_values.specs.Meaning.{without_parent, annotated_on, annotated_from}
-use Rattle.ppdb_merge_items.specs.Each.{Each}
-use Rattle.ppdb_merge_items.specs.Annotated.{placed, on_row, customs_of}
-use Rattle.ppdb_merge_items.proofs.Lists.{Each-append, Each-filter}
-use Rattle.ppdb_merge_items.proofs.Orders.{filter_swap}
+use Rattle.ppdb_merge_items.{specs.Each.{Each}, specs.Annotated.{placed, on_row, customs_of}, proofs.Lists.{Each-append, Each-filter}, proofs.Orders.{filter_swap}}
 use Rattle.ppdb_merge_items.proofs.Rows.{at}
 
 -- ---- what passes two tests

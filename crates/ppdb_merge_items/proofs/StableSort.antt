@@ -1,15 +1,9 @@
 -- What std's stable sort by a key leaves is the list set in order by that key.
-use Rattle.std.proofs.Common.{◌≡◌, ℕ, ◌&&◌, Bool, true, List, [], ◌∷◌, refl, sym, ◌∙◌, arith, subst, suc, nat_cmp}
-use Rattle.std.specs.Prelude.{nat_eq, not}
-use Rattle.std.specs.List.{filter, All}
-use Rattle.std.specs.List.Sorted.{IsSortedByKey, IsStableByKey, IsNonDecreasingBy}
-use Rattle.std.specs.Ordering.{is_lt}
-use Rattle.std.proofs.lemmas.List.Sorted.{IsNonDecreasingBy-from_sort}
-use Rattle.std.proofs.lemmas.List.Elements.{filter_agree, filter_passes, All-head}
-use Rattle.std.proofs.lemmas.Bool.{eqb-true}
+use Rattle.std.{proofs.Common.{◌≡◌, ℕ, ◌&&◌, Bool, true, List, [], ◌∷◌, refl, sym, ◌∙◌, arith, subst, suc, nat_cmp}, specs.Prelude.{nat_eq, not}}
+use Rattle.std.specs.{List.{filter, All}, List.Sorted.{IsSortedByKey, IsStableByKey, IsNonDecreasingBy}, Ordering.{is_lt}}
+use Rattle.std.proofs.lemmas.{List.Sorted.{IsNonDecreasingBy-from_sort}, List.Elements.{filter_agree, filter_passes, All-head}, Bool.{eqb-true}}
 use Rattle.std.proofs.lemmas.Bool.Decides.{nat_tests}
-use Rattle.ppdb_merge_items.specs.Sorted.{in_order}
-use Rattle.ppdb_merge_items.proofs.Orders.{Rises, of_key, one_order, in_order_keeps, in_order_rises}
+use Rattle.ppdb_merge_items.{specs.Sorted.{in_order}, proofs.Orders.{Rises, of_key, one_order, in_order_keeps, in_order_rises}}
 
 tail_rises : {A : Type 0} (key : A → ℕ) (y : A) (ys : List A) → IsNonDecreasingBy key (y ∷ ys) → Rises key (key y) ys
 tail_rises key y [] rise = tt

@@ -1,30 +1,17 @@
 -- A sound value is the value of the form with its records at their items (`annotated_file`).
-use Rattle.std.proofs.Common.{◌≡◌, ◌≢◌, ℕ, suc, ◌+◌, ◌-◌, ◌≤◌, ◌++◌, Bool, true, List, [], ◌∷◌, length, map, take, refl, sym, ◌∙◌, ap, subst, arith}
-use Rattle.std.proofs.Common.{append_assoc}
-use Rattle.std.specs.Prelude.{nat_eq, nat_lt, filter, sum_by}
-use Rattle.std.specs.List.{enumerate_from, flat_map}
-use Rattle.std.proofs.lemmas.Bool.{eqb-true, and_parts, lt-ltb, ltb-true}
-use Rattle.std.proofs.lemmas.List.{length-append}
-use Rattle.std.proofs.lemmas.List.Sums.{sum_by-append, sum_by-cons}
+use Rattle.std.proofs.Common.{◌≡◌, ◌≢◌, ℕ, suc, ◌+◌, ◌-◌, ◌≤◌, ◌++◌, Bool, true, List, [], ◌∷◌, length, map, take, refl, sym, ◌∙◌, ap, subst, arith, append_assoc}
+use Rattle.std.{specs.Prelude.{nat_eq, nat_lt, filter, sum_by}, specs.List.{enumerate_from, flat_map}, proofs.lemmas.Bool.{eqb-true, and_parts, lt-ltb, ltb-true}}
+use Rattle.std.proofs.lemmas.{List.{length-append}, List.Sums.{sum_by-append, sum_by-cons}}
 use Rattle.ppdb_tables.specs.Parents.{CodesAreParents, coded_of}
-use Rattle.ppdb_values.specs.declared.custom.CustomValue.{CustomValue}
-use Rattle.ppdb_values.specs.declared.file.FileValue.{FileValue}
-use Rattle.ppdb_values.specs.declared.scope.ScopeValue.{ScopeValue}
-use Rattle.ppdb_values.specs.Meaning.{annotated_on, annotated_from}
-use Rattle.ppdb_values.specs.Parts.{first_item}
-use Rattle.ppdb_values_sound_laws.specs.Named.{HasRow}
-use Rattle.ppdb_values_sound_laws.specs.Customs.{SoundCustom, SoundCustoms}
-use Rattle.ppdb_merge_items.specs.Each.{Each, Pairs}
-use Rattle.ppdb_merge_items.specs.Annotated.{placed, items_of, customs_of, all_customs, scope_of, annotated_scope, annotated_file}
-use Rattle.ppdb_merge_items.specs.Sorted.{in_order}
-use Rattle.ppdb_merge_items.specs.Unannotated.{value_of_annotated}
-use Rattle.ppdb_merge_items.proofs.Files.{take_prefix, parts_filter, only_first, only_second, only_third, only_fourth, only_fifth, only_sixth, scopes_of}
-use Rattle.ppdb_merge_items.proofs.Lists.{each_row, key_pairs, Each-append, Each-filter, Each-weaker}
-use Rattle.ppdb_merge_items.proofs.Orders.{one_order, in_order_rises, rises_of, key_kept, filter_swap}
-use Rattle.ppdb_merge_items.proofs.Parents.{IsTagged, low, document, scope, variable, constant, import_scope, tagged, HasTag, codes_same}
-use Rattle.ppdb_merge_items.proofs.Rows.{at}
-use Rattle.ppdb_merge_items.proofs.Spread.{filter_apart, filter_within, spread, spread_apart, spread_there, spread_none, spread_each, notes, placed_notes}
-use Rattle.ppdb_merge_items.proofs.Spread.{notes_append, customs_annotated}
+use Rattle.ppdb_values.specs.declared.{custom.CustomValue.{CustomValue}, file.FileValue.{FileValue}, scope.ScopeValue.{ScopeValue}}
+use Rattle.ppdb_values.specs.{Meaning.{annotated_on, annotated_from}, Parts.{first_item}}
+use Rattle.ppdb_values_sound_laws.specs.{Named.{HasRow}, Customs.{SoundCustom, SoundCustoms}}
+use Rattle.ppdb_merge_items.specs.{Each.{Each, Pairs}, Annotated.{placed, items_of, customs_of, all_customs, scope_of, annotated_scope, annotated_file}}
+use Rattle.ppdb_merge_items.{specs.Sorted.{in_order}, specs.Unannotated.{value_of_annotated}, proofs.Files.{take_prefix, parts_filter, only_first, only_second}}
+use Rattle.ppdb_merge_items.proofs.{Files.{only_third, only_fourth, only_fifth, only_sixth, scopes_of}, Lists.{each_row, key_pairs, Each-append, Each-filter}}
+use Rattle.ppdb_merge_items.proofs.{Lists.{Each-weaker}, Orders.{one_order, in_order_rises, rises_of, key_kept, filter_swap}, Parents.{IsTagged, low, document}}
+use Rattle.ppdb_merge_items.proofs.{Parents.{scope, variable, constant, import_scope, tagged, HasTag, codes_same}, Rows.{at}, Spread.{filter_apart, filter_within}}
+use Rattle.ppdb_merge_items.proofs.Spread.{spread, spread_apart, spread_there, spread_none, spread_each, notes, placed_notes, notes_append, customs_annotated}
 
 -- ---- items, without their records
 

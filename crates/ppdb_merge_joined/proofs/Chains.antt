@@ -1,19 +1,11 @@
 -- The chains of import scopes end where those of each file do.
-use Rattle.std.proofs.Common.{◌≡◌, ℕ, zero, suc, ◌+◌, ◌-◌, ◌≤◌, ◌<◌, ◌++◌, List, [], ◌∷◌, length, map, refl, sym, ◌∙◌, ap, subst, arith, inl}
-use Rattle.std.proofs.Common.{inr, append-nil, append_assoc, slice_get}
-use Rattle.std.specs.Prelude.{Option, Some, None, flat_map, unwrap_or}
-use Rattle.std.specs.Option.{option_map}
-use Rattle.std.proofs.lemmas.Bool.{cases_lt}
-use Rattle.std.proofs.lemmas.List.{length-append, length-map}
+use Rattle.std.proofs.Common.{◌≡◌, ℕ, zero, suc, ◌+◌, ◌-◌, ◌≤◌, ◌<◌, ◌++◌, List, [], ◌∷◌, length, map, refl, sym, ◌∙◌, ap, subst, arith, inl, inr, append-nil}
+use Rattle.std.{proofs.Common.{append_assoc, slice_get}, specs.Prelude.{Option, Some, None, flat_map, unwrap_or}, specs.Option.{option_map}}
+use Rattle.std.proofs.lemmas.{Bool.{cases_lt}, List.{length-append, length-map}}
 use Rattle.ppdb_tables.specs.RawTables.{row_at}
-use Rattle.ppdb_values.specs.declared.import.ImportScopeValue.{ImportScopeValue}
-use Rattle.ppdb_values.specs.declared.file.DocumentValue.{DocumentValue}
-use Rattle.ppdb_values.specs.declared.annotation.Annotation.{Annotation}
-use Rattle.ppdb_values.specs.Chains.{NeverEnds, parent_at, ancestor_of}
-use Rattle.ppdb_values.proofs.Mapped.{get_map}
-use Rattle.ppdb_merge_items.specs.declared.file.AnnotatedFile.{AnnotatedFile}
-use Rattle.ppdb_merge_items.specs.Each.{Each}
-use Rattle.ppdb_merge_items.specs.Annotated.{with_item}
+use Rattle.ppdb_values.specs.declared.{import.ImportScopeValue.{ImportScopeValue}, file.DocumentValue.{DocumentValue}, annotation.Annotation.{Annotation}}
+use Rattle.ppdb_values.{specs.Chains.{NeverEnds, parent_at, ancestor_of}, proofs.Mapped.{get_map}}
+use Rattle.ppdb_merge_items.specs.{declared.file.AnnotatedFile.{AnnotatedFile}, Each.{Each}, Annotated.{with_item}}
 use Rattle.ppdb_merge_joined.specs.Joined.{shifted, renumbered_import, renumbered_all}
 
 abbrev parent : Annotation ImportScopeValue → ℕ

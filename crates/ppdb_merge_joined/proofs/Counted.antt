@@ -1,45 +1,23 @@
 -- What is sound in one value is sound in another that has all rows that it names.
-use Rattle.std.proofs.Common.{◌≡◌, ◌≢◌, ℕ, ◌≤◌, ◌<◌, ◌⊎◌, Bool, true, false, cond, List, [], ◌∷◌, map, refl, sym, subst}
-use Rattle.std.proofs.Common.{arith, inl, inr}
-use Rattle.std.specs.Prelude.{nat_eq, flat_map, slice_index}
-use Rattle.std.proofs.lemmas.Bool.{ne_eqb, eqb-true}
-use Rattle.custom_info.specs.declared.kinds.Kind.{Kind}
-use Rattle.custom_info.specs.declared.kinds.Kind.TheVariants.{Async as AsyncKind, Hoisted as HoistedKind, TypeDocuments as DocumentsKind, Free, Unknown}
-use Rattle.custom_info.specs.declared.stepping.AsyncStep.{AsyncStep}
-use Rattle.custom_info.specs.AsyncStepping.{IsStep}
-use Rattle.custom_info.specs.Kinds.{kind_of}
+use Rattle.std.{proofs.Common.{◌≡◌, ◌≢◌, ℕ, ◌≤◌, ◌<◌, ◌⊎◌, Bool, true, false, cond, List, [], ◌∷◌, map, refl, sym, subst, arith, inl, inr}, specs.Prelude.{nat_eq}}
+use Rattle.std.{specs.Prelude.{flat_map, slice_index}, proofs.lemmas.Bool.{ne_eqb, eqb-true}}
+use Rattle.custom_info.specs.declared.kinds.{Kind.{Kind}, Kind.TheVariants.{Async as AsyncKind, Hoisted as HoistedKind, TypeDocuments as DocumentsKind, Free}}
+use Rattle.custom_info.specs.{declared.kinds.Kind.TheVariants.{Unknown}, declared.stepping.AsyncStep.{AsyncStep}, AsyncStepping.{IsStep}, Kinds.{kind_of}}
 use Rattle.sequence_points.specs.declared.point.Point.{Point}
-use Rattle.type_blobs.specs.declared.types.Modifier.{Modifier}
-use Rattle.type_blobs.specs.declared.types.TypeToken.{TypeToken}
-use Rattle.type_blobs.specs.Types.{IsToken, IsThere, rows_of, tag_of}
-use Rattle.type_blobs.specs.Spelling.{IsBody, IsBodyThere}
+use Rattle.type_blobs.specs.{declared.types.Modifier.{Modifier}, declared.types.TypeToken.{TypeToken}, Types.{IsToken, IsThere, rows_of, tag_of}, Spelling.{IsBody}}
+use Rattle.type_blobs.specs.Spelling.{IsBodyThere}
 use Rattle.ppdb_tables.specs.declared.rows.MachineRow.{MachineRow}
-use Rattle.ppdb_values.specs.declared.file.FileValue.{FileValue}
-use Rattle.ppdb_values.specs.declared.file.MethodValue.{MethodValue}
-use Rattle.ppdb_values.specs.declared.import.ImportValue.{ImportValue}
+use Rattle.ppdb_values.specs.declared.{file.FileValue.{FileValue}, file.MethodValue.{MethodValue}, import.ImportValue.{ImportValue}}
 use Rattle.ppdb_values.specs.declared.import.ImportValue.TheVariants.{Namespace, AssemblyNamespace, Target, Xml, Alias, AssemblyAlias, NamespaceAlias}
-use Rattle.ppdb_values.specs.declared.import.ImportValue.TheVariants.{AssemblyNamespaceAlias, TargetAlias}
-use Rattle.ppdb_values.specs.declared.import.ImportScopeValue.{ImportScopeValue}
-use Rattle.ppdb_values.specs.declared.scope.ConstantValue.{ConstantValue}
-use Rattle.ppdb_values.specs.declared.scope.ConstantBody.{ConstantBody}
-use Rattle.ppdb_values.specs.declared.scope.ConstantBody.TheVariants.{Primitive, Enumerated, General, Object}
-use Rattle.ppdb_values.specs.declared.custom.CustomBody.{CustomBody}
-use Rattle.ppdb_values.specs.declared.custom.CustomBody.TheVariants.{Async, Hoisted, TypeDocuments, Unread}
-use Rattle.ppdb_values.specs.declared.custom.CustomValue.{CustomValue}
-use Rattle.ppdb_values.specs.declared.annotation.Custom.{Custom}
-use Rattle.ppdb_values.specs.declared.annotation.Annotation.{Annotation}
-use Rattle.ppdb_values.specs.Rules.{StandsOn}
-use Rattle.ppdb_values_sound_laws.specs.Named.{HasRow, HasRowOrNone, HasType, count, type_limits}
-use Rattle.ppdb_values_sound_laws.specs.Customs.{IsBodyOfKind, SoundCustom}
-use Rattle.ppdb_values_sound_laws.specs.Imports.{SoundImport, SoundImportScope}
-use Rattle.ppdb_values_sound_laws.specs.Methods.{SoundMethod, SoundPoint}
-use Rattle.ppdb_values_sound_laws.specs.Scopes.{SoundConstant, stored_body}
-use Rattle.ppdb_values_sound_laws.specs.Sound.{SoundMachine}
-use Rattle.ppdb_merge_items.specs.declared.file.AnnotatedScope.{AnnotatedScope}
-use Rattle.ppdb_merge_items.specs.Each.{Each}
-use Rattle.ppdb_merge_items.specs.NamedRows.{Named, names, names_some, in_token, in_body, in_constant, in_import, in_steps}
-use Rattle.ppdb_merge_items.specs.Annotated.{items_of}
-use Rattle.ppdb_merge_items.specs.SoundParts.{SoundNote, SoundAnnotatedScope}
+use Rattle.ppdb_values.specs.declared.import.{ImportValue.TheVariants.{AssemblyNamespaceAlias, TargetAlias}, ImportScopeValue.{ImportScopeValue}}
+use Rattle.ppdb_values.specs.declared.scope.{ConstantValue.{ConstantValue}, ConstantBody.{ConstantBody}, ConstantBody.TheVariants.{Primitive, Enumerated, General}}
+use Rattle.ppdb_values.specs.declared.{scope.ConstantBody.TheVariants.{Object}, custom.CustomBody.{CustomBody}, custom.CustomBody.TheVariants.{Async, Hoisted}}
+use Rattle.ppdb_values.specs.declared.{custom.CustomBody.TheVariants.{TypeDocuments, Unread}, custom.CustomValue.{CustomValue}, annotation.Custom.{Custom}}
+use Rattle.ppdb_values.specs.{declared.annotation.Annotation.{Annotation}, Rules.{StandsOn}}
+use Rattle.ppdb_values_sound_laws.specs.{Named.{HasRow, HasRowOrNone, HasType, count, type_limits}, Customs.{IsBodyOfKind, SoundCustom}, Imports.{SoundImport}}
+use Rattle.ppdb_values_sound_laws.specs.{Imports.{SoundImportScope}, Methods.{SoundMethod, SoundPoint}, Scopes.{SoundConstant, stored_body}, Sound.{SoundMachine}}
+use Rattle.ppdb_merge_items.specs.{declared.file.AnnotatedScope.{AnnotatedScope}, Each.{Each}, NamedRows.{Named, names, names_some, in_token, in_body, in_constant}}
+use Rattle.ppdb_merge_items.specs.{NamedRows.{in_import, in_steps}, Annotated.{items_of}, SoundParts.{SoundNote, SoundAnnotatedScope}}
 use Rattle.ppdb_merge_items.proofs.Lists.{Each-weaker, Each-map, Each-unmap, Pairs-map, each_row, row_each}
 use Rattle.ppdb_merge_joined.specs.Joined.{shifted, with_documents, renumbered_method, renumbered_scope, renumbered_import, renumbered_custom}
 use Rattle.ppdb_merge_joined.proofs.Each.{Each-with, Each-split, Each-unflat, each_all, all_each, pairs_all, all_pairs}

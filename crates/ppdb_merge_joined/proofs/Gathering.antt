@@ -1,24 +1,13 @@
 -- Documents put together by their names, one document more.
-use Rattle.std.proofs.Common.{◌≡◌, ◌≢◌, ℕ, zero, suc, ◌≤◌, ◌++◌, Bool, true, false, cond, List, [], ◌∷◌, length, map, refl, sym, ◌∙◌, ap, subst, arith}
-use Rattle.std.proofs.Common.{append-nil, append_assoc, ◌+◌, ◌-◌, ◌<◌, get_or, set}
-use Rattle.std.specs.declared.vec.Vec.{Vec}
-use Rattle.std.specs.declared.alloc.Global.{Global}
-use Rattle.std.specs.List.{refill}
-use Rattle.std.proofs.lemmas.Map.Text.{is_eq-slice_cmp}
-use Rattle.std.specs.Prelude.{◌||◌, Option, Some, None, position, unwrap_or, bytes_eq, filter}
-use Rattle.std.specs.Option.{option_map}
+use Rattle.std.proofs.Common.{◌≡◌, ◌≢◌, ℕ, zero, suc, ◌≤◌, ◌++◌, Bool, true, false, cond, List, [], ◌∷◌, length, map, refl, sym, ◌∙◌, ap, subst, arith, append-nil}
+use Rattle.std.{proofs.Common.{append_assoc, ◌+◌, ◌-◌, ◌<◌, get_or, set}, specs.declared.vec.Vec.{Vec}, specs.declared.alloc.Global.{Global}, specs.List.{refill}}
+use Rattle.std.{proofs.lemmas.Map.Text.{is_eq-slice_cmp}, specs.Prelude.{◌||◌, Option, Some, None, position, unwrap_or, bytes_eq, filter}, specs.Option.{option_map}}
 use Rattle.std.proofs.lemmas.List.{map-append, length-map}
-use Rattle.ppdb_values.specs.declared.file.DocumentValue.{DocumentValue}
-use Rattle.ppdb_values.specs.declared.annotation.Custom.{Custom}
-use Rattle.ppdb_values.specs.declared.annotation.Annotation.{Annotation}
-use Rattle.ppdb_merge_items.specs.Each.{Each, Pairs}
-use Rattle.ppdb_merge_items.specs.Annotated.{items_of}
-use Rattle.ppdb_merge_items.proofs.Lists.{Each-weaker}
-use Rattle.ppdb_merge_joined.specs.declared.documents.Gathered.{Gathered}
-use Rattle.ppdb_merge_joined.specs.declared.documents.Documents.{Documents}
-use Rattle.ppdb_merge_joined.specs.Gathered.{Holds, HasRow, row_for, row_after, notes_named, gathered_of, annotated_at}
-use Rattle.ppdb_merge_joined.specs.Joined.{firsts, row_named}
-use Rattle.ppdb_merge_joined.proofs.Names.{same_bytes, bytes_same, bytes_apart, or_false, position_cons, found_within, among, is_named, firsts_differ, firsts_has}
+use Rattle.ppdb_values.specs.declared.{file.DocumentValue.{DocumentValue}, annotation.Custom.{Custom}, annotation.Annotation.{Annotation}}
+use Rattle.ppdb_merge_items.{specs.Each.{Each, Pairs}, specs.Annotated.{items_of}, proofs.Lists.{Each-weaker}}
+use Rattle.ppdb_merge_joined.specs.{declared.documents.Gathered.{Gathered}, declared.documents.Documents.{Documents}, Gathered.{Holds, HasRow, row_for, row_after}}
+use Rattle.ppdb_merge_joined.{specs.Gathered.{notes_named, gathered_of, annotated_at}, specs.Joined.{firsts, row_named}, proofs.Names.{same_bytes, bytes_same}}
+use Rattle.ppdb_merge_joined.proofs.Names.{bytes_apart, or_false, position_cons, found_within, among, is_named, firsts_differ, firsts_has}
 
 -- ---- the row of a name, one document more
 

@@ -1,24 +1,13 @@
 -- Keys are equal where the records that they stand for are.
-use Rattle.std.proofs.Common.{◌≡◌, ℕ, Bool, true, false, List, refl, sym, ◌∙◌, ap, arith}
-use Rattle.std.specs.Prelude.{◌&&◌, nat_eq, Option, Some, None, bytes_eq}
-use Rattle.std.specs.declared.cmp.Ordering.{Ordering}
-use Rattle.std.specs.declared.cmp.Ordering.TheVariants.{Less, Equal, Greater}
-use Rattle.std.specs.Cmp.Lexicographic.{slice_cmp}
-use Rattle.std.specs.Ordering.{is_eq, nat_cmp, ordering_then}
-use Rattle.std.proofs.lemmas.Bool.{eqb-true, eq-eqb}
-use Rattle.std.proofs.lemmas.Bool.Decides.{nat_tests}
+use Rattle.std.{proofs.Common.{◌≡◌, ℕ, Bool, true, false, List, refl, sym, ◌∙◌, ap, arith}, specs.Prelude.{◌&&◌, nat_eq, Option, Some, None, bytes_eq}}
+use Rattle.std.specs.{declared.cmp.Ordering.{Ordering}, declared.cmp.Ordering.TheVariants.{Less, Equal, Greater}, Cmp.Lexicographic.{slice_cmp}, Ordering.{is_eq}}
+use Rattle.std.{specs.Ordering.{nat_cmp, ordering_then}, proofs.lemmas.Bool.{eqb-true, eq-eqb}, proofs.lemmas.Bool.Decides.{nat_tests}}
 use Rattle.std.proofs.lemmas.Map.Text.{is_eq-slice_cmp}
-use Rattle.ppdb_values.specs.declared.custom.CustomBody.{CustomBody}
-use Rattle.ppdb_values.specs.declared.custom.CustomBody.TheVariants.{Async, Hoisted, TypeDocuments, Unread}
-use Rattle.ppdb_values.specs.declared.custom.CustomValue.{CustomValue}
-use Rattle.ppdb_merge_joined.specs.declared.keys.Content.{Content}
-use Rattle.ppdb_merge_joined.specs.declared.keys.Content.TheVariants.{Documents, Unread as Bytes}
-use Rattle.ppdb_merge_joined.specs.declared.keys.Key.{Key}
+use Rattle.ppdb_values.specs.declared.custom.{CustomBody.{CustomBody}, CustomBody.TheVariants.{Async, Hoisted, TypeDocuments, Unread}, CustomValue.{CustomValue}}
+use Rattle.ppdb_merge_joined.specs.declared.keys.{Content.{Content}, Content.TheVariants.{Documents, Unread as Bytes}, Key.{Key}}
 use Rattle.ppdb_merge_joined.specs.contracts.keys.ContentOrd.TheImpl as content_ord
 use Rattle.ppdb_merge_joined.specs.contracts.keys.KeyOrd.TheImpl as key_ord
-use Rattle.ppdb_merge_joined.specs.Keys.{body_of, record_of, plain, plain_as}
-use Rattle.ppdb_merge_joined.specs.Same.{same_body, same_record}
-use Rattle.ppdb_merge_joined.proofs.Names.{bytes_same, same_bytes}
+use Rattle.ppdb_merge_joined.{specs.Keys.{body_of, record_of, plain, plain_as}, specs.Same.{same_body, same_record}, proofs.Names.{bytes_same, same_bytes}}
 
 eq_then : (o p : Ordering) → is_eq (ordering_then o p) ≡ (is_eq o && is_eq p)
 eq_then Less p = refl

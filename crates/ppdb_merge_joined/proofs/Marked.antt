@@ -1,20 +1,13 @@
 -- Marks of records that equal none of an earlier input.
-use Rattle.std.proofs.Common.{◌≡◌, ℕ, ◌++◌, Bool, true, false, cond, List, [], ◌∷◌, length}
-use Rattle.std.proofs.Common.{map, refl, sym, ◌∙◌, ap, get_or, take, ◌+◌, ◌<◌, append-nil, append_assoc}
-use Rattle.std.specs.Prelude.{◌||◌, not, Option, Some, None, filter, flat_map}
-use Rattle.std.specs.BTreeSet.{BTreeSet, contains, Updates}
-use Rattle.std.specs.List.{list_any, filter_map, cons_option}
-use Rattle.std.specs.Option.{option_map}
-use Rattle.std.proofs.lemmas.List.{map_more, take_more}
-use Rattle.std.proofs.lemmas.List.Elements.{filter_map-append}
-use Rattle.std.proofs.lemmas.List.Folds.{list_any-append}
+use Rattle.std.proofs.Common.{◌≡◌, ℕ, ◌++◌, Bool, true, false, cond, List, [], ◌∷◌, length, map, refl, sym, ◌∙◌, ap, get_or, take, ◌+◌, ◌<◌, append-nil}
+use Rattle.std.{proofs.Common.{append_assoc}, specs.Prelude.{◌||◌, not, Option, Some, None, filter, flat_map}, specs.BTreeSet.{BTreeSet, contains, Updates}}
+use Rattle.std.{specs.List.{list_any, filter_map, cons_option}, specs.Option.{option_map}, proofs.lemmas.List.{map_more, take_more}}
+use Rattle.std.proofs.lemmas.List.{Elements.{filter_map-append}, Folds.{list_any-append}}
 use Rattle.ppdb_values.specs.declared.custom.CustomValue.{CustomValue}
 use Rattle.ppdb_merge_items.specs.Each.{Each}
 use Rattle.ppdb_merge_joined.specs.declared.keys.Key.{Key}
 use Rattle.ppdb_merge_joined.specs.contracts.keys.KeyOrd.TheImpl as key_ord
-use Rattle.ppdb_merge_joined.specs.Keys.{plain, record_of}
-use Rattle.ppdb_merge_joined.specs.Repeats.{IsSeen, key_among, marks_after, kept_by, unrepeated}
-use Rattle.ppdb_merge_joined.specs.Same.{same_record, fresh}
+use Rattle.ppdb_merge_joined.specs.{Keys.{plain, record_of}, Repeats.{IsSeen, key_among, marks_after, kept_by, unrepeated}, Same.{same_record, fresh}}
 use Rattle.ppdb_merge_joined.proofs.Keyed.{key_same, record_turned, plain_is, unlike}
 
 -- ---- a set of keys

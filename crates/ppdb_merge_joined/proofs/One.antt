@@ -1,41 +1,22 @@
 -- One file alone stays as it is.
-use Rattle.std.proofs.Common.{◌≡◌, ◌≢◌, ℕ, zero, suc, ◌≤◌, ◌++◌, Bool, true, false, List, [], ◌∷◌, map, refl, sym, ◌∙◌, ap}
-use Rattle.std.proofs.Common.{arith, append-nil}
-use Rattle.std.specs.Prelude.{Option, unwrap_or, bytes_eq, filter, flat_map}
-use Rattle.std.specs.Option.{option_map}
-use Rattle.std.proofs.lemmas.List.{length-map}
-use Rattle.custom_info.specs.declared.kinds.Kind.{Kind}
-use Rattle.custom_info.specs.declared.kinds.Kind.TheVariants.{Async as AsyncKind, Hoisted as HoistedKind, TypeDocuments as DocumentsKind, Free, Unknown}
-use Rattle.custom_info.specs.Kinds.{kind_of}
+use Rattle.std.proofs.Common.{◌≡◌, ◌≢◌, ℕ, zero, suc, ◌≤◌, ◌++◌, Bool, true, false, List, [], ◌∷◌, map, refl, sym, ◌∙◌, ap, arith, append-nil}
+use Rattle.std.{specs.Prelude.{Option, unwrap_or, bytes_eq, filter, flat_map}, specs.Option.{option_map}, proofs.lemmas.List.{length-map}}
+use Rattle.custom_info.specs.declared.kinds.{Kind.{Kind}, Kind.TheVariants.{Async as AsyncKind, Hoisted as HoistedKind, TypeDocuments as DocumentsKind, Free}}
+use Rattle.custom_info.specs.{declared.kinds.Kind.TheVariants.{Unknown}, Kinds.{kind_of}}
 use Rattle.sequence_points.specs.declared.point.Point.{Point}
-use Rattle.ppdb_values.specs.declared.file.DocumentValue.{DocumentValue}
-use Rattle.ppdb_values.specs.declared.file.FileValue.{FileValue}
-use Rattle.ppdb_values.specs.declared.file.MethodValue.{MethodValue}
-use Rattle.ppdb_values.specs.declared.import.ImportScopeValue.{ImportScopeValue}
-use Rattle.ppdb_values.specs.declared.custom.CustomBody.{CustomBody}
-use Rattle.ppdb_values.specs.declared.custom.CustomBody.TheVariants.{Async, Hoisted, TypeDocuments, Unread}
-use Rattle.ppdb_values.specs.declared.custom.CustomValue.{CustomValue}
-use Rattle.ppdb_values.specs.declared.annotation.Annotation.{Annotation}
+use Rattle.ppdb_values.specs.declared.file.{DocumentValue.{DocumentValue}, FileValue.{FileValue}, MethodValue.{MethodValue}}
+use Rattle.ppdb_values.specs.declared.{import.ImportScopeValue.{ImportScopeValue}, custom.CustomBody.{CustomBody}, custom.CustomBody.TheVariants.{Async, Hoisted}}
+use Rattle.ppdb_values.specs.declared.{custom.CustomBody.TheVariants.{TypeDocuments, Unread}, custom.CustomValue.{CustomValue}, annotation.Annotation.{Annotation}}
 use Rattle.ppdb_values.proofs.Mapped.{row_map}
-use Rattle.ppdb_values_sound_laws.specs.Named.{HasRow}
+use Rattle.ppdb_values_sound_laws.{specs.Named.{HasRow}, specs.Customs.{IsBodyOfKind, SoundCustom}, specs.Methods.{SoundMethod, SoundPoint}, proofs.Listed.{row_of}}
 use Rattle.ppdb_tables.specs.Parents.{coded_of}
-use Rattle.ppdb_values_sound_laws.specs.Customs.{IsBodyOfKind, SoundCustom}
-use Rattle.ppdb_values_sound_laws.specs.Methods.{SoundMethod, SoundPoint}
-use Rattle.ppdb_values_sound_laws.proofs.Listed.{row_of}
-use Rattle.ppdb_merge_items.specs.declared.file.AnnotatedScope.{AnnotatedScope}
-use Rattle.ppdb_merge_items.specs.declared.file.AnnotatedFile.{AnnotatedFile}
-use Rattle.ppdb_merge_items.specs.Each.{Each, Pairs}
-use Rattle.ppdb_merge_items.specs.Annotated.{items_of, with_item}
-use Rattle.ppdb_merge_items.specs.Sorted.{in_order}
-use Rattle.ppdb_merge_items.specs.SoundParts.{SoundParts}
-use Rattle.ppdb_merge_items.specs.Unannotated.{value_of_annotated}
-use Rattle.ppdb_merge_items.proofs.Lists.{Each-weaker, each_of, Pairs-map, Pairs-weaker}
-use Rattle.ppdb_merge_items.proofs.Orders.{in_order_is, rises_of}
-use Rattle.ppdb_merge_joined.specs.Joined.{firsts, joined_documents, row_named, joined_rows, row_in, shifted, with_documents, renumbered_method}
-use Rattle.ppdb_merge_joined.specs.Joined.{renumbered_scope, renumbered_import, renumbered_custom, renumbered, joined_document, joined_parts, joined}
-use Rattle.ppdb_merge_joined.specs.Same.{same_custom, same_record, fresh}
-use Rattle.ppdb_merge_joined.proofs.Each.{Each-with, each_all}
-use Rattle.ppdb_merge_joined.proofs.Names.{bytes_same, bytes_apart, NamesDiffer, row_found, firsts_all}
+use Rattle.ppdb_merge_items.specs.{declared.file.AnnotatedScope.{AnnotatedScope}, declared.file.AnnotatedFile.{AnnotatedFile}, Each.{Each, Pairs}}
+use Rattle.ppdb_merge_items.specs.{Annotated.{items_of, with_item}, Sorted.{in_order}, SoundParts.{SoundParts}, Unannotated.{value_of_annotated}}
+use Rattle.ppdb_merge_items.proofs.{Lists.{Each-weaker, each_of, Pairs-map, Pairs-weaker}, Orders.{in_order_is, rises_of}}
+use Rattle.ppdb_merge_joined.specs.Joined.{firsts, joined_documents, row_named, joined_rows, row_in, shifted, with_documents, renumbered_method, renumbered_scope}
+use Rattle.ppdb_merge_joined.specs.{Joined.{renumbered_import, renumbered_custom, renumbered, joined_document, joined_parts, joined}, Same.{same_custom}}
+use Rattle.ppdb_merge_joined.{specs.Same.{same_record, fresh}, proofs.Each.{Each-with, each_all}, proofs.Names.{bytes_same, bytes_apart, NamesDiffer, row_found}}
+use Rattle.ppdb_merge_joined.proofs.Names.{firsts_all}
 
 -- ---- lists that stay
 

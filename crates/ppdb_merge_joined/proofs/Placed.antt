@@ -1,11 +1,7 @@
 -- Records on the rows of items, one item more.
-use Rattle.std.proofs.Common.{◌≡◌, ℕ, ◌+◌, ◌++◌, List, [], ◌∷◌, length, map, refl, sym, ◌∙◌, ap, arith, append-nil, append_assoc}
-use Rattle.std.specs.Prelude.{flat_map, sum_by}
-use Rattle.std.proofs.lemmas.List.{map-append, length-map, length-append}
-use Rattle.std.proofs.lemmas.List.Sums.{sum_by-cons, sum_by_push}
-use Rattle.ppdb_values.specs.declared.custom.CustomValue.{CustomValue}
-use Rattle.ppdb_values.specs.declared.annotation.Custom.{Custom}
-use Rattle.ppdb_values.specs.declared.annotation.Annotation.{Annotation}
+use Rattle.std.{proofs.Common.{◌≡◌, ℕ, ◌+◌, ◌++◌, List, [], ◌∷◌, length, map, refl, sym, ◌∙◌, ap, arith, append-nil, append_assoc}, specs.Prelude.{flat_map, sum_by}}
+use Rattle.std.proofs.lemmas.{List.{map-append, length-map, length-append}, List.Sums.{sum_by-cons, sum_by_push}}
+use Rattle.ppdb_values.specs.declared.{custom.CustomValue.{CustomValue}, annotation.Custom.{Custom}, annotation.Annotation.{Annotation}}
 use Rattle.ppdb_merge_items.specs.Annotated.{placed, on_row, items_of, customs_of}
 
 pub map_more : {A B : Type 0} (f : A → B) (before all new : List B) (xs : List A) (x : A) → all ≡ before ++ map f xs → new ≡ all ++ f x ∷ []

@@ -1,22 +1,11 @@
 -- The parts of files put together, one file more.
-use Rattle.std.proofs.Common.{◌≡◌, ℕ, ◌+◌, ◌++◌, true, false, subst, List, [], ◌∷◌, length, map, refl, sym, ◌∙◌, ap, arith}
-use Rattle.std.specs.Prelude.{bytes_eq, flat_map, sum_by, ◌||◌, Bool}
-use Rattle.std.proofs.lemmas.List.{map-append, length-map, length-append}
-use Rattle.std.proofs.lemmas.List.Sums.{sum_by-cons}
-use Rattle.ppdb_values.specs.declared.file.DocumentValue.{DocumentValue}
-use Rattle.ppdb_values.specs.declared.annotation.Annotation.{Annotation}
-use Rattle.ppdb_merge_items.specs.declared.file.AnnotatedFile.{AnnotatedFile}
-use Rattle.ppdb_merge_items.specs.Each.{Each}
-use Rattle.ppdb_merge_items.specs.Annotated.{items_of, with_item}
-use Rattle.ppdb_merge_items.proofs.Lists.{Each-weaker}
-use Rattle.ppdb_merge_joined.specs.declared.joining.Parts.{Parts}
-use Rattle.ppdb_merge_joined.specs.Gathered.{Holds, row_after}
-use Rattle.ppdb_merge_joined.specs.Joined.{firsts, joined_documents, joined_rows, row_in, row_named, renumbered_method, renumbered_custom}
-use Rattle.ppdb_merge_joined.specs.Numbered.{put_scope, put_import, put_file, put_all}
-use Rattle.ppdb_merge_joined.specs.Parts.{ArePut}
-use Rattle.ppdb_merge_joined.proofs.Gathering.{AllNamed, all_named, rows_stay}
-use Rattle.ppdb_merge_joined.proofs.Names.{bytes_same, is_named}
-use Rattle.ppdb_merge_joined.proofs.Placed.{flat_append}
+use Rattle.std.{proofs.Common.{◌≡◌, ℕ, ◌+◌, ◌++◌, true, false, subst, List, [], ◌∷◌, length, map, refl, sym, ◌∙◌, ap, arith}, specs.Prelude.{bytes_eq, flat_map}}
+use Rattle.std.{specs.Prelude.{sum_by, ◌||◌, Bool}, proofs.lemmas.List.{map-append, length-map, length-append}, proofs.lemmas.List.Sums.{sum_by-cons}}
+use Rattle.ppdb_values.specs.declared.{file.DocumentValue.{DocumentValue}, annotation.Annotation.{Annotation}}
+use Rattle.ppdb_merge_items.{specs.declared.file.AnnotatedFile.{AnnotatedFile}, specs.Each.{Each}, specs.Annotated.{items_of, with_item}, proofs.Lists.{Each-weaker}}
+use Rattle.ppdb_merge_joined.specs.{declared.joining.Parts.{Parts}, Gathered.{Holds, row_after}, Joined.{firsts, joined_documents, joined_rows, row_in, row_named}}
+use Rattle.ppdb_merge_joined.specs.{Joined.{renumbered_method, renumbered_custom}, Numbered.{put_scope, put_import, put_file, put_all}, Parts.{ArePut}}
+use Rattle.ppdb_merge_joined.proofs.{Gathering.{AllNamed, all_named, rows_stay}, Names.{bytes_same, is_named}, Placed.{flat_append}}
 
 abbrev pub docs : List AnnotatedFile → List (Annotation DocumentValue)
 docs files = flat_map (λ (file : AnnotatedFile). file.documents) files

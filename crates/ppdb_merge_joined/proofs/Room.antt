@@ -1,19 +1,11 @@
 -- Joined files have rows of four bytes, where all files together have.
 use Rattle.std.proofs.Common.{◌≡◌, ℕ, suc, ◌+◌, ◌*◌, ◌≤◌, ◌<◌, ◌++◌, Bool, true, false, cond, List, [], ◌∷◌, length, map, refl, sym, ◌∙◌, ap, arith}
-use Rattle.std.specs.Prelude.{nat_le, bytes_eq, flat_map, sum_by}
-use Rattle.std.specs.List.{list_any}
-use Rattle.std.proofs.lemmas.List.{length-map, length-append}
+use Rattle.std.{specs.Prelude.{nat_le, bytes_eq, flat_map, sum_by}, specs.List.{list_any}, proofs.lemmas.List.{length-map, length-append}}
 use Rattle.std.proofs.lemmas.List.Sums.{sum_by-cons}
-use Rattle.ppdb_values.specs.declared.file.DocumentValue.{DocumentValue}
-use Rattle.ppdb_values.specs.declared.annotation.Annotation.{Annotation}
-use Rattle.ppdb_merge_items.specs.declared.file.AnnotatedScope.{AnnotatedScope}
-use Rattle.ppdb_merge_items.specs.declared.file.AnnotatedFile.{AnnotatedFile}
-use Rattle.ppdb_merge_items.specs.Each.{Each}
-use Rattle.ppdb_merge_items.specs.Annotated.{items_of, with_item}
-use Rattle.ppdb_merge_items.specs.Sorted.{put, in_order}
-use Rattle.ppdb_merge_items.proofs.Lists.{Each-weaker}
-use Rattle.ppdb_merge_joined.specs.Joined.{firsts, joined_documents, joined_document, renumbered_scope, renumbered_import, renumbered, renumbered_all}
-use Rattle.ppdb_merge_joined.specs.Joined.{joined}
+use Rattle.ppdb_values.specs.declared.{file.DocumentValue.{DocumentValue}, annotation.Annotation.{Annotation}}
+use Rattle.ppdb_merge_items.specs.{declared.file.AnnotatedScope.{AnnotatedScope}, declared.file.AnnotatedFile.{AnnotatedFile}, Each.{Each}, Annotated.{items_of}}
+use Rattle.ppdb_merge_items.{specs.Annotated.{with_item}, specs.Sorted.{put, in_order}, proofs.Lists.{Each-weaker}}
+use Rattle.ppdb_merge_joined.specs.Joined.{firsts, joined_documents, joined_document, renumbered_scope, renumbered_import, renumbered, renumbered_all, joined}
 use Rattle.ppdb_merge_joined.specs.Small.{IsSmall, HaveRoom, HasFewRows, AreFew}
 
 -- ---- sums over lists that are set in order and put together

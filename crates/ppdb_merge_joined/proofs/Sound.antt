@@ -1,46 +1,25 @@
 -- What is joined is sound.
-use Rattle.std.proofs.Common.{◌≡◌, ◌≢◌, ℕ, zero, suc, ◌+◌, ◌≤◌, ◌<◌, Bool, true, false, List, [], ◌∷◌, length, map, refl, sym, ◌∙◌, ap, subst}
-use Rattle.std.proofs.Common.{arith, inl, inr}
-use Rattle.std.specs.Prelude.{◌||◌, filter, flat_map, bytes_eq, Option, unwrap_or, slice_index}
-use Rattle.std.specs.List.{repeat}
-use Rattle.std.specs.Option.{option_map}
-use Rattle.std.proofs.lemmas.List.{length-append, length-map}
-use Rattle.std.proofs.lemmas.Bool.{cases_lt}
-use Rattle.ppdb_values.specs.declared.custom.CustomValue.{CustomValue}
-use Rattle.ppdb_values.specs.declared.file.DocumentValue.{DocumentValue}
-use Rattle.ppdb_values.specs.declared.file.FileValue.{FileValue}
-use Rattle.ppdb_values.specs.declared.file.MethodValue.{MethodValue}
-use Rattle.ppdb_values.specs.declared.import.ImportScopeValue.{ImportScopeValue}
-use Rattle.ppdb_values.specs.declared.annotation.Annotation.{Annotation}
-use Rattle.ppdb_values.specs.Ranges.{ComesAfter, IsInOrAfter}
-use Rattle.ppdb_values.proofs.Mapped.{row_map}
-use Rattle.ppdb_tables.specs.declared.rows.MachineRow.{MachineRow}
-use Rattle.ppdb_tables.specs.Parents.{coded_of}
-use Rattle.ppdb_values_sound_laws.specs.Named.{HasRow, HasRowOrNone}
-use Rattle.ppdb_values_sound_laws.specs.Customs.{SoundCustom}
-use Rattle.ppdb_values_sound_laws.specs.Imports.{SoundImportScope}
-use Rattle.ppdb_values_sound_laws.specs.Methods.{SoundMethod}
-use Rattle.ppdb_values_sound_laws.specs.Sound.{SoundMachine}
-use Rattle.ppdb_values_sound_laws.proofs.Listed.{row_of}
-use Rattle.ppdb_merge_items.specs.declared.file.AnnotatedScope.{AnnotatedScope}
-use Rattle.ppdb_merge_items.specs.declared.file.AnnotatedFile.{AnnotatedFile}
-use Rattle.ppdb_merge_items.specs.Each.{Each, Pairs}
-use Rattle.ppdb_merge_items.specs.NamedRows.{Named, names, names_some, in_constant, in_import, in_steps, all_named}
-use Rattle.ppdb_merge_items.specs.Annotated.{items_of, with_item}
-use Rattle.ppdb_merge_items.specs.SoundParts.{SoundNote, SoundAnnotatedScope, SoundIn, SoundMoved, SoundParts}
-use Rattle.ppdb_merge_items.specs.Unannotated.{value_of_annotated}
-use Rattle.ppdb_merge_items.proofs.Lists.{Each-filter, Each-map, Each-unmap, Each-weaker, each_of, Pairs-map, Pairs-weaker}
-use Rattle.ppdb_merge_items.proofs.Orders.{in_order_each, in_order_rises, pairs_of}
-use Rattle.ppdb_merge_joined.specs.Joinable.{AreJoinable, CountsRows}
-use Rattle.ppdb_merge_joined.specs.Joined.{joined, joined_documents, joined_document, joined_rows, row_in, row_named, customs_named, shifted, renumbered}
-use Rattle.ppdb_merge_joined.specs.Joined.{renumbered_all, renumbered_method, renumbered_scope, renumbered_import, renumbered_custom}
-use Rattle.ppdb_merge_joined.specs.Same.{same_custom, same_record, fresh}
-use Rattle.ppdb_merge_joined.proofs.Apart.{methods_across, scopes_across, machines_across}
-use Rattle.ppdb_merge_joined.proofs.Chains.{ChainsEnd, chains_end, imports_of}
-use Rattle.ppdb_merge_joined.proofs.Counted.{method_fits, scope_fits, import_scope_fits, machine_fits, custom_fits, notes_any}
-use Rattle.ppdb_merge_joined.proofs.Each.{Each-with, Each-split, Each-flat, Each-unflat, Pairs-flat, Pairs-with}
-use Rattle.ppdb_merge_joined.proofs.Kept.{in_order_pairs, in_order_keyed, fresh_each}
-use Rattle.ppdb_merge_joined.proofs.Names.{bytes_same, is_named, each_row_at, found_within, firsts_has, firsts_differ}
+use Rattle.std.proofs.Common.{◌≡◌, ◌≢◌, ℕ, zero, suc, ◌+◌, ◌≤◌, ◌<◌, Bool, true, false, List, [], ◌∷◌, length, map, refl, sym, ◌∙◌, ap, subst, arith, inl, inr}
+use Rattle.std.specs.{Prelude.{◌||◌, filter, flat_map, bytes_eq, Option, unwrap_or, slice_index}, List.{repeat}, Option.{option_map}}
+use Rattle.std.proofs.lemmas.{List.{length-append, length-map}, Bool.{cases_lt}}
+use Rattle.ppdb_values.specs.declared.{custom.CustomValue.{CustomValue}, file.DocumentValue.{DocumentValue}, file.FileValue.{FileValue}}
+use Rattle.ppdb_values.specs.declared.{file.MethodValue.{MethodValue}, import.ImportScopeValue.{ImportScopeValue}, annotation.Annotation.{Annotation}}
+use Rattle.ppdb_values.{specs.Ranges.{ComesAfter, IsInOrAfter}, proofs.Mapped.{row_map}}
+use Rattle.ppdb_tables.specs.{declared.rows.MachineRow.{MachineRow}, Parents.{coded_of}}
+use Rattle.ppdb_values_sound_laws.specs.{Named.{HasRow, HasRowOrNone}, Customs.{SoundCustom}, Imports.{SoundImportScope}, Methods.{SoundMethod}}
+use Rattle.ppdb_values_sound_laws.{specs.Sound.{SoundMachine}, proofs.Listed.{row_of}}
+use Rattle.ppdb_merge_items.specs.{declared.file.AnnotatedScope.{AnnotatedScope}, declared.file.AnnotatedFile.{AnnotatedFile}, Each.{Each, Pairs}, NamedRows.{Named}}
+use Rattle.ppdb_merge_items.specs.{NamedRows.{names, names_some, in_constant, in_import, in_steps, all_named}, Annotated.{items_of, with_item}}
+use Rattle.ppdb_merge_items.specs.{SoundParts.{SoundNote, SoundAnnotatedScope, SoundIn, SoundMoved, SoundParts}, Unannotated.{value_of_annotated}}
+use Rattle.ppdb_merge_items.proofs.{Lists.{Each-filter, Each-map, Each-unmap, Each-weaker, each_of, Pairs-map, Pairs-weaker}, Orders.{in_order_each, in_order_rises}}
+use Rattle.ppdb_merge_items.proofs.Orders.{pairs_of}
+use Rattle.ppdb_merge_joined.specs.{Joinable.{AreJoinable, CountsRows}, Joined.{joined, joined_documents, joined_document, joined_rows, row_in, row_named}}
+use Rattle.ppdb_merge_joined.specs.Joined.{customs_named, shifted, renumbered, renumbered_all, renumbered_method, renumbered_scope, renumbered_import}
+use Rattle.ppdb_merge_joined.{specs.Joined.{renumbered_custom}, specs.Same.{same_custom, same_record, fresh}, proofs.Apart.{methods_across, scopes_across}}
+use Rattle.ppdb_merge_joined.proofs.{Apart.{machines_across}, Chains.{ChainsEnd, chains_end, imports_of}, Counted.{method_fits, scope_fits, import_scope_fits}}
+use Rattle.ppdb_merge_joined.proofs.{Counted.{machine_fits, custom_fits, notes_any}, Each.{Each-with, Each-split, Each-flat, Each-unflat, Pairs-flat, Pairs-with}}
+use Rattle.ppdb_merge_joined.proofs.{Kept.{in_order_pairs, in_order_keyed, fresh_each}, Names.{bytes_same, is_named, each_row_at, found_within, firsts_has}}
+use Rattle.ppdb_merge_joined.proofs.Names.{firsts_differ}
 
 -- ---- names of documents
 

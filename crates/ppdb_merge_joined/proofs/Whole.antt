@@ -1,53 +1,25 @@
 -- Parts of all files, put in order and without repeats, are those of the joined file.
-use Rattle.std.proofs.Common.{◌≡◌, ◌≢◌, ℕ, zero, suc, ◌+◌, ◌≤◌, ◌<◌, ◌++◌, Bool, true, false}
-use Rattle.std.proofs.Common.{cond, List, [], ◌∷◌, length, map, refl, sym, ◌∙◌, ap, subst, arith}
-use Rattle.std.proofs.Common.{append-nil}
-use Rattle.std.specs.Prelude.{min, not, ◌&&◌, nat_eq, Option, Some, None, bytes_eq, filter, flat_map, sum_by}
-use Rattle.std.specs.List.{list_any}
-use Rattle.std.proofs.lemmas.Bool.{ne_eqb}
-use Rattle.std.proofs.lemmas.List.{length-map}
-use Rattle.std.proofs.lemmas.List.Sums.{sum_by-cons}
-use Rattle.custom_info.specs.declared.kinds.Kind.{Kind}
-use Rattle.custom_info.specs.declared.kinds.Kind.TheVariants.{Async as AsyncKind, Hoisted as HoistedKind, TypeDocuments as DocumentsKind, Free, Unknown}
-use Rattle.custom_info.specs.Kinds.{kind_of}
-use Rattle.ppdb_values.specs.declared.file.DocumentValue.{DocumentValue}
-use Rattle.ppdb_values.specs.declared.file.FileValue.{FileValue}
-use Rattle.ppdb_values.specs.declared.import.ImportScopeValue.{ImportScopeValue}
-use Rattle.ppdb_values.specs.declared.custom.CustomBody.{CustomBody}
-use Rattle.ppdb_values.specs.declared.custom.CustomBody.TheVariants.{Async, Hoisted, TypeDocuments, Unread}
-use Rattle.ppdb_values.specs.declared.custom.CustomValue.{CustomValue}
-use Rattle.ppdb_values.specs.declared.annotation.Custom.{Custom}
-use Rattle.ppdb_values.specs.declared.annotation.Annotation.{Annotation}
-use Rattle.ppdb_values.specs.Rules.{StandsOn}
-use Rattle.ppdb_tables.specs.Parents.{coded_of}
-use Rattle.ppdb_values_sound_laws.specs.Customs.{IsBodyOfKind, SoundCustom}
-use Rattle.ppdb_merge_items.specs.declared.file.AnnotatedScope.{AnnotatedScope}
-use Rattle.ppdb_merge_items.specs.declared.file.AnnotatedFile.{AnnotatedFile}
-use Rattle.ppdb_merge_items.specs.Each.{Each, Pairs}
-use Rattle.ppdb_merge_items.specs.Annotated.{items_of, with_item}
-use Rattle.ppdb_merge_items.specs.Sorted.{in_order}
-use Rattle.ppdb_merge_items.specs.SoundParts.{SoundMoved, SoundNote}
-use Rattle.ppdb_merge_items.proofs.Lists.{Each-weaker, Pairs-weaker, Each-map, Each-append, each_of}
-use Rattle.ppdb_merge_joined.specs.declared.joining.Parts.{Parts}
-use Rattle.ppdb_merge_joined.specs.Gathered.{notes_named}
-use Rattle.ppdb_merge_joined.specs.Joinable.{AreJoinable, AreApart, methods_of}
-use Rattle.ppdb_merge_joined.specs.Joined.{joined_documents, joined_rows, row_in, shifted, with_documents, customs_named, renumbered_scope}
-use Rattle.ppdb_merge_joined.specs.Joined.{renumbered_import, renumbered_custom, renumbered, renumbered_all, joined_document, joined}
-use Rattle.ppdb_merge_joined.specs.Keys.{plain, plain_as}
-use Rattle.ppdb_merge_joined.specs.Numbered.{shifted_within, put_scope, put_import, put_file, put_all}
-use Rattle.ppdb_merge_joined.specs.Parts.{ArePut, finished, on_no_row}
-use Rattle.ppdb_merge_joined.specs.Repeats.{unrepeated}
-use Rattle.ppdb_merge_joined.specs.Same.{same_custom, same_record, fresh}
-use Rattle.ppdb_merge_joined.specs.Small.{IsSmall, HaveRoom}
-use Rattle.ppdb_merge_joined.proofs.Room.{joined_small}
-use Rattle.ppdb_tables.specs.declared.rows.MachineRow.{MachineRow}
+use Rattle.std.proofs.Common.{◌≡◌, ◌≢◌, ℕ, zero, suc, ◌+◌, ◌≤◌, ◌<◌, ◌++◌, Bool, true, false, cond, List, [], ◌∷◌, length, map, refl, sym, ◌∙◌, ap, subst, arith}
+use Rattle.std.{proofs.Common.{append-nil, get_or}, specs.Prelude.{min, not, ◌&&◌, nat_eq, Option, Some, None, bytes_eq, filter, flat_map, sum_by}}
+use Rattle.std.{specs.List.{list_any}, proofs.lemmas.Bool.{ne_eqb}, proofs.lemmas.List.{length-map}, proofs.lemmas.List.Sums.{sum_by-cons}}
+use Rattle.custom_info.specs.declared.kinds.{Kind.{Kind}, Kind.TheVariants.{Async as AsyncKind, Hoisted as HoistedKind, TypeDocuments as DocumentsKind, Free}}
+use Rattle.custom_info.specs.{declared.kinds.Kind.TheVariants.{Unknown}, Kinds.{kind_of}}
+use Rattle.ppdb_values.specs.declared.{file.DocumentValue.{DocumentValue}, file.FileValue.{FileValue}, import.ImportScopeValue.{ImportScopeValue}}
+use Rattle.ppdb_values.specs.declared.custom.{CustomBody.{CustomBody}, CustomBody.TheVariants.{Async, Hoisted, TypeDocuments, Unread}, CustomValue.{CustomValue}}
+use Rattle.ppdb_values.specs.{declared.annotation.Custom.{Custom}, declared.annotation.Annotation.{Annotation}, Rules.{StandsOn}}
 use Rattle.ppdb_values.specs.declared.file.MethodValue.{MethodValue}
-use Rattle.std.proofs.Common.{get_or}
-use Rattle.ppdb_merge_joined.proofs.Apart.{apart_right, point_methods, scope_methods, machine_methods, pairs_renumbered}
-use Rattle.ppdb_merge_joined.proofs.Each.{Each-with}
-use Rattle.ppdb_merge_joined.proofs.Marked.{Unlike, unrepeated_is}
-use Rattle.ppdb_merge_joined.proofs.Names.{NamesDiffer, bytes_apart, same_bytes}
-use Rattle.ppdb_merge_joined.proofs.PutFiles.{docs, joined_docs}
+use Rattle.ppdb_tables.specs.{Parents.{coded_of}, declared.rows.MachineRow.{MachineRow}}
+use Rattle.ppdb_values_sound_laws.specs.Customs.{IsBodyOfKind, SoundCustom}
+use Rattle.ppdb_merge_items.specs.{declared.file.AnnotatedScope.{AnnotatedScope}, declared.file.AnnotatedFile.{AnnotatedFile}, Each.{Each, Pairs}}
+use Rattle.ppdb_merge_items.{specs.Annotated.{items_of, with_item}, specs.Sorted.{in_order}, specs.SoundParts.{SoundMoved, SoundNote}, proofs.Lists.{Each-weaker}}
+use Rattle.ppdb_merge_items.proofs.Lists.{Pairs-weaker, Each-map, Each-append, each_of}
+use Rattle.ppdb_merge_joined.specs.{declared.joining.Parts.{Parts}, Gathered.{notes_named}, Joinable.{AreJoinable, AreApart, methods_of}, Joined.{joined_documents}}
+use Rattle.ppdb_merge_joined.specs.Joined.{joined_rows, row_in, shifted, with_documents, customs_named, renumbered_scope, renumbered_import, renumbered_custom}
+use Rattle.ppdb_merge_joined.specs.{Joined.{renumbered, renumbered_all, joined_document, joined}, Keys.{plain, plain_as}, Numbered.{shifted_within, put_scope}}
+use Rattle.ppdb_merge_joined.specs.{Numbered.{put_import, put_file, put_all}, Parts.{ArePut, finished, on_no_row}, Repeats.{unrepeated}, Same.{same_custom}}
+use Rattle.ppdb_merge_joined.{specs.Same.{same_record, fresh}, specs.Small.{IsSmall, HaveRoom}, proofs.Room.{joined_small}, proofs.Apart.{apart_right}}
+use Rattle.ppdb_merge_joined.proofs.{Apart.{point_methods, scope_methods, machine_methods, pairs_renumbered}, Each.{Each-with}, Marked.{Unlike, unrepeated_is}}
+use Rattle.ppdb_merge_joined.proofs.{Names.{NamesDiffer, bytes_apart, same_bytes}, PutFiles.{docs, joined_docs}}
 
 -- ---- rows are numbered without loss
 

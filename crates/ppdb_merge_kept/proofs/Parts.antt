@@ -1,11 +1,8 @@
 -- A moved file is its moved methods, and all else that was moved without them.
-use Rattle.std.proofs.Common.{◌≡◌, List, ap, ◌∙◌}
-use Rattle.std.specs.List.{filter_map}
+use Rattle.std.{proofs.Common.{◌≡◌, List, ap, ◌∙◌}, specs.List.{filter_map}}
 use Rattle.ppdb_maps.specs.Map.{Map}
-use Rattle.ppdb_values.specs.declared.file.FileValue.{FileValue}
-use Rattle.ppdb_values.specs.declared.file.MethodValue.{MethodValue}
-use Rattle.ppdb_merge_items.specs.declared.file.AnnotatedFile.{AnnotatedFile}
-use Rattle.ppdb_merge_items.specs.Annotated.{annotated_file}
+use Rattle.ppdb_values.specs.declared.file.{FileValue.{FileValue}, MethodValue.{MethodValue}}
+use Rattle.ppdb_merge_items.specs.{declared.file.AnnotatedFile.{AnnotatedFile}, Annotated.{annotated_file}}
 use Rattle.ppdb_merge_moved.specs.Moved.{moved_file, moved_method}
 
 pub moved_parts : (m : Map) (value : FileValue) (none methods : List MethodValue) (annotated rest : AnnotatedFile)

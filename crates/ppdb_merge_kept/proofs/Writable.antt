@@ -1,16 +1,9 @@
 -- The points of a moved file that is sound can be written, but for their offsets.
-use Rattle.std.proofs.Common.{◌<◌, [], ◌∷◌, length, arith}
-use Rattle.std.specs.Prelude.{All}
-use Rattle.std.specs.List.{repeat}
-use Rattle.std.proofs.lemmas.List.{length-map}
+use Rattle.std.{proofs.Common.{◌<◌, [], ◌∷◌, length, arith}, specs.Prelude.{All}, specs.List.{repeat}, proofs.lemmas.List.{length-map}}
 use Rattle.sequence_points_packed.specs.Packed.{MayBeWritten}
-use Rattle.ppdb_values.specs.declared.file.DocumentValue.{DocumentValue}
-use Rattle.ppdb_values.specs.declared.file.MethodValue.{MethodValue}
-use Rattle.ppdb_values.specs.declared.annotation.Annotation.{Annotation}
+use Rattle.ppdb_values.specs.declared.{file.DocumentValue.{DocumentValue}, file.MethodValue.{MethodValue}, annotation.Annotation.{Annotation}}
 use Rattle.ppdb_values_sound_laws.specs.Methods.{SoundMethod}
-use Rattle.ppdb_merge_items.specs.declared.file.AnnotatedFile.{AnnotatedFile}
-use Rattle.ppdb_merge_items.specs.SoundParts.{SoundMoved}
-use Rattle.ppdb_merge_items.specs.Unannotated.{value_of_annotated}
+use Rattle.ppdb_merge_items.specs.{declared.file.AnnotatedFile.{AnnotatedFile}, SoundParts.{SoundMoved}, Unannotated.{value_of_annotated}}
 use Rattle.ppdb_merge_moved.proofs.RisingPoints.{all_each}
 
 method_written : (file : AnnotatedFile) → length file.documents < 0x20000000 → (method : MethodValue)

@@ -1,32 +1,16 @@
 -- A file that is moved alone is sound afterwards, where no image is above its count.
-use Rattle.std.proofs.Common.{◌≡◌, ℕ, ◌≤◌, Bool, true, false, cond, [], ◌∷◌, Some, refl, sym, subst, arith}
-use Rattle.std.specs.Prelude.{nat_eq, slice_index, Contains}
+use Rattle.std.{proofs.Common.{◌≡◌, ℕ, ◌≤◌, Bool, true, false, cond, [], ◌∷◌, Some, refl, sym, subst, arith}, specs.Prelude.{nat_eq, slice_index, Contains}}
 use Rattle.std.proofs.lemmas.Bool.{eqb-true}
-use Rattle.ppdb_maps.specs.declared.image.RowImage.TheVariants.{Row}
-use Rattle.ppdb_maps.specs.Map.{Map, row_image, signature_line, moved_row, is_dropped}
+use Rattle.ppdb_maps.specs.{declared.image.RowImage.TheVariants.{Row}, Map.{Map, row_image, signature_line, moved_row, is_dropped}}
 use Rattle.ppdb_values.specs.declared.file.MethodValue.{MethodValue}
 use Rattle.ppdb_values_sound_laws.specs.Sound.{IsSound}
-use Rattle.ppdb_merge_items.specs.declared.file.AnnotatedFile.{AnnotatedFile}
-use Rattle.ppdb_merge_items.specs.Each.{Each}
-use Rattle.ppdb_merge_items.specs.Laws.{SoundnessIsAnnotated}
-use Rattle.ppdb_merge_items.specs.NamedRows.{Named, names, names_some, named_rows}
-use Rattle.ppdb_merge_items.specs.Annotated.{annotated_file}
-use Rattle.ppdb_merge_items.proofs.Lists.{Each-weaker}
-use Rattle.ppdb_merge_joined.specs.Joinable.{CountsRows}
-use Rattle.ppdb_merge_joined.specs.Joined.{joined}
-use Rattle.ppdb_merge_joined.specs.Laws.{JoinedIsSound}
-use Rattle.ppdb_merge_moved.specs.Fits.{IsImaged}
-use Rattle.ppdb_merge_moved.specs.Moved.{moved_file, row_in}
-use Rattle.ppdb_merge_moved.proofs.Elements.{each_in, in_each}
-use Rattle.ppdb_merge_moved.proofs.NamedParts.{NamedParts, named_parts}
-use Rattle.ppdb_merge_moved.proofs.NamedRows.{named_rows_are_rows}
-use Rattle.ppdb_merge_meaning_laws.specs.Alone.{ImagesAreCounted, MovedAloneIsSound}
-use Rattle.ppdb_merge_meaning_laws.specs.Kept.{MovedBy, FitsAlone, joined_inputs}
-use Rattle.ppdb_merge_meaning_laws.proofs.Counts.{moved_counts_sound}
-use Rattle.ppdb_merge_meaning_laws.proofs.Inputs.{can_be_joined, input_sound}
-use Rattle.ppdb_merge_moved.proofs.ImageRows.{moved_stays, assembly_stays}
-use Rattle.ppdb_merge_moved.proofs.Fitting.{moved_dropped}
-use Rattle.ppdb_merge_meaning_laws.proofs.MovedRows.{Moves, image_names, some_moves, all_move}
+use Rattle.ppdb_merge_items.specs.{declared.file.AnnotatedFile.{AnnotatedFile}, Each.{Each}, Laws.{SoundnessIsAnnotated}, NamedRows.{Named, names, names_some}}
+use Rattle.ppdb_merge_items.{specs.NamedRows.{named_rows}, specs.Annotated.{annotated_file}, proofs.Lists.{Each-weaker}}
+use Rattle.ppdb_merge_joined.specs.{Joinable.{CountsRows}, Joined.{joined}, Laws.{JoinedIsSound}}
+use Rattle.ppdb_merge_moved.{specs.Fits.{IsImaged}, specs.Moved.{moved_file, row_in}, proofs.Elements.{each_in, in_each}, proofs.NamedParts.{NamedParts}}
+use Rattle.ppdb_merge_moved.proofs.{NamedParts.{named_parts}, NamedRows.{named_rows_are_rows}, ImageRows.{moved_stays, assembly_stays}, Fitting.{moved_dropped}}
+use Rattle.ppdb_merge_meaning_laws.specs.{Alone.{ImagesAreCounted, MovedAloneIsSound}, Kept.{MovedBy, FitsAlone, joined_inputs}}
+use Rattle.ppdb_merge_meaning_laws.proofs.{Counts.{moved_counts_sound}, Inputs.{can_be_joined, input_sound}, MovedRows.{Moves, image_names, some_moves, all_move}}
 
 module _ (annotated : SoundnessIsAnnotated) (law : JoinedIsSound) (input : MovedBy) (fits : FitsAlone (true, input)) (counted : ImagesAreCounted (true, input)) where
   abbrev m : Map

@@ -1,15 +1,9 @@
 -- The output's row counts.
-use Rattle.std.proofs.Common.{◌≡◌, ℕ, zero, suc, ◌+◌, ◌≤◌, true, List, [], ◌∷◌, Option, Some, None, refl, arith}
-use Rattle.std.specs.Prelude.{nat_eq, IfSome, get_or, unwrap_or}
-use Rattle.std.specs.List.{find}
-use Rattle.std.specs.Option.{option_map}
-use Rattle.std.proofs.lemmas.Bool.{eqb-true}
-use Rattle.ppdb_maps.specs.Map.{Map, count_of}
-use Rattle.ppdb_maps.specs.Readable.{IsReadable, IsCount}
-use Rattle.ppdb_maps.specs.declared.entries.Count.{Count}
+use Rattle.std.{proofs.Common.{◌≡◌, ℕ, zero, suc, ◌+◌, ◌≤◌, true, List, [], ◌∷◌, Option, Some, None, refl, arith}, specs.Prelude.{nat_eq, IfSome, get_or, unwrap_or}}
+use Rattle.std.{specs.List.{find}, specs.Option.{option_map}, proofs.lemmas.Bool.{eqb-true}}
+use Rattle.ppdb_maps.specs.{Map.{Map, count_of}, Readable.{IsReadable, IsCount}, declared.entries.Count.{Count}}
 use Rattle.ppdb_values_sound_laws.specs.Sound.{SoundRows}
-use Rattle.ppdb_merge_moved.specs.Moved.{moved_counts}
-use Rattle.ppdb_merge_moved.proofs.ImageRows.{found_passes}
+use Rattle.ppdb_merge_moved.{specs.Moved.{moved_counts}, proofs.ImageRows.{found_passes}}
 
 count_small : (m : Map) → IsReadable m → (table n : ℕ) → n ≤ 16777215 → (0x2d ≤ table → n ≡ 0)
     → (unwrap_or (count_of m table) n ≤ 16777215) × (0x2d ≤ table → unwrap_or (count_of m table) n ≡ 0)

@@ -1,21 +1,12 @@
 -- The chain of a file's import scope is the same where the file's import scopes stand among others.
-use Rattle.std.proofs.Common.{◌≡◌, ℕ, zero, suc, ◌+◌, ◌≤◌, ◌++◌, List, [], ◌∷◌, Option, Some, None, length, map, refl, sym, ◌∙◌, ap, arith}
-use Rattle.std.proofs.Common.{slice_get}
-use Rattle.std.specs.Option.{option_map, option_map_or}
-use Rattle.std.proofs.lemmas.List.{length-append, length-map}
+use Rattle.std.proofs.Common.{◌≡◌, ℕ, zero, suc, ◌+◌, ◌≤◌, ◌++◌, List, [], ◌∷◌, Option, Some, None, length, map, refl, sym, ◌∙◌, ap, arith, slice_get}
+use Rattle.std.{specs.Option.{option_map, option_map_or}, proofs.lemmas.List.{length-append, length-map}}
 use Rattle.ppdb_tables.specs.RawTables.{row_at}
-use Rattle.ppdb_values.specs.Chains.{chain_for, chain_of}
-use Rattle.ppdb_values.specs.declared.import.ImportScopeValue.{ImportScopeValue}
-use Rattle.ppdb_values.specs.declared.import.ImportValue.{ImportValue}
+use Rattle.ppdb_values.specs.{Chains.{chain_for, chain_of}, declared.import.ImportScopeValue.{ImportScopeValue}, declared.import.ImportValue.{ImportValue}}
 use Rattle.ppdb_values.specs.declared.annotation.Annotation.{Annotation}
-use Rattle.ppdb_merge_items.specs.declared.file.AnnotatedFile.{AnnotatedFile}
-use Rattle.ppdb_merge_items.specs.Each.{Each}
-use Rattle.ppdb_merge_items.specs.Annotated.{with_item}
-use Rattle.ppdb_merge_items.specs.AnnotatedMeaning.{chain, imported}
+use Rattle.ppdb_merge_items.specs.{declared.file.AnnotatedFile.{AnnotatedFile}, Each.{Each}, Annotated.{with_item}, AnnotatedMeaning.{chain, imported}}
 use Rattle.ppdb_merge_items.proofs.Mapped.{map_map_both}
-use Rattle.ppdb_merge_joined.specs.Joined.{shifted, renumbered_import}
-use Rattle.ppdb_merge_joined.proofs.Chains.{shown}
-use Rattle.ppdb_merge_joined.proofs.Names.{each_row_at}
+use Rattle.ppdb_merge_joined.{specs.Joined.{shifted, renumbered_import}, proofs.Chains.{shown}, proofs.Names.{each_row_at}}
 
 abbrev parent : Annotation ImportScopeValue → ℕ
 parent n = n.item.parent

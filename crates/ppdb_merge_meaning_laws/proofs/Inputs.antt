@@ -1,27 +1,15 @@
 -- Inputs that fit can be joined, and what each says of a method is kept.
-use Rattle.std.proofs.Common.{◌≡◌, ◌≢◌, ℕ, ◌++◌, Bool, List, [], ◌∷◌, Some, map}
-use Rattle.std.proofs.Common.{flat_map, refl, sym, ◌∙◌, ap}
-use Rattle.std.specs.Prelude.{nat_eq}
-use Rattle.std.specs.List.{filter}
+use Rattle.std.{proofs.Common.{◌≡◌, ◌≢◌, ℕ, ◌++◌, Bool, List, [], ◌∷◌, Some, map, flat_map, refl, sym, ◌∙◌, ap}, specs.Prelude.{nat_eq}, specs.List.{filter}}
 use Rattle.std.proofs.lemmas.Bool.{eqb-true}
 use Rattle.ppdb_maps.specs.Map.{Map}
 use Rattle.ppdb_tables.specs.declared.rows.MachineRow.{MachineRow}
-use Rattle.ppdb_values.specs.declared.custom.CustomValue.{CustomValue}
-use Rattle.ppdb_values.specs.declared.file.MethodValue.{MethodValue}
-use Rattle.ppdb_merge_items.specs.declared.file.AnnotatedScope.{AnnotatedScope}
-use Rattle.ppdb_merge_items.specs.declared.file.AnnotatedFile.{AnnotatedFile}
-use Rattle.ppdb_merge_items.specs.Each.{Each, Pairs}
-use Rattle.ppdb_merge_items.specs.Laws.{SoundnessIsAnnotated}
-use Rattle.ppdb_merge_items.specs.Annotated.{annotated_file}
-use Rattle.ppdb_merge_items.specs.SoundParts.{SoundMoved}
-use Rattle.ppdb_merge_items.proofs.Lists.{Each-append, Each-filter, Each-map, Each-weaker, Pairs-map}
-use Rattle.ppdb_merge_joined.specs.Joinable.{AreJoinable, AgreeOnDocuments, AreApart, methods_of}
-use Rattle.ppdb_merge_joined.proofs.Each.{Each-flat}
-use Rattle.ppdb_merge_moved.specs.Laws.{IsImageOfNamed, MovedNames}
-use Rattle.ppdb_merge_moved.specs.Moved.{moved_file}
-use Rattle.ppdb_merge_moved.proofs.SoundMoves.{moved_sound, moved_names}
-use Rattle.ppdb_merge_meaning_laws.specs.Kept.{Input, FitsAlone, MethodsApart, moved_input}
-use Rattle.ppdb_merge_meaning_laws.proofs.MoreRows.{sound_moved}
+use Rattle.ppdb_values.specs.declared.{custom.CustomValue.{CustomValue}, file.MethodValue.{MethodValue}}
+use Rattle.ppdb_merge_items.specs.{declared.file.AnnotatedScope.{AnnotatedScope}, declared.file.AnnotatedFile.{AnnotatedFile}, Each.{Each, Pairs}}
+use Rattle.ppdb_merge_items.{specs.Laws.{SoundnessIsAnnotated}, specs.Annotated.{annotated_file}, specs.SoundParts.{SoundMoved}, proofs.Lists.{Each-append}}
+use Rattle.ppdb_merge_items.proofs.Lists.{Each-filter, Each-map, Each-weaker, Pairs-map}
+use Rattle.ppdb_merge_joined.{specs.Joinable.{AreJoinable, AgreeOnDocuments, AreApart, methods_of}, proofs.Each.{Each-flat}}
+use Rattle.ppdb_merge_moved.{specs.Laws.{IsImageOfNamed, MovedNames}, specs.Moved.{moved_file}, proofs.SoundMoves.{moved_sound, moved_names}}
+use Rattle.ppdb_merge_meaning_laws.{specs.Kept.{Input, FitsAlone, MethodsApart, moved_input}, proofs.MoreRows.{sound_moved}}
 
 -- ---- lists
 

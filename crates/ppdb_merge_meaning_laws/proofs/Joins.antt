@@ -1,54 +1,29 @@
 -- Joined files say of a method what the file says that alone says something of it.
-use Rattle.std.proofs.Common.{◌≡◌, ◌≢◌, ℕ, zero, suc, ◌+◌, ◌≤◌, ◌<◌, ◌++◌, ◌&&◌, ◌||◌, Bool, true, false, cond, List, [], ◌∷◌, Option}
-use Rattle.std.proofs.Common.{Some, None, length, map, flat_map, refl, sym, ◌∙◌, ap, subst, arith, append_assoc}
-use Rattle.std.specs.Prelude.{nat_eq, nat_le, unwrap_or, is_none, position, bytes_eq}
-use Rattle.std.specs.List.{filter, find, list_any, repeat}
-use Rattle.std.specs.Option.{option_map, option_and_then}
-use Rattle.std.proofs.lemmas.List.{length-append, length-map}
+use Rattle.std.proofs.Common.{◌≡◌, ◌≢◌, ℕ, zero, suc, ◌+◌, ◌≤◌, ◌<◌, ◌++◌, ◌&&◌, ◌||◌, Bool, true, false, cond, List, [], ◌∷◌, Option, Some, None, length, map}
+use Rattle.std.{proofs.Common.{flat_map, refl, sym, ◌∙◌, ap, subst, arith, append_assoc}, specs.Prelude.{nat_eq, nat_le, unwrap_or, is_none, position, bytes_eq}}
+use Rattle.std.{specs.List.{filter, find, list_any, repeat}, specs.Option.{option_map, option_and_then}, proofs.lemmas.List.{length-append, length-map}}
 use Rattle.std.proofs.lemmas.Bool.{ne_eqb, eqb-true, and_parts}
-use Rattle.custom_info.specs.Kinds.{kind_of}
-use Rattle.custom_info.specs.declared.kinds.Kind.{Kind}
+use Rattle.custom_info.specs.{Kinds.{kind_of}, declared.kinds.Kind.{Kind}}
 use Rattle.custom_info.specs.declared.kinds.Kind.TheVariants as kinds
 use Rattle.sequence_points.specs.declared.point.Point.{Point}
-use Rattle.ppdb_tables.specs.declared.rows.MachineRow.{MachineRow}
-use Rattle.ppdb_tables.specs.RawTables.{row_at}
-use Rattle.ppdb_tables.specs.Parents.{coded_of}
-use Rattle.ppdb_values.specs.declared.custom.CustomBody.{CustomBody}
-use Rattle.ppdb_values.specs.declared.custom.CustomBody.TheVariants.{Async, Hoisted, TypeDocuments, Unread}
-use Rattle.ppdb_values.specs.declared.custom.CustomValue.{CustomValue}
-use Rattle.ppdb_values.specs.declared.file.DocumentValue.{DocumentValue}
-use Rattle.ppdb_values.specs.declared.file.MethodValue.{MethodValue}
-use Rattle.ppdb_values.specs.declared.annotation.Annotation.{Annotation}
-use Rattle.ppdb_values.specs.Meaning.{PointMeaning, without_parent}
-use Rattle.ppdb_values.specs.Parts.{slots_in}
+use Rattle.ppdb_tables.specs.{declared.rows.MachineRow.{MachineRow}, RawTables.{row_at}, Parents.{coded_of}}
+use Rattle.ppdb_values.specs.declared.custom.{CustomBody.{CustomBody}, CustomBody.TheVariants.{Async, Hoisted, TypeDocuments, Unread}, CustomValue.{CustomValue}}
+use Rattle.ppdb_values.specs.declared.{file.DocumentValue.{DocumentValue}, file.MethodValue.{MethodValue}, annotation.Annotation.{Annotation}}
+use Rattle.ppdb_values.specs.{Meaning.{PointMeaning, without_parent}, Parts.{slots_in}, declared.import.ImportScopeValue.{ImportScopeValue}, Chains.{parent_at}}
+use Rattle.ppdb_values.{proofs.ChainEnds.{chains_end}, specs.Rules.{StandsOn}, proofs.Mapped.{row_map, filter_map_both}}
 use Rattle.ppdb_values_sound_laws.specs.Customs.{SoundCustom, IsBodyOfKind}
-use Rattle.ppdb_merge_items.specs.declared.file.AnnotatedScope.{AnnotatedScope}
-use Rattle.ppdb_merge_items.specs.declared.file.AnnotatedFile.{AnnotatedFile}
-use Rattle.ppdb_merge_items.specs.Each.{Each, Pairs}
-use Rattle.ppdb_merge_items.specs.Annotated.{items_of, with_item}
-use Rattle.ppdb_values.specs.declared.import.ImportScopeValue.{ImportScopeValue}
-use Rattle.ppdb_values.specs.Chains.{parent_at}
-use Rattle.ppdb_values.proofs.ChainEnds.{chains_end}
-use Rattle.ppdb_merge_meaning_laws.proofs.ImportChains.{chain_kept}
-use Rattle.ppdb_merge_items.specs.AnnotatedMeaning.{last_of, held, scopes_at, point_at, method_of, point_meaning, document_at, on_method, slots_among}
-use Rattle.ppdb_merge_items.specs.AnnotatedMeaning.{annotated_meaning, scope_meaning, chain, imported}
-use Rattle.ppdb_merge_items.specs.SoundParts.{SoundMoved}
-use Rattle.ppdb_merge_items.specs.Sorted.{in_order}
-use Rattle.ppdb_merge_items.proofs.Lists.{Each-weaker, Each-map, Each-unmap, Each-append, Each-filter}
-use Rattle.ppdb_merge_items.proofs.Orders.{in_order_keeps, in_order_filter}
-use Rattle.ppdb_merge_joined.specs.Joinable.{AreJoinable, AgreeOnDocuments}
-use Rattle.ppdb_merge_joined.specs.Joined.{joined, joined_documents, joined_rows, row_in, row_named, renumbered, renumbered_all, renumbered_method}
-use Rattle.ppdb_merge_joined.specs.Joined.{renumbered_scope, renumbered_custom, renumbered_import, shifted, with_documents, joined_document, firsts}
-use Rattle.ppdb_merge_joined.specs.Same.{fresh, same_record}
-use Rattle.ppdb_merge_joined.proofs.One.{map_same}
-use Rattle.ppdb_values.specs.Rules.{StandsOn}
-use Rattle.ppdb_values.proofs.Mapped.{row_map, filter_map_both}
-use Rattle.ppdb_merge_items.specs.Unannotated.{value_of_annotated}
-use Rattle.ppdb_merge_joined.proofs.Each.{Each-split, Each-unflat}
+use Rattle.ppdb_merge_items.specs.{declared.file.AnnotatedScope.{AnnotatedScope}, declared.file.AnnotatedFile.{AnnotatedFile}, Each.{Each, Pairs}}
+use Rattle.ppdb_merge_items.specs.{Annotated.{items_of, with_item}, AnnotatedMeaning.{last_of, held, scopes_at, point_at, method_of, point_meaning, document_at}}
+use Rattle.ppdb_merge_items.specs.{AnnotatedMeaning.{on_method, slots_among, annotated_meaning, scope_meaning, chain, imported}, SoundParts.{SoundMoved}}
+use Rattle.ppdb_merge_items.{specs.Sorted.{in_order}, proofs.Lists.{Each-weaker, Each-map, Each-unmap, Each-append, Each-filter}, proofs.Orders.{in_order_keeps}}
+use Rattle.ppdb_merge_items.{proofs.Orders.{in_order_filter}, specs.Unannotated.{value_of_annotated}}
+use Rattle.ppdb_merge_meaning_laws.{proofs.ImportChains.{chain_kept}, specs.Laws.{SaysNothingOf, SaysTheSame, JoinedMeans}, proofs.Only.{imports_in, none_left}}
+use Rattle.ppdb_merge_meaning_laws.proofs.Only.{find_left, find_map, only_one, fresh_only, one_in_order}
+use Rattle.ppdb_merge_joined.specs.{Joinable.{AreJoinable, AgreeOnDocuments}, Joined.{joined, joined_documents, joined_rows, row_in, row_named, renumbered}}
+use Rattle.ppdb_merge_joined.specs.Joined.{renumbered_all, renumbered_method, renumbered_scope, renumbered_custom, renumbered_import, shifted, with_documents}
+use Rattle.ppdb_merge_joined.{specs.Joined.{joined_document, firsts}, specs.Same.{fresh, same_record}, proofs.One.{map_same}, proofs.Each.{Each-split, Each-unflat}}
 use Rattle.ppdb_merge_joined.proofs.Names.{same_bytes, bytes_same, position_cons, is_named, firsts_has, each_row_at}
 use Rattle.ppdb_merge_moved.proofs.Elements.{each_left}
-use Rattle.ppdb_merge_meaning_laws.specs.Laws.{SaysNothingOf, SaysTheSame, JoinedMeans}
-use Rattle.ppdb_merge_meaning_laws.proofs.Only.{imports_in, none_left, find_left, find_map, only_one, fresh_only, one_in_order}
 
 -- the joined row of a file's document
 abbrev joined_row : List DocumentValue → AnnotatedFile → ℕ → ℕ

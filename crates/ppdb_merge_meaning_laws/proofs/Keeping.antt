@@ -1,56 +1,27 @@
 -- What each input says of a method that it names is kept.
-use Rattle.std.proofs.Common.{◌≡◌, ◌≢◌, ℕ, zero, suc, ◌+◌, ◌≤◌, ◌<◌, ◌++◌, ◌&&◌, Bool, true, false, cond, List, [], ◌∷◌, Option, Some, None, length, map}
-use Rattle.std.proofs.Common.{refl, sym, ◌∙◌, ap, subst, arith}
-use Rattle.std.specs.Prelude.{nat_eq, nat_le, AllPairs, Contains}
-use Rattle.std.specs.List.{filter, find, last_or}
-use Rattle.std.specs.Option.{option_map, option_and_then, option_map_or}
-use Rattle.std.proofs.lemmas.Bool.{ne_eqb}
-use Rattle.ppdb_base.specs.Offsets.{Kept, moved}
-use Rattle.ppdb_base.proofs.Moved.{moved_kept}
+use Rattle.std.proofs.Common.{◌≡◌, ◌≢◌, ℕ, zero, suc, ◌+◌, ◌≤◌, ◌<◌, ◌++◌, ◌&&◌, Bool, true, false, cond, List, [], ◌∷◌, Option, Some, None, length, map, refl, sym}
+use Rattle.std.{proofs.Common.{◌∙◌, ap, subst, arith}, specs.Prelude.{nat_eq, nat_le, AllPairs, Contains}, specs.List.{filter, find, last_or}}
+use Rattle.std.{specs.Option.{option_map, option_and_then, option_map_or}, proofs.lemmas.Bool.{ne_eqb}}
+use Rattle.ppdb_base.{specs.Offsets.{Kept, moved}, proofs.Moved.{moved_kept}}
 use Rattle.sequence_points.specs.declared.point.Point.{Point}
-use Rattle.ppdb_values.specs.declared.file.MethodValue.{MethodValue}
-use Rattle.ppdb_values.specs.Parts.{points_of, last_point}
-use Rattle.ppdb_maps.specs.Map.{Map, moved_row, row_within, offsets_in, is_dropped}
-use Rattle.ppdb_values.specs.declared.custom.CustomValue.{CustomValue}
-use Rattle.ppdb_values.specs.declared.file.FileValue.{FileValue}
-use Rattle.ppdb_values.specs.declared.file.DocumentValue.{DocumentValue}
-use Rattle.ppdb_values.specs.Links.{links, kickoff_of, move_next_of}
+use Rattle.ppdb_values.specs.{declared.file.MethodValue.{MethodValue}, Parts.{points_of, last_point}, declared.custom.CustomValue.{CustomValue}}
+use Rattle.ppdb_values.specs.{declared.file.FileValue.{FileValue}, declared.file.DocumentValue.{DocumentValue}, Links.{links, kickoff_of, move_next_of}}
 use Rattle.ppdb_values.specs.Meaning.{Meaning, PointMeaning, meaning, point_meaning}
+use Rattle.ppdb_maps.specs.Map.{Map, moved_row, row_within, offsets_in, is_dropped}
 use Rattle.ppdb_tables.specs.Parents.{coded_of}
-use Rattle.ppdb_merge_items.specs.declared.file.AnnotatedFile.{AnnotatedFile}
-use Rattle.ppdb_merge_items.specs.Each.{Each, Pairs}
-use Rattle.ppdb_merge_items.specs.Laws.{SoundnessIsAnnotated}
-use Rattle.ppdb_merge_items.specs.NamedRows.{names, names_some, named_rows, all_named, live_file}
-use Rattle.ppdb_merge_items.specs.Annotated.{annotated_file}
-use Rattle.ppdb_merge_items.specs.AnnotatedMeaning.{annotated_meaning, annotated_links}
-use Rattle.ppdb_merge_items.specs.SoundParts.{SoundMoved}
-use Rattle.ppdb_merge_items.specs.Unannotated.{value_of_annotated}
-use Rattle.ppdb_merge_items.proofs.Files.{file_back}
-use Rattle.ppdb_merge_items.proofs.Lists.{Each-map, Each-weaker}
-use Rattle.ppdb_merge_items.proofs.AnnotatedMeanings.{meaning_is, links_are}
-use Rattle.ppdb_merge_items.proofs.Orders.{in_order_each, in_order_rises, pairs_of}
-use Rattle.ppdb_merge_joined.specs.Joinable.{AreJoinable, AgreeOnDocuments, methods_of}
-use Rattle.ppdb_merge_joined.specs.Joined.{joined, joined_documents, joined_rows, row_in, renumbered_all, renumbered_custom}
-use Rattle.ppdb_merge_joined.specs.Same.{fresh, same_record}
-use Rattle.ppdb_merge_joined.proofs.Kept.{fresh_each}
-use Rattle.ppdb_merge_joined.proofs.Each.{Each-with}
-use Rattle.ppdb_merge_moved.specs.Fits.{IsImaged}
-use Rattle.ppdb_merge_moved.specs.FitsMethod.{FitsFile}
-use Rattle.ppdb_merge_moved.specs.Images.{meaning_image, links_image, partner_image, point_image}
-use Rattle.ppdb_merge_moved.specs.Laws.{IsImageOfNamed, MovedMeans}
-use Rattle.ppdb_merge_moved.proofs.Elements.{in_each}
-use Rattle.ppdb_merge_moved.proofs.Fitting.{fits_file, moved_dropped}
-use Rattle.ppdb_merge_moved.proofs.Means.{files_mean}
-use Rattle.ppdb_merge_moved.proofs.NamedRows.{named_rows_are_rows}
-use Rattle.ppdb_merge_moved.proofs.RowImages.{row_moved}
+use Rattle.ppdb_merge_items.specs.{declared.file.AnnotatedFile.{AnnotatedFile}, Each.{Each, Pairs}, Laws.{SoundnessIsAnnotated}, NamedRows.{names, names_some}}
+use Rattle.ppdb_merge_items.specs.{NamedRows.{named_rows, all_named, live_file}, Annotated.{annotated_file}, AnnotatedMeaning.{annotated_meaning, annotated_links}}
+use Rattle.ppdb_merge_items.{specs.SoundParts.{SoundMoved}, specs.Unannotated.{value_of_annotated}, proofs.Files.{file_back}, proofs.Lists.{Each-map, Each-weaker}}
+use Rattle.ppdb_merge_items.proofs.{AnnotatedMeanings.{meaning_is, links_are}, Orders.{in_order_each, in_order_rises, pairs_of}, Parts.{in_entry}}
+use Rattle.ppdb_merge_joined.specs.{Joinable.{AreJoinable, AgreeOnDocuments, methods_of}, Joined.{joined, joined_documents, joined_rows, row_in, renumbered_all}}
+use Rattle.ppdb_merge_joined.{specs.Joined.{renumbered_custom}, specs.Same.{fresh, same_record}, proofs.Kept.{fresh_each}, proofs.Each.{Each-with}}
+use Rattle.ppdb_merge_moved.specs.{Fits.{IsImaged}, FitsMethod.{FitsFile}, Images.{meaning_image, links_image, partner_image, point_image}, Laws.{IsImageOfNamed}}
+use Rattle.ppdb_merge_moved.{specs.Laws.{MovedMeans}, proofs.Elements.{in_each}, proofs.Fitting.{fits_file, moved_dropped}, proofs.Means.{files_mean}}
+use Rattle.ppdb_merge_moved.proofs.{NamedRows.{named_rows_are_rows}, RowImages.{row_moved}, ImageRows.{within_moved}}
 use Rattle.ppdb_merge_meaning_laws.specs.Kept.{MovedBy, Input, named_by, NamesMethod, FitsAlone, MethodsApart, InputsFit, moved_input, joined_inputs}
-use Rattle.ppdb_merge_meaning_laws.specs.Kept.{InputsKeepMeaning}
-use Rattle.ppdb_merge_meaning_laws.specs.Laws.{SaysNothingOf, SaysTheSame}
-use Rattle.ppdb_merge_moved.proofs.ImageRows.{within_moved}
-use Rattle.ppdb_merge_meaning_laws.proofs.Inputs.{map_split, input_sound, input_names, can_be_joined}
-use Rattle.ppdb_merge_meaning_laws.proofs.LastPoints.{found_each, last_at, last_in}
-use Rattle.ppdb_merge_meaning_laws.proofs.Joins.{joined_means, each_mid, pairs_before, pairs_after, joined_customs}
-use Rattle.ppdb_merge_items.proofs.Parts.{in_entry}
+use Rattle.ppdb_merge_meaning_laws.{specs.Kept.{InputsKeepMeaning}, specs.Laws.{SaysNothingOf, SaysTheSame}, proofs.Inputs.{map_split, input_sound, input_names}}
+use Rattle.ppdb_merge_meaning_laws.proofs.{Inputs.{can_be_joined}, LastPoints.{found_each, last_at, last_in}, Joins.{joined_means, each_mid, pairs_before}}
+use Rattle.ppdb_merge_meaning_laws.proofs.Joins.{pairs_after, joined_customs}
 
 each_before : {A : Type 0} (P : A → Type 0) (before after : List A) (x : A) → Each P (before ++ x ∷ after) → Each P before
 each_before P [] after x each = tt

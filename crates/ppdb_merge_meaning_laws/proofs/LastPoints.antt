@@ -1,11 +1,8 @@
 -- The last point that is not after an offset.
 use Rattle.std.proofs.Common.{◌≡◌, ℕ, zero, suc, ◌<◌, ◌⊎◌, inl, inr, Bool, true, false, cond, List, [], ◌∷◌, Option, Some, None, refl, subst, arith}
-use Rattle.std.specs.Prelude.{nat_le, AllPairs, All, Contains}
-use Rattle.std.specs.List.{filter, find, last_or}
-use Rattle.std.proofs.lemmas.Bool.{le-leb, lt-leb}
+use Rattle.std.{specs.Prelude.{nat_le, AllPairs, All, Contains}, specs.List.{filter, find, last_or}, proofs.lemmas.Bool.{le-leb, lt-leb}}
 use Rattle.std.proofs.lemmas.List.Elements.{All-head, All-tail}
-use Rattle.sequence_points.specs.declared.point.Point.{Point}
-use Rattle.sequence_points.proofs.Follows.{pairs-head, pairs-tail}
+use Rattle.sequence_points.{specs.declared.point.Point.{Point}, proofs.Follows.{pairs-head, pairs-tail}}
 use Rattle.ppdb_merge_items.specs.Each.{Each}
 
 -- what holds of each holds of one that is found

@@ -1,36 +1,18 @@
 -- A file that is sound is sound where more rows are counted.
-use Rattle.std.proofs.Common.{◌≡◌, ℕ, ◌<◌, ◌≤◌, ◌⊎◌, Bool, true, false, cond, List, [], ◌∷◌, sym, subst, arith, inl, inr}
-use Rattle.std.specs.Prelude.{nat_eq, slice_index, get_or}
-use Rattle.std.specs.List.{repeat}
-use Rattle.std.proofs.lemmas.Bool.{cases_lt, ne_eqb}
-use Rattle.type_blobs.specs.declared.types.TypeToken.{TypeToken}
-use Rattle.type_blobs.specs.Types.{rows_of, tag_of}
-use Rattle.type_blobs.specs.Spelling.{IsBody, IsBodyThere}
-use Rattle.custom_info.specs.Kinds.{kind_of}
-use Rattle.custom_info.specs.declared.kinds.Kind.{Kind}
+use Rattle.std.{proofs.Common.{◌≡◌, ℕ, ◌<◌, ◌≤◌, ◌⊎◌, Bool, true, false, cond, List, [], ◌∷◌, sym, subst, arith, inl, inr}, specs.Prelude.{nat_eq, slice_index}}
+use Rattle.std.{specs.Prelude.{get_or}, specs.List.{repeat}, proofs.lemmas.Bool.{cases_lt, ne_eqb}}
+use Rattle.type_blobs.specs.{declared.types.TypeToken.{TypeToken}, Types.{rows_of, tag_of}, Spelling.{IsBody, IsBodyThere}}
+use Rattle.custom_info.specs.{Kinds.{kind_of}, declared.kinds.Kind.{Kind}}
 use Rattle.custom_info.specs.declared.kinds.Kind.TheVariants as kinds
-use Rattle.ppdb_values.specs.declared.custom.CustomBody.{CustomBody}
-use Rattle.ppdb_values.specs.declared.custom.CustomBody.TheVariants.{Async, Hoisted, TypeDocuments, Unread}
-use Rattle.ppdb_values.specs.declared.file.FileValue.{FileValue}
-use Rattle.ppdb_values.specs.declared.import.ImportValue.{ImportValue}
-use Rattle.ppdb_values.specs.declared.import.ImportValue.TheVariants.{Namespace, AssemblyNamespace, Target, Xml, Alias, AssemblyAlias, NamespaceAlias}
-use Rattle.ppdb_values.specs.declared.import.ImportValue.TheVariants.{AssemblyNamespaceAlias, TargetAlias}
-use Rattle.ppdb_values.specs.declared.annotation.Custom.{Custom}
-use Rattle.ppdb_values.specs.declared.annotation.Annotation.{Annotation}
-use Rattle.ppdb_values.specs.declared.scope.ConstantValue.{ConstantValue}
-use Rattle.ppdb_values.specs.declared.scope.ConstantBody.{ConstantBody}
-use Rattle.ppdb_values.specs.declared.scope.ConstantBody.TheVariants.{Primitive, Enumerated, General, Object}
-use Rattle.ppdb_values_sound_laws.specs.Customs.{SoundCustom, IsBodyOfKind}
-use Rattle.ppdb_values_sound_laws.specs.Imports.{SoundImport, SoundImportScope}
-use Rattle.ppdb_values_sound_laws.specs.Methods.{SoundMethod}
-use Rattle.ppdb_values_sound_laws.specs.Named.{count, HasRow, HasRowOrNone, HasType, type_limits}
-use Rattle.ppdb_values_sound_laws.specs.Scopes.{SoundConstant, stored_body}
-use Rattle.ppdb_values_sound_laws.specs.Sound.{SoundMachine, SoundRows}
-use Rattle.ppdb_merge_items.specs.declared.file.AnnotatedScope.{AnnotatedScope}
-use Rattle.ppdb_merge_items.specs.declared.file.AnnotatedFile.{AnnotatedFile}
-use Rattle.ppdb_merge_items.specs.Each.{Each}
-use Rattle.ppdb_merge_items.specs.SoundParts.{SoundIn, SoundMoved, SoundNote, SoundAnnotatedScope, SoundParts}
-use Rattle.ppdb_merge_items.specs.Unannotated.{value_of_annotated}
+use Rattle.ppdb_values.specs.declared.custom.{CustomBody.{CustomBody}, CustomBody.TheVariants.{Async, Hoisted, TypeDocuments, Unread}}
+use Rattle.ppdb_values.specs.declared.{file.FileValue.{FileValue}, import.ImportValue.{ImportValue}, import.ImportValue.TheVariants.{Namespace, AssemblyNamespace}}
+use Rattle.ppdb_values.specs.declared.import.ImportValue.TheVariants.{Target, Xml, Alias, AssemblyAlias, NamespaceAlias, AssemblyNamespaceAlias, TargetAlias}
+use Rattle.ppdb_values.specs.declared.{annotation.Custom.{Custom}, annotation.Annotation.{Annotation}, scope.ConstantValue.{ConstantValue}}
+use Rattle.ppdb_values.specs.declared.scope.{ConstantBody.{ConstantBody}, ConstantBody.TheVariants.{Primitive, Enumerated, General, Object}}
+use Rattle.ppdb_values_sound_laws.specs.{Customs.{SoundCustom, IsBodyOfKind}, Imports.{SoundImport, SoundImportScope}, Methods.{SoundMethod}, Named.{count, HasRow}}
+use Rattle.ppdb_values_sound_laws.specs.{Named.{HasRowOrNone, HasType, type_limits}, Scopes.{SoundConstant, stored_body}, Sound.{SoundMachine, SoundRows}}
+use Rattle.ppdb_merge_items.specs.{declared.file.AnnotatedScope.{AnnotatedScope}, declared.file.AnnotatedFile.{AnnotatedFile}, Each.{Each}, SoundParts.{SoundIn}}
+use Rattle.ppdb_merge_items.specs.{SoundParts.{SoundMoved, SoundNote, SoundAnnotatedScope, SoundParts}, Unannotated.{value_of_annotated}}
 use Rattle.ppdb_merge_items.proofs.Lists.{Each-weaker}
 use Rattle.ppdb_merge_moved.proofs.RowImages.{count_most}
 

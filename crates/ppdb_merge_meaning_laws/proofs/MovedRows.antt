@@ -1,51 +1,29 @@
 -- What holds of the rows of the type system that a moved file names, where it holds of the images of those that the file names.
-use Rattle.std.proofs.Common.{◌≡◌, ℕ, zero, suc, ◌&&◌, ◌||◌, not, Bool, true, false, cond, List, [], ◌∷◌, Option, Some, None, map, flat_map}
-use Rattle.std.proofs.Common.{refl, sym, ◌∙◌, ap, subst, arith}
-use Rattle.std.specs.Prelude.{nat_eq, nat_lt, is_some, unwrap_or}
-use Rattle.std.specs.List.{filter_map}
-use Rattle.std.specs.Option.{option_map}
+use Rattle.std.proofs.Common.{◌≡◌, ℕ, zero, suc, ◌&&◌, ◌||◌, not, Bool, true, false, cond, List, [], ◌∷◌, Option, Some, None, map, flat_map, refl, sym, ◌∙◌, ap}
+use Rattle.std.{proofs.Common.{subst, arith}, specs.Prelude.{nat_eq, nat_lt, is_some, unwrap_or}, specs.List.{filter_map}, specs.Option.{option_map}}
 use Rattle.std.proofs.lemmas.Bool.{both_ways, ne_eqb, not-true, or_parts}
 use Rattle.ppdb_base.specs.Offsets.{gone, old_size}
-use Rattle.sequence_points.specs.declared.point.Point.{Point}
-use Rattle.sequence_points.specs.MovedPoints.{moved_points, first_offset}
-use Rattle.type_blobs.specs.declared.types.TypeToken.{TypeToken}
-use Rattle.type_blobs.specs.declared.types.Modifier.{Modifier}
+use Rattle.sequence_points.specs.{declared.point.Point.{Point}, MovedPoints.{moved_points, first_offset}}
+use Rattle.type_blobs.specs.declared.types.{TypeToken.{TypeToken}, Modifier.{Modifier}}
 use Rattle.custom_info.specs.declared.stepping.AsyncStep.{AsyncStep}
-use Rattle.ppdb_maps.specs.declared.image.RowImage.{RowImage}
-use Rattle.ppdb_maps.specs.Map.{Map, row_image, row_within, is_gone, moved_row, moved_signature, signature_line, offsets_in, is_dropped, method_line}
-use Rattle.ppdb_maps.specs.Map.{is_gone_row, is_in_table}
-use Rattle.ppdb_maps.specs.Readable.{IsReadable}
+use Rattle.ppdb_maps.specs.{declared.image.RowImage.{RowImage}, Map.{Map, row_image, row_within, is_gone, moved_row, moved_signature, signature_line, offsets_in}}
+use Rattle.ppdb_maps.{specs.Map.{is_dropped, method_line, is_gone_row, is_in_table}, specs.Readable.{IsReadable}, proofs.Parts.{line_offsets}}
 use Rattle.ppdb_tables.specs.declared.rows.MachineRow.{MachineRow}
-use Rattle.ppdb_values.specs.declared.custom.CustomBody.{CustomBody}
-use Rattle.ppdb_values.specs.declared.custom.CustomBody.TheVariants.{Async, Hoisted, TypeDocuments, Unread}
-use Rattle.ppdb_values.specs.declared.custom.CustomValue.{CustomValue}
-use Rattle.ppdb_values.specs.declared.file.MethodValue.{MethodValue}
-use Rattle.ppdb_values.specs.declared.import.ImportScopeValue.{ImportScopeValue}
-use Rattle.ppdb_values.specs.declared.import.ImportValue.{ImportValue}
+use Rattle.ppdb_values.specs.declared.custom.{CustomBody.{CustomBody}, CustomBody.TheVariants.{Async, Hoisted, TypeDocuments, Unread}, CustomValue.{CustomValue}}
+use Rattle.ppdb_values.specs.declared.{file.MethodValue.{MethodValue}, import.ImportScopeValue.{ImportScopeValue}, import.ImportValue.{ImportValue}}
 use Rattle.ppdb_values.specs.declared.import.ImportValue.TheVariants.{Namespace, AssemblyNamespace, Target, Xml, Alias, AssemblyAlias, NamespaceAlias}
-use Rattle.ppdb_values.specs.declared.import.ImportValue.TheVariants.{AssemblyNamespaceAlias, TargetAlias}
-use Rattle.ppdb_values.specs.declared.annotation.Annotation.{Annotation}
-use Rattle.ppdb_values.specs.declared.scope.ConstantValue.{ConstantValue}
-use Rattle.ppdb_values.specs.declared.scope.ConstantBody.{ConstantBody}
-use Rattle.ppdb_values.specs.declared.scope.ConstantBody.TheVariants.{Primitive, Enumerated, General, Object}
-use Rattle.ppdb_merge_items.specs.declared.file.AnnotatedScope.{AnnotatedScope}
-use Rattle.ppdb_merge_items.specs.declared.file.AnnotatedFile.{AnnotatedFile}
-use Rattle.ppdb_merge_items.specs.Each.{Each}
-use Rattle.ppdb_merge_items.specs.NamedRows.{Named, names, names_some, all_named, in_token, in_body, in_constant, in_import, in_steps, live_machine, live_custom}
-use Rattle.ppdb_merge_items.specs.NamedRows.{live_signature, live_constants, live_import}
-use Rattle.ppdb_merge_items.proofs.Lists.{Each-append, Each-map}
-use Rattle.ppdb_merge_joined.proofs.Each.{Each-flat}
-use Rattle.ppdb_merge_items.specs.Annotated.{with_item}
-use Rattle.ppdb_merge_moved.specs.Moved.{moved_range, is_empty, moved_token, moved_modifier, moved_constant, moved_constant_body, moved_import}
-use Rattle.ppdb_merge_moved.specs.Moved.{moved_import_scope, with_points, moved_method, scope_image, moved_scope, moved_machine, moved_step, moved_body, moved_custom}
-use Rattle.ppdb_values.specs.Parts.{is_link}
-use Rattle.ppdb_merge_moved.specs.Moved.{linked, moved_record, moved_parent, moved_file, of_assembly, table_in, row_in}
-use Rattle.ppdb_merge_moved.proofs.Elements.{each_parts}
-use Rattle.ppdb_merge_moved.proofs.Lists.{Each-both, Each-filter_map}
-use Rattle.ppdb_merge_moved.proofs.NamedParts.{NamedParts}
-use Rattle.ppdb_merge_moved.proofs.ImageRows.{may_cross, within_is, linked_lives}
-use Rattle.ppdb_maps.proofs.Parts.{line_offsets}
+use Rattle.ppdb_values.specs.declared.{import.ImportValue.TheVariants.{AssemblyNamespaceAlias, TargetAlias}, annotation.Annotation.{Annotation}}
+use Rattle.ppdb_values.specs.declared.scope.{ConstantValue.{ConstantValue}, ConstantBody.{ConstantBody}, ConstantBody.TheVariants.{Primitive, Enumerated, General}}
+use Rattle.ppdb_values.specs.{declared.scope.ConstantBody.TheVariants.{Object}, Parts.{is_link}}
+use Rattle.ppdb_merge_items.specs.{declared.file.AnnotatedScope.{AnnotatedScope}, declared.file.AnnotatedFile.{AnnotatedFile}, Each.{Each}, NamedRows.{Named, names}}
+use Rattle.ppdb_merge_items.specs.NamedRows.{names_some, all_named, in_token, in_body, in_constant, in_import, in_steps, live_machine, live_custom, live_signature}
+use Rattle.ppdb_merge_items.{specs.NamedRows.{live_constants, live_import}, proofs.Lists.{Each-append, Each-map}, specs.Annotated.{with_item}}
 use Rattle.ppdb_merge_items.proofs.Parts.{live_imports}
+use Rattle.ppdb_merge_joined.proofs.Each.{Each-flat}
+use Rattle.ppdb_merge_moved.specs.Moved.{moved_range, is_empty, moved_token, moved_modifier, moved_constant, moved_constant_body, moved_import, moved_import_scope}
+use Rattle.ppdb_merge_moved.specs.Moved.{with_points, moved_method, scope_image, moved_scope, moved_machine, moved_step, moved_body, moved_custom, linked}
+use Rattle.ppdb_merge_moved.{specs.Moved.{moved_record, moved_parent, moved_file, of_assembly, table_in, row_in}, proofs.Elements.{each_parts}}
+use Rattle.ppdb_merge_moved.proofs.{Lists.{Each-both, Each-filter_map}, NamedParts.{NamedParts}, ImageRows.{may_cross, within_is, linked_lives}}
 
 some_of : {A : Type 0} (a b : A) → Some a ≡ Some b → a ≡ b
 some_of a b e = cc

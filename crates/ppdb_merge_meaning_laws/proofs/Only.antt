@@ -1,17 +1,9 @@
 -- What is left of the parts of all files by a test that only the parts of one pass.
-use Rattle.std.proofs.Common.{◌≡◌, ℕ, ◌+◌, ◌++◌, not, Bool, true, false, cond, List, [], ◌∷◌, Some, length, map, flat_map}
-use Rattle.std.proofs.Common.{refl, ◌∙◌, ap, arith, append-nil}
-use Rattle.std.specs.List.{filter, find, list_any}
-use Rattle.std.specs.Option.{option_map}
-use Rattle.std.proofs.lemmas.Bool.{both_ways}
-use Rattle.std.proofs.lemmas.List.Elements.{filter-append}
+use Rattle.std.proofs.Common.{◌≡◌, ℕ, ◌+◌, ◌++◌, not, Bool, true, false, cond, List, [], ◌∷◌, Some, length, map, flat_map, refl, ◌∙◌, ap, arith, append-nil}
+use Rattle.std.{specs.List.{filter, find, list_any}, specs.Option.{option_map}, proofs.lemmas.Bool.{both_ways}, proofs.lemmas.List.Elements.{filter-append}}
 use Rattle.ppdb_values.specs.declared.file.DocumentValue.{DocumentValue}
-use Rattle.ppdb_merge_items.specs.declared.file.AnnotatedFile.{AnnotatedFile}
-use Rattle.ppdb_merge_items.specs.Each.{Each, Pairs}
-use Rattle.ppdb_merge_items.specs.Sorted.{in_order}
-use Rattle.ppdb_merge_items.proofs.Lists.{Each-weaker}
-use Rattle.ppdb_merge_joined.specs.Joined.{renumbered, renumbered_all}
-use Rattle.ppdb_merge_joined.specs.Same.{fresh}
+use Rattle.ppdb_merge_items.{specs.declared.file.AnnotatedFile.{AnnotatedFile}, specs.Each.{Each, Pairs}, specs.Sorted.{in_order}, proofs.Lists.{Each-weaker}}
+use Rattle.ppdb_merge_joined.specs.{Joined.{renumbered, renumbered_all}, Same.{fresh}}
 
 -- ---- filters
 

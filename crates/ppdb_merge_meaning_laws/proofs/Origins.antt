@@ -1,48 +1,23 @@
 -- Where what joined inputs say comes from.
-use Rattle.std.proofs.Common.{◌≡◌, ℕ, zero, suc, ◌+◌, ◌<◌, ◌++◌, ◌⊎◌, inl, inr, Bool, true, false, cond, List, [], ◌∷◌, Option, Some, None, length, map}
-use Rattle.std.proofs.Common.{flat_map, refl, sym, ◌∙◌, ap, subst, arith}
-use Rattle.std.specs.Prelude.{◌&&◌, ◌||◌, not, nat_eq, nat_lt, Contains}
-use Rattle.std.specs.List.{filter, list_any}
-use Rattle.std.specs.Option.{option_map}
-use Rattle.std.proofs.lemmas.Bool.{both_ways, eq-eqb, eqb-true, lt-ltb, and_parts}
-use Rattle.std.proofs.lemmas.List.{map-append}
+use Rattle.std.proofs.Common.{◌≡◌, ℕ, zero, suc, ◌+◌, ◌<◌, ◌++◌, ◌⊎◌, inl, inr, Bool, true, false, cond, List, [], ◌∷◌, Option, Some, None, length, map, flat_map}
+use Rattle.std.{proofs.Common.{refl, sym, ◌∙◌, ap, subst, arith}, specs.Prelude.{◌&&◌, ◌||◌, not, nat_eq, nat_lt, Contains}, specs.List.{filter, list_any}}
+use Rattle.std.{specs.Option.{option_map}, proofs.lemmas.Bool.{both_ways, eq-eqb, eqb-true, lt-ltb, and_parts}, proofs.lemmas.List.{map-append}}
 use Rattle.std.proofs.lemmas.List.Elements.{filter-append}
-use Rattle.ppdb_tables.specs.RawTables.{row_at}
-use Rattle.ppdb_tables.specs.declared.rows.MachineRow.{MachineRow}
-use Rattle.ppdb_tables.specs.Parents.{coded_of}
-use Rattle.ppdb_values.specs.declared.custom.CustomValue.{CustomValue}
-use Rattle.ppdb_values.specs.declared.file.DocumentValue.{DocumentValue}
-use Rattle.ppdb_values.specs.declared.file.FileValue.{FileValue}
-use Rattle.ppdb_values.specs.declared.file.MethodValue.{MethodValue}
-use Rattle.ppdb_values.specs.declared.annotation.Custom.{Custom}
-use Rattle.ppdb_values.specs.declared.annotation.Annotation.{Annotation}
-use Rattle.ppdb_values.specs.Meaning.{annotated_on, without_parent}
-use Rattle.ppdb_values.proofs.Mapped.{row_map, filter_map_both}
-use Rattle.ppdb_merge_items.specs.declared.file.AnnotatedScope.{AnnotatedScope}
-use Rattle.ppdb_merge_items.specs.declared.file.AnnotatedFile.{AnnotatedFile}
-use Rattle.ppdb_merge_items.specs.Each.{Each, Pairs}
-use Rattle.ppdb_merge_items.specs.Laws.{SoundnessIsAnnotated}
-use Rattle.ppdb_merge_items.specs.Annotated.{items_of, annotated_file, with_item}
-use Rattle.ppdb_merge_items.specs.Unannotated.{value_of_annotated}
-use Rattle.ppdb_merge_items.proofs.Lists.{Each-append, Each-map, Each-weaker, each_of}
-use Rattle.ppdb_merge_items.proofs.Mapped.{map_map_both, row_numbered}
-use Rattle.ppdb_merge_items.proofs.Orders.{in_order_each, in_order_keeps}
-use Rattle.ppdb_merge_items.proofs.Rows.{at, one_parent}
-use Rattle.ppdb_merge_items.proofs.Spread.{filter_within}
-use Rattle.ppdb_merge_items.proofs.Values.{items_back}
-use Rattle.ppdb_merge_joined.specs.Joinable.{AreJoinable, AgreeOnDocuments, methods_of}
-use Rattle.ppdb_merge_joined.specs.Joined.{joined, joined_documents, joined_document, joined_rows, row_in, renumbered, renumbered_all, renumbered_custom}
-use Rattle.ppdb_merge_joined.specs.Joined.{customs_named, firsts}
-use Rattle.ppdb_merge_joined.specs.Same.{fresh, same_custom, same_record}
-use Rattle.ppdb_merge_joined.proofs.Kept.{fresh_each}
-use Rattle.ppdb_merge_joined.proofs.One.{map_same}
-use Rattle.ppdb_merge_moved.specs.Moved.{moved_document}
-use Rattle.ppdb_merge_moved.proofs.Elements.{each_in, in_each}
-use Rattle.ppdb_merge_meaning_laws.specs.Kept.{MovedBy, Input, FitsAlone, MethodsApart, in_turn, joined_inputs, moved_input}
-use Rattle.ppdb_merge_meaning_laws.specs.Origins.{OfOne, IsImageFrom, entry_of, records_from, InputsKeepOrigins}
-use Rattle.ppdb_merge_meaning_laws.proofs.Inputs.{EachMethod, each_method, input_parts, can_be_joined}
-use Rattle.ppdb_merge_meaning_laws.proofs.Joins.{joined_methods, joined_scopes, joined_machines, joined_customs}
-use Rattle.ppdb_merge_meaning_laws.proofs.Keeping.{joined_back}
+use Rattle.ppdb_tables.specs.{RawTables.{row_at}, declared.rows.MachineRow.{MachineRow}, Parents.{coded_of}}
+use Rattle.ppdb_values.specs.declared.{custom.CustomValue.{CustomValue}, file.DocumentValue.{DocumentValue}, file.FileValue.{FileValue}}
+use Rattle.ppdb_values.specs.declared.{file.MethodValue.{MethodValue}, annotation.Custom.{Custom}, annotation.Annotation.{Annotation}}
+use Rattle.ppdb_values.{specs.Meaning.{annotated_on, without_parent}, proofs.Mapped.{row_map, filter_map_both}}
+use Rattle.ppdb_merge_items.specs.{declared.file.AnnotatedScope.{AnnotatedScope}, declared.file.AnnotatedFile.{AnnotatedFile}, Each.{Each, Pairs}}
+use Rattle.ppdb_merge_items.specs.{Laws.{SoundnessIsAnnotated}, Annotated.{items_of, annotated_file, with_item}, Unannotated.{value_of_annotated}}
+use Rattle.ppdb_merge_items.proofs.{Lists.{Each-append, Each-map, Each-weaker, each_of}, Mapped.{map_map_both, row_numbered}, Orders.{in_order_each, in_order_keeps}}
+use Rattle.ppdb_merge_items.proofs.{Rows.{at, one_parent}, Spread.{filter_within}, Values.{items_back}}
+use Rattle.ppdb_merge_joined.specs.{Joinable.{AreJoinable, AgreeOnDocuments, methods_of}, Joined.{joined, joined_documents, joined_document, joined_rows, row_in}}
+use Rattle.ppdb_merge_joined.specs.{Joined.{renumbered, renumbered_all, renumbered_custom, customs_named, firsts}, Same.{fresh, same_custom, same_record}}
+use Rattle.ppdb_merge_joined.proofs.{Kept.{fresh_each}, One.{map_same}}
+use Rattle.ppdb_merge_moved.{specs.Moved.{moved_document}, proofs.Elements.{each_in, in_each}}
+use Rattle.ppdb_merge_meaning_laws.specs.{Kept.{MovedBy, Input, FitsAlone, MethodsApart, in_turn, joined_inputs, moved_input}, Origins.{OfOne, IsImageFrom}}
+use Rattle.ppdb_merge_meaning_laws.{specs.Origins.{entry_of, records_from, InputsKeepOrigins}, proofs.Inputs.{EachMethod, each_method, input_parts, can_be_joined}}
+use Rattle.ppdb_merge_meaning_laws.proofs.{Joins.{joined_methods, joined_scopes, joined_machines, joined_customs}, Keeping.{joined_back}}
 
 -- ---- records on a row, without those that equal one of an earlier list
 

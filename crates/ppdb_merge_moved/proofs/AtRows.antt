@@ -1,16 +1,9 @@
 -- Records at their rows, one more at a time.
-use Rattle.std.proofs.Common.{◌≡◌, ℕ, ◌+◌, ◌++◌, Bool, true, false, cond, List, [], ◌∷◌, length, map, refl, sym, ap, ◌∙◌, arith}
-use Rattle.std.specs.Prelude.{nat_lt}
-use Rattle.std.specs.List.{filter, enumerate_from}
-use Rattle.std.proofs.lemmas.List.{map-append}
-use Rattle.std.proofs.lemmas.List.Elements.{filter-append}
-use Rattle.ppdb_values.specs.declared.custom.CustomValue.{CustomValue}
-use Rattle.ppdb_values.specs.declared.annotation.Custom.{Custom}
-use Rattle.ppdb_values.specs.declared.annotation.Annotation.{Annotation}
-use Rattle.ppdb_values.specs.Parts.{is_at}
-use Rattle.ppdb_values.specs.Meaning.{without_parent}
-use Rattle.ppdb_merge_moved.specs.declared.annotating.OnRows.{OnRows}
-use Rattle.ppdb_merge_moved.specs.OnRows.{on_row, if_at, HasRows, IsPut, IsPlaced, HasAll, annotated_by}
+use Rattle.std.{proofs.Common.{◌≡◌, ℕ, ◌+◌, ◌++◌, Bool, true, false, cond, List, [], ◌∷◌, length, map, refl, sym, ap, ◌∙◌, arith}, specs.Prelude.{nat_lt}}
+use Rattle.std.{specs.List.{filter, enumerate_from}, proofs.lemmas.List.{map-append}, proofs.lemmas.List.Elements.{filter-append}}
+use Rattle.ppdb_values.specs.declared.{custom.CustomValue.{CustomValue}, annotation.Custom.{Custom}, annotation.Annotation.{Annotation}}
+use Rattle.ppdb_values.specs.{Parts.{is_at}, Meaning.{without_parent}}
+use Rattle.ppdb_merge_moved.specs.{declared.annotating.OnRows.{OnRows}, OnRows.{on_row, if_at, HasRows, IsPut, IsPlaced, HasAll, annotated_by}}
 
 filter-push : {A : Type 0} (p : A → Bool) (xs : List A) (x : A) → filter p (xs ++ x ∷ []) ≡ filter p xs ++ cond (p x) (x ∷ []) []
 filter-push p xs x = filter-append p xs (x ∷ []) ∙ ap (λ ys. filter p xs ++ ys) (by_test (p x))

@@ -1,9 +1,8 @@
 -- The row counts of the output, one more at a time.
-use Rattle.std.proofs.Common.{◌≡◌, ℕ, ◌+◌, ◌<◌, ◌++◌, List, [], ◌∷◌, length, take, set, get_or, sym, ap, ◌∙◌, arith}
-use Rattle.std.proofs.lemmas.List.{take_more, take_more_set, length-take-le}
+use Rattle.std.proofs.{Common.{◌≡◌, ℕ, ◌+◌, ◌<◌, ◌++◌, List, [], ◌∷◌, length, take, set, get_or, sym, ap, ◌∙◌, arith}, lemmas.List.{take_more, take_more_set}}
+use Rattle.std.{proofs.lemmas.List.{length-take-le}, specs.Prelude.{unwrap_or}}
 use Rattle.ppdb_maps.specs.Map.{Map, count_of}
 use Rattle.ppdb_merge_moved.specs.Moved.{moved_counts}
-use Rattle.std.specs.Prelude.{unwrap_or}
 
 counts-push : (m : Map) (table : ℕ) (ns : List ℕ) (n : ℕ)
     → moved_counts m table (ns ++ n ∷ []) ≡ moved_counts m table ns ++ unwrap_or (count_of m (table + length ns)) n ∷ []

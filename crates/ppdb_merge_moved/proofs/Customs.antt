@@ -1,28 +1,15 @@
 -- The custom records on a method go with it, and those on no other do.
-use Rattle.std.proofs.Common.{◌≡◌, ℕ, ◌≢◌, ◌&&◌, Bool, true, false, cond, Some, None, refl, sym, ◌∙◌, ap, subst}
-use Rattle.std.specs.Prelude.{nat_eq, bytes_eq, unwrap_or}
-use Rattle.std.specs.Option.{option_map}
-use Rattle.std.specs.List.{filter, filter_map}
-use Rattle.std.proofs.lemmas.Bool.{eq-eqb, eqb-true, and_parts, both_ways}
-use Rattle.std.proofs.Common.{map}
+use Rattle.std.{proofs.Common.{◌≡◌, ℕ, ◌≢◌, ◌&&◌, Bool, true, false, cond, Some, None, refl, sym, ◌∙◌, ap, subst, map}, specs.Prelude.{nat_eq, bytes_eq, unwrap_or}}
+use Rattle.std.{specs.Option.{option_map}, specs.List.{filter, filter_map}, proofs.lemmas.Bool.{eq-eqb, eqb-true, and_parts, both_ways}}
 use Rattle.ppdb_base.specs.Offsets.{gone}
-use Rattle.ppdb_maps.specs.declared.image.RowImage.{RowImage}
-use Rattle.ppdb_maps.specs.declared.image.RowImage.TheVariants.{Row, Gone, Missing}
-use Rattle.ppdb_maps.specs.Readable.{IsReadable}
-use Rattle.ppdb_maps.specs.Map.{Map, row_image, moved_row, offsets_in, is_dropped, method_line}
+use Rattle.ppdb_maps.specs.{declared.image.RowImage.{RowImage}, declared.image.RowImage.TheVariants.{Row, Gone, Missing}, Readable.{IsReadable}, Map.{Map}}
+use Rattle.ppdb_maps.{specs.Map.{row_image, moved_row, offsets_in, is_dropped, method_line}, proofs.Parts.{line_offsets}}
 use Rattle.custom_info.specs.Kinds.{source_link}
-use Rattle.ppdb_values.specs.Parts.{is_at, is_link}
-use Rattle.ppdb_values.specs.declared.custom.CustomBody.TheVariants.{Unread}
-use Rattle.ppdb_values.specs.declared.custom.CustomValue.{CustomValue}
-use Rattle.ppdb_merge_items.specs.Each.{Each}
-use Rattle.ppdb_merge_items.specs.declared.file.AnnotatedFile.{AnnotatedFile}
-use Rattle.ppdb_merge_items.specs.NamedRows.{live_custom}
-use Rattle.ppdb_merge_items.proofs.Lists.{Each-filter, Each-weaker}
-use Rattle.ppdb_merge_moved.specs.Moved.{linked, moved_body, moved_custom, moved_file, moved_parent, row_in, table_in}
-use Rattle.ppdb_merge_moved.specs.FitsMethod.{FitsCustom, MovesAsMethod}
-use Rattle.ppdb_merge_moved.proofs.ImageRows.{lives_on_method, method_moves, never_method}
-use Rattle.ppdb_merge_moved.proofs.Lists.{Alike, filter-filter_map, filter_map-map}
-use Rattle.ppdb_maps.proofs.Parts.{line_offsets}
+use Rattle.ppdb_values.specs.{Parts.{is_at, is_link}, declared.custom.CustomBody.TheVariants.{Unread}, declared.custom.CustomValue.{CustomValue}}
+use Rattle.ppdb_merge_items.{specs.Each.{Each}, specs.declared.file.AnnotatedFile.{AnnotatedFile}, specs.NamedRows.{live_custom}, proofs.Lists.{Each-filter}}
+use Rattle.ppdb_merge_items.proofs.Lists.{Each-weaker}
+use Rattle.ppdb_merge_moved.specs.{Moved.{linked, moved_body, moved_custom, moved_file, moved_parent, row_in, table_in}, FitsMethod.{FitsCustom, MovesAsMethod}}
+use Rattle.ppdb_merge_moved.proofs.{ImageRows.{lives_on_method, method_moves, never_method}, Lists.{Alike, filter-filter_map, filter_map-map}}
 
 abbrev pub on : ℕ → CustomValue → Bool
 on method c = nat_eq c.parent.table 0x06 && nat_eq c.parent.row method

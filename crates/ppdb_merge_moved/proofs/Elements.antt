@@ -1,6 +1,5 @@
 -- What holds of each element of a list that is made of others.
-use Rattle.std.proofs.Common.{◌≡◌, zero, suc, ◌++◌, Bool, true, false, cond, List, [], ◌∷◌, flat_map, refl, subst, arith}
-use Rattle.std.specs.List.{Contains, filter}
+use Rattle.std.{proofs.Common.{◌≡◌, zero, suc, ◌++◌, Bool, true, false, cond, List, [], ◌∷◌, flat_map, refl, subst, arith}, specs.List.{Contains, filter}}
 use Rattle.std.proofs.lemmas.Bool.{both_ways}
 use Rattle.ppdb_merge_items.specs.Each.{Each}
 

@@ -1,19 +1,10 @@
 -- A file whose parts have the records on their rows is the form of its value with the records at their items (`annotated_file`).
-use Rattle.std.proofs.Common.{◌≡◌, ℕ, ◌+◌, ◌-◌, ◌<◌, ◌≤◌, List, [], length, refl, ap, subst, ◌∙◌, arith}
-use Rattle.std.specs.List.{sum_by}
-use Rattle.ppdb_values.specs.declared.file.FileValue.{FileValue}
-use Rattle.ppdb_values.specs.declared.file.DocumentValue.{DocumentValue}
-use Rattle.ppdb_values.specs.declared.import.ImportScopeValue.{ImportScopeValue}
-use Rattle.ppdb_values.specs.declared.annotation.Custom.{Custom}
-use Rattle.ppdb_values.specs.declared.annotation.Annotation.{Annotation}
-use Rattle.ppdb_values.specs.declared.custom.CustomValue.{CustomValue}
-use Rattle.ppdb_values.specs.declared.scope.ScopeValue.{ScopeValue}
-use Rattle.ppdb_values.specs.Meaning.{annotated_on}
-use Rattle.ppdb_merge_items.specs.declared.file.AnnotatedScope.{AnnotatedScope}
-use Rattle.ppdb_merge_items.specs.declared.file.AnnotatedFile.{AnnotatedFile}
-use Rattle.ppdb_merge_items.specs.Annotated.{annotated_file}
-use Rattle.ppdb_merge_moved.specs.declared.annotating.OnRows.{OnRows}
-use Rattle.ppdb_merge_moved.specs.OnRows.{on_row, in_lists, HasRows, HasAll, annotated_by, annotated_scopes_by}
+use Rattle.std.{proofs.Common.{◌≡◌, ℕ, ◌+◌, ◌-◌, ◌<◌, ◌≤◌, List, [], length, refl, ap, subst, ◌∙◌, arith}, specs.List.{sum_by}}
+use Rattle.ppdb_values.specs.declared.{file.FileValue.{FileValue}, file.DocumentValue.{DocumentValue}, import.ImportScopeValue.{ImportScopeValue}}
+use Rattle.ppdb_values.specs.declared.{annotation.Custom.{Custom}, annotation.Annotation.{Annotation}, custom.CustomValue.{CustomValue}}
+use Rattle.ppdb_values.specs.{declared.scope.ScopeValue.{ScopeValue}, Meaning.{annotated_on}}
+use Rattle.ppdb_merge_items.specs.{declared.file.AnnotatedScope.{AnnotatedScope}, declared.file.AnnotatedFile.{AnnotatedFile}, Annotated.{annotated_file}}
+use Rattle.ppdb_merge_moved.specs.{declared.annotating.OnRows.{OnRows}, OnRows.{on_row, in_lists, HasRows, HasAll, annotated_by, annotated_scopes_by}}
 use Rattle.ppdb_merge_moved.proofs.ScopesAtRows.{annotated_same, scopes_are}
 
 rows_agree : (customs : List CustomValue) (table n : ℕ) (lists : List (List Custom)) → HasRows customs table n lists → (r : ℕ) → 1 ≤ r → r < 1 + n

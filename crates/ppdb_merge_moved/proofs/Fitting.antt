@@ -1,48 +1,25 @@
 -- What a map that fits a file says of a method that the file names.
-use Rattle.std.proofs.Common.{◌≡◌, ◌≢◌, ℕ, zero, suc, ◌<◌, ◌≤◌, Bool, true, false, cond, List, [], ◌∷◌, Option, Some, None, refl}
-use Rattle.std.proofs.Common.{sym, ◌∙◌, ap, subst, arith}
-use Rattle.std.specs.Prelude.{nat_eq, All, AllPairs, IfSome, unwrap_or, Contains}
-use Rattle.std.specs.List.{repeat}
-use Rattle.std.proofs.lemmas.Bool.{ne_eqb}
+use Rattle.std.proofs.Common.{◌≡◌, ◌≢◌, ℕ, zero, suc, ◌<◌, ◌≤◌, Bool, true, false, cond, List, [], ◌∷◌, Option, Some, None, refl, sym, ◌∙◌, ap, subst, arith}
+use Rattle.std.{specs.Prelude.{nat_eq, All, AllPairs, IfSome, unwrap_or, Contains}, specs.List.{repeat}, proofs.lemmas.Bool.{ne_eqb}}
 use Rattle.std.proofs.lemmas.List.Elements.{All-head, All-tail}
 use Rattle.ppdb_base.specs.Offsets.{Offsets, every, gone, Rise, old_size}
 use Rattle.custom_info.specs.declared.kinds.Kind.{Kind}
 use Rattle.custom_info.specs.declared.kinds.Kind.TheVariants as kinds
-use Rattle.custom_info.specs.declared.slots.Slot.{Slot}
-use Rattle.custom_info.specs.declared.slots.Slot.TheVariants.{Empty, Held}
-use Rattle.custom_info.specs.HoistedScopes.{IsSlot}
-use Rattle.custom_info.specs.Kinds.{kind_of}
-use Rattle.ppdb_maps.specs.Map.{Map, MethodLine, moved_row, row_line, count_of, offsets_in, is_dropped, method_line}
-use Rattle.ppdb_maps.specs.declared.image.RowImage.TheVariants.{Row}
-use Rattle.ppdb_maps.specs.Readable.{IsReadable, IsLineOf}
+use Rattle.custom_info.specs.{declared.slots.Slot.{Slot}, declared.slots.Slot.TheVariants.{Empty, Held}, HoistedScopes.{IsSlot}, Kinds.{kind_of}}
+use Rattle.ppdb_maps.specs.{Map.{Map, MethodLine, moved_row, row_line, count_of, offsets_in, is_dropped, method_line}, declared.image.RowImage.TheVariants.{Row}}
+use Rattle.ppdb_maps.{specs.Readable.{IsReadable, IsLineOf}, proofs.Parts.{line_offsets}}
 use Rattle.ppdb_tables.specs.declared.rows.MachineRow.{MachineRow}
 use Rattle.sequence_points.specs.declared.point.Point.{Point}
-use Rattle.ppdb_values.specs.declared.custom.CustomBody.{CustomBody}
-use Rattle.ppdb_values.specs.declared.custom.CustomBody.TheVariants.{Async, Hoisted, TypeDocuments, Unread}
-use Rattle.ppdb_values.specs.declared.custom.CustomValue.{CustomValue}
-use Rattle.ppdb_values.specs.declared.file.FileValue.{FileValue}
-use Rattle.ppdb_values.specs.declared.file.MethodValue.{MethodValue}
-use Rattle.ppdb_values_sound_laws.specs.Customs.{SoundCustom, IsBodyOfKind}
-use Rattle.ppdb_values_sound_laws.specs.Methods.{SoundMethod}
-use Rattle.ppdb_merge_items.specs.declared.file.AnnotatedScope.{AnnotatedScope}
-use Rattle.ppdb_merge_items.specs.declared.file.AnnotatedFile.{AnnotatedFile}
-use Rattle.ppdb_merge_items.specs.Each.{Each}
-use Rattle.ppdb_merge_items.specs.NamedRows.{Named, names, names_some, named_rows, live_file, live_machine, live_signature}
-use Rattle.ppdb_merge_items.specs.NamedRows.{live_custom, in_steps}
-use Rattle.ppdb_merge_items.specs.SoundParts.{SoundAnnotatedScope}
-use Rattle.ppdb_merge_items.specs.Unannotated.{value_of_annotated}
-use Rattle.ppdb_merge_moved.specs.Laws.{FitsAreOfMethods}
-use Rattle.ppdb_merge_items.proofs.Lists.{Each-weaker}
-use Rattle.ppdb_merge_moved.specs.Fits.{Fits, IsImaged, AreWithin, EndsWithin}
-use Rattle.ppdb_merge_moved.specs.FitsMethod.{MovesAsMethod, FitsScope, FitsMethod, FitsSlot, FitsSlots, FitsCustom, FitsEntry, FitsMachine}
-use Rattle.ppdb_merge_moved.proofs.Elements.{each_in, in_each}
-use Rattle.ppdb_merge_moved.proofs.NamedParts.{NamedParts, named_parts}
-use Rattle.ppdb_merge_moved.proofs.RisingPoints.{points_are_rising}
-use Rattle.ppdb_merge_moved.proofs.ImageRows.{lives_on_method, no_shared_method, moved_stays, within}
-use Rattle.ppdb_merge_moved.proofs.RowImages.{IsWithin, found_holds, row_moved}
-use Rattle.ppdb_merge_moved.proofs.Lists.{each_of_three}
-use Rattle.ppdb_merge_items.proofs.Parts.{in_entry}
-use Rattle.ppdb_maps.proofs.Parts.{line_offsets}
+use Rattle.ppdb_values.specs.declared.custom.{CustomBody.{CustomBody}, CustomBody.TheVariants.{Async, Hoisted, TypeDocuments, Unread}, CustomValue.{CustomValue}}
+use Rattle.ppdb_values.specs.declared.file.{FileValue.{FileValue}, MethodValue.{MethodValue}}
+use Rattle.ppdb_values_sound_laws.specs.{Customs.{SoundCustom, IsBodyOfKind}, Methods.{SoundMethod}}
+use Rattle.ppdb_merge_items.specs.{declared.file.AnnotatedScope.{AnnotatedScope}, declared.file.AnnotatedFile.{AnnotatedFile}, Each.{Each}, NamedRows.{Named, names}}
+use Rattle.ppdb_merge_items.specs.NamedRows.{names_some, named_rows, live_file, live_machine, live_signature, live_custom, in_steps}
+use Rattle.ppdb_merge_items.{specs.SoundParts.{SoundAnnotatedScope}, specs.Unannotated.{value_of_annotated}, proofs.Lists.{Each-weaker}, proofs.Parts.{in_entry}}
+use Rattle.ppdb_merge_moved.specs.{Laws.{FitsAreOfMethods}, Fits.{Fits, IsImaged, AreWithin, EndsWithin}, FitsMethod.{MovesAsMethod, FitsScope, FitsMethod}}
+use Rattle.ppdb_merge_moved.{specs.FitsMethod.{FitsSlot, FitsSlots, FitsCustom, FitsEntry, FitsMachine}, proofs.Elements.{each_in, in_each}}
+use Rattle.ppdb_merge_moved.proofs.{NamedParts.{NamedParts, named_parts}, RisingPoints.{points_are_rising}, ImageRows.{lives_on_method, no_shared_method}}
+use Rattle.ppdb_merge_moved.proofs.{ImageRows.{moved_stays, within}, RowImages.{IsWithin, found_holds, row_moved}, Lists.{each_of_three}}
 
 -- ---- readable maps
 

@@ -1,27 +1,15 @@
 -- Images of rows: in the same table, or in one that the row's lines name.
-use Rattle.std.proofs.Common.{◌≡◌, ℕ, zero, suc, ◌≤◌, ◌⊎◌, inl, inr, ◌&&◌, ◌||◌, not, Bool, List, [], ◌∷◌, true, false, cond, Option, Some, None, refl, sym, ◌∙◌, ap, subst}
-use Rattle.std.proofs.Common.{arith}
-use Rattle.std.specs.Prelude.{nat_eq, bytes_eq, IfSome, unwrap_or}
-use Rattle.std.specs.List.{find, list_any, AllByRecursion}
-use Rattle.std.specs.Option.{option_map}
-use Rattle.std.proofs.lemmas.Bool.{eqb-true, eq-eqb, and_parts, or_cases, both_ways}
-use Rattle.ppdb_maps.specs.declared.entries.CrossLine.{CrossLine}
-use Rattle.ppdb_maps.specs.declared.entries.GoneLine.{GoneLine}
-use Rattle.ppdb_maps.specs.declared.entries.RowLine.{RowLine}
-use Rattle.ppdb_maps.specs.declared.image.RowImage.{RowImage}
-use Rattle.ppdb_maps.specs.declared.image.RowImage.TheVariants.{Row, Gone, Missing}
-use Rattle.ppdb_maps.specs.Forms.{Crosses}
-use Rattle.ppdb_maps.specs.Map.{Map, row_image, row_within, row_line, cross_line, has_gone_line, told_image, line_image, count_of, is_dropped, is_gone, moved_row}
-use Rattle.ppdb_maps.specs.Map.{is_gone_row, is_in_table, leaves_table}
+use Rattle.std.proofs.Common.{◌≡◌, ℕ, zero, suc, ◌≤◌, ◌⊎◌, inl, inr, ◌&&◌, ◌||◌, not, Bool, List, [], ◌∷◌, true, false, cond, Option, Some, None, refl, sym, ◌∙◌, ap}
+use Rattle.std.{proofs.Common.{subst, arith}, specs.Prelude.{nat_eq, bytes_eq, IfSome, unwrap_or}, specs.List.{find, list_any, AllByRecursion}}
+use Rattle.std.{specs.Option.{option_map}, proofs.lemmas.Bool.{eqb-true, eq-eqb, and_parts, or_cases, both_ways}}
+use Rattle.ppdb_maps.specs.declared.{entries.CrossLine.{CrossLine}, entries.GoneLine.{GoneLine}, entries.RowLine.{RowLine}, image.RowImage.{RowImage}}
+use Rattle.ppdb_maps.specs.{declared.image.RowImage.TheVariants.{Row, Gone, Missing}, Forms.{Crosses}, Map.{Map, row_image, row_within, row_line, cross_line}}
+use Rattle.ppdb_maps.specs.Map.{has_gone_line, told_image, line_image, count_of, is_dropped, is_gone, moved_row, is_gone_row, is_in_table, leaves_table}
 use Rattle.ppdb_maps.specs.Readable.{IsReadable, IsRowOf, IsCrossOf, IsGoneOf}
 use Rattle.custom_info.specs.Kinds.{source_link}
-use Rattle.ppdb_values.specs.Parts.{is_at, is_link}
-use Rattle.ppdb_values.specs.declared.custom.CustomBody.TheVariants.{Unread}
-use Rattle.ppdb_values.specs.declared.custom.CustomValue.{CustomValue}
+use Rattle.ppdb_values.specs.{Parts.{is_at, is_link}, declared.custom.CustomBody.TheVariants.{Unread}, declared.custom.CustomValue.{CustomValue}}
 use Rattle.ppdb_merge_items.specs.NamedRows.{names, is_type_documents, leaves_types, live_custom}
-use Rattle.ppdb_merge_moved.specs.Moved.{linked}
-use Rattle.ppdb_merge_moved.specs.Fits.{IsImaged, may_share}
-use Rattle.ppdb_merge_moved.proofs.RowImages.{IsWithin, within_in, moved_is_image}
+use Rattle.ppdb_merge_moved.{specs.Moved.{linked}, specs.Fits.{IsImaged, may_share}, proofs.RowImages.{IsWithin, within_in, moved_is_image}}
 
 pub found_passes : {A : Type 0} (P : A → Type 0) (p : A → Bool) (xs : List A) → AllByRecursion P xs → IfSome (find p xs) (λ x. P x × (p x ≡ true))
 found_passes P p [] all = tt

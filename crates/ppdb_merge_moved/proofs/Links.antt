@@ -1,26 +1,14 @@
 -- What is linked to a method is moved with it.
 use Rattle.std.proofs.Common.{◌≡◌, ℕ, ◌≢◌, ◌||◌, not, Bool, true, false, cond, List, [], ◌∷◌, Option, Some, None, refl, sym, ◌∙◌, ap, subst, map}
-use Rattle.std.specs.Prelude.{nat_eq, is_none}
-use Rattle.std.specs.List.{filter, filter_map, find, cons_option}
-use Rattle.std.specs.Option.{option_map, option_and_then}
+use Rattle.std.specs.{Prelude.{nat_eq, is_none}, List.{filter, filter_map, find, cons_option}, Option.{option_map, option_and_then}}
 use Rattle.std.proofs.lemmas.Bool.{eq-eqb, ne_eqb, eqb-true, eqb-false, and_parts}
 use Rattle.ppdb_base.specs.Offsets.{gone}
 use Rattle.ppdb_maps.specs.Map.{Map, moved_row, offsets_in, is_dropped}
 use Rattle.ppdb_tables.specs.declared.rows.MachineRow.{MachineRow}
-use Rattle.ppdb_values.specs.declared.custom.CustomBody.{CustomBody}
-use Rattle.ppdb_values.specs.declared.custom.CustomBody.TheVariants.{Async, Hoisted, TypeDocuments, Unread}
-use Rattle.ppdb_values.specs.declared.custom.CustomValue.{CustomValue}
-use Rattle.ppdb_values.specs.declared.annotation.Custom.{Custom}
-use Rattle.ppdb_values.specs.Links.{kickoff_of, move_next_of}
-use Rattle.ppdb_values.specs.Meaning.{without_parent}
-use Rattle.ppdb_values.specs.Parts.{slots_in}
-use Rattle.ppdb_merge_items.specs.Each.{Each, Pairs}
-use Rattle.ppdb_merge_items.specs.NamedRows.{live_machine}
-use Rattle.ppdb_merge_items.proofs.Lists.{Each-filter, Each-weaker}
-use Rattle.ppdb_merge_moved.specs.FitsMethod.{FitsMachine, FitsCustom}
-use Rattle.ppdb_merge_moved.specs.Images.{partner_image}
-use Rattle.ppdb_merge_moved.specs.Laws.{LinksMoved}
-use Rattle.ppdb_merge_moved.specs.Moved.{moved_body, moved_machine}
+use Rattle.ppdb_values.specs.declared.custom.{CustomBody.{CustomBody}, CustomBody.TheVariants.{Async, Hoisted, TypeDocuments, Unread}, CustomValue.{CustomValue}}
+use Rattle.ppdb_values.specs.{declared.annotation.Custom.{Custom}, Links.{kickoff_of, move_next_of}, Meaning.{without_parent}, Parts.{slots_in}}
+use Rattle.ppdb_merge_items.{specs.Each.{Each, Pairs}, specs.NamedRows.{live_machine}, proofs.Lists.{Each-filter, Each-weaker}}
+use Rattle.ppdb_merge_moved.specs.{FitsMethod.{FitsMachine, FitsCustom}, Images.{partner_image}, Laws.{LinksMoved}, Moved.{moved_body, moved_machine}}
 use Rattle.ppdb_merge_moved.proofs.Customs.{on, image_of, not_dropped, records_moved}
 
 -- ---- the one item that passes, where what goes may pass too

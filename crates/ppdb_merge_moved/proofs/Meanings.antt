@@ -1,23 +1,14 @@
 -- A file moved by a map means at a kept offset's image the image of what the file meant.
-use Rattle.std.proofs.Common.{◌≡◌, ℕ, ◌≤◌, ◌≢◌, ◌&&◌, Bool, true, false, cond, List, [], ◌∷◌, refl, sym, ◌∙◌, ap, subst, map}
-use Rattle.std.specs.Prelude.{nat_eq}
+use Rattle.std.{proofs.Common.{◌≡◌, ℕ, ◌≤◌, ◌≢◌, ◌&&◌, Bool, true, false, cond, List, [], ◌∷◌, refl, sym, ◌∙◌, ap, subst, map}, specs.Prelude.{nat_eq}}
+use Rattle.std.proofs.lemmas.Bool.{eqb-true, and_parts}
 use Rattle.ppdb_base.specs.Offsets.{gone, Rise, Kept, old_size}
 use Rattle.ppdb_maps.specs.Map.{Map, moved_row, offsets_in}
-use Rattle.ppdb_values.specs.declared.import.ImportScopeValue.{ImportScopeValue}
-use Rattle.ppdb_values.specs.declared.annotation.Annotation.{Annotation}
-use Rattle.ppdb_merge_items.specs.declared.file.AnnotatedScope.{AnnotatedScope}
-use Rattle.ppdb_merge_items.specs.declared.file.AnnotatedFile.{AnnotatedFile}
-use Rattle.ppdb_merge_items.specs.Annotated.{with_item}
-use Rattle.ppdb_merge_moved.specs.Moved.{moved_import, moved_import_scope, scope_image, moved_file}
-use Rattle.ppdb_merge_moved.specs.Images.{scope_image as scope_image_meaning}
-use Rattle.ppdb_merge_items.specs.AnnotatedMeaning.{chain, imported, scope_meaning, scopes_at, held as holds}
-use Rattle.ppdb_merge_moved.specs.FitsMethod.{FitsScope}
-use Rattle.ppdb_merge_items.specs.Each.{Each}
-use Rattle.ppdb_values.specs.Chains.{chain_of}
-use Rattle.ppdb_merge_items.proofs.Mapped.{chain_of_map, map_map_both}
-use Rattle.ppdb_merge_moved.proofs.Scopes.{scopes_kept}
-use Rattle.std.proofs.lemmas.Bool.{eqb-true, and_parts}
-use Rattle.ppdb_merge_items.proofs.Parts.{live_imports}
+use Rattle.ppdb_values.specs.{declared.import.ImportScopeValue.{ImportScopeValue}, declared.annotation.Annotation.{Annotation}, Chains.{chain_of}}
+use Rattle.ppdb_merge_items.specs.{declared.file.AnnotatedScope.{AnnotatedScope}, declared.file.AnnotatedFile.{AnnotatedFile}, Annotated.{with_item}}
+use Rattle.ppdb_merge_items.{specs.AnnotatedMeaning.{chain, imported, scope_meaning, scopes_at, held as holds}, specs.Each.{Each}, proofs.Mapped.{chain_of_map}}
+use Rattle.ppdb_merge_items.proofs.{Mapped.{map_map_both}, Parts.{live_imports}}
+use Rattle.ppdb_merge_moved.specs.{Moved.{moved_import, moved_import_scope, scope_image, moved_file}, Images.{scope_image as scope_image_meaning}}
+use Rattle.ppdb_merge_moved.{specs.FitsMethod.{FitsScope}, proofs.Scopes.{scopes_kept}}
 
 -- the chain of moved imports is the chain, moved
 chain_moved : (m : Map) (imports : List (Annotation ImportScopeValue)) (row : ℕ)

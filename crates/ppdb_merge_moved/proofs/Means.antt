@@ -1,19 +1,11 @@
 -- The whole meaning of a moved file at the image of a kept offset of a method that the file names.
 use Rattle.std.proofs.Common.{◌≡◌, ◌≢◌, ℕ, ◌≤◌, sym, ap, ◌∙◌, arith, inl, inr}
-use Rattle.ppdb_base.specs.Offsets.{Offsets, every, gone, lined, Rise, Kept, old_size}
-use Rattle.ppdb_base.proofs.Moved.{kept_below}
+use Rattle.ppdb_base.{specs.Offsets.{Offsets, every, gone, lined, Rise, Kept, old_size}, proofs.Moved.{kept_below}}
 use Rattle.ppdb_maps.specs.Map.{moved_row, offsets_in}
 use Rattle.ppdb_values.specs.declared.file.MethodValue.{MethodValue}
-use Rattle.ppdb_merge_items.specs.Each.{Pairs}
-use Rattle.ppdb_merge_items.specs.AnnotatedMeaning.{annotated_meaning}
-use Rattle.ppdb_merge_items.proofs.Lists.{Pairs-weaker}
-use Rattle.ppdb_merge_moved.specs.Moved.{moved_file}
-use Rattle.ppdb_merge_moved.specs.Images.{meaning_image}
-use Rattle.ppdb_merge_moved.specs.Laws.{FilesMean}
-use Rattle.ppdb_merge_moved.proofs.Links.{links_mean}
-use Rattle.ppdb_merge_moved.proofs.Meanings.{scopes_mean}
-use Rattle.ppdb_merge_moved.proofs.PointMeanings.{points_mean}
-use Rattle.ppdb_merge_moved.proofs.Slots.{slots_mean}
+use Rattle.ppdb_merge_items.{specs.Each.{Pairs}, specs.AnnotatedMeaning.{annotated_meaning}, proofs.Lists.{Pairs-weaker}}
+use Rattle.ppdb_merge_moved.{specs.Moved.{moved_file}, specs.Images.{meaning_image}, specs.Laws.{FilesMean}, proofs.Links.{links_mean}}
+use Rattle.ppdb_merge_moved.proofs.{Meanings.{scopes_mean}, PointMeanings.{points_mean}, Slots.{slots_mean}}
 
 -- what is kept is not above the old size
 pub kept_within : (o : Offsets) → Rise o → (x y : ℕ) → Kept o x y → x ≤ old_size o

@@ -1,49 +1,25 @@
 -- The rows that a sound file names are rows.
-use Rattle.std.proofs.Common.{◌≡◌, ℕ, zero, suc, ◌≤◌, ◌||◌, Bool, true, false, cond, List, [], ◌∷◌, map, flat_map, refl, subst, arith}
-use Rattle.std.specs.Prelude.{nat_eq, is_some}
-use Rattle.std.specs.List.{filter}
-use Rattle.std.proofs.lemmas.Bool.{eqb-false}
-use Rattle.type_blobs.specs.declared.types.TypeToken.{TypeToken}
-use Rattle.type_blobs.specs.declared.types.Modifier.{Modifier}
-use Rattle.type_blobs.specs.Spelling.{IsBody, IsBodyThere}
-use Rattle.custom_info.specs.AsyncStepping.{IsStep}
-use Rattle.custom_info.specs.Kinds.{kind_of}
-use Rattle.custom_info.specs.declared.kinds.Kind.{Kind}
+use Rattle.std.{proofs.Common.{◌≡◌, ℕ, zero, suc, ◌≤◌, ◌||◌, Bool, true, false, cond, List, [], ◌∷◌, map, flat_map, refl, subst, arith}, specs.Prelude.{nat_eq}}
+use Rattle.std.{specs.Prelude.{is_some}, specs.List.{filter}, proofs.lemmas.Bool.{eqb-false}}
+use Rattle.type_blobs.specs.{declared.types.TypeToken.{TypeToken}, declared.types.Modifier.{Modifier}, Spelling.{IsBody, IsBodyThere}}
+use Rattle.custom_info.specs.{AsyncStepping.{IsStep}, Kinds.{kind_of}, declared.kinds.Kind.{Kind}}
 use Rattle.custom_info.specs.declared.kinds.Kind.TheVariants as kinds
 use Rattle.custom_info.specs.declared.stepping.AsyncStep.{AsyncStep}
 use Rattle.ppdb_maps.specs.Map.{Map, is_dropped, signature_line, is_gone_row}
 use Rattle.ppdb_tables.specs.declared.rows.MachineRow.{MachineRow}
-use Rattle.ppdb_values.specs.declared.custom.CustomBody.{CustomBody}
-use Rattle.ppdb_values.specs.declared.custom.CustomBody.TheVariants.{Async, Hoisted, TypeDocuments, Unread}
-use Rattle.ppdb_values.specs.declared.custom.CustomValue.{CustomValue}
-use Rattle.ppdb_values.specs.declared.file.FileValue.{FileValue}
-use Rattle.ppdb_values.specs.declared.file.MethodValue.{MethodValue}
-use Rattle.ppdb_values.specs.declared.import.ImportScopeValue.{ImportScopeValue}
-use Rattle.ppdb_values.specs.declared.import.ImportValue.{ImportValue}
-use Rattle.ppdb_values.specs.declared.import.ImportValue.TheVariants.{Namespace, AssemblyNamespace, Target, Xml, Alias, AssemblyAlias, NamespaceAlias}
-use Rattle.ppdb_values.specs.declared.import.ImportValue.TheVariants.{AssemblyNamespaceAlias, TargetAlias}
-use Rattle.ppdb_values.specs.declared.annotation.Annotation.{Annotation}
-use Rattle.ppdb_values.specs.declared.scope.ConstantValue.{ConstantValue}
-use Rattle.ppdb_values.specs.declared.scope.ConstantBody.{ConstantBody}
-use Rattle.ppdb_values.specs.declared.scope.ConstantBody.TheVariants.{Primitive, Enumerated, General, Object}
-use Rattle.ppdb_values_sound_laws.specs.Customs.{IsBodyOfKind}
-use Rattle.ppdb_values_sound_laws.specs.Imports.{SoundImport}
-use Rattle.ppdb_values_sound_laws.specs.Named.{count, HasType, type_limits}
-use Rattle.ppdb_values_sound_laws.specs.Scopes.{SoundConstant, stored_body}
-use Rattle.ppdb_merge_items.specs.declared.file.AnnotatedScope.{AnnotatedScope}
-use Rattle.ppdb_merge_items.specs.declared.file.AnnotatedFile.{AnnotatedFile}
-use Rattle.ppdb_merge_items.specs.Each.{Each}
-use Rattle.ppdb_merge_items.specs.NamedRows.{Named, names, names_some, in_token, in_body, in_constant, in_import, in_steps, all_named}
-use Rattle.ppdb_merge_items.specs.NamedRows.{live_file, live_scope, live_machine, live_custom, live_signature}
-use Rattle.ppdb_merge_items.specs.NamedRows.{live_constants, live_import}
-use Rattle.ppdb_merge_items.specs.Annotated.{items_of, with_item}
-use Rattle.ppdb_merge_items.specs.Unannotated.{value_of_annotated}
-use Rattle.ppdb_merge_items.proofs.Lists.{Each-append, Each-filter, Each-map, Each-weaker, each_row}
-use Rattle.ppdb_merge_moved.specs.Laws.{NamedRowsAreRows}
-use Rattle.ppdb_merge_moved.proofs.RowImages.{count_most}
-use Rattle.ppdb_merge_moved.proofs.SoundItems.{most, each_all, live_sound}
-use Rattle.ppdb_merge_items.proofs.Parts.{live_method, with_live_signature, with_live_constants, with_live_imports, in_entry}
-use Rattle.ppdb_merge_items.proofs.Parts.{live_imports}
+use Rattle.ppdb_values.specs.declared.custom.{CustomBody.{CustomBody}, CustomBody.TheVariants.{Async, Hoisted, TypeDocuments, Unread}, CustomValue.{CustomValue}}
+use Rattle.ppdb_values.specs.declared.{file.FileValue.{FileValue}, file.MethodValue.{MethodValue}, import.ImportScopeValue.{ImportScopeValue}}
+use Rattle.ppdb_values.specs.declared.import.{ImportValue.{ImportValue}, ImportValue.TheVariants.{Namespace, AssemblyNamespace, Target, Xml, Alias, AssemblyAlias}}
+use Rattle.ppdb_values.specs.declared.{import.ImportValue.TheVariants.{NamespaceAlias, AssemblyNamespaceAlias, TargetAlias}, annotation.Annotation.{Annotation}}
+use Rattle.ppdb_values.specs.declared.scope.{ConstantValue.{ConstantValue}, ConstantBody.{ConstantBody}, ConstantBody.TheVariants.{Primitive, Enumerated, General}}
+use Rattle.ppdb_values.specs.declared.scope.ConstantBody.TheVariants.{Object}
+use Rattle.ppdb_values_sound_laws.specs.{Customs.{IsBodyOfKind}, Imports.{SoundImport}, Named.{count, HasType, type_limits}, Scopes.{SoundConstant, stored_body}}
+use Rattle.ppdb_merge_items.specs.{declared.file.AnnotatedScope.{AnnotatedScope}, declared.file.AnnotatedFile.{AnnotatedFile}, Each.{Each}, NamedRows.{Named, names}}
+use Rattle.ppdb_merge_items.specs.NamedRows.{names_some, in_token, in_body, in_constant, in_import, in_steps, all_named, live_file, live_scope, live_machine}
+use Rattle.ppdb_merge_items.specs.{NamedRows.{live_custom, live_signature, live_constants, live_import}, Annotated.{items_of, with_item}}
+use Rattle.ppdb_merge_items.{specs.Unannotated.{value_of_annotated}, proofs.Lists.{Each-append, Each-filter, Each-map, Each-weaker, each_row}}
+use Rattle.ppdb_merge_items.proofs.Parts.{live_method, with_live_signature, with_live_constants, with_live_imports, in_entry, live_imports}
+use Rattle.ppdb_merge_moved.{specs.Laws.{NamedRowsAreRows}, proofs.RowImages.{count_most}, proofs.SoundItems.{most, each_all, live_sound}}
 
 abbrev IsThere : Named → Type 0
 IsThere n = (1 ≤ n.row) × (n.row ≤ 16777215)

@@ -1,26 +1,15 @@
 -- The point of a moved file at a kept offset's image is the image of the point at the offset.
-use Rattle.std.proofs.Common.{◌≡◌, ℕ, ◌≤◌, ◌≢◌, Bool, true, false, cond, List, [], ◌∷◌, Option, Some, None, refl, sym, ◌∙◌, ap, subst}
-use Rattle.std.specs.Prelude.{nat_eq}
-use Rattle.std.specs.List.{filter_map, find, cons_option}
-use Rattle.std.specs.Option.{option_map, option_and_then}
-use Rattle.std.proofs.lemmas.Bool.{eq-eqb, ne_eqb, eqb-true, eqb-false}
+use Rattle.std.{proofs.Common.{◌≡◌, ℕ, ◌≤◌, ◌≢◌, Bool, true, false, cond, List, [], ◌∷◌, Option, Some, None, refl, sym, ◌∙◌, ap, subst}, specs.Prelude.{nat_eq}}
+use Rattle.std.{specs.List.{filter_map, find, cons_option}, specs.Option.{option_map, option_and_then}, proofs.lemmas.Bool.{eq-eqb, ne_eqb, eqb-true, eqb-false}}
 use Rattle.ppdb_base.specs.Offsets.{gone, Rise, Kept, old_size, moved}
 use Rattle.ppdb_maps.specs.Map.{Map, moved_row, moved_signature, offsets_in}
-use Rattle.sequence_points.specs.declared.point.Point.{Point}
+use Rattle.sequence_points.specs.{declared.point.Point.{Point}, MovedPoints.{moved_points}}
 use Rattle.ppdb_tables.specs.RawTables.{row_at}
-use Rattle.ppdb_values.specs.declared.annotation.Annotation.{Annotation}
-use Rattle.ppdb_values.specs.declared.file.DocumentValue.{DocumentValue}
-use Rattle.ppdb_values.specs.declared.file.MethodValue.{MethodValue}
-use Rattle.ppdb_merge_items.specs.Annotated.{with_item}
-use Rattle.ppdb_merge_items.specs.declared.file.AnnotatedFile.{AnnotatedFile}
-use Rattle.sequence_points.specs.MovedPoints.{moved_points}
-use Rattle.ppdb_merge_moved.specs.Moved.{moved_document, moved_method, moved_file, with_points}
-use Rattle.ppdb_merge_moved.specs.FitsMethod.{PointsRise, FitsMethod}
-use Rattle.ppdb_merge_items.specs.AnnotatedMeaning.{document_at, point_at, point_meaning}
-use Rattle.ppdb_values.specs.Meaning.{PointMeaning}
-use Rattle.ppdb_values.proofs.Mapped.{row_map}
-use Rattle.ppdb_merge_moved.specs.Images.{point_image}
+use Rattle.ppdb_values.specs.declared.{annotation.Annotation.{Annotation}, file.DocumentValue.{DocumentValue}, file.MethodValue.{MethodValue}}
+use Rattle.ppdb_values.{specs.Meaning.{PointMeaning}, proofs.Mapped.{row_map}}
+use Rattle.ppdb_merge_items.specs.{Annotated.{with_item}, declared.file.AnnotatedFile.{AnnotatedFile}, AnnotatedMeaning.{document_at, point_at, point_meaning}}
 use Rattle.ppdb_merge_items.specs.Each.{Each, Pairs}
+use Rattle.ppdb_merge_moved.specs.{Moved.{moved_document, moved_method, moved_file, with_points}, FitsMethod.{PointsRise, FitsMethod}, Images.{point_image}}
 use Rattle.ppdb_merge_moved.proofs.Points.{points_kept, moved_point}
 
 abbrev told : AnnotatedFile → MethodValue → Point → PointMeaning

@@ -1,13 +1,9 @@
 -- At a kept offset's image the last point that is not after it is the image of the last one not after the kept offset.
 use Rattle.std.proofs.Common.{◌≡◌, ℕ, ◌<◌, ◌≤◌, ◌⊎◌, ◌≢◌, Bool, true, false, cond, List, [], ◌∷◌, Some, refl, sym, ◌∙◌, ap, arith, inl, inr, suc}
-use Rattle.std.specs.Prelude.{nat_le}
-use Rattle.std.specs.List.{filter}
-use Rattle.std.specs.Option.{option_map}
-use Rattle.std.proofs.lemmas.Bool.{cases_lt, le-leb, lt-leb}
-use Rattle.ppdb_base.specs.Offsets.{Offsets, every, gone, lined, Rise, Kept, moved, is_kept_between, old_size}
-use Rattle.ppdb_base.proofs.Moved.{moved_kept, moved_never_falls, moved_passes, keeps_between, kept_below}
-use Rattle.sequence_points.specs.declared.point.Point.{Point}
-use Rattle.sequence_points.specs.MovedPoints.{moved_points, first_offset}
+use Rattle.std.{specs.Prelude.{nat_le}, specs.List.{filter}, specs.Option.{option_map}, proofs.lemmas.Bool.{cases_lt, le-leb, lt-leb}}
+use Rattle.ppdb_base.{specs.Offsets.{Offsets, every, gone, lined, Rise, Kept, moved, is_kept_between, old_size}, proofs.Moved.{moved_kept, moved_never_falls}}
+use Rattle.ppdb_base.proofs.Moved.{moved_passes, keeps_between, kept_below}
+use Rattle.sequence_points.specs.{declared.point.Point.{Point}, MovedPoints.{moved_points, first_offset}}
 use Rattle.ppdb_merge_moved.specs.FitsMethod.{PointsRise}
 use Rattle.ppdb_merge_items.specs.AnnotatedMeaning.{last_of, point_at}
 

@@ -1,11 +1,8 @@
 -- Points that stay move to the start of their list.
 use Rattle.std.proofs.Common.{◌≡◌, ℕ, ◌+◌, ◌<◌, ◌≤◌, ◌++◌, Bool, true, false, List, [], ◌∷◌, length, take, drop, set, get_or, sym, ap, ◌∙◌, arith, append_assoc}
-use Rattle.std.specs.Prelude.{cond, IsTrue, ◌↔◌}
-use Rattle.std.proofs.lemmas.List.{take_more_set, drop_more, drop-drop, drop-set-lt}
-use Rattle.ppdb_base.specs.Offsets.{Offsets, Rise, moved, old_size, is_kept_between, KeepsBetween}
-use Rattle.ppdb_base.proofs.Moved.{kept_test}
-use Rattle.sequence_points.specs.declared.point.Point.{Point}
-use Rattle.sequence_points.specs.MovedPoints.{first_offset, moved_points}
+use Rattle.std.{specs.Prelude.{cond, IsTrue, ◌↔◌}, proofs.lemmas.List.{take_more_set, drop_more, drop-drop, drop-set-lt}}
+use Rattle.ppdb_base.{specs.Offsets.{Offsets, Rise, moved, old_size, is_kept_between, KeepsBetween}, proofs.Moved.{kept_test}}
+use Rattle.sequence_points.specs.{declared.point.Point.{Point}, MovedPoints.{first_offset, moved_points}}
 use Rattle.sequence_points_moved.proofs.Kept.{to_the_next}
 
 abbrev at_image : Offsets → Point → Point

@@ -1,16 +1,9 @@
 -- The points that stay rise, and their offsets are offsets.
-use Rattle.std.proofs.Common.{◌≡◌, ◌≢◌, ℕ, zero, suc, ◌<◌, ◌≤◌, Bool, true, false, cond, List, [], ◌∷◌, refl, arith, inl, length}
-use Rattle.std.proofs.Common.{get_or}
-use Rattle.std.specs.Prelude.{All, AllPairs}
-use Rattle.std.proofs.lemmas.List.Elements.{All-head}
-use Rattle.std.proofs.lemmas.List.Kept.{AllPairs-cons}
-use Rattle.sequence_points.proofs.Follows.{pairs-head, pairs-tail}
-use Rattle.ppdb_base.specs.Offsets.{Offsets, every, gone, lined, Rise, KeepsBetween, moved, old_size}
-use Rattle.ppdb_base.specs.Offsets.{is_kept_between}
-use Rattle.ppdb_base.specs.declared.offsets.Run.{Run}
+use Rattle.std.{proofs.Common.{◌≡◌, ◌≢◌, ℕ, zero, suc, ◌<◌, ◌≤◌, Bool, true, false, cond, List, [], ◌∷◌, refl, arith, inl, length, get_or}, specs.Prelude.{All}}
+use Rattle.std.{specs.Prelude.{AllPairs}, proofs.lemmas.List.Elements.{All-head}, proofs.lemmas.List.Kept.{AllPairs-cons}}
+use Rattle.sequence_points.{proofs.Follows.{pairs-head, pairs-tail}, specs.declared.point.Point.{Point}, specs.MovedPoints.{moved_points, first_offset}}
+use Rattle.ppdb_base.specs.{Offsets.{Offsets, every, gone, lined, Rise, KeepsBetween, moved, old_size, is_kept_between}, declared.offsets.Run.{Run}}
 use Rattle.ppdb_base.proofs.Moved.{moves_right, moved_is, moved_kept, moved_never_falls, moved_passes, is_kept}
-use Rattle.sequence_points.specs.declared.point.Point.{Point}
-use Rattle.sequence_points.specs.MovedPoints.{moved_points, first_offset}
 use Rattle.ppdb_merge_items.specs.Each.{Each, Pairs}
 use Rattle.ppdb_merge_moved.specs.FitsMethod.{PointsRise}
 

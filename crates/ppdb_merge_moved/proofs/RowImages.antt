@@ -1,14 +1,8 @@
 -- The images of rows are rows.
-use Rattle.std.proofs.Common.{◌≡◌, ℕ, zero, suc, ◌<◌, ◌≤◌, ◌&&◌, Bool, true, false, cond, List, [], ◌∷◌, Option, Some, None, refl, sym, ◌∙◌}
-use Rattle.std.proofs.Common.{ap, subst, arith}
-use Rattle.std.specs.Prelude.{nat_eq, IfSome, unwrap_or, get_or}
-use Rattle.std.specs.List.{find, repeat, AllByRecursion}
-use Rattle.std.specs.Option.{option_map}
-use Rattle.std.proofs.lemmas.Bool.{ne_eqb}
-use Rattle.ppdb_maps.specs.declared.entries.RowLine.{RowLine}
-use Rattle.ppdb_maps.specs.declared.entries.SignatureImage.{SignatureImage}
-use Rattle.ppdb_maps.specs.Map.{Map, moved_row, moved_signature, row_within, row_line, signature_line, count_of, is_dropped}
-use Rattle.ppdb_maps.specs.Readable.{IsReadable, IsRowOf, IsSignatureOf}
+use Rattle.std.proofs.Common.{◌≡◌, ℕ, zero, suc, ◌<◌, ◌≤◌, ◌&&◌, Bool, true, false, cond, List, [], ◌∷◌, Option, Some, None, refl, sym, ◌∙◌, ap, subst, arith}
+use Rattle.std.{specs.Prelude.{nat_eq, IfSome, unwrap_or, get_or}, specs.List.{find, repeat, AllByRecursion}, specs.Option.{option_map}, proofs.lemmas.Bool.{ne_eqb}}
+use Rattle.ppdb_maps.specs.{declared.entries.RowLine.{RowLine}, declared.entries.SignatureImage.{SignatureImage}, Map.{Map, moved_row, moved_signature, row_within}}
+use Rattle.ppdb_maps.specs.{Map.{row_line, signature_line, count_of, is_dropped}, Readable.{IsReadable, IsRowOf, IsSignatureOf}}
 use Rattle.ppdb_values.specs.declared.file.FileValue.{FileValue}
 use Rattle.ppdb_values_sound_laws.specs.Named.{count}
 

@@ -1,19 +1,14 @@
 -- The scopes that hold a kept offset move to the scopes that hold its image, and no others do.
 use Rattle.std.proofs.Common.{◌≡◌, ℕ, ◌≤◌, ◌≢◌, ◌&&◌, Bool, true, false, cond, List, Some, None, refl, sym, ◌∙◌, ap, arith, inl, inr, subst, map}
-use Rattle.std.specs.Prelude.{nat_lt, nat_eq}
-use Rattle.std.specs.List.{filter_map}
-use Rattle.std.proofs.lemmas.Bool.{cases_lt, le-leb, lt-leb, lt-ltb, le-ltb, eq-eqb, ne_eqb, eqb-true, eqb-false, ltb-false, not-true, and_parts, both_ways}
-use Rattle.ppdb_base.specs.Offsets.{Offsets, gone, Rise, Kept, moved, old_size}
-use Rattle.ppdb_base.proofs.Moved.{moved_against}
+use Rattle.std.{specs.Prelude.{nat_lt, nat_eq}, specs.List.{filter_map}, proofs.lemmas.Bool.{cases_lt, le-leb, lt-leb, lt-ltb, le-ltb, eq-eqb, ne_eqb, eqb-true}}
+use Rattle.std.proofs.lemmas.Bool.{eqb-false, ltb-false, not-true, and_parts, both_ways}
+use Rattle.ppdb_base.{specs.Offsets.{Offsets, gone, Rise, Kept, moved, old_size}, proofs.Moved.{moved_against}}
 use Rattle.ppdb_maps.specs.Map.{Map, moved_row, offsets_in}
 use Rattle.custom_info.specs.declared.slots.Range.{Range}
-use Rattle.ppdb_merge_items.specs.declared.file.AnnotatedScope.{AnnotatedScope}
-use Rattle.ppdb_merge_moved.specs.Moved.{moved_range, is_empty, scope_image, moved_scope}
-use Rattle.ppdb_merge_items.specs.AnnotatedMeaning.{held as holds, scopes_at}
-use Rattle.ppdb_merge_moved.specs.FitsMethod.{FitsScope}
-use Rattle.ppdb_merge_items.specs.Each.{Each}
+use Rattle.ppdb_merge_items.specs.{declared.file.AnnotatedScope.{AnnotatedScope}, AnnotatedMeaning.{held as holds, scopes_at}, Each.{Each}}
 use Rattle.ppdb_merge_items.proofs.Lists.{Each-filter, Each-weaker}
-use Rattle.ppdb_merge_moved.proofs.Lists.{Alike, filter-filter_map, filter_map-map}
+use Rattle.ppdb_merge_moved.{specs.Moved.{moved_range, is_empty, scope_image, moved_scope}, specs.FitsMethod.{FitsScope}, proofs.Lists.{Alike, filter-filter_map}}
+use Rattle.ppdb_merge_moved.proofs.Lists.{filter_map-map}
 
 -- a range holds a kept offset exactly where the moved range holds its image
 pub holds_kept : (o : Offsets) → Rise o → (o ≢ gone) → (x y : ℕ) → Kept o x y → x ≤ old_size o → (r : Range) → r.start ≤ r.end → r.end ≤ old_size o

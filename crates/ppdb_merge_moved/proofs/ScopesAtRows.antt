@@ -1,18 +1,10 @@
 -- Scopes with the records on their rows, one more at a time; and as the value has them.
 use Rattle.std.proofs.Common.{◌≡◌, ℕ, suc, ◌+◌, ◌-◌, ◌<◌, ◌≤◌, ◌++◌, List, [], ◌∷◌, length, take, map, refl, sym, ap, ◌∙◌, arith, append_assoc}
-use Rattle.std.specs.List.{sum_by, enumerate_from}
-use Rattle.std.proofs.lemmas.List.{length-append, take_at}
-use Rattle.std.proofs.lemmas.List.Sums.{sum_by-append, sum_by-cons}
-use Rattle.ppdb_values.specs.declared.file.FileValue.{FileValue}
-use Rattle.ppdb_values.specs.declared.annotation.Custom.{Custom}
-use Rattle.ppdb_values.specs.declared.annotation.Annotation.{Annotation}
-use Rattle.ppdb_values.specs.declared.scope.ScopeValue.{ScopeValue}
-use Rattle.ppdb_values.specs.declared.scope.VariableValue.{VariableValue}
-use Rattle.ppdb_values.specs.declared.scope.ConstantValue.{ConstantValue}
-use Rattle.ppdb_values.specs.Meaning.{annotated_on, annotated_from}
+use Rattle.std.{specs.List.{sum_by, enumerate_from}, proofs.lemmas.List.{length-append, take_at}, proofs.lemmas.List.Sums.{sum_by-append, sum_by-cons}}
+use Rattle.ppdb_values.specs.declared.{file.FileValue.{FileValue}, annotation.Custom.{Custom}, annotation.Annotation.{Annotation}, scope.ScopeValue.{ScopeValue}}
+use Rattle.ppdb_values.specs.{declared.scope.VariableValue.{VariableValue}, declared.scope.ConstantValue.{ConstantValue}, Meaning.{annotated_on, annotated_from}}
 use Rattle.ppdb_values.specs.Parts.{first_item}
-use Rattle.ppdb_merge_items.specs.declared.file.AnnotatedScope.{AnnotatedScope}
-use Rattle.ppdb_merge_items.specs.Annotated.{annotated_scope}
+use Rattle.ppdb_merge_items.specs.{declared.file.AnnotatedScope.{AnnotatedScope}, Annotated.{annotated_scope}}
 use Rattle.ppdb_merge_moved.specs.OnRows.{annotated_by, annotated_scope_by, annotated_scopes_by}
 
 pub scopes_more : (S V C : ℕ → List Custom) (row variable constant : ℕ) (xs : List ScopeValue) (s : ScopeValue)

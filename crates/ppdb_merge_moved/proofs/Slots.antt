@@ -1,28 +1,17 @@
 -- The hoisted locals that hold a kept offset move to those that hold its image.
 use Rattle.std.proofs.Common.{◌≡◌, ℕ, ◌+◌, ◌≤◌, ◌≢◌, ◌++◌, Bool, true, false, cond, List, [], ◌∷◌, Some, None, refl, sym, ◌∙◌, ap, arith, subst, map}
-use Rattle.std.specs.Prelude.{nat_eq}
-use Rattle.std.specs.List.{filter, filter_map, flat_map, enumerate_from, cons_option}
-use Rattle.std.proofs.lemmas.Bool.{eqb-true, and_parts, both_ways}
+use Rattle.std.{specs.Prelude.{nat_eq}, specs.List.{filter, filter_map, flat_map, enumerate_from, cons_option}, proofs.lemmas.Bool.{eqb-true, and_parts, both_ways}}
 use Rattle.std.proofs.lemmas.List.{map-append}
 use Rattle.ppdb_base.specs.Offsets.{gone, Rise, Kept, old_size}
-use Rattle.ppdb_maps.specs.Readable.{IsReadable}
-use Rattle.ppdb_maps.specs.Map.{Map, moved_row, offsets_in}
-use Rattle.custom_info.specs.declared.slots.Slot.{Slot}
-use Rattle.custom_info.specs.declared.slots.Slot.TheVariants.{Empty, Held}
-use Rattle.ppdb_values.specs.declared.custom.CustomBody.{CustomBody}
-use Rattle.ppdb_values.specs.declared.custom.CustomBody.TheVariants.{Async, Hoisted, TypeDocuments, Unread}
-use Rattle.ppdb_values.specs.declared.custom.CustomValue.{CustomValue}
-use Rattle.ppdb_values.specs.Meaning.{SlotMeaning, slot_at}
-use Rattle.ppdb_values.specs.Parts.{holds, slots_in}
-use Rattle.ppdb_merge_items.specs.Each.{Each}
-use Rattle.ppdb_merge_items.specs.declared.file.AnnotatedFile.{AnnotatedFile}
-use Rattle.ppdb_merge_moved.specs.Moved.{moved_range, is_empty, moved_slot, moved_body, moved_file}
-use Rattle.ppdb_merge_moved.specs.Images.{slot_meaning_image}
-use Rattle.ppdb_merge_items.specs.AnnotatedMeaning.{slots_among, slots_at}
-use Rattle.ppdb_merge_moved.specs.FitsMethod.{MovesAsMethod, FitsSlot, FitsSlots, FitsCustom}
+use Rattle.ppdb_maps.specs.{Readable.{IsReadable}, Map.{Map, moved_row, offsets_in}}
+use Rattle.custom_info.specs.declared.slots.{Slot.{Slot}, Slot.TheVariants.{Empty, Held}}
+use Rattle.ppdb_values.specs.declared.custom.{CustomBody.{CustomBody}, CustomBody.TheVariants.{Async, Hoisted, TypeDocuments, Unread}, CustomValue.{CustomValue}}
+use Rattle.ppdb_values.specs.{Meaning.{SlotMeaning, slot_at}, Parts.{holds, slots_in}}
+use Rattle.ppdb_merge_items.specs.{Each.{Each}, declared.file.AnnotatedFile.{AnnotatedFile}, AnnotatedMeaning.{slots_among, slots_at}}
 use Rattle.ppdb_merge_items.proofs.Lists.{Each-filter}
-use Rattle.ppdb_merge_moved.proofs.Customs.{on, image_of, records_moved}
-use Rattle.ppdb_merge_moved.proofs.Scopes.{holds_kept, empty_holds}
+use Rattle.ppdb_merge_moved.specs.{Moved.{moved_range, is_empty, moved_slot, moved_body, moved_file}, Images.{slot_meaning_image}, FitsMethod.{MovesAsMethod}}
+use Rattle.ppdb_merge_moved.{specs.FitsMethod.{FitsSlot, FitsSlots, FitsCustom}, proofs.Customs.{on, image_of, records_moved}, proofs.Scopes.{holds_kept}}
+use Rattle.ppdb_merge_moved.proofs.Scopes.{empty_holds}
 
 -- ---- the slots of one record
 

@@ -1,62 +1,31 @@
 -- The items of a sound file are sound after they have moved.
-use Rattle.std.proofs.Common.{◌≡◌, ◌≢◌, ℕ, ◌<◌, ◌≤◌, ◌⊎◌, Bool, true, false, cond, List, [], ◌∷◌, Option, Some, None, length, map, refl, sym, ◌∙◌}
-use Rattle.std.proofs.Common.{ap, subst, arith, inl, inr}
-use Rattle.std.specs.Prelude.{nat_eq, nat_le, nat_lt, All, IfSome, get_or}
-use Rattle.std.specs.List.{filter, repeat}
-use Rattle.std.specs.Option.{option_map}
-use Rattle.std.proofs.lemmas.Bool.{and_parts, cases_lt, eqb-true, le-leb, leb-true, ltb-true, not-false}
-use Rattle.std.proofs.lemmas.List.Elements.{All-head, All-tail}
-use Rattle.ppdb_base.specs.Offsets.{Offsets, every, gone, lined, Rise, Kept, moved, old_size}
-use Rattle.ppdb_base.proofs.Moved.{moved_never_falls}
-use Rattle.type_blobs.specs.declared.types.TypeToken.{TypeToken}
-use Rattle.type_blobs.specs.declared.types.Modifier.{Modifier}
-use Rattle.type_blobs.specs.Types.{rows_of, tag_of}
-use Rattle.type_blobs.specs.Constants.{is_enumerable, is_string, size_of}
-use Rattle.type_blobs.specs.Spelling.{IsBody, IsBodyThere, IsPrimitive}
-use Rattle.custom_info.specs.AsyncStepping.{IsHandler, IsStep}
-use Rattle.custom_info.specs.HoistedScopes.{IsSlot}
-use Rattle.custom_info.specs.declared.kinds.Kind.{Kind}
+use Rattle.std.proofs.Common.{◌≡◌, ◌≢◌, ℕ, ◌<◌, ◌≤◌, ◌⊎◌, Bool, true, false, cond, List, [], ◌∷◌, Option, Some, None, length, map, refl, sym, ◌∙◌, ap, subst, arith}
+use Rattle.std.{proofs.Common.{inl, inr}, specs.Prelude.{nat_eq, nat_le, nat_lt, All, IfSome, get_or}, specs.List.{filter, repeat}, specs.Option.{option_map}}
+use Rattle.std.proofs.lemmas.{Bool.{and_parts, cases_lt, eqb-true, le-leb, leb-true, ltb-true, not-false}, List.Elements.{All-head, All-tail}}
+use Rattle.ppdb_base.{specs.Offsets.{Offsets, every, gone, lined, Rise, Kept, moved, old_size}, proofs.Moved.{moved_never_falls}}
+use Rattle.type_blobs.specs.{declared.types.TypeToken.{TypeToken}, declared.types.Modifier.{Modifier}, Types.{rows_of, tag_of}, Constants.{is_enumerable, is_string}}
+use Rattle.type_blobs.specs.{Constants.{size_of}, Spelling.{IsBody, IsBodyThere, IsPrimitive}}
+use Rattle.custom_info.specs.{AsyncStepping.{IsHandler, IsStep}, HoistedScopes.{IsSlot}, declared.kinds.Kind.{Kind}}
 use Rattle.custom_info.specs.declared.kinds.Kind.TheVariants as kinds
-use Rattle.custom_info.specs.declared.slots.Range.{Range}
-use Rattle.custom_info.specs.declared.slots.Slot.{Slot}
-use Rattle.custom_info.specs.declared.slots.Slot.TheVariants.{Empty, Held}
-use Rattle.custom_info.specs.declared.stepping.AsyncStep.{AsyncStep}
+use Rattle.custom_info.specs.declared.{slots.Range.{Range}, slots.Slot.{Slot}, slots.Slot.TheVariants.{Empty, Held}, stepping.AsyncStep.{AsyncStep}}
 use Rattle.ppdb_maps.specs.Map.{Map, MethodLine, row_image, row_within, moved_row, offsets_in, is_dropped, method_line, is_in_table}
-use Rattle.ppdb_maps.specs.declared.entries.CrossLine.{CrossLine}
-use Rattle.ppdb_maps.specs.declared.image.RowImage.TheVariants.{Row}
-use Rattle.ppdb_maps.specs.Forms.{Crosses, IsTypeTable}
-use Rattle.ppdb_maps.specs.Readable.{IsReadable, IsLineOf}
-use Rattle.ppdb_values.specs.declared.file.FileValue.{FileValue}
-use Rattle.ppdb_values.specs.declared.scope.ConstantValue.{ConstantValue}
-use Rattle.ppdb_values.specs.declared.scope.ConstantBody.{ConstantBody}
-use Rattle.ppdb_values.specs.declared.scope.ConstantBody.TheVariants.{Primitive, Enumerated, General, Object}
-use Rattle.ppdb_values.specs.declared.import.ImportValue.{ImportValue}
+use Rattle.ppdb_maps.specs.{declared.entries.CrossLine.{CrossLine}, declared.image.RowImage.TheVariants.{Row}, Forms.{Crosses, IsTypeTable}, Readable.{IsReadable}}
+use Rattle.ppdb_maps.{specs.Readable.{IsLineOf}, proofs.Parts.{line_offsets}}
+use Rattle.ppdb_values.specs.declared.{file.FileValue.{FileValue}, scope.ConstantValue.{ConstantValue}, scope.ConstantBody.{ConstantBody}}
+use Rattle.ppdb_values.specs.declared.{scope.ConstantBody.TheVariants.{Primitive, Enumerated, General, Object}, import.ImportValue.{ImportValue}}
 use Rattle.ppdb_values.specs.declared.import.ImportValue.TheVariants.{Namespace, AssemblyNamespace, Target, Xml, Alias, AssemblyAlias, NamespaceAlias}
-use Rattle.ppdb_values.specs.declared.import.ImportValue.TheVariants.{AssemblyNamespaceAlias, TargetAlias}
-use Rattle.ppdb_values.specs.declared.custom.CustomBody.{CustomBody}
-use Rattle.ppdb_values.specs.declared.custom.CustomBody.TheVariants.{Async, Hoisted, TypeDocuments, Unread}
-use Rattle.ppdb_values.specs.declared.annotation.Annotation.{Annotation}
+use Rattle.ppdb_values.specs.declared.{import.ImportValue.TheVariants.{AssemblyNamespaceAlias, TargetAlias}, custom.CustomBody.{CustomBody}}
+use Rattle.ppdb_values.specs.declared.{custom.CustomBody.TheVariants.{Async, Hoisted, TypeDocuments, Unread}, annotation.Annotation.{Annotation}}
 use Rattle.ppdb_values.specs.Ranges.{ComesAfter, IsInOrAfter}
-use Rattle.ppdb_values_sound_laws.specs.Customs.{IsBodyOfKind}
-use Rattle.ppdb_values_sound_laws.specs.Imports.{SoundImport}
-use Rattle.ppdb_values_sound_laws.specs.Named.{count, HasRow, HasType, type_limits}
-use Rattle.ppdb_values_sound_laws.specs.Scopes.{SoundConstant, stored_body}
-use Rattle.ppdb_merge_items.specs.Each.{Each, Pairs}
-use Rattle.ppdb_merge_items.specs.NamedRows.{names, in_token, in_body, in_constant, in_import, in_steps, is_gone_type}
-use Rattle.ppdb_merge_items.specs.NamedRows.{live_body, live_constants, with_live_body}
-use Rattle.ppdb_merge_items.specs.Annotated.{items_of, with_item}
-use Rattle.ppdb_merge_items.proofs.Lists.{Each-filter, Each-map, Each-unmap, Pairs-map, Pairs-unmap}
-use Rattle.ppdb_merge_moved.proofs.Lists.{Pairs-filter}
-use Rattle.ppdb_merge_moved.specs.Fits.{IsImaged, KeepsStep, KeepsAsync, EndsWithin, AreWithin}
-use Rattle.ppdb_merge_moved.specs.Moved.{moved_range, is_empty, moved_slot, moved_step, moved_body, moved_token, moved_modifier, moved_constant_body}
-use Rattle.ppdb_merge_moved.specs.Moved.{moved_constant, moved_import, row_in, table_in}
-use Rattle.ppdb_merge_moved.proofs.Elements.{each_parts}
-use Rattle.ppdb_merge_moved.proofs.Means.{kept_within}
-use Rattle.ppdb_merge_moved.proofs.RisingPoints.{all_each, size_moved, itself_moved}
-use Rattle.ppdb_merge_moved.proofs.ImageRows.{StaysOrCrosses, image_cases, image_in, within}
-use Rattle.ppdb_merge_moved.proofs.RowImages.{row_moved, found_holds}
-use Rattle.ppdb_merge_items.proofs.Parts.{live_constant}
-use Rattle.ppdb_maps.proofs.Parts.{line_offsets}
+use Rattle.ppdb_values_sound_laws.specs.{Customs.{IsBodyOfKind}, Imports.{SoundImport}, Named.{count, HasRow, HasType, type_limits}, Scopes.{SoundConstant}}
+use Rattle.ppdb_values_sound_laws.specs.Scopes.{stored_body}
+use Rattle.ppdb_merge_items.specs.{Each.{Each, Pairs}, NamedRows.{names, in_token, in_body, in_constant, in_import, in_steps, is_gone_type, live_body}}
+use Rattle.ppdb_merge_items.{specs.NamedRows.{live_constants, with_live_body}, specs.Annotated.{items_of, with_item}, proofs.Lists.{Each-filter, Each-map}}
+use Rattle.ppdb_merge_items.proofs.{Lists.{Each-unmap, Pairs-map, Pairs-unmap}, Parts.{live_constant}}
+use Rattle.ppdb_merge_moved.{proofs.Lists.{Pairs-filter}, specs.Fits.{IsImaged, KeepsStep, KeepsAsync, EndsWithin, AreWithin}, specs.Moved.{moved_range, is_empty}}
+use Rattle.ppdb_merge_moved.specs.Moved.{moved_slot, moved_step, moved_body, moved_token, moved_modifier, moved_constant_body, moved_constant, moved_import, row_in}
+use Rattle.ppdb_merge_moved.{specs.Moved.{table_in}, proofs.Elements.{each_parts}, proofs.Means.{kept_within}, proofs.RisingPoints.{all_each, size_moved}}
+use Rattle.ppdb_merge_moved.proofs.{RisingPoints.{itself_moved}, ImageRows.{StaysOrCrosses, image_cases, image_in, within}, RowImages.{row_moved, found_holds}}
 
 -- a value whose type system has as many rows as may be
 abbrev pub most : FileValue → FileValue

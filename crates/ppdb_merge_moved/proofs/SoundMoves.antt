@@ -1,77 +1,41 @@
 -- A sound file that a map fits is sound, part by part, after it has moved.
-use Rattle.std.proofs.Common.{◌≡◌, ◌≢◌, ℕ, zero, suc, ◌+◌, ◌*◌, ◌<◌, ◌≤◌, ◌&&◌, ◌||◌, not, Bool, true, false, cond, List, [], ◌∷◌, Option, Some, None}
-use Rattle.std.proofs.Common.{map, length, refl, sym, ◌∙◌, ap, subst, arith, inl, inr}
-use Rattle.std.specs.Prelude.{bytes_eq, nat_eq, nat_lt, ◌==◌, IsSome, Contains, unwrap_or, position}
-use Rattle.std.specs.List.{filter}
-use Rattle.std.specs.Option.{option_map}
-use Rattle.std.proofs.lemmas.Bool.{eqb-true, ltb-true, not-false, both_ways, and_parts}
-use Rattle.std.proofs.lemmas.Slice.Eq.{bytes_eq-Decides}
-use Rattle.std.proofs.lemmas.List.{length-map}
+use Rattle.std.proofs.Common.{◌≡◌, ◌≢◌, ℕ, zero, suc, ◌+◌, ◌*◌, ◌<◌, ◌≤◌, ◌&&◌, ◌||◌, not, Bool, true, false, cond, List, [], ◌∷◌, Option, Some, None, map, length}
+use Rattle.std.{proofs.Common.{refl, sym, ◌∙◌, ap, subst, arith, inl, inr}, specs.Prelude.{bytes_eq, nat_eq, nat_lt, ◌==◌, IsSome, Contains, unwrap_or, position}}
+use Rattle.std.{specs.List.{filter}, specs.Option.{option_map}, proofs.lemmas.Bool.{eqb-true, ltb-true, not-false, both_ways, and_parts}}
+use Rattle.std.proofs.lemmas.{Slice.Eq.{bytes_eq-Decides}, List.{length-map}}
 use Rattle.ppdb_base.specs.Offsets.{gone, Rise, moved, old_size, is_kept_between}
-use Rattle.sequence_points.specs.declared.point.Point.{Point}
-use Rattle.sequence_points.specs.MovedPoints.{moved_points, first_offset}
-use Rattle.ppdb_maps.specs.declared.entries.CrossLine.{CrossLine}
-use Rattle.ppdb_maps.specs.declared.image.RowImage.{RowImage}
-use Rattle.ppdb_maps.specs.declared.image.RowImage.TheVariants.{Row}
-use Rattle.ppdb_maps.specs.Forms.{Crosses, IsTypeTable}
-use Rattle.ppdb_maps.specs.Map.{Map, row_image, row_within, moved_row, offsets_in, is_dropped, method_line, is_gone_row, leaves_table}
+use Rattle.sequence_points.specs.{declared.point.Point.{Point}, MovedPoints.{moved_points, first_offset}}
+use Rattle.ppdb_maps.specs.{declared.entries.CrossLine.{CrossLine}, declared.image.RowImage.{RowImage}, declared.image.RowImage.TheVariants.{Row}, Forms.{Crosses}}
+use Rattle.ppdb_maps.specs.{Forms.{IsTypeTable}, Map.{Map, row_image, row_within, moved_row, offsets_in, is_dropped, method_line, is_gone_row, leaves_table}}
 use Rattle.ppdb_maps.specs.Readable.{IsReadable}
-use Rattle.ppdb_tables.specs.declared.rows.MachineRow.{MachineRow}
+use Rattle.ppdb_tables.specs.{declared.rows.MachineRow.{MachineRow}, Parents.{coded_in}, RawTables.{row_at}}
 use Rattle.row_layout.specs.Columns.{parent_tables}
-use Rattle.ppdb_tables.specs.Parents.{coded_in}
-use Rattle.ppdb_tables.specs.RawTables.{row_at}
-use Rattle.ppdb_values.specs.declared.custom.CustomValue.{CustomValue}
-use Rattle.ppdb_values.specs.declared.file.FileValue.{FileValue}
-use Rattle.ppdb_values.specs.declared.file.MethodValue.{MethodValue}
-use Rattle.ppdb_values.specs.declared.file.DocumentValue.{DocumentValue}
-use Rattle.ppdb_values.specs.declared.import.ImportScopeValue.{ImportScopeValue}
-use Rattle.ppdb_values.specs.declared.import.ImportValue.{ImportValue}
-use Rattle.ppdb_values.specs.Chains.{NeverEnds, parent_at, ancestor_of}
-use Rattle.ppdb_values.specs.declared.annotation.Custom.{Custom}
-use Rattle.ppdb_values.specs.declared.annotation.Annotation.{Annotation}
+use Rattle.ppdb_values.specs.declared.{custom.CustomValue.{CustomValue}, file.FileValue.{FileValue}, file.MethodValue.{MethodValue}}
+use Rattle.ppdb_values.specs.declared.{file.DocumentValue.{DocumentValue}, import.ImportScopeValue.{ImportScopeValue}, import.ImportValue.{ImportValue}}
+use Rattle.ppdb_values.specs.{Chains.{NeverEnds, parent_at, ancestor_of}, declared.annotation.Custom.{Custom}, declared.annotation.Annotation.{Annotation}}
 use Rattle.ppdb_values.specs.declared.scope.VariableValue.{VariableValue}
-use Rattle.custom_info.specs.Kinds.{kind_of, source_link}
-use Rattle.custom_info.specs.declared.kinds.Kind.{Kind}
+use Rattle.custom_info.specs.{Kinds.{kind_of, source_link}, declared.kinds.Kind.{Kind}}
 use Rattle.custom_info.specs.declared.kinds.Kind.TheVariants as kinds
-use Rattle.ppdb_values.specs.Parts.{is_at, is_link}
-use Rattle.ppdb_values.specs.declared.custom.CustomBody.{CustomBody}
-use Rattle.ppdb_values.specs.declared.custom.CustomBody.TheVariants.{Async, Hoisted, TypeDocuments, Unread}
-use Rattle.ppdb_values.specs.Rules.{StandsOn}
-use Rattle.ppdb_values.specs.Ranges.{ComesAfter, IsInOrAfter}
+use Rattle.ppdb_values.specs.{Parts.{is_at, is_link}, declared.custom.CustomBody.{CustomBody}, declared.custom.CustomBody.TheVariants.{Async, Hoisted}}
+use Rattle.ppdb_values.specs.{declared.custom.CustomBody.TheVariants.{TypeDocuments, Unread}, Rules.{StandsOn}, Ranges.{ComesAfter, IsInOrAfter}}
 use Rattle.ppdb_values.proofs.Mapped.{row_map}
-use Rattle.ppdb_values_sound_laws.specs.Customs.{SoundCustom, IsBodyOfKind}
-use Rattle.ppdb_values_sound_laws.specs.Methods.{SoundMethod, SoundPoint}
-use Rattle.ppdb_values_sound_laws.specs.Named.{count, HasRow}
-use Rattle.ppdb_values_sound_laws.specs.Sound.{SoundMachine}
-use Rattle.ppdb_merge_items.specs.declared.file.AnnotatedScope.{AnnotatedScope}
-use Rattle.ppdb_merge_items.specs.declared.file.AnnotatedFile.{AnnotatedFile}
-use Rattle.ppdb_merge_items.specs.Each.{Each, Pairs}
-use Rattle.ppdb_merge_items.specs.NamedRows.{names, names_some, named_rows, live_machine, live_custom, live_scope, live_signature, in_constant, in_import, in_steps}
-use Rattle.ppdb_merge_items.specs.NamedRows.{is_type_documents, live_constants, live_import, with_live_body}
-use Rattle.ppdb_merge_items.specs.SoundParts.{SoundMoved, SoundNote, SoundAnnotatedScope}
-use Rattle.ppdb_merge_items.specs.Unannotated.{value_of_annotated}
-use Rattle.ppdb_merge_items.specs.Annotated.{items_of, with_item}
-use Rattle.ppdb_values_sound_laws.specs.Scopes.{SoundVariable, SoundConstant}
-use Rattle.ppdb_values_sound_laws.specs.Imports.{SoundImport, SoundImportScope}
+use Rattle.ppdb_values_sound_laws.specs.{Customs.{SoundCustom, IsBodyOfKind}, Methods.{SoundMethod, SoundPoint}, Named.{count, HasRow}, Sound.{SoundMachine}}
+use Rattle.ppdb_values_sound_laws.specs.{Scopes.{SoundVariable, SoundConstant}, Imports.{SoundImport, SoundImportScope}}
+use Rattle.ppdb_merge_items.specs.{declared.file.AnnotatedScope.{AnnotatedScope}, declared.file.AnnotatedFile.{AnnotatedFile}, Each.{Each, Pairs}, NamedRows.{names}}
+use Rattle.ppdb_merge_items.specs.NamedRows.{names_some, named_rows, live_machine, live_custom, live_scope, live_signature, in_constant, in_import, in_steps}
+use Rattle.ppdb_merge_items.specs.{NamedRows.{is_type_documents, live_constants, live_import, with_live_body}, SoundParts.{SoundMoved, SoundNote}}
+use Rattle.ppdb_merge_items.specs.{SoundParts.{SoundAnnotatedScope}, Unannotated.{value_of_annotated}, Annotated.{items_of, with_item}}
 use Rattle.ppdb_merge_items.proofs.Lists.{Each-filter, Each-map, Each-weaker, Pairs-map, Pairs-weaker, each_row, row_each, pairs_row, row_pairs}
-use Rattle.ppdb_merge_moved.specs.Fits.{Fits, IsImaged, HasSlot, KeepsAsync, AreWithin}
-use Rattle.ppdb_merge_moved.specs.Laws.{IsImageOfNamed, MovedNames}
-use Rattle.ppdb_merge_moved.specs.Moved.{moved_range, is_empty, moved_variable, moved_constant, moved_import, moved_import_scope, with_points}
-use Rattle.ppdb_merge_moved.specs.Moved.{moved_method, scope_image, moved_scope, moved_machine, moved_body, moved_record, moved_custom, moved_file}
-use Rattle.ppdb_merge_moved.specs.Moved.{linked, moved_document, row_in, table_in}
-use Rattle.ppdb_merge_moved.proofs.Fitting.{offsets_rise}
-use Rattle.ppdb_merge_moved.proofs.Elements.{each_in}
-use Rattle.ppdb_merge_moved.proofs.Lists.{Each-filter_map, Pairs-filter_map, Each-both, each_of_three, each_of_four}
-use Rattle.ppdb_merge_moved.proofs.NamedParts.{NamedParts, named_parts}
-use Rattle.ppdb_merge_moved.proofs.Customs.{image_of}
-use Rattle.ppdb_merge_moved.proofs.ImageRows.{StaysOrCrosses, image_cases, image_in, image_stays, linked_lives, no_shared_method, moved_stays, never_method}
-use Rattle.ppdb_merge_moved.proofs.ImageRows.{within, within_moved}
-use Rattle.ppdb_merge_moved.proofs.RisingPoints.{all_each, all_pairs, points_rise, points_are_rising}
-use Rattle.ppdb_merge_moved.proofs.RowImages.{row_moved, signature_moved, count_most}
-use Rattle.ppdb_merge_moved.proofs.SoundItems.{most, each_all, small_after, body_same, constant_moved, import_moved, body_kept, ranges_moved, live_sound, live_differ}
-use Rattle.ppdb_merge_items.proofs.Parts.{live_constant}
+use Rattle.ppdb_merge_items.proofs.Parts.{live_constant, live_imports}
+use Rattle.ppdb_merge_moved.specs.{Fits.{Fits, IsImaged, HasSlot, KeepsAsync, AreWithin}, Laws.{IsImageOfNamed, MovedNames}, Moved.{moved_range, is_empty}}
+use Rattle.ppdb_merge_moved.specs.Moved.{moved_variable, moved_constant, moved_import, moved_import_scope, with_points, moved_method, scope_image, moved_scope}
+use Rattle.ppdb_merge_moved.specs.Moved.{moved_machine, moved_body, moved_record, moved_custom, moved_file, linked, moved_document, row_in, table_in}
+use Rattle.ppdb_merge_moved.proofs.{Fitting.{offsets_rise}, Elements.{each_in}, Lists.{Each-filter_map, Pairs-filter_map, Each-both, each_of_three, each_of_four}}
+use Rattle.ppdb_merge_moved.proofs.{NamedParts.{NamedParts, named_parts}, Customs.{image_of}, ImageRows.{StaysOrCrosses, image_cases, image_in, image_stays}}
+use Rattle.ppdb_merge_moved.proofs.{ImageRows.{linked_lives, no_shared_method, moved_stays, never_method, within, within_moved}, RisingPoints.{all_each, all_pairs}}
+use Rattle.ppdb_merge_moved.proofs.{RisingPoints.{points_rise, points_are_rising}, RowImages.{row_moved, signature_moved, count_most}, SoundItems.{most, each_all}}
+use Rattle.ppdb_merge_moved.proofs.SoundItems.{small_after, body_same, constant_moved, import_moved, body_kept, ranges_moved, live_sound, live_differ}
 use Rattle.ppdb_maps.proofs.Parts.{line_offsets}
-use Rattle.ppdb_merge_items.proofs.Parts.{live_imports}
 
 some_of : {A : Type 0} (a b : A) → Some a ≡ Some b → a ≡ b
 some_of a b e = cc

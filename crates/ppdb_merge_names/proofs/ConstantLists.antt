@@ -1,26 +1,15 @@
 -- The constants of scopes in order are the rows of their table.
-use Rattle.std.proofs.Common.{◌≡◌, ℕ, zero, suc, ◌+◌, ◌-◌, ◌<◌, ◌≤◌, Bool, true, false, cond, List, [], ◌∷◌, ◌++◌, length, take, drop, map, slice_get, Option}
-use Rattle.std.proofs.Common.{Some, None, refl, sym, ap, ◌∙◌, arith}
-use Rattle.std.specs.Prelude.{slice_range, unwrap_or}
-use Rattle.std.specs.List.{flat_map, enumerate_from}
-use Rattle.std.specs.Option.{option_map, option_and_then}
-use Rattle.std.proofs.lemmas.Grind.{flat_map-append}
-use Rattle.std.proofs.lemmas.List.{drop_all, drop-drop, take-append-drop}
+use Rattle.std.proofs.Common.{◌≡◌, ℕ, zero, suc, ◌+◌, ◌-◌, ◌<◌, ◌≤◌, Bool, true, false, cond, List, [], ◌∷◌, ◌++◌, length, take, drop, map, slice_get, Option, Some}
+use Rattle.std.{proofs.Common.{None, refl, sym, ap, ◌∙◌, arith}, specs.Prelude.{slice_range, unwrap_or}, specs.List.{flat_map, enumerate_from}}
+use Rattle.std.{specs.Option.{option_map, option_and_then}, proofs.lemmas.Grind.{flat_map-append}, proofs.lemmas.List.{drop_all, drop-drop, take-append-drop}}
 use Rattle.std.proofs.lemmas.List.FromFn.{length-enumerate_from}
 use Rattle.ppdb_maps.specs.Map.{Map, is_dropped}
-use Rattle.ppdb_tables.specs.declared.rows.ScopeRow.{ScopeRow}
-use Rattle.ppdb_tables.specs.declared.rows.ConstantRow.{ConstantRow}
-use Rattle.ppdb_tables.specs.RawTables.{RawTables, numbered, row_at}
-use Rattle.ppdb_values.specs.Owners.{ListsAreOwned}
-use Rattle.ppdb_values.specs.Rules.{KeepsLists}
-use Rattle.ppdb_values.specs.Value.{owner_of}
-use Rattle.ppdb_values_reading.specs.declared.scopes.ListRange.{ListRange}
-use Rattle.ppdb_values_reading.specs.declared.scopes.Scope.{Scope}
+use Rattle.ppdb_tables.specs.{declared.rows.ScopeRow.{ScopeRow}, declared.rows.ConstantRow.{ConstantRow}, RawTables.{RawTables, numbered, row_at}}
+use Rattle.ppdb_values.specs.{Owners.{ListsAreOwned}, Rules.{KeepsLists}, Value.{owner_of}}
+use Rattle.ppdb_values_reading.specs.declared.scopes.{ListRange.{ListRange}, Scope.{Scope}}
 pub use Rattle.ppdb_values_reading.specs.Scopes.{scope_in}
-use Rattle.ppdb_values_reading.specs.Scopes.{scopes_in, list_range, IsWithin}
-use Rattle.ppdb_values_reading.proofs.Shared.{list_within}
-use Rattle.ppdb_merge_names.specs.References.{Reference, types_of, is_dropped_constant, of_constant}
-use Rattle.ppdb_merge_names.specs.Lists.{of_list, of_scope_constants}
+use Rattle.ppdb_values_reading.{specs.Scopes.{scopes_in, list_range, IsWithin}, proofs.Shared.{list_within}}
+use Rattle.ppdb_merge_names.specs.{References.{Reference, types_of, is_dropped_constant, of_constant}, Lists.{of_list, of_scope_constants}}
 use Rattle.ppdb_merge_names.proofs.Parts.{is_dropped_scope}
 
 -- ---- parts of lists

@@ -1,16 +1,11 @@
 -- References that are gone through one after the other.
-use Rattle.std.proofs.Common.{◌≡◌, ℕ, zero, suc, ◌<◌, true, false, List, [], ◌∷◌, ◌++◌, Some, Result, Ok, Err, slice_get, refl, sym, ap, subst, ◌∙◌}
-use Rattle.std.proofs.Common.{arith, append_assoc, append-nil}
-use Rattle.std.specs.List.{AllByRecursion}
+use Rattle.std.proofs.Common.{◌≡◌, ℕ, zero, suc, ◌<◌, true, false, List, [], ◌∷◌, ◌++◌, Some, Result, Ok, Err, slice_get, refl, sym, ap, subst, ◌∙◌, arith}
+use Rattle.std.{proofs.Common.{append_assoc, append-nil}, specs.List.{AllByRecursion}}
 use Rattle.ppdb_base.specs.declared.fault.Place.{Place}
-use Rattle.ppdb_maps.specs.Map.{Map, is_gone}
-use Rattle.ppdb_maps.specs.declared.image.RowImage.{RowImage}
-use Rattle.ppdb_maps.specs.declared.image.RowImage.TheVariants.{Row, Gone, Missing}
-use Rattle.ppdb_merge_names.specs.declared.imaged.Imaged.{Imaged}
-use Rattle.ppdb_merge_names.specs.declared.imaged.ReferenceError.{ReferenceError}
-use Rattle.ppdb_merge_names.specs.declared.imaged.ReferenceError.TheVariants.{Unmapped, Memory}
-use Rattle.ppdb_merge_names.specs.References.{Reference, names}
-use Rattle.ppdb_merge_names.specs.Imaging.{image_of, AreImagesOf, IsFirstUnmapped, IsRefusedBy, Imaging, with_image, and_then, imaged_on, Goes}
+use Rattle.ppdb_maps.specs.{Map.{Map, is_gone}, declared.image.RowImage.{RowImage}, declared.image.RowImage.TheVariants.{Row, Gone, Missing}}
+use Rattle.ppdb_merge_names.specs.declared.imaged.{Imaged.{Imaged}, ReferenceError.{ReferenceError}, ReferenceError.TheVariants.{Unmapped, Memory}}
+use Rattle.ppdb_merge_names.specs.{References.{Reference, names}, Imaging.{image_of, AreImagesOf, IsFirstUnmapped, IsRefusedBy, Imaging, with_image, and_then}}
+use Rattle.ppdb_merge_names.specs.Imaging.{imaged_on, Goes}
 
 pub imaged_on-append : (s : Imaging) (xs ys : List Reference) → imaged_on s (xs ++ ys) ≡ and_then (imaged_on s xs) (λ t. imaged_on t ys)
 unfolding imaged_on

@@ -1,12 +1,8 @@
 -- Names of parts of what a row names.
-use Rattle.std.specs.Prelude.{ℕ, ◌&&◌, not, Bool, false, List, [], ◌∷◌, Option}
-use Rattle.std.specs.Option.{option_map_or}
-use Rattle.ppdb_tables.specs.declared.rows.ScopeRow.{ScopeRow}
-use Rattle.ppdb_tables.specs.declared.rows.CustomRow.{CustomRow}
-use Rattle.ppdb_tables.specs.RawTables.{RawTables}
+use Rattle.std.specs.{Prelude.{ℕ, ◌&&◌, not, Bool, false, List, [], ◌∷◌, Option}, Option.{option_map_or}}
+use Rattle.ppdb_tables.specs.{declared.rows.ScopeRow.{ScopeRow}, declared.rows.CustomRow.{CustomRow}, RawTables.{RawTables}}
 use Rattle.ppdb_maps.specs.Map.{Map, is_dropped}
-use Rattle.ppdb_values.specs.declared.file.MethodValue.{MethodValue}
-use Rattle.ppdb_values.specs.Names.{cell, Parent}
+use Rattle.ppdb_values.specs.{declared.file.MethodValue.{MethodValue}, Names.{cell, Parent}}
 use Rattle.ppdb_merge_names.specs.References.{Reference, names, of_signature, is_live_parent, leaves_types}
 
 abbrev pub of_points : Map → ℕ → Option MethodValue → List Reference

@@ -1,28 +1,15 @@
 -- What a row names, by what is read of it.
-use Rattle.std.proofs.Common.{◌≡◌, ℕ, true, false, ◌||◌, ◌&&◌, not, List, [], ◌∷◌, Option, Some, refl, sym, ap, ◌∙◌, cond, Bool}
-use Rattle.std.specs.Prelude.{unwrap_or, is_some, ◌≢◌}
+use Rattle.std.{proofs.Common.{◌≡◌, ℕ, true, false, ◌||◌, ◌&&◌, not, List, [], ◌∷◌, Option, Some, refl, sym, ap, ◌∙◌, cond, Bool}, specs.Prelude.{unwrap_or}}
+use Rattle.std.specs.Prelude.{is_some, ◌≢◌}
 use Rattle.ppdb_base.specs.Place.{cell}
-use Rattle.custom_info.specs.Kinds.{kind_of}
-use Rattle.custom_info.specs.declared.kinds.Kind.{Kind}
-use Rattle.custom_info.specs.declared.kinds.Kind.TheVariants.{Async}
+use Rattle.custom_info.specs.{Kinds.{kind_of}, declared.kinds.Kind.{Kind}, declared.kinds.Kind.TheVariants.{Async}}
 use Rattle.ppdb_maps.specs.Map.{Map, is_dropped, signature_line, row_image, is_gone_row, leaves_table}
-use Rattle.ppdb_tables.specs.declared.parent.Parent.{Parent}
-use Rattle.ppdb_tables.specs.declared.rows.MethodDebugRow.{MethodDebugRow}
-use Rattle.ppdb_tables.specs.declared.rows.ScopeRow.{ScopeRow}
-use Rattle.ppdb_tables.specs.declared.rows.MachineRow.{MachineRow}
-use Rattle.ppdb_tables.specs.declared.rows.CustomRow.{CustomRow}
-use Rattle.ppdb_tables.specs.Parents.{parent_in}
-use Rattle.ppdb_tables.specs.RawTables.{RawTables, row_at}
-use Rattle.ppdb_values.specs.declared.file.MethodValue.{MethodValue}
-use Rattle.ppdb_values.specs.Customs.{parent_of, kind_in}
-use Rattle.ppdb_values.specs.Documents.{method_of}
-use Rattle.ppdb_values.specs.Parts.{method_at}
-use Rattle.ppdb_values.specs.RawFile.{RawFile}
-use Rattle.ppdb_values.specs.Rows.{ValuesAreRows, method_in}
-use Rattle.ppdb_values.specs.Value.{value_of}
-use Rattle.ppdb_merge_names.specs.References.{Reference, names, names_some, of_entry, of_signature, of_method, of_scope, of_machine, methods_in}
-use Rattle.ppdb_merge_names.specs.References.{is_type_documents, is_live_parent, leaves_types, of_parent, of_custom}
-use Rattle.ppdb_merge_names.proofs.Parts.{of_points, is_live_record}
+use Rattle.ppdb_tables.specs.declared.{parent.Parent.{Parent}, rows.MethodDebugRow.{MethodDebugRow}, rows.ScopeRow.{ScopeRow}, rows.MachineRow.{MachineRow}}
+use Rattle.ppdb_tables.specs.{declared.rows.CustomRow.{CustomRow}, Parents.{parent_in}, RawTables.{RawTables, row_at}}
+use Rattle.ppdb_values.specs.{declared.file.MethodValue.{MethodValue}, Customs.{parent_of, kind_in}, Documents.{method_of}, Parts.{method_at}, RawFile.{RawFile}}
+use Rattle.ppdb_values.specs.{Rows.{ValuesAreRows, method_in}, Value.{value_of}}
+use Rattle.ppdb_merge_names.specs.References.{Reference, names, names_some, of_entry, of_signature, of_method, of_scope, of_machine, methods_in, is_type_documents}
+use Rattle.ppdb_merge_names.{specs.References.{is_live_parent, leaves_types, of_parent, of_custom}, proofs.Parts.{of_points, is_live_record}}
 
 abbrev if_kept : Bool → List Reference → List Reference
 if_kept dropped rs = cond dropped [] rs

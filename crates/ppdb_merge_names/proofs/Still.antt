@@ -1,41 +1,20 @@
 -- No row that a file names is gone: what names such a row goes.
 use Rattle.std.proofs.Common.{◌≡◌, ℕ, Bool, true, false, ◌&&◌, ◌||◌, not, cond, List, [], ◌∷◌, ◌++◌, Option, Some, None, refl, ap, ◌∙◌, arith, filter}
-use Rattle.std.specs.Prelude.{is_some, nat_eq, nat_lt, ◌≢◌}
-use Rattle.std.specs.List.{AllByRecursion, flat_map, list_any}
+use Rattle.std.specs.{Prelude.{is_some, nat_eq, nat_lt, ◌≢◌}, List.{AllByRecursion, flat_map, list_any}}
 use Rattle.ppdb_base.specs.Place.{at_byte, cell}
-use Rattle.custom_info.specs.declared.kinds.Kind.{Kind}
-use Rattle.custom_info.specs.declared.kinds.Kind.TheVariants.{Async}
-use Rattle.custom_info.specs.Kinds.{kind_of}
-use Rattle.blob_grammar.specs.Places.{placed_of}
-use Rattle.blob_grammar.specs.Grammar.{Value, number}
-use Rattle.blob_grammar.specs.Reader.{prefix_of}
-use Rattle.custom_info.specs.AsyncStepping.{async_stepping}
+use Rattle.custom_info.specs.{declared.kinds.Kind.{Kind}, declared.kinds.Kind.TheVariants.{Async}, Kinds.{kind_of}, AsyncStepping.{async_stepping}}
+use Rattle.blob_grammar.specs.{Places.{placed_of}, Grammar.{Value, number}, Reader.{prefix_of}}
 use Rattle.ppdb_maps.specs.Map.{Map, is_dropped, signature_line, row_image, told_image, has_gone_line, row_line, cross_line, count_of, is_gone, is_gone_row}
-use Rattle.ppdb_maps.specs.Readable.{IsReadable, IsGoneOf}
-use Rattle.ppdb_maps.specs.declared.entries.CrossLine.{CrossLine}
-use Rattle.ppdb_maps.specs.declared.entries.GoneLine.{GoneLine}
-use Rattle.ppdb_maps.specs.declared.image.RowImage.{RowImage}
-use Rattle.ppdb_maps.specs.declared.image.RowImage.TheVariants.{Row, Missing}
-use Rattle.ppdb_tables.specs.declared.parent.Parent.{Parent}
-use Rattle.ppdb_tables.specs.RawTables.{RawTables, count, numbered}
-use Rattle.ppdb_tables.specs.declared.rows.MethodDebugRow.{MethodDebugRow}
-use Rattle.ppdb_tables.specs.declared.rows.ScopeRow.{ScopeRow}
-use Rattle.ppdb_tables.specs.declared.rows.ConstantRow.{ConstantRow}
-use Rattle.ppdb_tables.specs.declared.rows.ImportRow.{ImportRow}
-use Rattle.ppdb_tables.specs.declared.rows.MachineRow.{MachineRow}
-use Rattle.ppdb_tables.specs.declared.rows.CustomRow.{CustomRow}
-use Rattle.ppdb_values.specs.Names.{blob_at}
-use Rattle.ppdb_values.specs.declared.file.MethodValue.{MethodValue}
-use Rattle.ppdb_values.specs.Documents.{method_of}
-use Rattle.ppdb_values.specs.Customs.{parent_of, kind_in}
-use Rattle.ppdb_values.specs.RawFile.{RawFile, blob, type_limits}
-use Rattle.type_blobs_rows.specs.declared.row.PlacedRow.{PlacedRow}
-use Rattle.type_blobs_rows.specs.Rows.{constant_types, import_rows, method_behind, resume_method, resume_methods}
-use Rattle.ppdb_merge_names.specs.References.{names, names_some, inside, is_live, takes_constant, live_types, of_entry, of_signature}
-use Rattle.ppdb_merge_names.specs.References.{of_method, of_scope, is_dropped_constant, of_constant, of_import, of_machine, methods_in}
-use Rattle.ppdb_merge_names.specs.References.{of_parent, leaves_types, of_custom, of_methods, of_others, references}
-use Rattle.ppdb_merge_names.proofs.Going.{IsStill}
-use Rattle.ppdb_merge_names.proofs.Parts.{of_points}
+use Rattle.ppdb_maps.specs.{Readable.{IsReadable, IsGoneOf}, declared.entries.CrossLine.{CrossLine}, declared.entries.GoneLine.{GoneLine}}
+use Rattle.ppdb_maps.specs.declared.image.{RowImage.{RowImage}, RowImage.TheVariants.{Row, Missing}}
+use Rattle.ppdb_tables.specs.{declared.parent.Parent.{Parent}, RawTables.{RawTables, count, numbered}, declared.rows.MethodDebugRow.{MethodDebugRow}}
+use Rattle.ppdb_tables.specs.declared.rows.{ScopeRow.{ScopeRow}, ConstantRow.{ConstantRow}, ImportRow.{ImportRow}, MachineRow.{MachineRow}, CustomRow.{CustomRow}}
+use Rattle.ppdb_values.specs.{Names.{blob_at}, declared.file.MethodValue.{MethodValue}, Documents.{method_of}, Customs.{parent_of, kind_in}, RawFile.{RawFile, blob}}
+use Rattle.ppdb_values.specs.RawFile.{type_limits}
+use Rattle.type_blobs_rows.specs.{declared.row.PlacedRow.{PlacedRow}, Rows.{constant_types, import_rows, method_behind, resume_method, resume_methods}}
+use Rattle.ppdb_merge_names.specs.References.{names, names_some, inside, is_live, takes_constant, live_types, of_entry, of_signature, of_method, of_scope}
+use Rattle.ppdb_merge_names.specs.References.{is_dropped_constant, of_constant, of_import, of_machine, methods_in, of_parent, leaves_types, of_custom, of_methods}
+use Rattle.ppdb_merge_names.{specs.References.{of_others, references}, proofs.Going.{IsStill}, proofs.Parts.{of_points}}
 
 -- ---- lists
 

@@ -3,8 +3,7 @@ use Rattle.std.proofs.Common.{◌≡◌, length, ◌∙◌}
 use Rattle.ppdb_tables.specs.RawTables.{RawTables, HasShape, count}
 use Rattle.ppdb_maps.specs.Map.{Map}
 use Rattle.ppdb_verify_total.proofs.RowLists.{as_many, from_row, one_by_one}
-use Rattle.ppdb_merge_names.specs.References.{of_method, of_scope, of_import, of_machine, of_custom}
-use Rattle.ppdb_merge_names.specs.TableRows.{table_number, row_references, of_table}
+use Rattle.ppdb_merge_names.specs.{References.{of_method, of_scope, of_import, of_machine, of_custom}, TableRows.{table_number, row_references, of_table}}
 use Rattle.ppdb_merge_names.specs.declared.rows.Table as table
 use Rattle.ppdb_merge_names.specs.declared.rows.Table.TheVariants.{MethodDebug, LocalScope, ImportScope, StateMachine, Custom}
 

@@ -1,12 +1,9 @@
 -- A walk over the rows in a blob, a row at a time.
 use Rattle.std.proofs.Common.{◌≡◌, ℕ, ◌&&◌, ◌||◌, Bool, true, false, cond, List, [], ◌∷◌, ◌++◌, Option, Some, None, slice_get, refl, ap, ◌∙◌, filter}
-use Rattle.std.specs.Prelude.{is_some, not, nat_eq}
-use Rattle.std.specs.List.{list_any}
+use Rattle.std.specs.{Prelude.{is_some, not, nat_eq}, List.{list_any}}
 use Rattle.ppdb_maps.specs.Map.{Map, count_of, cross_line, has_gone_line, is_dropped, is_gone, row_line, told_image, is_gone_row}
-use Rattle.ppdb_maps.specs.declared.entries.CrossLine.{CrossLine}
-use Rattle.ppdb_maps.specs.declared.entries.GoneLine.{GoneLine}
-use Rattle.ppdb_maps.specs.declared.image.RowImage.{RowImage}
-use Rattle.ppdb_maps.specs.declared.image.RowImage.TheVariants.{Missing, Row}
+use Rattle.ppdb_maps.specs.declared.{entries.CrossLine.{CrossLine}, entries.GoneLine.{GoneLine}, image.RowImage.{RowImage}, image.RowImage.TheVariants.{Missing}}
+use Rattle.ppdb_maps.specs.declared.image.RowImage.TheVariants.{Row}
 use Rattle.type_blobs_rows.specs.declared.row.PlacedRow.{PlacedRow}
 use Rattle.blob_grammar.specs.Reader.{tail}
 use Rattle.ppdb_merge_names.specs.References.{Reference, inside, is_enumeration, is_live, takes_constant, live_types}

@@ -1,23 +1,13 @@
 -- The types that the signature of a constant names are those of its modifiers and of its body, each with its role.
 use Rattle.std.proofs.Common.{◌≡◌, ℕ, Bool, true, false, List, [], ◌∷◌, ◌++◌, Option, Some, None, refl, sym, ap, subst, ◌∙◌, append_assoc, append-nil, map, cond}
-use Rattle.std.specs.Prelude.{◌==◌, is_some}
-use Rattle.std.proofs.lemmas.List.{map-append}
-use Rattle.std.specs.Option.{option_map_or}
-use Rattle.blob_grammar.specs.Grammar.{Value, number, integer, octets, Cut, with_value, cut}
-use Rattle.blob_grammar.specs.Reader.{prefix_of}
-use Rattle.type_blobs.specs.declared.types.TypeLimits.{TypeLimits}
-use Rattle.type_blobs.specs.declared.types.Modifier.{Modifier}
-use Rattle.type_blobs.specs.Types.{token_of}
-use Rattle.type_blobs.specs.Constants.{constants, modifier_of, body_of, is_modifier, is_object, is_string, ConstantBody as StoredBody, primitive, enumerated}
-use Rattle.type_blobs.specs.Constants.{general, object}
-use Rattle.ppdb_values.specs.declared.scope.ConstantBody.TheVariants.{Object}
-use Rattle.ppdb_values.specs.Constants.{body_value}
-use Rattle.ppdb_values.specs.RawFile.{records_of, begun_of}
-use Rattle.type_blobs_rows.specs.declared.row.Role.TheVariants.{Modifier as ModifierRole, Class}
-use Rattle.type_blobs_rows.specs.Rows.{type_role, constant_type, constant_types}
+use Rattle.std.{specs.Prelude.{◌==◌, is_some}, proofs.lemmas.List.{map-append}, specs.Option.{option_map_or}}
+use Rattle.blob_grammar.specs.{Grammar.{Value, number, integer, octets, Cut, with_value, cut}, Reader.{prefix_of}}
+use Rattle.type_blobs.specs.{declared.types.TypeLimits.{TypeLimits}, declared.types.Modifier.{Modifier}, Types.{token_of}, Constants.{constants, modifier_of}}
+use Rattle.type_blobs.specs.Constants.{body_of, is_modifier, is_object, is_string, ConstantBody as StoredBody, primitive, enumerated, general, object}
+use Rattle.ppdb_values.specs.{declared.scope.ConstantBody.TheVariants.{Object}, Constants.{body_value}, RawFile.{records_of, begun_of}}
+use Rattle.type_blobs_rows.specs.{declared.row.Role.TheVariants.{Modifier as ModifierRole, Class}, Rows.{type_role, constant_type, constant_types}}
 use Rattle.ppdb_merge_items.specs.NamedRows.{Named, in_token}
-use Rattle.ppdb_merge_names_laws.proofs.FieldWalks.{Tells, prefix-names, prefix-good, records-prefix, begun-prefix}
-use Rattle.ppdb_merge_names_laws.proofs.Live.{Said, said, targets_said, body_said}
+use Rattle.ppdb_merge_names_laws.proofs.{FieldWalks.{Tells, prefix-names, prefix-good, records-prefix, begun-prefix}, Live.{Said, said, targets_said, body_said}}
 
 -- a number is a type, after these values
 abbrev type_in : List Value → Value → List Said

@@ -1,12 +1,8 @@
 -- What the fields of a blob report, summed up by what they make.
-use Rattle.std.proofs.Common.{◌≡◌, ℕ, ◌+◌, true, List, [], ◌∷◌, ◌++◌, length, refl, sym, ap, subst, ◌∙◌, append_assoc, append-nil, map}
-use Rattle.std.specs.List.{flat_map}
+use Rattle.std.{proofs.Common.{◌≡◌, ℕ, ◌+◌, true, List, [], ◌∷◌, ◌++◌, length, refl, sym, ap, subst, ◌∙◌, append_assoc, append-nil, map}, specs.List.{flat_map}}
 use Rattle.std.proofs.lemmas.List.{map-append}
-use Rattle.blob_grammar.specs.Grammar.{Value, Field, Grammar, Cut, cut, with_value, EachFollows}
-use Rattle.blob_grammar.specs.Places.{PlacedField, placed_from, placed_of}
-use Rattle.blob_grammar.specs.Reader.{prefix_of}
-use Rattle.blob_grammar.proofs.PrefixFields.{prefix_of-longest}
-use Rattle.blob_grammar.proofs.Prefixes.{cut-push}
+use Rattle.blob_grammar.specs.{Grammar.{Value, Field, Grammar, Cut, cut, with_value, EachFollows}, Places.{PlacedField, placed_from, placed_of}, Reader.{prefix_of}}
+use Rattle.blob_grammar.proofs.{PrefixFields.{prefix_of-longest}, Prefixes.{cut-push}}
 use Rattle.ppdb_values.specs.RawFile.{records_of, begun_of}
 use Rattle.type_blobs_rows.specs.declared.row.PlacedRow.{PlacedRow}
 use Rattle.ppdb_merge_items.specs.NamedRows.{Named, names}

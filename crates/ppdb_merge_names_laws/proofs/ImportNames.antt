@@ -1,24 +1,14 @@
 -- The rows that imports name are those of their values, each with its role.
-use Rattle.std.proofs.Common.{◌≡◌, ℕ, zero, suc, Bool, true, false, List, [], ◌∷◌, ◌++◌, length, Option, Some, None, refl, sym, ap, ◌∙◌, append_assoc}
-use Rattle.std.proofs.Common.{append-nil, map, arith, slice_get, cond}
-use Rattle.std.specs.Prelude.{◌==◌}
-use Rattle.std.specs.List.{flat_map}
-use Rattle.type_blobs.proofs.Codes.{eq-is}
-use Rattle.std.proofs.lemmas.Grind.{flat_map-append}
-use Rattle.blob_grammar.specs.Grammar.{Value, number, integer, octets, Cut, closed, with_value, cut}
-use Rattle.blob_grammar.specs.Reader.{prefix_of}
-use Rattle.type_blobs.specs.declared.types.TypeLimits.{TypeLimits}
-use Rattle.type_blobs.specs.declared.import_part.ImportPart.{ImportPart}
-use Rattle.type_blobs.specs.declared.import_part.ImportPart.TheVariants.{Kind, Alias, Assembly, Namespace, Target}
-use Rattle.type_blobs.specs.Types.{token_of}
-use Rattle.type_blobs.specs.Imports.{ImportItem, imports, import_of, item_of, parts_of, numbers_of, next_part, next_allows}
-use Rattle.ppdb_values.specs.Imports.{import_value}
-use Rattle.ppdb_values.specs.RawFile.{records_of}
-use Rattle.type_blobs_rows.specs.declared.row.Role.TheVariants.{ImportedType}
-use Rattle.type_blobs_rows.specs.Rows.{assembly_role, row_of, row_behind, import_row, import_rows}
+use Rattle.std.proofs.Common.{◌≡◌, ℕ, zero, suc, Bool, true, false, List, [], ◌∷◌, ◌++◌, length, Option, Some, None, refl, sym, ap, ◌∙◌, append_assoc, append-nil}
+use Rattle.std.{proofs.Common.{map, arith, slice_get, cond}, specs.Prelude.{◌==◌}, specs.List.{flat_map}, proofs.lemmas.Grind.{flat_map-append}}
+use Rattle.type_blobs.{proofs.Codes.{eq-is}, specs.declared.types.TypeLimits.{TypeLimits}, specs.declared.import_part.ImportPart.{ImportPart}}
+use Rattle.type_blobs.specs.{declared.import_part.ImportPart.TheVariants.{Kind, Alias, Assembly, Namespace, Target}, Types.{token_of}, Imports.{ImportItem, imports}}
+use Rattle.type_blobs.specs.Imports.{import_of, item_of, parts_of, numbers_of, next_part, next_allows}
+use Rattle.blob_grammar.specs.{Grammar.{Value, number, integer, octets, Cut, closed, with_value, cut}, Reader.{prefix_of}}
+use Rattle.ppdb_values.specs.{Imports.{import_value}, RawFile.{records_of}}
+use Rattle.type_blobs_rows.specs.{declared.row.Role.TheVariants.{ImportedType}, Rows.{assembly_role, row_of, row_behind, import_row, import_rows}}
 use Rattle.ppdb_merge_items.specs.NamedRows.{names, in_token}
-use Rattle.ppdb_merge_names_laws.proofs.FieldWalks.{Tells, prefix-names, records-prefix}
-use Rattle.ppdb_merge_names_laws.proofs.Live.{Said, said, import_said}
+use Rattle.ppdb_merge_names_laws.proofs.{FieldWalks.{Tells, prefix-names, records-prefix}, Live.{Said, said, import_said}}
 
 -- what a part names by its number
 abbrev part_row : ℕ → ImportPart → ℕ → List Said

@@ -1,10 +1,7 @@
 -- What is named item by item, where some items are left out.
 use Rattle.std.proofs.Common.{◌≡◌, ℕ, suc, ◌+◌, Bool, true, false, ◌&&◌, cond, List, [], ◌∷◌, ◌++◌, Option, Some, None, refl, ap, ◌∙◌, map, slice_get}
-use Rattle.std.specs.List.{flat_map, filter, filter_map, enumerate_from}
-use Rattle.std.proofs.lemmas.List.{map-append}
-use Rattle.ppdb_values.specs.declared.file.FileValue.{FileValue}
-use Rattle.ppdb_values.specs.declared.annotation.Annotation.{Annotation}
-use Rattle.ppdb_values.specs.Meaning.{annotated_from}
+use Rattle.std.{specs.List.{flat_map, filter, filter_map, enumerate_from}, proofs.lemmas.List.{map-append}}
+use Rattle.ppdb_values.specs.{declared.file.FileValue.{FileValue}, declared.annotation.Annotation.{Annotation}, Meaning.{annotated_from}}
 use Rattle.ppdb_merge_names.specs.References.{Reference}
 use Rattle.ppdb_merge_items.specs.NamedRows.{Named}
 use Rattle.ppdb_merge_names_laws.specs.Laws.{named_by}

@@ -1,20 +1,14 @@
 -- What is said of the rows that a blob names, and which of them name rows by a map.
-use Rattle.std.proofs.Common.{◌≡◌, Bool, true, false, ◌&&◌, ◌||◌, not, cond, List, [], ◌∷◌, ◌++◌, refl, ap, ◌∙◌, map, filter}
-use Rattle.std.specs.List.{flat_map, list_any}
-use Rattle.std.proofs.lemmas.List.{map-append}
-use Rattle.std.proofs.lemmas.List.Elements.{filter-append}
+use Rattle.std.{proofs.Common.{◌≡◌, Bool, true, false, ◌&&◌, ◌||◌, not, cond, List, [], ◌∷◌, ◌++◌, refl, ap, ◌∙◌, map, filter}, specs.List.{flat_map, list_any}}
+use Rattle.std.proofs.lemmas.{List.{map-append}, List.Elements.{filter-append}}
 use Rattle.ppdb_maps.specs.Map.{Map, row_image, is_gone_row, is_in_table}
 use Rattle.type_blobs.specs.declared.types.Modifier.{Modifier}
-use Rattle.type_blobs_rows.specs.declared.row.PlacedRow.{PlacedRow}
-use Rattle.type_blobs_rows.specs.declared.row.Role.{Role}
-use Rattle.type_blobs_rows.specs.declared.row.Role.TheVariants.{Modifier as ModifierRole, Enumeration, Class, ImportedAssembly, AliasedAssembly, ImportedType}
-use Rattle.ppdb_values.specs.declared.scope.ConstantBody.{ConstantBody}
-use Rattle.ppdb_values.specs.declared.scope.ConstantBody.TheVariants.{Enumerated, General}
-use Rattle.ppdb_values.specs.declared.import.ImportValue.{ImportValue}
+use Rattle.type_blobs_rows.specs.declared.row.{PlacedRow.{PlacedRow}, Role.{Role}, Role.TheVariants.{Modifier as ModifierRole, Enumeration, Class, ImportedAssembly}}
+use Rattle.type_blobs_rows.specs.declared.row.Role.TheVariants.{AliasedAssembly, ImportedType}
+use Rattle.ppdb_values.specs.declared.{scope.ConstantBody.{ConstantBody}, scope.ConstantBody.TheVariants.{Enumerated, General}, import.ImportValue.{ImportValue}}
 use Rattle.ppdb_values.specs.declared.import.ImportValue.TheVariants.{AssemblyNamespace, Target, AssemblyAlias, AssemblyNamespaceAlias, TargetAlias}
 use Rattle.ppdb_merge_names.specs.References.{is_enumeration, is_aliased, is_live, takes_constant, live_types}
-use Rattle.ppdb_merge_items.specs.NamedRows.{Named, names, in_token, in_body, in_import, is_gone_type, names_gone_class}
-use Rattle.ppdb_merge_items.specs.NamedRows.{live_body, live_import}
+use Rattle.ppdb_merge_items.specs.NamedRows.{Named, names, in_token, in_body, in_import, is_gone_type, names_gone_class, live_body, live_import}
 use Rattle.ppdb_merge_names_laws.proofs.FieldWalks.{row_named}
 
 -- a row, and as what it is named

@@ -1,62 +1,30 @@
 -- What constants, imports, state machines and custom records name is what those of the value do.
-use Rattle.std.proofs.Common.{◌≡◌, ℕ, suc, ◌+◌, ◌-◌, Bool, true, false, ◌&&◌, ◌||◌, not, cond, List, [], ◌∷◌, ◌++◌, length, Some, refl, sym, ap, ◌∙◌, map}
-use Rattle.std.proofs.Common.{slice_get, drop, arith}
-use Rattle.std.specs.Prelude.{nat_eq, nat_lt, slice_range}
-use Rattle.std.specs.List.{flat_map, filter}
-use Rattle.std.specs.Option.{option_map_or}
+use Rattle.std.proofs.Common.{◌≡◌, ℕ, suc, ◌+◌, ◌-◌, Bool, true, false, ◌&&◌, ◌||◌, not, cond, List, [], ◌∷◌, ◌++◌, length, Some, refl, sym, ap, ◌∙◌, map, slice_get}
+use Rattle.std.{proofs.Common.{drop, arith}, specs.Prelude.{nat_eq, nat_lt, slice_range}, specs.List.{flat_map, filter}, specs.Option.{option_map_or}}
 use Rattle.ppdb_base.specs.Place.{cell}
-use Rattle.blob_grammar.specs.Grammar.{Value, cut}
-use Rattle.blob_grammar.specs.Reader.{prefix_of}
-use Rattle.blob_grammar.specs.Allowed.{is_between}
-use Rattle.blob_grammar.proofs.PrefixFields.{longest-prefix_of}
-use Rattle.custom_info.specs.declared.kinds.Kind.{Kind}
-use Rattle.custom_info.specs.declared.kinds.Kind.TheVariants.{Async, Hoisted, TypeDocuments, Free, Unknown}
-use Rattle.custom_info.specs.Kinds.{kind_of}
-use Rattle.type_blobs.specs.Imports.{imports as import_grammar}
-use Rattle.type_blobs.specs.Constants.{constants, body_of}
-use Rattle.type_blobs_rows.specs.Rows.{constant_types, import_rows}
+use Rattle.blob_grammar.{specs.Grammar.{Value, cut}, specs.Reader.{prefix_of}, specs.Allowed.{is_between}, proofs.PrefixFields.{longest-prefix_of}}
+use Rattle.custom_info.specs.{declared.kinds.Kind.{Kind}, declared.kinds.Kind.TheVariants.{Async, Hoisted, TypeDocuments, Free, Unknown}, Kinds.{kind_of}}
 use Rattle.custom_info.specs.AsyncStepping.{async_stepping, Entry, catch_handler, await_step}
+use Rattle.type_blobs.specs.{Imports.{imports as import_grammar}, Constants.{constants, body_of}}
+use Rattle.type_blobs_rows.specs.Rows.{constant_types, import_rows}
 use Rattle.ppdb_maps.specs.Map.{Map, is_dropped, row_image, is_gone_row, leaves_table}
-use Rattle.ppdb_tables.specs.declared.rows.ScopeRow.{ScopeRow}
-use Rattle.ppdb_tables.specs.declared.rows.ConstantRow.{ConstantRow}
-use Rattle.ppdb_tables.specs.declared.rows.ImportRow.{ImportRow}
-use Rattle.ppdb_tables.specs.declared.rows.MachineRow.{MachineRow}
-use Rattle.ppdb_tables.specs.declared.rows.CustomRow.{CustomRow}
-use Rattle.ppdb_tables.specs.declared.parent.Parent.{Parent}
-use Rattle.ppdb_tables.specs.RawTables.{RawTables, count, numbered, row_at}
-use Rattle.ppdb_values.specs.Names.{blob_at}
-use Rattle.ppdb_values.specs.declared.custom.CustomValue.{CustomValue}
-use Rattle.ppdb_values.specs.declared.import.ImportScopeValue.{ImportScopeValue}
-use Rattle.ppdb_values.specs.declared.annotation.Annotation.{Annotation}
-use Rattle.ppdb_values.specs.declared.scope.ConstantValue.{ConstantValue}
-use Rattle.ppdb_values.specs.declared.scope.ConstantBody.TheVariants.{Object}
-use Rattle.ppdb_values.specs.Constants.{body_value, constant_of}
-use Rattle.ppdb_values.specs.Customs.{custom_of, custom_body, async_body, parent_of, kind_in}
-use Rattle.ppdb_values.specs.Imports.{import_scope_of, import_value}
-use Rattle.ppdb_values.specs.Owners.{ListsAreOwned, list_of}
-use Rattle.ppdb_values.specs.Parts.{first_item}
-use Rattle.ppdb_values.specs.RawFile.{RawFile, blob, records_of, begun_of, type_limits}
-use Rattle.ppdb_values.specs.Rules.{KeepsRules}
-use Rattle.ppdb_values.specs.Value.{value_of, scope_of}
-use Rattle.ppdb_merge_names.specs.References.{names as names_at, types_of, of_constant, of_import, of_machine, methods_in, methods_of, of_parent}
-use Rattle.ppdb_merge_names.specs.References.{is_type_documents, is_live_parent, of_custom}
-use Rattle.ppdb_merge_names.specs.Lists.{of_list, of_scope_constants}
-use Rattle.ppdb_merge_names.proofs.ConstantLists.{all-scopes, get_numbered, get_take, get_drop, scope_in}
-use Rattle.ppdb_merge_items.specs.declared.file.AnnotatedScope.{AnnotatedScope}
-use Rattle.ppdb_merge_items.specs.Annotated.{annotated_file, with_item}
-use Rattle.ppdb_merge_items.specs.NamedRows.{Named, names, in_constant, in_import, in_steps, live_scope, live_machine, live_custom}
-use Rattle.ppdb_merge_items.specs.NamedRows.{is_type_documents as is_documents_body, with_live_body, live_constants}
-use Rattle.ppdb_merge_names_laws.proofs.FieldWalks.{row_named}
-use Rattle.ppdb_merge_names_laws.proofs.ConstantNames.{constant-names}
-use Rattle.ppdb_merge_names_laws.proofs.ImportNames.{import-names}
-use Rattle.ppdb_merge_names_laws.proofs.Live.{import_said, constant_live, imports_live}
-use Rattle.ppdb_merge_names_laws.proofs.StepNames.{step-names}
-use Rattle.ppdb_merge_names_laws.proofs.Listed.{unplaced, flat_map-made, flat_map-same, unplaced-flat, named-mapped, unnumbered, numbered-out, numbered-value}
-use Rattle.ppdb_merge_names_laws.proofs.Listed.{annotated-items, filter-both}
-use Rattle.ppdb_merge_names_laws.proofs.Parts.{inside-named, annotated_row, annotated-scopes}
-use Rattle.ppdb_merge_names.proofs.Parts.{is_live_record}
-use Rattle.ppdb_merge_items.proofs.Parts.{live_constant, with_live_constants, with_live_imports}
-use Rattle.ppdb_merge_items.proofs.Parts.{live_imports}
+use Rattle.ppdb_tables.specs.declared.rows.{ScopeRow.{ScopeRow}, ConstantRow.{ConstantRow}, ImportRow.{ImportRow}, MachineRow.{MachineRow}, CustomRow.{CustomRow}}
+use Rattle.ppdb_tables.specs.{declared.parent.Parent.{Parent}, RawTables.{RawTables, count, numbered, row_at}}
+use Rattle.ppdb_values.specs.{Names.{blob_at}, declared.custom.CustomValue.{CustomValue}, declared.import.ImportScopeValue.{ImportScopeValue}}
+use Rattle.ppdb_values.specs.declared.{annotation.Annotation.{Annotation}, scope.ConstantValue.{ConstantValue}, scope.ConstantBody.TheVariants.{Object}}
+use Rattle.ppdb_values.specs.{Constants.{body_value, constant_of}, Customs.{custom_of, custom_body, async_body, parent_of, kind_in}, Imports.{import_scope_of}}
+use Rattle.ppdb_values.specs.{Imports.{import_value}, Owners.{ListsAreOwned, list_of}, Parts.{first_item}, RawFile.{RawFile, blob, records_of, begun_of}}
+use Rattle.ppdb_values.specs.{RawFile.{type_limits}, Rules.{KeepsRules}, Value.{value_of, scope_of}}
+use Rattle.ppdb_merge_names.specs.References.{names as names_at, types_of, of_constant, of_import, of_machine, methods_in, methods_of, of_parent, is_type_documents}
+use Rattle.ppdb_merge_names.{specs.References.{is_live_parent, of_custom}, specs.Lists.{of_list, of_scope_constants}, proofs.ConstantLists.{all-scopes}}
+use Rattle.ppdb_merge_names.proofs.{ConstantLists.{get_numbered, get_take, get_drop, scope_in}, Parts.{is_live_record}}
+use Rattle.ppdb_merge_items.specs.{declared.file.AnnotatedScope.{AnnotatedScope}, Annotated.{annotated_file, with_item}, NamedRows.{Named, names, in_constant}}
+use Rattle.ppdb_merge_items.specs.NamedRows.{in_import, in_steps, live_scope, live_machine, live_custom, is_type_documents as is_documents_body, with_live_body}
+use Rattle.ppdb_merge_items.{specs.NamedRows.{live_constants}, proofs.Parts.{live_constant, with_live_constants, with_live_imports, live_imports}}
+use Rattle.ppdb_merge_names_laws.proofs.{FieldWalks.{row_named}, ConstantNames.{constant-names}, ImportNames.{import-names}, Live.{import_said, constant_live}}
+use Rattle.ppdb_merge_names_laws.proofs.{Live.{imports_live}, StepNames.{step-names}, Listed.{unplaced, flat_map-made, flat_map-same, unplaced-flat, named-mapped}}
+use Rattle.ppdb_merge_names_laws.proofs.{Listed.{unnumbered, numbered-out, numbered-value, annotated-items, filter-both}, Parts.{inside-named, annotated_row}}
+use Rattle.ppdb_merge_names_laws.proofs.Parts.{annotated-scopes}
 
 -- ---- constants
 

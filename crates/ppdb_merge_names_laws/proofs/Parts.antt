@@ -1,27 +1,18 @@
 -- Part by part, what a file names is what its value names.
 use Rattle.std.proofs.Common.{◌≡◌, ℕ, Bool, true, false, ◌||◌, not, cond, nat_eq, is_some, List, [], ◌∷◌, Option, Some, None, refl, sym, ap, ◌∙◌, map}
-use Rattle.std.specs.List.{flat_map, filter, filter_map}
-use Rattle.std.specs.Option.{option_map}
-use Rattle.std.proofs.lemmas.List.Concat.{flat_map_single}
-use Rattle.ppdb_base.specs.declared.fault.Place.{Place}
-use Rattle.ppdb_base.specs.Place.{at_byte, cell}
+use Rattle.std.{specs.List.{flat_map, filter, filter_map}, specs.Option.{option_map}, proofs.lemmas.List.Concat.{flat_map_single}}
+use Rattle.ppdb_base.specs.{declared.fault.Place.{Place}, Place.{at_byte, cell}}
 use Rattle.ppdb_maps.specs.Map.{Map, is_dropped, signature_line, is_gone_row}
-use Rattle.ppdb_tables.specs.declared.rows.MethodDebugRow.{MethodDebugRow}
-use Rattle.ppdb_tables.specs.declared.rows.ScopeRow.{ScopeRow}
-use Rattle.ppdb_tables.specs.RawTables.{RawTables, numbered}
-use Rattle.ppdb_values.specs.declared.file.MethodValue.{MethodValue}
-use Rattle.ppdb_values.specs.Documents.{method_of, method_with, signature_in, points_in}
-use Rattle.ppdb_values.specs.RawFile.{RawFile, blob}
+use Rattle.ppdb_tables.specs.{declared.rows.MethodDebugRow.{MethodDebugRow}, declared.rows.ScopeRow.{ScopeRow}, RawTables.{RawTables, numbered}}
+use Rattle.ppdb_values.specs.{declared.file.MethodValue.{MethodValue}, Documents.{method_of, method_with, signature_in, points_in}, RawFile.{RawFile, blob}}
 use Rattle.ppdb_values.specs.Value.{value_of, scope_of}
 use Rattle.type_blobs_rows.specs.declared.row.PlacedRow.{PlacedRow}
 use Rattle.ppdb_merge_names.specs.References.{names as names_at, names_some as some_at, inside, of_entry, of_signature, of_method, of_scope}
-use Rattle.ppdb_merge_items.specs.declared.file.AnnotatedScope.{AnnotatedScope}
-use Rattle.ppdb_merge_items.specs.Annotated.{annotated_file, annotated_scope}
-use Rattle.ppdb_merge_items.specs.NamedRows.{Named, names, names_some, live_file, live_scope, live_signature}
-use Rattle.ppdb_merge_names_laws.proofs.FieldWalks.{row_named}
-use Rattle.ppdb_merge_names_laws.proofs.Listed.{unplaced, unplaced-flat, flat_map-made, named-mapped, named-filtered, numbered-made, map-twice}
 use Rattle.ppdb_merge_names.proofs.Parts.{of_points}
-use Rattle.ppdb_merge_items.proofs.Parts.{live_method, with_live_signature, with_live_constants, in_entry}
+use Rattle.ppdb_merge_items.specs.{declared.file.AnnotatedScope.{AnnotatedScope}, Annotated.{annotated_file, annotated_scope}, NamedRows.{Named, names, names_some}}
+use Rattle.ppdb_merge_items.{specs.NamedRows.{live_file, live_scope, live_signature}, proofs.Parts.{live_method, with_live_signature, with_live_constants, in_entry}}
+use Rattle.ppdb_merge_names_laws.proofs.{FieldWalks.{row_named}, Listed.{unplaced, unplaced-flat, flat_map-made, named-mapped, named-filtered, numbered-made}}
+use Rattle.ppdb_merge_names_laws.proofs.Listed.{map-twice}
 
 some-named : (place : Place) (table row : ℕ) → unplaced (some_at place table row) ≡ names_some table row
 some-named place table row = by (nat_eq row 0)

@@ -1,13 +1,9 @@
 -- The methods that async stepping information names are those of its steps.
-use Rattle.std.proofs.Common.{◌≡◌, ℕ, true, List, [], ◌∷◌, ◌++◌, refl, sym, ap, ◌∙◌, append-nil, map}
-use Rattle.std.specs.List.{flat_map, filter_map}
+use Rattle.std.{proofs.Common.{◌≡◌, ℕ, true, List, [], ◌∷◌, ◌++◌, refl, sym, ap, ◌∙◌, append-nil, map}, specs.List.{flat_map, filter_map}}
 use Rattle.std.proofs.lemmas.Grind.{flat_map-append}
-use Rattle.blob_grammar.specs.Grammar.{Value, number, integer, octets, Cut, with_value, cut}
-use Rattle.blob_grammar.specs.Reader.{prefix_of}
-use Rattle.custom_info.specs.declared.stepping.AsyncStep.{AsyncStep}
-use Rattle.custom_info.specs.AsyncStepping.{async_stepping, Entry, catch_handler, await_step}
-use Rattle.ppdb_values.specs.Customs.{step_of, async_body}
-use Rattle.ppdb_values.specs.RawFile.{records_of}
+use Rattle.blob_grammar.specs.{Grammar.{Value, number, integer, octets, Cut, with_value, cut}, Reader.{prefix_of}}
+use Rattle.custom_info.specs.{declared.stepping.AsyncStep.{AsyncStep}, AsyncStepping.{async_stepping, Entry, catch_handler, await_step}}
+use Rattle.ppdb_values.specs.{Customs.{step_of, async_body}, RawFile.{records_of}}
 use Rattle.type_blobs_rows.specs.Rows.{resume_method, resume_methods}
 use Rattle.ppdb_merge_items.specs.NamedRows.{Named, names, in_steps}
 use Rattle.ppdb_merge_names_laws.proofs.FieldWalks.{row_named, Tells, prefix-names, prefix-good, records-prefix}

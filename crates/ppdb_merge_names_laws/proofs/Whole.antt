@@ -1,25 +1,15 @@
 -- All that a file names is all that its value names.
-use Rattle.std.proofs.Common.{◌≡◌, Bool, List, ◌++◌, ap, ◌∙◌, append_assoc, map}
-use Rattle.std.specs.List.{flat_map}
-use Rattle.std.proofs.lemmas.List.{map-append}
+use Rattle.std.{proofs.Common.{◌≡◌, Bool, List, ◌++◌, ap, ◌∙◌, append_assoc, map}, specs.List.{flat_map}, proofs.lemmas.List.{map-append}}
 use Rattle.ppdb_maps.specs.Map.{Map}
 use Rattle.ppdb_tables.specs.RawTables.{numbered}
-use Rattle.ppdb_values.specs.declared.import.ImportScopeValue.{ImportScopeValue}
-use Rattle.ppdb_values.specs.declared.annotation.Annotation.{Annotation}
-use Rattle.ppdb_merge_items.specs.declared.file.AnnotatedScope.{AnnotatedScope}
-use Rattle.ppdb_values.specs.Owners.{ListsAreOwned}
-use Rattle.ppdb_values.specs.RawFile.{RawFile}
-use Rattle.ppdb_values.specs.Rules.{KeepsRules}
-use Rattle.ppdb_values.specs.Value.{value_of}
+use Rattle.ppdb_values.specs.{declared.import.ImportScopeValue.{ImportScopeValue}, declared.annotation.Annotation.{Annotation}, Owners.{ListsAreOwned}}
+use Rattle.ppdb_values.specs.{RawFile.{RawFile}, Rules.{KeepsRules}, Value.{value_of}}
+use Rattle.ppdb_merge_items.specs.{declared.file.AnnotatedScope.{AnnotatedScope}, Annotated.{annotated_file}, NamedRows.{Named, names, in_constant, in_import}}
+use Rattle.ppdb_merge_items.{specs.NamedRows.{live_file, named_rows}, proofs.Parts.{in_entry}}
 use Rattle.ppdb_merge_names.specs.References.{Reference, of_entry, of_method, of_scope, of_constant, of_import, of_machine, of_custom, of_methods, of_others}
 use Rattle.ppdb_merge_names.specs.References.{references}
-use Rattle.ppdb_merge_items.specs.Annotated.{annotated_file}
-use Rattle.ppdb_merge_items.specs.NamedRows.{Named, names, in_constant, in_import, live_file, named_rows}
-use Rattle.ppdb_merge_names_laws.specs.Laws.{named_by}
-use Rattle.ppdb_merge_names_laws.proofs.Listed.{unplaced}
-use Rattle.ppdb_merge_names_laws.proofs.Parts.{method_rows, entry-named, methods-named, scopes-named}
+use Rattle.ppdb_merge_names_laws.{specs.Laws.{named_by}, proofs.Listed.{unplaced}, proofs.Parts.{method_rows, entry-named, methods-named, scopes-named}}
 use Rattle.ppdb_merge_names_laws.proofs.Owned.{machine_rows, custom_rows, constants-named, imports-named, machines-named, customs-named}
-use Rattle.ppdb_merge_items.proofs.Parts.{in_entry}
 
 both : (xs ys : List Reference) (a b : List Named) → unplaced xs ≡ a → unplaced ys ≡ b → unplaced (xs ++ ys) ≡ a ++ b
 both xs ys a b e f = map-append named_by xs ys ∙ ap (λ (l : List Named). l ++ unplaced ys) e ∙ ap (λ (l : List Named). a ++ l) f

@@ -1,12 +1,9 @@
 -- The rows that rows become, one key more.
-use Rattle.std.proofs.Common.{◌≡◌, ℕ, zero, suc, ◌+◌, ◌<◌, ◌≤◌, ◌++◌, ◌&&◌, Bool, true, false, cond, List, [], ◌∷◌, Option, Some, None, length, take}
-use Rattle.std.proofs.Common.{refl, sym, ap, ◌∙◌, arith, get_or, drop, append-nil}
-use Rattle.std.specs.Prelude.{nat_eq, position, unwrap_or}
-use Rattle.std.specs.Option.{option_map}
+use Rattle.std.proofs.Common.{◌≡◌, ℕ, zero, suc, ◌+◌, ◌<◌, ◌≤◌, ◌++◌, ◌&&◌, Bool, true, false, cond, List, [], ◌∷◌, Option, Some, None, length, take, refl, sym, ap}
+use Rattle.std.{proofs.Common.{◌∙◌, arith, get_or, drop, append-nil}, specs.Prelude.{nat_eq, position, unwrap_or}, specs.Option.{option_map}}
 use Rattle.std.proofs.lemmas.List.{drop_all, take_all, take_more}
 use Rattle.ppdb_merge_joined.proofs.Names.{position_cons}
-use Rattle.ppdb_merge_order.specs.declared.keys.Key.{Key}
-use Rattle.ppdb_merge_order.specs.NewRows.{AreNewRows, IsNoted, new_row, noted_first}
+use Rattle.ppdb_merge_order.specs.{declared.keys.Key.{Key}, NewRows.{AreNewRows, IsNoted, new_row, noted_first}}
 
 -- ---- the place of the first item that passes, from 1, one item more
 

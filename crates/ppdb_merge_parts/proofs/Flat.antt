@@ -1,39 +1,25 @@
 -- The parts of the file that inputs are joined into.
 use Rattle.std.proofs.Common.{◌≡◌, ℕ, ◌+◌, ◌||◌, ◌++◌, not, Bool, true, false, cond, List, [], ◌∷◌, Option, Some, None, length, map, refl, sym, subst, ap, ◌∙◌}
-use Rattle.std.proofs.Common.{map-id}
-use Rattle.std.specs.Prelude.{flat_map}
-use Rattle.std.specs.List.{filter, filter_map, cons_option, enumerate_from}
-use Rattle.std.specs.Option.{option_map}
-use Rattle.std.proofs.lemmas.List.{length-map}
-use Rattle.std.proofs.lemmas.List.FromFn.{length-enumerate_from}
+use Rattle.std.{proofs.Common.{map-id}, specs.Prelude.{flat_map}, specs.List.{filter, filter_map, cons_option, enumerate_from}, specs.Option.{option_map}}
+use Rattle.std.proofs.lemmas.{List.{length-map}, List.FromFn.{length-enumerate_from}}
 use Rattle.ppdb_maps.specs.Map.{Map, moved_row, offsets_in, is_dropped}
-use Rattle.sequence_points.specs.declared.point.Point.{Point}
-use Rattle.sequence_points.specs.MovedPoints.{moved_points}
+use Rattle.sequence_points.specs.{declared.point.Point.{Point}, MovedPoints.{moved_points}}
 use Rattle.ppdb_tables.specs.declared.rows.MachineRow.{MachineRow}
-use Rattle.ppdb_values.specs.declared.file.DocumentValue.{DocumentValue}
-use Rattle.ppdb_values.specs.declared.file.FileValue.{FileValue}
-use Rattle.ppdb_values.specs.declared.file.MethodValue.{MethodValue}
-use Rattle.ppdb_values.specs.declared.annotation.Annotation.{Annotation}
-use Rattle.ppdb_values.specs.declared.scope.ConstantValue.{ConstantValue}
-use Rattle.ppdb_values.specs.declared.scope.ScopeValue.{ScopeValue}
+use Rattle.ppdb_values.specs.declared.file.{DocumentValue.{DocumentValue}, FileValue.{FileValue}, MethodValue.{MethodValue}}
+use Rattle.ppdb_values.specs.declared.{annotation.Annotation.{Annotation}, scope.ConstantValue.{ConstantValue}, scope.ScopeValue.{ScopeValue}}
 use Rattle.ppdb_values.specs.Meaning.{annotated_from, annotated_on}
-use Rattle.ppdb_merge_items.specs.declared.file.AnnotatedScope.{AnnotatedScope}
-use Rattle.ppdb_merge_items.specs.declared.file.AnnotatedFile.{AnnotatedFile}
-use Rattle.ppdb_merge_items.specs.Annotated.{annotated_file, annotated_scope, items_of, scope_of, with_item}
-use Rattle.ppdb_merge_items.specs.NamedRows.{goes_constant, live_constants, with_live_body}
-use Rattle.ppdb_merge_items.specs.Sorted.{in_order}
-use Rattle.ppdb_merge_items.specs.Unannotated.{value_of_annotated}
-use Rattle.ppdb_merge_items.proofs.Mapped.{map_map_both}
-use Rattle.ppdb_merge_joined.specs.Joined.{joined, joined_documents, joined_document, joined_parts, joined_rows, row_in, row_named, renumbered, renumbered_all, firsts}
-use Rattle.ppdb_merge_joined.specs.Joined.{renumbered_method, renumbered_scope, renumbered_import}
-use Rattle.ppdb_merge_moved.specs.Moved.{moved_file, moved_method, moved_scope, moved_import_scope, moved_range, is_empty}
-use Rattle.ppdb_merge_moved.specs.Moved.{moved_variable, moved_constant, moved_document, with_points, scope_image as annotated_image}
+use Rattle.ppdb_merge_items.specs.{declared.file.AnnotatedScope.{AnnotatedScope}, declared.file.AnnotatedFile.{AnnotatedFile}, Annotated.{annotated_file}}
+use Rattle.ppdb_merge_items.specs.{Annotated.{annotated_scope, items_of, scope_of, with_item}, NamedRows.{goes_constant, live_constants, with_live_body}}
+use Rattle.ppdb_merge_items.{specs.Sorted.{in_order}, specs.Unannotated.{value_of_annotated}, proofs.Mapped.{map_map_both}, proofs.Parts.{live_constant}}
+use Rattle.ppdb_merge_joined.specs.Joined.{joined, joined_documents, joined_document, joined_parts, joined_rows, row_in, row_named, renumbered, renumbered_all}
+use Rattle.ppdb_merge_joined.specs.Joined.{firsts, renumbered_method, renumbered_scope, renumbered_import}
+use Rattle.ppdb_merge_moved.specs.Moved.{moved_file, moved_method, moved_scope, moved_import_scope, moved_range, is_empty, moved_variable, moved_constant}
+use Rattle.ppdb_merge_moved.specs.Moved.{moved_document, with_points, scope_image as annotated_image}
 use Rattle.ppdb_merge_meaning_laws.specs.Kept.{MovedBy, in_turn, moved_input, joined_inputs}
 use Rattle.ppdb_merge_parts.specs.Flat.{Counted, counted, rows_of, moved_documents, documents_of, document_rows, method_image, constant_image, moved_scope_value}
-use Rattle.ppdb_merge_parts.specs.Flat.{scope_image, import_image, machine_image, IsFlat, HasHeadOf, JoinedPartsAreFlat}
-use Rattle.ppdb_merge_parts.proofs.Lists.{map_numbered, filter_map_numbered, map_filter_map, filter_map_map, map_flat, filter_map_flat, flat_same}
-use Rattle.ppdb_merge_parts.proofs.Ordered.{in_order_made, in_order_map}
-use Rattle.ppdb_merge_items.proofs.Parts.{live_constant}
+use Rattle.ppdb_merge_parts.{specs.Flat.{scope_image, import_image, machine_image, IsFlat, HasHeadOf, JoinedPartsAreFlat}, proofs.Lists.{map_numbered}}
+use Rattle.ppdb_merge_parts.proofs.{Lists.{filter_map_numbered, map_filter_map, filter_map_map, map_flat, filter_map_flat, flat_same}, Ordered.{in_order_made}}
+use Rattle.ppdb_merge_parts.proofs.Ordered.{in_order_map}
 
 -- ---- inputs, moved
 

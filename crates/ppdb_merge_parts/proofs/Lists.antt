@@ -1,9 +1,6 @@
 -- Lists of what becomes of rows, joined end to end.
-use Rattle.std.proofs.Common.{◌≡◌, ℕ, ◌+◌, ◌++◌, List, [], ◌∷◌, Option, Some, None, map, refl, ap, ◌∙◌}
-use Rattle.std.specs.Prelude.{flat_map}
-use Rattle.std.specs.List.{filter_map, cons_option, enumerate_from}
-use Rattle.std.specs.Option.{option_map}
-use Rattle.std.proofs.lemmas.List.{map-append}
+use Rattle.std.{proofs.Common.{◌≡◌, ℕ, ◌+◌, ◌++◌, List, [], ◌∷◌, Option, Some, None, map, refl, ap, ◌∙◌}, specs.Prelude.{flat_map}, specs.List.{filter_map}}
+use Rattle.std.{specs.List.{cons_option, enumerate_from}, specs.Option.{option_map}, proofs.lemmas.List.{map-append}}
 
 -- what is made of numbered items without their numbers
 pub map_numbered : {A B C : Type 0} (f : ℕ × A → B) (g : B → C) (h : A → C) → ((n : ℕ) (x : A) → g (f (n, x)) ≡ h x) → (n : ℕ) (xs : List A)

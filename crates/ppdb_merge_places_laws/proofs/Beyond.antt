@@ -1,40 +1,22 @@
 -- The first offset past an old size is reported.
-use Rattle.std.proofs.Common.{◌≡◌, ℕ, suc, ◌+◌, ◌<◌, ◌++◌, Bool, true, false, cond, List, [], ◌∷◌, Some, slice_get, refl, subst, arith}
-use Rattle.std.specs.Prelude.{Contains, nat_le, nat_lt}
-use Rattle.std.specs.List.{enumerate_from}
-use Rattle.std.proofs.lemmas.Bool.{le-leb, lt-ltb, leb-true, ltb-true}
-use Rattle.ppdb_base.specs.declared.merge_error.MergeError.{MergeError}
-use Rattle.ppdb_base.specs.declared.merge_error.MergeError.TheVariants.{OffsetBeyond}
+use Rattle.std.{proofs.Common.{◌≡◌, ℕ, suc, ◌+◌, ◌<◌, ◌++◌, Bool, true, false, cond, List, [], ◌∷◌, Some, slice_get, refl, subst, arith}, specs.Prelude.{Contains}}
+use Rattle.std.{specs.Prelude.{nat_le, nat_lt}, specs.List.{enumerate_from}, proofs.lemmas.Bool.{le-leb, lt-ltb, leb-true, ltb-true}}
+use Rattle.ppdb_base.specs.declared.merge_error.{MergeError.{MergeError}, MergeError.TheVariants.{OffsetBeyond}}
 use Rattle.sequence_points.specs.declared.point.Point.{Point}
-use Rattle.custom_info.specs.declared.slots.Range.{Range}
-use Rattle.custom_info.specs.declared.slots.Slot.{Slot}
-use Rattle.custom_info.specs.declared.slots.Slot.TheVariants.{Empty, Held}
+use Rattle.custom_info.specs.declared.slots.{Range.{Range}, Slot.{Slot}, Slot.TheVariants.{Empty, Held}}
 use Rattle.ppdb_tables.specs.RawTables.{row_at}
-use Rattle.ppdb_maps.specs.Map.{Map, offsets_in}
-use Rattle.ppdb_maps.specs.Says.{sizes_of}
-use Rattle.ppdb_values.specs.Value.{value_of}
-use Rattle.ppdb_values.specs.declared.file.FileValue.{FileValue}
-use Rattle.ppdb_values.specs.declared.file.MethodValue.{MethodValue}
-use Rattle.ppdb_values.specs.declared.scope.ScopeValue.{ScopeValue}
-use Rattle.ppdb_values.specs.declared.custom.CustomBody.{CustomBody}
-use Rattle.ppdb_values.specs.declared.custom.CustomBody.TheVariants.{Async, Hoisted, TypeDocuments, Unread}
-use Rattle.ppdb_values.specs.declared.custom.CustomValue.{CustomValue}
-use Rattle.ppdb_merge_items.specs.Each.{Each}
-use Rattle.ppdb_merge_items.specs.NamedRows.{live_custom}
-use Rattle.ppdb_merge_items.proofs.Lists.{Each-append}
+use Rattle.ppdb_maps.specs.{Map.{Map, offsets_in}, Says.{sizes_of}}
+use Rattle.ppdb_values.specs.{Value.{value_of}, declared.file.FileValue.{FileValue}, declared.file.MethodValue.{MethodValue}, declared.scope.ScopeValue.{ScopeValue}}
+use Rattle.ppdb_values.specs.declared.custom.{CustomBody.{CustomBody}, CustomBody.TheVariants.{Async, Hoisted, TypeDocuments, Unread}, CustomValue.{CustomValue}}
+use Rattle.ppdb_merge_items.{specs.Each.{Each}, specs.NamedRows.{live_custom}, proofs.Lists.{Each-append}}
 use Rattle.ppdb_merge_moved.proofs.Elements.{each_in, each_made, each_parts, in_each}
 use Rattle.ppdb_merge_joined.proofs.Each.{Each-flat}
-use Rattle.ppdb_merge_fits.specs.Offsets.{MethodOffset, async_offsets, end_beyond}
-use Rattle.ppdb_merge_fits.specs.Offsets.{beyond}
-use Rattle.ppdb_merge_places_laws.specs.Offsets.{old_size_in, IsLiveRecord, IsBeyond, FirstOffsetsBeyondAreReported}
-use Rattle.ppdb_merge_places_laws.specs.Offsets.IsBeyond.{point, scope, async, hoisted}
-use Rattle.ppdb_merge_places_laws.proofs.MethodRows.{methods_ascend}
-use Rattle.ppdb_merge_places_laws.proofs.Reported.{IsWitness, Placed, reports_first}
-use Rattle.ppdb_merge_places_laws.proofs.Rows.{row_made}
-use Rattle.ppdb_merge_places_laws.proofs.Tagged.{numbered_found, numbered_pick, tag}
-use Rattle.ppdb_merge_places_laws.proofs.Past.{past_sound, past_all}
-use Rattle.ppdb_merge_places_laws.proofs.BeyondRows.{point_told, method_told, scope_told, offset_told, slot_told, body_told, custom_told}
-use Rattle.ppdb_merge_places_laws.proofs.BeyondRows.{in_methods, in_scopes, in_customs, all_told, all_same, all_rise}
+use Rattle.ppdb_merge_fits.specs.Offsets.{MethodOffset, async_offsets, end_beyond, beyond}
+use Rattle.ppdb_merge_places_laws.specs.{Offsets.{old_size_in, IsLiveRecord, IsBeyond, FirstOffsetsBeyondAreReported}, Offsets.IsBeyond.{point, scope, async}}
+use Rattle.ppdb_merge_places_laws.{specs.Offsets.IsBeyond.{hoisted}, proofs.MethodRows.{methods_ascend}, proofs.Reported.{IsWitness, Placed, reports_first}}
+use Rattle.ppdb_merge_places_laws.proofs.{Rows.{row_made}, Tagged.{numbered_found, numbered_pick, tag}, Past.{past_sound, past_all}, BeyondRows.{point_told}}
+use Rattle.ppdb_merge_places_laws.proofs.BeyondRows.{method_told, scope_told, offset_told, slot_told, body_told, custom_told, in_methods, in_scopes, in_customs}
+use Rattle.ppdb_merge_places_laws.proofs.BeyondRows.{all_told, all_same, all_rise}
 
 module _ (m : Map) (value : FileValue) where
   -- ---- each is a witness

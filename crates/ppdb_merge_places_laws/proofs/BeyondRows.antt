@@ -1,33 +1,19 @@
 -- What lies past an old size, row by row, with the places.
-use Rattle.std.proofs.Common.{◌≡◌, ℕ, ◌<◌, ◌++◌, Bool, true, false, cond, List, [], ◌∷◌, refl, ap, ◌∙◌, arith, map, flat_map}
-use Rattle.std.specs.Prelude.{nat_le, nat_lt}
-use Rattle.std.specs.List.{enumerate_from}
-use Rattle.std.proofs.lemmas.List.{map-append}
+use Rattle.std.{proofs.Common.{◌≡◌, ℕ, ◌<◌, ◌++◌, Bool, true, false, cond, List, [], ◌∷◌, refl, ap, ◌∙◌, arith, map, flat_map}, specs.Prelude.{nat_le, nat_lt}}
+use Rattle.std.{specs.List.{enumerate_from}, proofs.lemmas.List.{map-append}}
 use Rattle.sequence_points.specs.declared.point.Point.{Point}
-use Rattle.custom_info.specs.declared.slots.Range.{Range}
-use Rattle.custom_info.specs.declared.slots.Slot.{Slot}
-use Rattle.custom_info.specs.declared.slots.Slot.TheVariants.{Empty, Held}
-use Rattle.ppdb_maps.specs.Map.{Map, offsets_in}
-use Rattle.ppdb_maps.specs.Says.{sizes_of}
-use Rattle.ppdb_values.specs.declared.file.FileValue.{FileValue}
-use Rattle.ppdb_values.specs.declared.file.MethodValue.{MethodValue}
-use Rattle.ppdb_values.specs.declared.scope.ScopeValue.{ScopeValue}
-use Rattle.ppdb_values.specs.declared.custom.CustomBody.{CustomBody}
-use Rattle.ppdb_values.specs.declared.custom.CustomBody.TheVariants.{Async, Hoisted, TypeDocuments, Unread}
-use Rattle.ppdb_values.specs.declared.custom.CustomValue.{CustomValue}
-use Rattle.ppdb_merge_items.specs.Each.{Pairs}
-use Rattle.ppdb_merge_items.specs.NamedRows.{live_custom}
-use Rattle.ppdb_merge_items.proofs.Lists.{Each-weaker}
+use Rattle.custom_info.specs.declared.slots.{Range.{Range}, Slot.{Slot}, Slot.TheVariants.{Empty, Held}}
+use Rattle.ppdb_maps.specs.{Map.{Map, offsets_in}, Says.{sizes_of}}
+use Rattle.ppdb_values.specs.declared.{file.FileValue.{FileValue}, file.MethodValue.{MethodValue}, scope.ScopeValue.{ScopeValue}, custom.CustomBody.{CustomBody}}
+use Rattle.ppdb_values.specs.declared.custom.{CustomBody.TheVariants.{Async, Hoisted, TypeDocuments, Unread}, CustomValue.{CustomValue}}
+use Rattle.ppdb_merge_items.{specs.Each.{Pairs}, specs.NamedRows.{live_custom}, proofs.Lists.{Each-weaker}}
 use Rattle.ppdb_merge_moved.proofs.Elements.{each_in}
 use Rattle.ppdb_merge_joined.proofs.Each.{Each-flat}
-use Rattle.ppdb_merge_fits.specs.Offsets.{MethodOffset, offset_in, async_offsets, offset_beyond, end_beyond, points_beyond, scope_beyond}
-use Rattle.ppdb_merge_fits.specs.Offsets.{slot_beyond, body_beyond, beyond}
-use Rattle.ppdb_merge_places_laws.proofs.Ordered.{Rise, and_then, at_one}
-use Rattle.ppdb_merge_places_laws.proofs.Reported.{Placed, error_of, numbers}
-use Rattle.ppdb_merge_places_laws.proofs.Rows.{InRow, InTable, OfRow, in_table, numbered_row, table_each, table_rises}
-use Rattle.ppdb_merge_places_laws.proofs.Tagged.{One, by_number, flat_same, numbered_same, tag, tag_each, tag_rise, tag_same}
-use Rattle.ppdb_merge_places_laws.proofs.Past.{past_one}
-use Rattle.ppdb_merge_fits.proofs.Parts.{custom_beyond}
+use Rattle.ppdb_merge_fits.specs.Offsets.{MethodOffset, offset_in, async_offsets, offset_beyond, end_beyond, points_beyond, scope_beyond, slot_beyond, body_beyond}
+use Rattle.ppdb_merge_fits.{specs.Offsets.{beyond}, proofs.Parts.{custom_beyond}}
+use Rattle.ppdb_merge_places_laws.proofs.{Ordered.{Rise, and_then, at_one}, Reported.{Placed, error_of, numbers}, Rows.{InRow, InTable, OfRow, in_table}}
+use Rattle.ppdb_merge_places_laws.proofs.{Rows.{numbered_row, table_each, table_rises}, Tagged.{One, by_number, flat_same, numbered_same, tag, tag_each, tag_rise}}
+use Rattle.ppdb_merge_places_laws.proofs.{Tagged.{tag_same}, Past.{past_one}}
 
 module _ (m : Map) where
   -- ---- the errors of each row, with their places

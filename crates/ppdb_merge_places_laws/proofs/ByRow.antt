@@ -1,25 +1,17 @@
 -- The first row of a list of which something is reported.
 use Rattle.std.proofs.Common.{◌≡◌, ℕ, suc, ◌+◌, ◌||◌, Bool, true, false, cond, List, [], ◌∷◌, Option, Some, None, slice_get, refl, arith, flat_map}
-use Rattle.std.specs.Prelude.{Contains, is_some}
-use Rattle.std.specs.List.{enumerate_from}
-use Rattle.ppdb_base.specs.declared.merge_error.MergeError.{MergeError}
-use Rattle.ppdb_base.specs.declared.merge_error.MergeError.TheVariants.{KindUnknown, SlotUnmapped}
+use Rattle.std.specs.{Prelude.{Contains, is_some}, List.{enumerate_from}}
+use Rattle.ppdb_base.specs.declared.merge_error.{MergeError.{MergeError}, MergeError.TheVariants.{KindUnknown, SlotUnmapped}}
 use Rattle.ppdb_maps.specs.Map.{Map, is_dropped, slot_image}
 use Rattle.ppdb_tables.specs.RawTables.{row_at}
-use Rattle.ppdb_values.specs.declared.custom.CustomValue.{CustomValue}
-use Rattle.ppdb_values.specs.declared.file.FileValue.{FileValue}
+use Rattle.ppdb_values.specs.declared.{custom.CustomValue.{CustomValue}, file.FileValue.{FileValue}}
 use Rattle.ppdb_merge_items.specs.Each.{Each}
 use Rattle.ppdb_merge_moved.proofs.Elements.{each_in}
-use Rattle.ppdb_merge_fits.specs.Clashes.{has_unknown_kind, if_unknown}
-use Rattle.ppdb_merge_fits.specs.Slots.{used, variable_slots, if_slot_unmapped}
-use Rattle.ppdb_merge_places_laws.specs.Places.{ReportsFirst}
-use Rattle.ppdb_merge_places_laws.specs.Rows.{Asked, IsUnknown, FirstUnknownKindsAreReported, IsSlotUnmapped, FirstUnmappedSlotsAreReported}
-use Rattle.ppdb_merge_places_laws.specs.Rows.IsUnknown.{custom}
-use Rattle.ppdb_merge_places_laws.specs.Rows.IsSlotUnmapped.{variable}
-use Rattle.ppdb_merge_places_laws.proofs.Ordered.{At, Rise, numbered_rise}
-use Rattle.ppdb_merge_places_laws.proofs.Reported.{IsWitness, Placed, numbers, reports_first}
-use Rattle.ppdb_merge_places_laws.proofs.Rows.{row_made}
-use Rattle.ppdb_merge_places_laws.proofs.Tagged.{One, flat_same, numbered_found, tag, tag_each, tag_rise, tag_same}
+use Rattle.ppdb_merge_fits.specs.{Clashes.{has_unknown_kind, if_unknown}, Slots.{used, variable_slots, if_slot_unmapped}}
+use Rattle.ppdb_merge_places_laws.specs.{Places.{ReportsFirst}, Rows.{Asked, IsUnknown, FirstUnknownKindsAreReported, IsSlotUnmapped, FirstUnmappedSlotsAreReported}}
+use Rattle.ppdb_merge_places_laws.{specs.Rows.IsUnknown.{custom}, specs.Rows.IsSlotUnmapped.{variable}, proofs.Ordered.{At, Rise, numbered_rise}}
+use Rattle.ppdb_merge_places_laws.proofs.{Reported.{IsWitness, Placed, numbers, reports_first}, Rows.{row_made}, Tagged.{One, flat_same, numbered_found, tag}}
+use Rattle.ppdb_merge_places_laws.proofs.Tagged.{tag_each, tag_rise, tag_same}
 
 module _ {X : Type 0} (xs : List X) (told : ℕ × X → List MergeError) (one : (row : ℕ) (x : X) → One (told (row, x))) where
   abbrev placed : ℕ × X → List Placed

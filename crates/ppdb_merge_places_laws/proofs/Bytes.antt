@@ -1,14 +1,10 @@
 -- What fields of a blob name stands at bytes that rise.
 use Rattle.std.proofs.Common.{◌≡◌, ℕ, ◌+◌, ◌<◌, ◌≤◌, ◌++◌, List, [], ◌∷◌, length, Result, Ok, Err, subst, flat_map, arith}
 use Rattle.ppdb_base.specs.declared.Code.{Code}
-use Rattle.blob_grammar.specs.Grammar.{Value, Form, Spells, Field, Grammar, Cut, with_value, EachFollows}
-use Rattle.blob_grammar.specs.Places.{PlacedField, placed_from, placed_of}
-use Rattle.blob_grammar.specs.Reader.{field_at, prefix_of}
-use Rattle.blob_grammar.proofs.Fields.{FieldFound, field-is, field-all}
-use Rattle.blob_grammar.proofs.PrefixFields.{prefix_of-longest}
+use Rattle.blob_grammar.specs.{Grammar.{Value, Form, Spells, Field, Grammar, Cut, with_value, EachFollows}, Places.{PlacedField, placed_from, placed_of}}
+use Rattle.blob_grammar.{specs.Reader.{field_at, prefix_of}, proofs.Fields.{FieldFound, field-is, field-all}, proofs.PrefixFields.{prefix_of-longest}}
 use Rattle.type_blobs_rows.specs.declared.row.PlacedRow.{PlacedRow}
-use Rattle.ppdb_merge_items.specs.Each.{Each, Pairs}
-use Rattle.ppdb_merge_items.proofs.Lists.{Each-weaker, Each-append, Pairs-weaker}
+use Rattle.ppdb_merge_items.{specs.Each.{Each, Pairs}, proofs.Lists.{Each-weaker, Each-append, Pairs-weaker}}
 use Rattle.ppdb_merge_joined.proofs.Each.{Pairs-append}
 
 -- ---- each field has a byte

@@ -1,24 +1,16 @@
 -- The references inside a blob rise by their bytes.
-use Rattle.std.proofs.Common.{◌≡◌, ℕ, Bool, true, false, cond, List, [], ◌∷◌, inl, inr, Option, Some, refl}
-use Rattle.std.specs.List.{filter, list_any}
+use Rattle.std.{proofs.Common.{◌≡◌, ℕ, Bool, true, false, cond, List, [], ◌∷◌, inl, inr, Option, Some, refl}, specs.List.{filter, list_any}}
 use Rattle.ppdb_base.specs.Place.{ComesBefore, cell}
 use Rattle.ppdb_maps.specs.Map.{Map}
 use Rattle.blob_grammar.specs.Grammar.{Value, number, integer, octets}
 use Rattle.custom_info.specs.AsyncStepping.{async_stepping}
-use Rattle.type_blobs.specs.declared.import_part.ImportPart.{ImportPart}
-use Rattle.type_blobs.specs.declared.import_part.ImportPart.TheVariants.{Kind as KindPart, Alias, Assembly, Namespace, Target}
-use Rattle.type_blobs.specs.declared.types.TypeLimits.{TypeLimits}
-use Rattle.type_blobs.specs.Constants.{constants}
-use Rattle.type_blobs.specs.Imports.{imports, next_part}
-use Rattle.type_blobs_rows.specs.declared.row.PlacedRow.{PlacedRow}
-use Rattle.type_blobs_rows.specs.Rows.{type_behind, constant_type, constant_types, row_of, row_behind, import_row, import_rows}
+use Rattle.type_blobs.specs.declared.import_part.{ImportPart.{ImportPart}, ImportPart.TheVariants.{Kind as KindPart, Alias, Assembly, Namespace, Target}}
+use Rattle.type_blobs.specs.{declared.types.TypeLimits.{TypeLimits}, Constants.{constants}, Imports.{imports, next_part}}
+use Rattle.type_blobs_rows.specs.{declared.row.PlacedRow.{PlacedRow}, Rows.{type_behind, constant_type, constant_types, row_of, row_behind, import_row, import_rows}}
 use Rattle.type_blobs_rows.specs.Rows.{method_behind, resume_method, resume_methods}
-use Rattle.ppdb_merge_items.specs.Each.{Each, Pairs}
-use Rattle.ppdb_merge_items.proofs.Lists.{Each-filter, Each-map, each_of, Pairs-map, Pairs-weaker}
+use Rattle.ppdb_merge_items.{specs.Each.{Each, Pairs}, proofs.Lists.{Each-filter, Each-map, each_of, Pairs-map, Pairs-weaker}}
 use Rattle.ppdb_merge_names.specs.References.{Reference, names, inside, is_live, takes_constant, live_types}
-use Rattle.ppdb_merge_places_laws.specs.References.{reference_numbers}
-use Rattle.ppdb_merge_places_laws.proofs.Bytes.{Above, NamesOne, bytes_rise}
-use Rattle.ppdb_merge_places_laws.proofs.Ordered.{At, Rise}
+use Rattle.ppdb_merge_places_laws.{specs.References.{reference_numbers}, proofs.Bytes.{Above, NamesOne, bytes_rise}, proofs.Ordered.{At, Rise}}
 
 abbrev pub Rising : List Reference → Type 0
 Rising = Rise reference_numbers

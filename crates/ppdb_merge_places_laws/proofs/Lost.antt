@@ -1,25 +1,16 @@
 -- The first offset of an async record that is not kept is reported.
-use Rattle.std.proofs.Common.{◌≡◌, ℕ, suc, ◌+◌, Bool, true, false, cond, List, [], ◌∷◌, Some, slice_get, refl, arith, map, flat_map}
-use Rattle.std.specs.Prelude.{Contains}
+use Rattle.std.{proofs.Common.{◌≡◌, ℕ, suc, ◌+◌, Bool, true, false, cond, List, [], ◌∷◌, Some, slice_get, refl, arith, map, flat_map}, specs.Prelude.{Contains}}
 use Rattle.std.specs.List.{enumerate_from}
-use Rattle.ppdb_base.specs.declared.merge_error.MergeError.{MergeError}
-use Rattle.ppdb_base.specs.declared.merge_error.MergeError.TheVariants.{AsyncLost}
+use Rattle.ppdb_base.specs.declared.merge_error.{MergeError.{MergeError}, MergeError.TheVariants.{AsyncLost}}
 use Rattle.ppdb_tables.specs.RawTables.{row_at}
 use Rattle.ppdb_maps.specs.Map.{Map}
-use Rattle.ppdb_values.specs.Value.{value_of}
-use Rattle.ppdb_values.specs.declared.file.FileValue.{FileValue}
-use Rattle.ppdb_values.specs.declared.custom.CustomValue.{CustomValue}
-use Rattle.ppdb_merge_items.specs.Each.{Each}
-use Rattle.ppdb_merge_items.specs.NamedRows.{live_custom}
+use Rattle.ppdb_values.specs.{Value.{value_of}, declared.file.FileValue.{FileValue}, declared.custom.CustomValue.{CustomValue}}
+use Rattle.ppdb_merge_items.specs.{Each.{Each}, NamedRows.{live_custom}}
 use Rattle.ppdb_merge_moved.proofs.Elements.{each_in, each_made}
-use Rattle.ppdb_merge_fits.specs.Offsets.{MethodOffset, async_offsets, is_kept, if_lost, lost}
-use Rattle.ppdb_merge_places_laws.specs.Offsets.{IsLiveRecord, IsLost, FirstLostOffsetsAreReported}
-use Rattle.ppdb_merge_places_laws.specs.Offsets.IsLost.{async}
-use Rattle.ppdb_merge_places_laws.proofs.Ordered.{Rise, numbered_rise}
-use Rattle.ppdb_merge_places_laws.proofs.Reported.{IsWitness, Placed, error_of, numbers, reports_first}
-use Rattle.ppdb_merge_places_laws.proofs.Rows.{OfRow, numbered_row, row_made}
-use Rattle.ppdb_merge_places_laws.proofs.Tagged.{One, numbered_found, numbered_pick, numbered_same, tag, tag_same}
-use Rattle.ppdb_merge_fits.proofs.Parts.{custom_lost}
+use Rattle.ppdb_merge_fits.{specs.Offsets.{MethodOffset, async_offsets, is_kept, if_lost, lost}, proofs.Parts.{custom_lost}}
+use Rattle.ppdb_merge_places_laws.{specs.Offsets.{IsLiveRecord, IsLost, FirstLostOffsetsAreReported}, specs.Offsets.IsLost.{async}, proofs.Ordered.{Rise}}
+use Rattle.ppdb_merge_places_laws.proofs.{Ordered.{numbered_rise}, Reported.{IsWitness, Placed, error_of, numbers, reports_first}, Rows.{OfRow, numbered_row}}
+use Rattle.ppdb_merge_places_laws.proofs.{Rows.{row_made}, Tagged.{One, numbered_found, numbered_pick, numbered_same, tag, tag_same}}
 
 module _ (m : Map) where
   abbrev offset_told : ℕ → ℕ × MethodOffset → List Placed

@@ -1,14 +1,9 @@
 -- The methods with points rise by their rows.
-use Rattle.std.proofs.Common.{◌≡◌, ℕ, ◌+◌, ◌<◌, ◌≤◌, List, [], ◌∷◌, Option, Some, None, refl, arith}
-use Rattle.std.specs.List.{cons_option, enumerate_from, filter_map}
+use Rattle.std.{proofs.Common.{◌≡◌, ℕ, ◌+◌, ◌<◌, ◌≤◌, List, [], ◌∷◌, Option, Some, None, refl, arith}, specs.List.{cons_option, enumerate_from, filter_map}}
 use Rattle.std.specs.Option.{option_map}
-use Rattle.ppdb_tables.specs.RawTables.{RawTables}
-use Rattle.ppdb_tables.specs.declared.rows.MethodDebugRow.{MethodDebugRow}
-use Rattle.ppdb_values.specs.declared.file.MethodValue.{MethodValue}
-use Rattle.ppdb_values.specs.RawFile.{blob}
-use Rattle.ppdb_values.specs.Documents.{method_of, method_with, points_in, signature_in}
-use Rattle.ppdb_merge_items.specs.Each.{Each, Pairs}
-use Rattle.ppdb_merge_items.proofs.Lists.{Each-weaker}
+use Rattle.ppdb_tables.specs.{RawTables.{RawTables}, declared.rows.MethodDebugRow.{MethodDebugRow}}
+use Rattle.ppdb_values.specs.{declared.file.MethodValue.{MethodValue}, RawFile.{blob}, Documents.{method_of, method_with, points_in, signature_in}}
+use Rattle.ppdb_merge_items.{specs.Each.{Each, Pairs}, proofs.Lists.{Each-weaker}}
 
 module _ (raw : RawTables) where
   with_row : (method column : ℕ) (content : List ℕ) (e : MethodValue) → method_with raw method column content ≡ Some e → e.method ≡ method

@@ -1,38 +1,22 @@
 -- The references of a file rise, table by table and row by row.
 use Rattle.std.proofs.Common.{ℕ, ◌<◌, ◌++◌, Bool, true, false, cond, List, [], ◌∷◌, inl, inr, Option, Some, None, refl, ap, subst, ◌∙◌, arith, flat_map}
-use Rattle.std.specs.Prelude.{nat_eq, is_some, ◌||◌}
-use Rattle.std.specs.List.{enumerate_from, filter}
+use Rattle.std.specs.{Prelude.{nat_eq, is_some, ◌||◌}, List.{enumerate_from, filter}}
 use Rattle.ppdb_base.specs.Place.{ComesBefore, at_byte, cell}
-use Rattle.custom_info.specs.Kinds.{kind_of}
-use Rattle.custom_info.specs.declared.kinds.Kind.{Kind}
-use Rattle.custom_info.specs.declared.kinds.Kind.TheVariants.{Async}
+use Rattle.custom_info.specs.{Kinds.{kind_of}, declared.kinds.Kind.{Kind}, declared.kinds.Kind.TheVariants.{Async}}
 use Rattle.type_blobs_rows.specs.Rows.{constant_types, import_rows}
 use Rattle.ppdb_maps.specs.Map.{Map, is_dropped, signature_line, is_gone_row}
-use Rattle.ppdb_tables.specs.declared.rows.MethodDebugRow.{MethodDebugRow}
-use Rattle.ppdb_tables.specs.declared.rows.ScopeRow.{ScopeRow}
-use Rattle.ppdb_tables.specs.declared.rows.ConstantRow.{ConstantRow}
-use Rattle.ppdb_tables.specs.declared.rows.ImportRow.{ImportRow}
-use Rattle.ppdb_tables.specs.declared.rows.MachineRow.{MachineRow}
-use Rattle.ppdb_tables.specs.declared.rows.CustomRow.{CustomRow}
-use Rattle.ppdb_tables.specs.RawTables.{RawTables, count}
-use Rattle.ppdb_values.specs.Names.{blob_at}
-use Rattle.ppdb_values.specs.declared.file.MethodValue.{MethodValue}
-use Rattle.ppdb_values.specs.RawFile.{blob, type_limits}
-use Rattle.ppdb_values.specs.Documents.{method_of}
-use Rattle.ppdb_values.specs.Customs.{parent_of, kind_in}
-use Rattle.ppdb_merge_items.specs.Each.{Each, Pairs}
-use Rattle.ppdb_merge_items.proofs.Lists.{Each-weaker}
-use Rattle.ppdb_merge_names.specs.References.{Reference, names, of_entry, of_method, of_scope, types_of, of_constant}
-use Rattle.ppdb_merge_names.specs.References.{is_dropped_constant, of_import, of_machine, methods_in, methods_of, of_parent, of_custom}
-use Rattle.ppdb_merge_names.specs.References.{is_live, live_types}
-use Rattle.ppdb_merge_names.specs.References.{of_methods, of_others, references}
-use Rattle.ppdb_merge_fits.proofs.First.{append_is}
-use Rattle.ppdb_merge_places_laws.specs.References.{reference_numbers, ReferencesRise}
-use Rattle.ppdb_merge_places_laws.proofs.Bytes.{Above}
-use Rattle.ppdb_merge_places_laws.proofs.Ordered.{At, From, RiseFrom, and_then, at_one, numbered_each, numbered_rise}
-use Rattle.ppdb_merge_places_laws.proofs.Inside.{Rising, InRow, InTable, in_table, constants_rise}
-use Rattle.ppdb_merge_places_laws.proofs.Inside.{imports_rise, rows_left, types_left, methods_rise, inside_rises, inside_each, inside_row}
+use Rattle.ppdb_tables.specs.declared.rows.{MethodDebugRow.{MethodDebugRow}, ScopeRow.{ScopeRow}, ConstantRow.{ConstantRow}, ImportRow.{ImportRow}}
+use Rattle.ppdb_tables.specs.{declared.rows.MachineRow.{MachineRow}, declared.rows.CustomRow.{CustomRow}, RawTables.{RawTables, count}}
+use Rattle.ppdb_values.specs.{Names.{blob_at}, declared.file.MethodValue.{MethodValue}, RawFile.{blob, type_limits}, Documents.{method_of}, Customs.{parent_of}}
+use Rattle.ppdb_values.specs.Customs.{kind_in}
+use Rattle.ppdb_merge_items.{specs.Each.{Each, Pairs}, proofs.Lists.{Each-weaker}}
+use Rattle.ppdb_merge_names.specs.References.{Reference, names, of_entry, of_method, of_scope, types_of, of_constant, is_dropped_constant, of_import, of_machine}
+use Rattle.ppdb_merge_names.specs.References.{methods_in, methods_of, of_parent, of_custom, is_live, live_types, of_methods, of_others, references}
 use Rattle.ppdb_merge_names.proofs.Parts.{of_points, is_live_record}
+use Rattle.ppdb_merge_fits.proofs.First.{append_is}
+use Rattle.ppdb_merge_places_laws.{specs.References.{reference_numbers, ReferencesRise}, proofs.Bytes.{Above}, proofs.Ordered.{At, From, RiseFrom, and_then, at_one}}
+use Rattle.ppdb_merge_places_laws.proofs.{Ordered.{numbered_each, numbered_rise}, Inside.{Rising, InRow, InTable, in_table, constants_rise, imports_rise, rows_left}}
+use Rattle.ppdb_merge_places_laws.proofs.Inside.{types_left, methods_rise, inside_rises, inside_each, inside_row}
 
 -- ---- the rows of each table
 

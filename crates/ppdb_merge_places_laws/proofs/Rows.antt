@@ -1,14 +1,11 @@
 -- The errors that the rows of a table give, in the order of their rows.
-use Rattle.std.proofs.Common.{◌≡◌, ℕ, zero, suc, List, [], ◌∷◌, Some, refl, arith, flat_map}
-use Rattle.std.specs.List.{enumerate_from}
+use Rattle.std.{proofs.Common.{◌≡◌, ℕ, zero, suc, List, [], ◌∷◌, Some, refl, arith, flat_map}, specs.List.{enumerate_from}}
 use Rattle.ppdb_base.specs.declared.merge_error.MergeError.{MergeError}
 use Rattle.ppdb_tables.specs.RawTables.{row_at}
-use Rattle.ppdb_merge_items.specs.Each.{Each}
-use Rattle.ppdb_merge_items.proofs.Lists.{Each-weaker}
+use Rattle.ppdb_merge_items.{specs.Each.{Each}, proofs.Lists.{Each-weaker}}
 use Rattle.ppdb_merge_moved.proofs.Elements.{each_made}
-use Rattle.ppdb_merge_places_laws.proofs.Ordered.{At, Rise, numbered_each, numbered_rise}
-use Rattle.ppdb_merge_places_laws.proofs.Reported.{Placed, numbers}
-use Rattle.ppdb_merge_places_laws.proofs.Tagged.{One, numbered_pick, tag, tag_each, tag_rise}
+use Rattle.ppdb_merge_places_laws.proofs.{Ordered.{At, Rise, numbered_each, numbered_rise}, Reported.{Placed, numbers}, Tagged.{One, numbered_pick, tag, tag_each}}
+use Rattle.ppdb_merge_places_laws.proofs.Tagged.{tag_rise}
 
 abbrev pub InRow : ℕ → ℕ → Placed → Type 0
 InRow table row = At numbers (table ∷ []) row

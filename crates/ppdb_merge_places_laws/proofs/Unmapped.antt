@@ -1,24 +1,15 @@
 -- The first reference without image is reported.
-use Rattle.std.proofs.Common.{◌≡◌, ℕ, ◌++◌, cond, List, [], ◌∷◌, refl, ap, map, flat_map}
-use Rattle.std.specs.Prelude.{Bool, false, Contains}
-use Rattle.ppdb_base.specs.Place.{ComesBefore}
-use Rattle.ppdb_base.specs.declared.merge_error.MergeError.{MergeError}
-use Rattle.ppdb_base.specs.declared.merge_error.MergeError.TheVariants.{Unmapped}
-use Rattle.ppdb_maps.specs.declared.image.RowImage.{RowImage}
-use Rattle.ppdb_maps.specs.declared.image.RowImage.TheVariants.{Row, Gone, Missing}
-use Rattle.ppdb_maps.specs.Map.{Map, row_image}
+use Rattle.std.{proofs.Common.{◌≡◌, ℕ, ◌++◌, cond, List, [], ◌∷◌, refl, ap, map, flat_map}, specs.Prelude.{Bool, false, Contains}}
+use Rattle.ppdb_base.specs.{Place.{ComesBefore}, declared.merge_error.MergeError.{MergeError}, declared.merge_error.MergeError.TheVariants.{Unmapped}}
+use Rattle.ppdb_maps.specs.{declared.image.RowImage.{RowImage}, declared.image.RowImage.TheVariants.{Row, Gone, Missing}, Map.{Map, row_image}}
 use Rattle.ppdb_values.specs.RawFile.{RawFile}
 use Rattle.ppdb_merge_items.specs.Each.{Each}
 use Rattle.ppdb_merge_moved.proofs.Elements.{each_in, each_made, in_each}
 use Rattle.ppdb_merge_joined.proofs.Each.{Each-flat}
 use Rattle.ppdb_merge_names.specs.References.{Reference, references}
-use Rattle.ppdb_merge_fits.specs.Rows.{is_row, unmapped}
-use Rattle.ppdb_merge_places_laws.specs.References.{reference_numbers, IsUnmapped, FirstReferencesAreReported}
-use Rattle.ppdb_merge_places_laws.specs.References.IsUnmapped.{reference}
-use Rattle.ppdb_merge_places_laws.proofs.Ordered.{Rise}
-use Rattle.ppdb_merge_places_laws.proofs.References.{rising}
-use Rattle.ppdb_merge_places_laws.proofs.Reported.{IsWitness, Placed, error_of, numbers, reports_first}
-use Rattle.ppdb_merge_fits.proofs.Parts.{if_unmapped}
+use Rattle.ppdb_merge_fits.{specs.Rows.{is_row, unmapped}, proofs.Parts.{if_unmapped}}
+use Rattle.ppdb_merge_places_laws.specs.{References.{reference_numbers, IsUnmapped, FirstReferencesAreReported}, References.IsUnmapped.{reference}}
+use Rattle.ppdb_merge_places_laws.proofs.{Ordered.{Rise}, References.{rising}, Reported.{IsWitness, Placed, error_of, numbers, reports_first}}
 
 module _ (first : Bool) (m : Map) (raw : RawFile) where
   abbrev Witness : List ℕ → MergeError → Type 0

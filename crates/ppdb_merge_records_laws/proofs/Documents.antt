@@ -1,38 +1,21 @@
 -- The records on documents of one name.
-use Rattle.std.proofs.Common.{◌≡◌, ◌≢◌, ℕ, zero, suc, ◌+◌, ◌*◌, ◌≤◌, ◌++◌, inl, inr, Bool, true, false, cond, List, [], ◌∷◌, Option, Some, None}
-use Rattle.std.proofs.Common.{length, map, refl, sym, ap, ◌∙◌, arith, subst, slice_get}
-use Rattle.std.specs.Prelude.{◌||◌, nat_eq, filter, flat_map, unwrap_or, bytes_eq, position}
-use Rattle.std.specs.Option.{option_map}
-use Rattle.std.proofs.lemmas.Bool.{cases_lt, eq-eqb, eqb-true, ne_eqb, and_parts}
-use Rattle.std.proofs.lemmas.List.{map-append}
+use Rattle.std.proofs.Common.{◌≡◌, ◌≢◌, ℕ, zero, suc, ◌+◌, ◌*◌, ◌≤◌, ◌++◌, inl, inr, Bool, true, false, cond, List, [], ◌∷◌, Option, Some, None, length, map, refl}
+use Rattle.std.{proofs.Common.{sym, ap, ◌∙◌, arith, subst, slice_get}, specs.Prelude.{◌||◌, nat_eq, filter, flat_map, unwrap_or, bytes_eq, position}}
+use Rattle.std.{specs.Option.{option_map}, proofs.lemmas.Bool.{cases_lt, eq-eqb, eqb-true, ne_eqb, and_parts}, proofs.lemmas.List.{map-append}}
 use Rattle.std.proofs.lemmas.List.Elements.{filter-append}
-use Rattle.ppdb_maps.specs.Map.{Map}
-use Rattle.ppdb_maps.proofs.Named.{bytes_turned}
-use Rattle.ppdb_tables.specs.Parents.{CodesAreParents, coded_of}
-use Rattle.ppdb_tables.specs.RawTables.{row_at}
-use Rattle.ppdb_values.specs.declared.annotation.Annotation.{Annotation}
-use Rattle.ppdb_values.specs.declared.custom.CustomValue.{CustomValue}
-use Rattle.ppdb_values.specs.declared.file.DocumentValue.{DocumentValue}
-use Rattle.ppdb_values.specs.declared.file.FileValue.{FileValue}
-use Rattle.ppdb_values.specs.Meaning.{annotated_on, annotated_from, without_parent}
-use Rattle.ppdb_values.proofs.Mapped.{row_map}
-use Rattle.ppdb_values_sound_laws.specs.Customs.{SoundCustom, SoundCustoms}
-use Rattle.ppdb_values_sound_laws.specs.Named.{HasRow}
-use Rattle.ppdb_merge_items.specs.Annotated.{with_item}
-use Rattle.ppdb_merge_items.specs.Each.{Each, Pairs}
-use Rattle.ppdb_merge_items.proofs.Lists.{Each-filter, Each-weaker, Pairs-weaker, each_of, each_row}
-use Rattle.ppdb_merge_items.proofs.Orders.{Rises, one_order, rises_filter, rises_of}
-use Rattle.ppdb_merge_items.proofs.Parents.{HasTag, codes_same}
-use Rattle.ppdb_merge_items.proofs.Rows.{at}
-use Rattle.ppdb_merge_items.proofs.Spread.{spread, spread_apart, spread_each, spread_there, filter_apart, filter_within}
-use Rattle.ppdb_merge_items.proofs.Values.{by_parent}
-use Rattle.ppdb_merge_joined.specs.Joined.{row_named}
-use Rattle.ppdb_merge_joined.proofs.Each.{Each-unflat}
-use Rattle.ppdb_merge_joined.proofs.Names.{bytes_same, same_bytes, bytes_apart, found_within, is_named, firsts_differ, firsts_has, each_row_at}
+use Rattle.ppdb_maps.{specs.Map.{Map}, proofs.Named.{bytes_turned}}
+use Rattle.ppdb_tables.specs.{Parents.{CodesAreParents, coded_of}, RawTables.{row_at}}
+use Rattle.ppdb_values.specs.declared.{annotation.Annotation.{Annotation}, custom.CustomValue.{CustomValue}, file.DocumentValue.{DocumentValue}}
+use Rattle.ppdb_values.{specs.declared.file.FileValue.{FileValue}, specs.Meaning.{annotated_on, annotated_from, without_parent}, proofs.Mapped.{row_map}}
+use Rattle.ppdb_values_sound_laws.specs.{Customs.{SoundCustom, SoundCustoms}, Named.{HasRow}}
+use Rattle.ppdb_merge_items.{specs.Annotated.{with_item}, specs.Each.{Each, Pairs}, proofs.Lists.{Each-filter, Each-weaker, Pairs-weaker, each_of, each_row}}
+use Rattle.ppdb_merge_items.proofs.{Orders.{Rises, one_order, rises_filter, rises_of}, Parents.{HasTag, codes_same}, Rows.{at}, Spread.{spread, spread_apart}}
+use Rattle.ppdb_merge_items.proofs.{Spread.{spread_each, spread_there, filter_apart, filter_within}, Values.{by_parent}}
+use Rattle.ppdb_merge_joined.{specs.Joined.{row_named}, proofs.Each.{Each-unflat}, proofs.Names.{bytes_same, same_bytes, bytes_apart, found_within, is_named}}
+use Rattle.ppdb_merge_joined.proofs.Names.{firsts_differ, firsts_has, each_row_at}
 use Rattle.ppdb_merge_moved.specs.Moved.{moved_document}
 use Rattle.ppdb_merge_parts.specs.Flat.{MovedBy, documents_of, document_rows, moved_documents}
-use Rattle.ppdb_merge_records_laws.proofs.Numbers.{comes_at, passes, found_at}
-use Rattle.ppdb_merge_records_laws.proofs.Placed.{filter_none}
+use Rattle.ppdb_merge_records_laws.proofs.{Numbers.{comes_at, passes, found_at}, Placed.{filter_none}}
 
 -- ---- the records on documents, document by document
 

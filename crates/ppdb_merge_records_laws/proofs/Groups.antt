@@ -1,42 +1,22 @@
 -- The records on the documents, scopes, variables, constants and import scopes of the joined file, row by row.
-use Rattle.std.proofs.Common.{◌≡◌, ℕ, ◌+◌, ◌≤◌, ◌++◌, not, Bool, true, false, cond, List, [], ◌∷◌, Option, Some, None, length, map, refl, sym, ap}
-use Rattle.std.proofs.Common.{◌∙◌, arith, append-nil}
-use Rattle.std.specs.Prelude.{filter, flat_map}
-use Rattle.std.specs.List.{filter_map, cons_option, enumerate_from}
-use Rattle.std.specs.Option.{option_map}
+use Rattle.std.proofs.Common.{◌≡◌, ℕ, ◌+◌, ◌≤◌, ◌++◌, not, Bool, true, false, cond, List, [], ◌∷◌, Option, Some, None, length, map, refl, sym, ap, ◌∙◌, arith}
+use Rattle.std.{proofs.Common.{append-nil}, specs.Prelude.{filter, flat_map}, specs.List.{filter_map, cons_option, enumerate_from}, specs.Option.{option_map}}
 use Rattle.std.proofs.lemmas.Bool.{eq-eqb, ne_eqb}
 use Rattle.ppdb_maps.specs.Map.{Map, moved_row, offsets_in}
 use Rattle.ppdb_tables.specs.RawTables.{numbered}
-use Rattle.ppdb_values.specs.declared.annotation.Annotation.{Annotation}
-use Rattle.ppdb_values.specs.declared.annotation.Custom.{Custom}
-use Rattle.ppdb_values.specs.declared.file.DocumentValue.{DocumentValue}
-use Rattle.ppdb_values.specs.declared.file.FileValue.{FileValue}
-use Rattle.ppdb_values.specs.declared.import.ImportScopeValue.{ImportScopeValue}
-use Rattle.ppdb_values.specs.declared.scope.ConstantValue.{ConstantValue}
-use Rattle.ppdb_values.specs.declared.scope.ScopeValue.{ScopeValue}
-use Rattle.ppdb_values.specs.Meaning.{annotated_on, annotated_from}
-use Rattle.ppdb_values.specs.Parts.{first_item}
-use Rattle.ppdb_merge_items.specs.declared.file.AnnotatedFile.{AnnotatedFile}
-use Rattle.ppdb_merge_items.specs.declared.file.AnnotatedScope.{AnnotatedScope}
-use Rattle.ppdb_merge_items.specs.Annotated.{annotated_scope, customs_of, with_item}
-use Rattle.ppdb_merge_items.specs.Each.{Each}
-use Rattle.ppdb_merge_items.specs.NamedRows.{goes_constant, live_constants, with_live_body}
-use Rattle.ppdb_merge_items.specs.Sorted.{in_order}
-use Rattle.ppdb_merge_items.proofs.Lists.{Each-filter, Each-map, Each-weaker, each_of}
-use Rattle.ppdb_merge_items.proofs.Mapped.{map_map_both}
-use Rattle.ppdb_merge_items.proofs.Orders.{in_order_each}
-use Rattle.ppdb_merge_joined.specs.Joined.{joined_document, customs_named, renumbered, renumbered_all, renumbered_scope, renumbered_import}
-use Rattle.ppdb_merge_joined.specs.Same.{fresh, same_custom}
-use Rattle.ppdb_merge_joined.proofs.Each.{Each-flat}
+use Rattle.ppdb_values.specs.declared.{annotation.Annotation.{Annotation}, annotation.Custom.{Custom}, file.DocumentValue.{DocumentValue}}
+use Rattle.ppdb_values.specs.declared.{file.FileValue.{FileValue}, import.ImportScopeValue.{ImportScopeValue}, scope.ConstantValue.{ConstantValue}}
+use Rattle.ppdb_values.specs.{declared.scope.ScopeValue.{ScopeValue}, Meaning.{annotated_on, annotated_from}, Parts.{first_item}}
+use Rattle.ppdb_merge_items.specs.{declared.file.AnnotatedFile.{AnnotatedFile}, declared.file.AnnotatedScope.{AnnotatedScope}, Annotated.{annotated_scope}}
+use Rattle.ppdb_merge_items.specs.{Annotated.{customs_of, with_item}, Each.{Each}, NamedRows.{goes_constant, live_constants, with_live_body}, Sorted.{in_order}}
+use Rattle.ppdb_merge_items.proofs.{Lists.{Each-filter, Each-map, Each-weaker, each_of}, Mapped.{map_map_both}, Orders.{in_order_each}, Parts.{live_constant}}
+use Rattle.ppdb_merge_joined.specs.{Joined.{joined_document, customs_named, renumbered, renumbered_all, renumbered_scope, renumbered_import}, Same.{fresh}}
+use Rattle.ppdb_merge_joined.{specs.Same.{same_custom}, proofs.Each.{Each-flat}}
 use Rattle.ppdb_merge_moved.specs.Moved.{moved_scope, moved_import_scope, moved_range, moved_variable, moved_constant, is_empty, scope_image as annotated_image}
-use Rattle.ppdb_merge_parts.specs.Flat.{MovedBy}
-use Rattle.ppdb_merge_records_laws.specs.Records.{Numbered, Origin, numbered_rows, origin_of, scopes_left, scope_origins, rows_left, owned_origins, import_origins}
-use Rattle.ppdb_merge_records_laws.specs.Records.{variable_origins, constant_origins}
-use Rattle.ppdb_merge_parts.proofs.Flat.{moved_of}
-use Rattle.ppdb_merge_records_laws.proofs.Fresh.{of_one, later_none, flat_none}
-use Rattle.ppdb_merge_parts.proofs.Lists.{map_filter_map, filter_map_map, filter_map_flat, map_flat, flat_same}
+use Rattle.ppdb_merge_parts.{specs.Flat.{MovedBy}, proofs.Flat.{moved_of}, proofs.Lists.{map_filter_map, filter_map_map, filter_map_flat, map_flat, flat_same}}
 use Rattle.ppdb_merge_parts.proofs.Ordered.{in_order_made, in_order_map}
-use Rattle.ppdb_merge_items.proofs.Parts.{live_constant}
+use Rattle.ppdb_merge_records_laws.specs.Records.{Numbered, Origin, numbered_rows, origin_of, scopes_left, scope_origins, rows_left, owned_origins, import_origins}
+use Rattle.ppdb_merge_records_laws.{specs.Records.{variable_origins, constant_origins}, proofs.Fresh.{of_one, later_none, flat_none}}
 
 -- ---- what the input of a row has on it
 

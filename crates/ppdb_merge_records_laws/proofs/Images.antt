@@ -1,42 +1,22 @@
 -- What becomes of the records of one input.
-use Rattle.std.proofs.Common.{◌≡◌, ℕ, ◌≤◌, ◌<◌, ◌⊎◌, inl, inr, ◌&&◌, Bool, true, false, cond, List, [], ◌∷◌, Option, Some, None, map, refl, sym, ap}
-use Rattle.std.proofs.Common.{◌∙◌, arith, subst, ◌==◌}
-use Rattle.std.specs.Prelude.{nat_eq, nat_lt, filter, IsSome}
-use Rattle.std.specs.List.{filter_map, cons_option}
-use Rattle.std.specs.Option.{option_map}
-use Rattle.std.proofs.lemmas.Bool.{eqb-true, ne_eqb, and_parts, ltb-true, lt-ltb}
-use Rattle.std.proofs.lemmas.Bool.Decides.{nat_tests}
-use Rattle.custom_info.specs.declared.kinds.Kind.{Kind}
-use Rattle.custom_info.specs.declared.kinds.Kind.TheVariants.{Async as AsyncKind, Hoisted as HoistedKind, TypeDocuments as DocumentsKind, Free, Unknown}
-use Rattle.custom_info.specs.Kinds.{kind_of}
-use Rattle.ppdb_maps.specs.declared.entries.CrossLine.{CrossLine}
-use Rattle.ppdb_maps.specs.declared.image.RowImage.{RowImage}
-use Rattle.ppdb_maps.specs.declared.image.RowImage.TheVariants.{Row, Gone, Missing}
-use Rattle.ppdb_maps.specs.Forms.{Crosses}
-use Rattle.ppdb_maps.specs.Map.{Map, row_image, row_within}
-use Rattle.ppdb_maps.specs.Readable.{IsReadable}
+use Rattle.std.proofs.Common.{◌≡◌, ℕ, ◌≤◌, ◌<◌, ◌⊎◌, inl, inr, ◌&&◌, Bool, true, false, cond, List, [], ◌∷◌, Option, Some, None, map, refl, sym, ap, ◌∙◌, arith}
+use Rattle.std.{proofs.Common.{subst, ◌==◌}, specs.Prelude.{nat_eq, nat_lt, filter, IsSome}, specs.List.{filter_map, cons_option}, specs.Option.{option_map}}
+use Rattle.std.proofs.lemmas.{Bool.{eqb-true, ne_eqb, and_parts, ltb-true, lt-ltb}, Bool.Decides.{nat_tests}}
+use Rattle.custom_info.specs.declared.kinds.{Kind.{Kind}, Kind.TheVariants.{Async as AsyncKind, Hoisted as HoistedKind, TypeDocuments as DocumentsKind, Free}}
+use Rattle.custom_info.specs.{declared.kinds.Kind.TheVariants.{Unknown}, Kinds.{kind_of}}
+use Rattle.ppdb_maps.specs.declared.{entries.CrossLine.{CrossLine}, image.RowImage.{RowImage}, image.RowImage.TheVariants.{Row, Gone, Missing}}
+use Rattle.ppdb_maps.specs.{Forms.{Crosses}, Map.{Map, row_image, row_within}, Readable.{IsReadable}}
 use Rattle.ppdb_tables.specs.Parents.{coded_in}
-use Rattle.ppdb_values.specs.declared.custom.CustomBody.{CustomBody}
-use Rattle.ppdb_values.specs.declared.custom.CustomBody.TheVariants.{Async, Hoisted, TypeDocuments, Unread}
-use Rattle.ppdb_values.specs.declared.custom.CustomValue.{CustomValue}
-use Rattle.ppdb_values.specs.declared.file.FileValue.{FileValue}
-use Rattle.ppdb_values.specs.Meaning.{without_parent}
-use Rattle.ppdb_values.specs.Rules.{StandsOn}
+use Rattle.ppdb_values.specs.declared.custom.{CustomBody.{CustomBody}, CustomBody.TheVariants.{Async, Hoisted, TypeDocuments, Unread}, CustomValue.{CustomValue}}
+use Rattle.ppdb_values.specs.{declared.file.FileValue.{FileValue}, Meaning.{without_parent}, Rules.{StandsOn}}
 use Rattle.ppdb_values_sound_laws.specs.Customs.{SoundCustom, IsBodyOfKind}
-use Rattle.ppdb_merge_items.specs.Annotated.{on_row}
-use Rattle.ppdb_merge_items.specs.Each.{Each}
-use Rattle.ppdb_merge_items.specs.NamedRows.{live_custom}
-use Rattle.ppdb_merge_items.proofs.Lists.{Each-filter}
-use Rattle.ppdb_merge_items.proofs.Mapped.{map_map_both}
-use Rattle.ppdb_merge_items.proofs.Parents.{HasTag}
-use Rattle.ppdb_merge_items.proofs.Rows.{at}
+use Rattle.ppdb_merge_items.{specs.Annotated.{on_row}, specs.Each.{Each}, specs.NamedRows.{live_custom}, proofs.Lists.{Each-filter}, proofs.Mapped.{map_map_both}}
+use Rattle.ppdb_merge_items.proofs.{Parents.{HasTag}, Rows.{at}}
 use Rattle.ppdb_merge_joined.specs.Joined.{row_in, with_documents, renumbered_custom}
-use Rattle.ppdb_merge_moved.specs.Moved.{linked, moved_body, moved_custom, moved_parent, table_in, row_in as image_row}
-use Rattle.ppdb_merge_moved.proofs.ImageRows.{StaysOrCrosses, image_cases}
+use Rattle.ppdb_merge_moved.{specs.Moved.{linked, moved_body, moved_custom, moved_parent, table_in, row_in as image_row}, proofs.ImageRows.{StaysOrCrosses}}
+use Rattle.ppdb_merge_moved.proofs.ImageRows.{image_cases}
 use Rattle.ppdb_merge_parts.specs.Flat.{MovedBy, documents_of, document_rows}
-use Rattle.ppdb_merge_records_laws.specs.Records.{Numbered, parent_row, record_on, record_image}
-use Rattle.ppdb_merge_records_laws.proofs.Groups.{map_each}
-use Rattle.ppdb_merge_records_laws.proofs.Numbers.{comes_at}
+use Rattle.ppdb_merge_records_laws.{specs.Records.{Numbered, parent_row, record_on, record_image}, proofs.Groups.{map_each}, proofs.Numbers.{comes_at}}
 use Rattle.ppdb_merge_records_laws.proofs.Placed.{and_none}
 
 -- ---- a record that is on no row of the type system stays as it is

@@ -1,15 +1,10 @@
 -- Rows that are found by where they come from, each once.
-use Rattle.std.proofs.Common.{◌≡◌, ◌≢◌, ℕ, zero, suc, ◌+◌, ◌≤◌, ◌<◌, Bool, true, false, cond, List, [], ◌∷◌, Option, Some, None, length, map, refl, sym, ap, ◌∙◌, arith}
-use Rattle.std.proofs.Common.{slice_get}
-use Rattle.std.specs.Prelude.{nat_eq, filter, flat_map, position}
-use Rattle.std.specs.List.{enumerate_from}
-use Rattle.std.specs.Option.{option_map}
+use Rattle.std.proofs.Common.{◌≡◌, ◌≢◌, ℕ, zero, suc, ◌+◌, ◌≤◌, ◌<◌, Bool, true, false, cond, List, [], ◌∷◌, Option, Some, None, length, map, refl, sym, ap, ◌∙◌}
+use Rattle.std.{proofs.Common.{arith, slice_get}, specs.Prelude.{nat_eq, filter, flat_map, position}, specs.List.{enumerate_from}, specs.Option.{option_map}}
 use Rattle.std.proofs.lemmas.Bool.{eq-eqb, eqb-true, ne_eqb}
 use Rattle.ppdb_tables.specs.RawTables.{row_at}
-use Rattle.ppdb_merge_items.specs.Each.{Each, Pairs}
-use Rattle.ppdb_merge_items.proofs.Lists.{Each-weaker, each_of}
-use Rattle.ppdb_merge_joined.proofs.Each.{Pairs-flat}
-use Rattle.ppdb_merge_joined.proofs.Names.{position_cons}
+use Rattle.ppdb_merge_items.{specs.Each.{Each, Pairs}, proofs.Lists.{Each-weaker, each_of}}
+use Rattle.ppdb_merge_joined.proofs.{Each.{Pairs-flat}, Names.{position_cons}}
 use Rattle.ppdb_merge_records_laws.specs.Records.{rows_left}
 
 -- ---- the place of the one item that passes

@@ -1,26 +1,16 @@
 -- No two rows of the joined file come from one row.
 use Rattle.std.proofs.Common.{◌≡◌, ℕ, suc, ◌+◌, ◌-◌, ◌≤◌, ◌<◌, ◌++◌, ◌⊎◌, inl, inr, Bool, true, false, cond, List, [], ◌∷◌, length, map, take, refl, sym, ap, ◌∙◌}
-use Rattle.std.proofs.Common.{arith, append_assoc}
-use Rattle.std.specs.Prelude.{nat_eq, sum_by, not}
-use Rattle.std.specs.List.{enumerate_from}
-use Rattle.std.proofs.lemmas.List.{length-append}
+use Rattle.std.{proofs.Common.{arith, append_assoc}, specs.Prelude.{nat_eq, sum_by, not}, specs.List.{enumerate_from}, proofs.lemmas.List.{length-append}}
 use Rattle.std.proofs.lemmas.List.Sums.{sum_by_push}
 use Rattle.ppdb_maps.specs.Map.{Map, moved_row, offsets_in}
-use Rattle.ppdb_values.specs.declared.file.FileValue.{FileValue}
-use Rattle.ppdb_values.specs.declared.scope.ScopeValue.{ScopeValue}
-use Rattle.ppdb_values.specs.Parts.{first_item}
-use Rattle.ppdb_merge_items.specs.Each.{Each, Pairs}
-use Rattle.ppdb_merge_items.specs.NamedRows.{goes_constant}
-use Rattle.ppdb_merge_items.proofs.Files.{take_prefix}
-use Rattle.ppdb_merge_items.proofs.Lists.{Each-weaker, each_of, Pairs-map, Pairs-weaker}
-use Rattle.ppdb_merge_joined.proofs.Each.{Pairs-flat}
-use Rattle.ppdb_merge_joined.proofs.Kept.{in_order_pairs}
-use Rattle.ppdb_merge_moved.specs.Moved.{moved_range, is_empty}
-use Rattle.ppdb_merge_moved.proofs.Lists.{Pairs-filter}
+use Rattle.ppdb_values.specs.{declared.file.FileValue.{FileValue}, declared.scope.ScopeValue.{ScopeValue}, Parts.{first_item}}
+use Rattle.ppdb_merge_items.{specs.Each.{Each, Pairs}, specs.NamedRows.{goes_constant}, proofs.Files.{take_prefix}, proofs.Lists.{Each-weaker, each_of, Pairs-map}}
+use Rattle.ppdb_merge_items.proofs.Lists.{Pairs-weaker}
+use Rattle.ppdb_merge_joined.proofs.{Each.{Pairs-flat}, Kept.{in_order_pairs}}
+use Rattle.ppdb_merge_moved.{specs.Moved.{moved_range, is_empty}, proofs.Lists.{Pairs-filter}}
 use Rattle.ppdb_merge_parts.specs.Flat.{MovedBy}
 use Rattle.ppdb_merge_records_laws.specs.Records.{Numbered, Origin, numbered_rows, origin_of, scopes_left, scope_origins, rows_left, owned_origins, import_origins}
-use Rattle.ppdb_merge_records_laws.specs.Records.{origins_in}
-use Rattle.ppdb_merge_records_laws.proofs.Numbers.{Differ, differ_turns, rows_apart, rows_differ, owned_within, owned_differ}
+use Rattle.ppdb_merge_records_laws.{specs.Records.{origins_in}, proofs.Numbers.{Differ, differ_turns, rows_apart, rows_differ, owned_within, owned_differ}}
 
 abbrev Row : Type 0
 Row = Numbered × ℕ × ScopeValue

@@ -1,14 +1,9 @@
 -- Records that are placed at the rows of a table, and tests that records pass.
-use Rattle.std.proofs.Common.{◌≡◌, ℕ, zero, suc, ◌+◌, ◌<◌, ◌++◌, ◌&&◌, Bool, true, false, cond, List, [], ◌∷◌, map, refl, ap, ◌∙◌, arith, append-nil}
-use Rattle.std.proofs.Common.{slice_get}
-use Rattle.std.specs.Prelude.{filter, unwrap_or}
-use Rattle.std.proofs.lemmas.Bool.{eq-eqb, ne_eqb}
-use Rattle.std.proofs.lemmas.List.Elements.{filter-append}
+use Rattle.std.proofs.Common.{◌≡◌, ℕ, zero, suc, ◌+◌, ◌<◌, ◌++◌, ◌&&◌, Bool, true, false, cond, List, [], ◌∷◌, map, refl, ap, ◌∙◌, arith, append-nil, slice_get}
+use Rattle.std.{specs.Prelude.{filter, unwrap_or}, proofs.lemmas.Bool.{eq-eqb, ne_eqb}, proofs.lemmas.List.Elements.{filter-append}}
 use Rattle.ppdb_tables.specs.RawTables.{row_at}
 use Rattle.ppdb_values.specs.declared.annotation.Custom.{Custom}
-use Rattle.ppdb_merge_items.specs.Annotated.{placed, on_row}
-use Rattle.ppdb_merge_items.specs.Each.{Each}
-use Rattle.ppdb_merge_items.proofs.Rows.{at}
+use Rattle.ppdb_merge_items.{specs.Annotated.{placed, on_row}, specs.Each.{Each}, proofs.Rows.{at}}
 
 -- ---- tests
 

@@ -1,49 +1,27 @@
 -- The records of the joined file are what becomes of the records of the inputs, in order.
-use Rattle.std.proofs.Common.{◌≡◌, ◌≢◌, ℕ, suc, ◌+◌, ◌≤◌, ◌<◌, ◌++◌, ◌&&◌, Bool, true, false, cond, List, [], ◌∷◌, Option, Some, None, length, map}
-use Rattle.std.proofs.Common.{refl, sym, ap, ◌∙◌, arith, subst, ◌⊎◌, inl, inr}
-use Rattle.std.specs.Prelude.{nat_eq, nat_lt, filter, flat_map, unwrap_or, IsSome}
-use Rattle.std.specs.List.{filter_map, enumerate_from}
-use Rattle.std.specs.Option.{option_map}
-use Rattle.std.proofs.lemmas.Bool.{cases_lt, eq-eqb, eqb-true, ne_eqb, and_parts, lt-ltb, ltb-true}
+use Rattle.std.proofs.Common.{◌≡◌, ◌≢◌, ℕ, suc, ◌+◌, ◌≤◌, ◌<◌, ◌++◌, ◌&&◌, Bool, true, false, cond, List, [], ◌∷◌, Option, Some, None, length, map, refl, sym, ap}
+use Rattle.std.{proofs.Common.{◌∙◌, arith, subst, ◌⊎◌, inl, inr}, specs.Prelude.{nat_eq, nat_lt, filter, flat_map, unwrap_or, IsSome}, specs.List.{filter_map}}
+use Rattle.std.{specs.List.{enumerate_from}, specs.Option.{option_map}, proofs.lemmas.Bool.{cases_lt, eq-eqb, eqb-true, ne_eqb, and_parts, lt-ltb, ltb-true}}
 use Rattle.ppdb_maps.specs.Readable.{IsReadable}
-use Rattle.ppdb_tables.specs.Parents.{CodesAreParents, coded_in, coded_of}
-use Rattle.ppdb_tables.specs.RawTables.{row_at}
-use Rattle.ppdb_values.specs.declared.annotation.Annotation.{Annotation}
-use Rattle.ppdb_values.specs.declared.annotation.Custom.{Custom}
-use Rattle.ppdb_values.specs.declared.custom.CustomValue.{CustomValue}
-use Rattle.ppdb_values.specs.declared.file.DocumentValue.{DocumentValue}
-use Rattle.ppdb_values.specs.Meaning.{annotated_on, without_parent}
-use Rattle.ppdb_values.proofs.Mapped.{row_map}
+use Rattle.ppdb_tables.specs.{Parents.{CodesAreParents, coded_in, coded_of}, RawTables.{row_at}}
+use Rattle.ppdb_values.specs.declared.{annotation.Annotation.{Annotation}, annotation.Custom.{Custom}, custom.CustomValue.{CustomValue}}
+use Rattle.ppdb_values.{specs.declared.file.DocumentValue.{DocumentValue}, specs.Meaning.{annotated_on, without_parent}, proofs.Mapped.{row_map}}
 use Rattle.ppdb_values_sound_laws.specs.Customs.{SoundCustom, SoundCustoms}
-use Rattle.ppdb_merge_items.specs.declared.file.AnnotatedFile.{AnnotatedFile}
-use Rattle.ppdb_merge_items.specs.Annotated.{all_customs, annotated_file, on_row, placed}
-use Rattle.ppdb_merge_items.specs.Each.{Each, Pairs}
-use Rattle.ppdb_merge_items.specs.Sorted.{in_order}
-use Rattle.ppdb_merge_items.specs.Unannotated.{value_of_annotated}
-use Rattle.ppdb_merge_items.proofs.Files.{parts_filter, only_first, only_second, only_third, only_fourth, only_fifth, only_sixth}
-use Rattle.ppdb_merge_items.proofs.Lists.{Each-append, Each-enumerate, Each-filter, Each-map, Each-weaker, Pairs-weaker, each_of, each_row}
-use Rattle.ppdb_merge_items.proofs.Mapped.{map_map_both}
-use Rattle.ppdb_merge_items.proofs.Orders.{in_order_each, in_order_keeps, in_order_rises, key_kept, one_order}
-use Rattle.ppdb_merge_items.proofs.Parents.{HasTag, codes_same}
-use Rattle.ppdb_merge_items.proofs.Rows.{at, none_placed, one_parent}
-use Rattle.ppdb_merge_items.proofs.Spread.{filter_apart, filter_within}
-use Rattle.ppdb_merge_joined.specs.Joined.{joined_parts, renumbered_all, renumbered_custom, row_in, row_named, customs_named}
-use Rattle.ppdb_merge_joined.specs.Same.{fresh, same_custom, same_record}
-use Rattle.ppdb_merge_joined.proofs.Each.{Each-with}
-use Rattle.ppdb_merge_joined.proofs.Kept.{fresh_each}
+use Rattle.ppdb_merge_items.specs.{declared.file.AnnotatedFile.{AnnotatedFile}, Annotated.{all_customs, annotated_file, on_row, placed}, Each.{Each, Pairs}}
+use Rattle.ppdb_merge_items.{specs.Sorted.{in_order}, specs.Unannotated.{value_of_annotated}, proofs.Files.{parts_filter, only_first, only_second, only_third}}
+use Rattle.ppdb_merge_items.proofs.{Files.{only_fourth, only_fifth, only_sixth}, Lists.{Each-append, Each-enumerate, Each-filter, Each-map, Each-weaker}}
+use Rattle.ppdb_merge_items.proofs.{Lists.{Pairs-weaker, each_of, each_row}, Mapped.{map_map_both}, Orders.{in_order_each, in_order_keeps, in_order_rises, key_kept}}
+use Rattle.ppdb_merge_items.proofs.{Orders.{one_order}, Parents.{HasTag, codes_same}, Rows.{at, none_placed, one_parent}, Spread.{filter_apart, filter_within}}
+use Rattle.ppdb_merge_joined.specs.{Joined.{joined_parts, renumbered_all, renumbered_custom, row_in, row_named, customs_named}, Same.{fresh, same_custom}}
+use Rattle.ppdb_merge_joined.{specs.Same.{same_record}, proofs.Each.{Each-with}, proofs.Kept.{fresh_each}}
 use Rattle.ppdb_merge_moved.specs.Moved.{moved_custom, moved_document}
-use Rattle.ppdb_merge_parts.specs.Flat.{MovedBy, joined_inputs, documents_of, document_rows, moved_documents}
-use Rattle.ppdb_merge_records_laws.specs.Records.{Numbered, Origin, scope_origins, variable_origins, constant_origins, import_origins, origins_in, row_of, parent_row}
-use Rattle.ppdb_merge_records_laws.specs.Records.{record_image, records_of}
-use Rattle.ppdb_merge_records_laws.specs.Records.{JoinedRecordsAreFlat}
-use Rattle.ppdb_merge_records_laws.proofs.Documents.{comes_to, customs_moved, documents_spread, have_rows, named_as, passes_moved, spread_passes}
-use Rattle.ppdb_merge_parts.proofs.Flat.{file_same, moved_of, rows_are}
-use Rattle.ppdb_merge_records_laws.proofs.Fresh.{fresh_filter, fresh_map, fresh_none, fresh_one, of_one}
-use Rattle.ppdb_merge_records_laws.proofs.Groups.{map_each, named_records, noted, on_constants, on_documents, on_imports, on_scopes, on_variables}
-use Rattle.ppdb_merge_records_laws.proofs.Images.{comes_on, images_on, image_tagged, low_images}
-use Rattle.ppdb_merge_records_laws.proofs.Numbers.{Differ, comes_at, found_at, passes}
-use Rattle.ppdb_merge_records_laws.proofs.Origins.{origins_differ}
-use Rattle.ppdb_merge_records_laws.proofs.Placed.{and_none, filter_both, filter_each, filter_none, placed_at}
+use Rattle.ppdb_merge_parts.{specs.Flat.{MovedBy, joined_inputs, documents_of, document_rows, moved_documents}, proofs.Flat.{file_same, moved_of, rows_are}}
+use Rattle.ppdb_merge_records_laws.specs.Records.{Numbered, Origin, scope_origins, variable_origins, constant_origins, import_origins, origins_in, row_of}
+use Rattle.ppdb_merge_records_laws.{specs.Records.{parent_row, record_image, records_of, JoinedRecordsAreFlat}, proofs.Documents.{comes_to, customs_moved}}
+use Rattle.ppdb_merge_records_laws.proofs.{Documents.{documents_spread, have_rows, named_as, passes_moved, spread_passes}, Fresh.{fresh_filter, fresh_map}}
+use Rattle.ppdb_merge_records_laws.proofs.{Fresh.{fresh_none, fresh_one, of_one}, Groups.{map_each, named_records, noted, on_constants, on_documents, on_imports}}
+use Rattle.ppdb_merge_records_laws.proofs.{Groups.{on_scopes, on_variables}, Images.{comes_on, images_on, image_tagged, low_images}, Numbers.{Differ, comes_at}}
+use Rattle.ppdb_merge_records_laws.proofs.{Numbers.{found_at, passes}, Origins.{origins_differ}, Placed.{and_none, filter_both, filter_each, filter_none, placed_at}}
 
 abbrev is_low : CustomValue → Bool
 is_low c = nat_lt c.parent.table 0x2d

@@ -1,28 +1,17 @@
 -- The method with its points moved and in new documents.
-use Rattle.std.proofs.Common.{◌≡◌, ℕ, zero, suc, ◌-◌, ◌^◌, ◌<◌, ◌≤◌, ◌++◌, ◌&&◌, Bool, true, false, cond, List, [], ◌∷◌, Option, Some, None, length, map}
-use Rattle.std.proofs.Common.{refl, sym, ap, ◌∙◌, arith, length-append, append-nil}
-use Rattle.std.specs.Prelude.{ℤ, All, unwrap_or, get_or, slice_get, nat_lt, if◌then◌else◌}
-use Rattle.std.specs.Option.{option_map, option_and_then}
-use Rattle.std.proofs.lemmas.List.Elements.{All-nil, All-cons, All-head, All-tail}
+use Rattle.std.proofs.Common.{◌≡◌, ℕ, zero, suc, ◌-◌, ◌^◌, ◌<◌, ◌≤◌, ◌++◌, ◌&&◌, Bool, true, false, cond, List, [], ◌∷◌, Option, Some, None, length, map, refl, sym}
+use Rattle.std.{proofs.Common.{ap, ◌∙◌, arith, length-append, append-nil}, specs.Prelude.{ℤ, All, unwrap_or, get_or, slice_get, nat_lt, if◌then◌else◌}}
+use Rattle.std.{specs.Option.{option_map, option_and_then}, proofs.lemmas.List.Elements.{All-nil, All-cons, All-head, All-tail}}
 use Rattle.ppdb_base.specs.Offsets.{Offsets, gone, moved, is_kept_between, old_size, Rise}
-use Rattle.ppdb_maps.specs.Map.{Map, moved_row, moved_signature, offsets_in, is_dropped, method_line}
+use Rattle.ppdb_maps.{specs.Map.{Map, moved_row, moved_signature, offsets_in, is_dropped, method_line}, proofs.Parts.{line_offsets}}
 use Rattle.cli_ints.specs.Shortest.{short_unsigned, in_two_bytes, in_four_bytes}
-use Rattle.sequence_points.specs.declared.point.Point.{Point}
-use Rattle.sequence_points.specs.MovedPoints.{moved_points, first_offset}
-use Rattle.sequence_points.specs.Points.{common_document}
-use Rattle.sequence_points.specs.Ranges.{IsOffset}
+use Rattle.sequence_points.specs.{declared.point.Point.{Point}, MovedPoints.{moved_points, first_offset}, Points.{common_document}, Ranges.{IsOffset}}
 use Rattle.sequence_points.specs.Written.{points_blob, header_bytes, initial_document, points_bytes, large_steps, first_of, numbered}
-use Rattle.ppdb_values.specs.Parts.{method_at}
-use Rattle.ppdb_values.specs.RawFile.{RawFile}
-use Rattle.ppdb_values.specs.Value.{value_of}
-use Rattle.ppdb_values.specs.declared.file.MethodValue.{MethodValue}
+use Rattle.ppdb_values.specs.{Parts.{method_at}, RawFile.{RawFile}, Value.{value_of}, declared.file.MethodValue.{MethodValue}}
 use Rattle.ppdb_merge_joined.specs.Joined.{row_in, renumbered_method}
 use Rattle.ppdb_merge_moved.specs.Moved.{moved_method, with_points}
-use Rattle.sequence_points_moved.specs.Conditions.{HasImage}
-use Rattle.sequence_points_moved.specs.MovedBlob.{in_new_document, moved_in, moved_blob}
-use Rattle.sequence_points_moved.proofs.Stays.{image_small}
+use Rattle.sequence_points_moved.{specs.Conditions.{HasImage}, specs.MovedBlob.{in_new_document, moved_in, moved_blob}, proofs.Stays.{image_small}}
 use Rattle.ppdb_merge_rows.specs.Methods.{method_after, HasBlob, HasLargeStep}
-use Rattle.ppdb_maps.proofs.Parts.{line_offsets}
 
 abbrev HasDocument : Point → Type 0
 HasDocument p = 1 ≤ p.document

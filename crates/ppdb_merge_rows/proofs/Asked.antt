@@ -1,27 +1,16 @@
 -- What is asked of the blob of a method, and what the answer says of the method.
-use Rattle.std.proofs.Common.{◌≡◌, ◌≢◌, ℕ, ◌<◌, ◌++◌, false, cond, List, [], Option, Some, None, length, sym, ap, subst, ◌∙◌, arith}
-use Rattle.std.specs.Prelude.{ℤ, All, get_or}
+use Rattle.std.{proofs.Common.{◌≡◌, ◌≢◌, ℕ, ◌<◌, ◌++◌, false, cond, List, [], Option, Some, None, length, sym, ap, subst, ◌∙◌, arith}, specs.Prelude.{ℤ, All}}
+use Rattle.std.specs.Prelude.{get_or}
 use Rattle.ppdb_base.specs.Offsets.{Offsets, gone, Rise, old_size}
-use Rattle.ppdb_maps.specs.Map.{Map, MethodLine, is_dropped, method_line, moved_signature, offsets_in}
-use Rattle.sequence_points.specs.declared.point.Point.{Point}
-use Rattle.sequence_points.specs.declared.point.PointLimits.{PointLimits}
-use Rattle.sequence_points.specs.Points.{common_document}
-use Rattle.sequence_points.specs.Ranges.{IsOffset}
+use Rattle.ppdb_maps.{specs.Map.{Map, MethodLine, is_dropped, method_line, moved_signature, offsets_in}, proofs.Parts.{line_offsets}}
+use Rattle.sequence_points.specs.{declared.point.Point.{Point}, declared.point.PointLimits.{PointLimits}, Points.{common_document}, Ranges.{IsOffset}}
 use Rattle.sequence_points.specs.Written.{large_steps, first_of, numbered}
-use Rattle.ppdb_tables.specs.declared.rows.MethodDebugRow.{MethodDebugRow}
-use Rattle.ppdb_tables.specs.RawTables.{row_at}
-use Rattle.ppdb_values.specs.declared.file.MethodValue.{MethodValue}
-use Rattle.ppdb_values.specs.Parts.{method_at}
-use Rattle.ppdb_values.specs.RawFile.{RawFile, blob, point_limits}
-use Rattle.ppdb_values.specs.Rules.{KeepsRules}
+use Rattle.ppdb_tables.specs.{declared.rows.MethodDebugRow.{MethodDebugRow}, RawTables.{row_at}}
+use Rattle.ppdb_values.specs.{declared.file.MethodValue.{MethodValue}, Parts.{method_at}, RawFile.{RawFile, blob, point_limits}, Rules.{KeepsRules}}
 use Rattle.ppdb_values.specs.Value.{value_of}
-use Rattle.sequence_points_moved.specs.Conditions.{EachPoint, HasImage, IsWhole, ReadsAs}
-use Rattle.sequence_points_moved.specs.MovedBlob.{moved_in, moved_blob}
-use Rattle.ppdb_merge_rows.specs.Methods.{HasBlob, HasLargeStep, PointsFit, is_long, method_after}
-use Rattle.ppdb_merge_rows.proofs.After.{after_some, answers_gone, answers_blob, answers_step, moved_small, with_moved}
-use Rattle.ppdb_merge_rows.proofs.Images.{has_image}
-use Rattle.ppdb_merge_rows.proofs.Read.{IsRead, is_read, one_reading}
-use Rattle.ppdb_maps.proofs.Parts.{line_offsets}
+use Rattle.sequence_points_moved.specs.{Conditions.{EachPoint, HasImage, IsWhole, ReadsAs}, MovedBlob.{moved_in, moved_blob}}
+use Rattle.ppdb_merge_rows.{specs.Methods.{HasBlob, HasLargeStep, PointsFit, is_long, method_after}, proofs.After.{after_some, answers_gone, answers_blob}}
+use Rattle.ppdb_merge_rows.proofs.{After.{answers_step, moved_small, with_moved}, Images.{has_image}, Read.{IsRead, is_read, one_reading}}
 
 abbrev pub held : ℕ → ℕ → List Point → MethodValue
 held row signature points = record { method = row; signature = signature; points = points }

@@ -1,16 +1,11 @@
 -- Where the points of a method go is said by a compressed number, where its new size is.
-use Rattle.std.proofs.Common.{◌≡◌, ◌≢◌, ℕ, ◌<◌, ◌≤◌, Bool, true, false, cond, Option, Some, None, refl, ap, arith}
-use Rattle.std.specs.Prelude.{IfSome, nat_eq, nat_lt, not, unwrap_or, ◌&&◌, find}
-use Rattle.std.specs.Option.{option_map}
-use Rattle.ppdb_base.specs.Offsets.{Offsets, every, gone, lined, Rise, old_size, moved, stop_runs, IsNextImage}
-use Rattle.ppdb_base.proofs.Moved.{has_next, moved_never_falls, moved_is}
-use Rattle.ppdb_base.proofs.Stops.{is_next}
-use Rattle.ppdb_maps.specs.declared.entries.RowLine.{RowLine}
-use Rattle.ppdb_maps.specs.Map.{Map, moved_signature, signature_line, moved_row, row_within, row_line, count_of}
+use Rattle.std.{proofs.Common.{◌≡◌, ◌≢◌, ℕ, ◌<◌, ◌≤◌, Bool, true, false, cond, Option, Some, None, refl, ap, arith}, specs.Prelude.{IfSome, nat_eq, nat_lt, not}}
+use Rattle.std.{specs.Prelude.{unwrap_or, ◌&&◌, find}, specs.Option.{option_map}, proofs.lemmas.Bool.{ltb-true}}
+use Rattle.ppdb_base.{specs.Offsets.{Offsets, every, gone, lined, Rise, old_size, moved, stop_runs, IsNextImage}, proofs.Moved.{has_next, moved_never_falls}}
+use Rattle.ppdb_base.proofs.{Moved.{moved_is}, Stops.{is_next}}
+use Rattle.ppdb_maps.specs.{declared.entries.RowLine.{RowLine}, Map.{Map, moved_signature, signature_line, moved_row, row_within, row_line, count_of}}
 use Rattle.ppdb_maps.specs.Readable.{IsReadable, IsRowOf}
-use Rattle.std.proofs.lemmas.Bool.{ltb-true}
-use Rattle.ppdb_merge_moved.proofs.RisingPoints.{itself_moved, size_moved}
-use Rattle.ppdb_merge_moved.proofs.RowImages.{signature_moved, found_holds}
+use Rattle.ppdb_merge_moved.proofs.{RisingPoints.{itself_moved, size_moved}, RowImages.{signature_moved, found_holds}}
 use Rattle.sequence_points_moved.specs.Conditions.{HasImage}
 use Rattle.ppdb_merge_rows.specs.Methods.{is_long}
 

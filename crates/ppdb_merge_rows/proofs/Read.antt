@@ -1,22 +1,11 @@
 -- The points of a method of a valid file, as its blob reads.
-use Rattle.std.proofs.Common.{◌≡◌, ℕ, ◌<◌, ◌≤◌, ◌⊎◌, List, [], ◌∷◌, Option, Some, None, length, refl, sym, ap, subst, ◌∙◌, arith, inl, inr}
-use Rattle.std.specs.Prelude.{All}
+use Rattle.std.{proofs.Common.{◌≡◌, ℕ, ◌<◌, ◌≤◌, ◌⊎◌, List, [], ◌∷◌, Option, Some, None, length, refl, sym, ap, subst, ◌∙◌, arith, inl, inr}, specs.Prelude.{All}}
 use Rattle.std.specs.Option.{option_map}
-use Rattle.sequence_points.specs.declared.point.Point.{Point}
-use Rattle.sequence_points.specs.Records.{sequence_points}
-use Rattle.sequence_points.specs.Written.{CanBeWritten}
-use Rattle.sequence_points.proofs.ReadPoints.{read_points}
-use Rattle.ppdb_tables.specs.declared.rows.MethodDebugRow.{MethodDebugRow}
-use Rattle.ppdb_tables.specs.RawTables.{row_at}
-use Rattle.ppdb_values.specs.declared.file.MethodValue.{MethodValue}
-use Rattle.ppdb_values.specs.Documents.{method_with, entries_of, points_in, signature_in}
-use Rattle.ppdb_values.specs.Parts.{method_at}
-use Rattle.ppdb_values.specs.RawFile.{RawFile, blob, point_limits}
-use Rattle.ppdb_values.specs.Rows.{method_in}
-use Rattle.ppdb_values.specs.Rules.{KeepsRules, IsWhole}
-use Rattle.ppdb_values.specs.Value.{value_of}
-use Rattle.ppdb_values.proofs.Readings.{points_are}
-use Rattle.ppdb_values.proofs.Rows.{method_is_row}
+use Rattle.sequence_points.{specs.declared.point.Point.{Point}, specs.Records.{sequence_points}, specs.Written.{CanBeWritten}, proofs.ReadPoints.{read_points}}
+use Rattle.ppdb_tables.specs.{declared.rows.MethodDebugRow.{MethodDebugRow}, RawTables.{row_at}}
+use Rattle.ppdb_values.specs.{declared.file.MethodValue.{MethodValue}, Documents.{method_with, entries_of, points_in, signature_in}, Parts.{method_at}}
+use Rattle.ppdb_values.specs.{RawFile.{RawFile, blob, point_limits}, Rows.{method_in}, Rules.{KeepsRules, IsWhole}, Value.{value_of}}
+use Rattle.ppdb_values.proofs.{Readings.{points_are}, Rows.{method_is_row}}
 use Rattle.sequence_points_moved.specs.Conditions.{ReadsAs}
 
 -- the blob of the method has bytes, and reads as its signature and points, which can be written

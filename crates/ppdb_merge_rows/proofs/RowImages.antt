@@ -1,32 +1,21 @@
 -- What becomes of rows, against the images of what the value has.
 use Rattle.std.proofs.Common.{◌≡◌, ℕ, ◌-◌, ◌<◌, Bool, true, false, cond, List, [], ◌∷◌, Option, Some, None, map, take, drop, refl, sym, ap, subst, ◌∙◌}
-use Rattle.std.specs.Prelude.{All, ◌==◌, find}
-use Rattle.std.specs.List.{filter_map}
-use Rattle.std.specs.Option.{option_map, option_and_then}
-use Rattle.std.proofs.lemmas.Bool.{eqb-true}
+use Rattle.std.{specs.Prelude.{All, ◌==◌, find}, specs.List.{filter_map}, specs.Option.{option_map, option_and_then}, proofs.lemmas.Bool.{eqb-true}}
 use Rattle.std.proofs.lemmas.List.{take-map, drop-map}
 use Rattle.ppdb_base.specs.Offsets.{old_size}
 use Rattle.ppdb_maps.specs.Map.{Map, moved_row, moved_signature, offsets_in}
-use Rattle.sequence_points.specs.declared.point.Point.{Point}
-use Rattle.sequence_points.specs.MovedPoints.{moved_points}
-use Rattle.ppdb_values.specs.declared.custom.CustomValue.{CustomValue}
-use Rattle.ppdb_values.specs.declared.file.MethodValue.{MethodValue}
-use Rattle.ppdb_values.specs.Parts.{method_at}
-use Rattle.ppdb_values.specs.RawFile.{RawFile}
+use Rattle.sequence_points.specs.{declared.point.Point.{Point}, MovedPoints.{moved_points}}
+use Rattle.ppdb_values.specs.{declared.custom.CustomValue.{CustomValue}, declared.file.MethodValue.{MethodValue}, Parts.{method_at}, RawFile.{RawFile}}
 use Rattle.ppdb_values.specs.Value.{value_of}
-use Rattle.ppdb_values_reading.specs.declared.scopes.ListRange.{ListRange}
-use Rattle.ppdb_values_reading.specs.declared.scopes.Scope.{Scope}
-use Rattle.ppdb_values_reading.specs.Lent.{variables_of, constants_of}
-use Rattle.ppdb_values_reading.specs.Scopes.{items_in, scope_with}
-use Rattle.ppdb_merge_items.specs.Each.{Each}
-use Rattle.ppdb_merge_items.specs.NamedRows.{live_custom}
+use Rattle.ppdb_values_reading.specs.{declared.scopes.ListRange.{ListRange}, declared.scopes.Scope.{Scope}, Lent.{variables_of, constants_of}, Scopes.{items_in}}
+use Rattle.ppdb_values_reading.specs.Scopes.{scope_with}
+use Rattle.ppdb_merge_items.specs.{Each.{Each}, NamedRows.{live_custom}}
 use Rattle.ppdb_merge_joined.specs.Joined.{row_in, renumbered_custom, renumbered_method}
 use Rattle.ppdb_merge_moved.specs.Moved.{is_empty, linked, moved_body, moved_custom, moved_method, moved_parent, moved_variable, with_points}
 use Rattle.ppdb_merge_moved.proofs.RisingPoints.{all_each}
-use Rattle.ppdb_merge_parts.specs.Flat.{constant_image, moved_scope_value, scope_image}
-use Rattle.ppdb_merge_parts.proofs.Lists.{filter_map_map}
-use Rattle.ppdb_merge_rows.specs.Laws.{RowsAreImages, MethodsHaveTheirRows, FittingPointsFit, input_of, custom_after}
-use Rattle.ppdb_merge_rows.specs.Rows.{moved_cells, scope_after, scope_value, body_after}
+use Rattle.ppdb_merge_parts.{specs.Flat.{constant_image, moved_scope_value, scope_image}, proofs.Lists.{filter_map_map}}
+use Rattle.ppdb_merge_rows.specs.{Laws.{RowsAreImages, MethodsHaveTheirRows, FittingPointsFit, input_of, custom_after}, Rows.{moved_cells, scope_after, scope_value}}
+use Rattle.ppdb_merge_rows.specs.Rows.{body_after}
 
 -- ---- scopes
 

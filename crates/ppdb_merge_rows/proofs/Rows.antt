@@ -1,21 +1,11 @@
 -- Rows that were read.
-use Rattle.std.proofs.Common.{◌≡◌, ℕ, zero, suc, ◌≤◌, refl, List, [], ◌∷◌, Option, Some, None, length, sym, ap, subst, ◌∙◌, arith, slice_get}
-use Rattle.std.specs.Prelude.{All}
-use Rattle.std.specs.Option.{option_map}
-use Rattle.std.proofs.lemmas.List.Elements.{All-head, All-tail}
-use Rattle.ppdb_tables.specs.declared.rows.ImportRow.{ImportRow}
-use Rattle.ppdb_tables.specs.declared.rows.ScopeRow.{ScopeRow}
-use Rattle.ppdb_tables.specs.RawTables.{RawTables, numbered, row_at}
-use Rattle.ppdb_values.specs.declared.import.ImportScopeValue.{ImportScopeValue}
-use Rattle.ppdb_values.specs.Imports.{import_scope_of}
-use Rattle.ppdb_values.specs.Owners.{list_end}
-use Rattle.ppdb_values.specs.RawFile.{RawFile}
-use Rattle.ppdb_values.specs.Rules.{KeepsRules}
-use Rattle.ppdb_values.specs.Value.{range_of, value_of}
-use Rattle.ppdb_values.proofs.Mapped.{row_map}
-use Rattle.ppdb_values_reading.specs.declared.scopes.Scope.{Scope}
-use Rattle.ppdb_values_reading.specs.Scopes.{scope_in, scopes_in, scope_with, HasLists, OwnTheirLists}
-use Rattle.ppdb_values_reading.proofs.Rows.{row_made, numbered_row}
+use Rattle.std.{proofs.Common.{◌≡◌, ℕ, zero, suc, ◌≤◌, refl, List, [], ◌∷◌, Option, Some, None, length, sym, ap, subst, ◌∙◌, arith, slice_get}, specs.Prelude.{All}}
+use Rattle.std.{specs.Option.{option_map}, proofs.lemmas.List.Elements.{All-head, All-tail}}
+use Rattle.ppdb_tables.specs.{declared.rows.ImportRow.{ImportRow}, declared.rows.ScopeRow.{ScopeRow}, RawTables.{RawTables, numbered, row_at}}
+use Rattle.ppdb_values.specs.{declared.import.ImportScopeValue.{ImportScopeValue}, Imports.{import_scope_of}, Owners.{list_end}, RawFile.{RawFile}}
+use Rattle.ppdb_values.{specs.Rules.{KeepsRules}, specs.Value.{range_of, value_of}, proofs.Mapped.{row_map}}
+use Rattle.ppdb_values_reading.{specs.declared.scopes.Scope.{Scope}, specs.Scopes.{scope_in, scopes_in, scope_with, HasLists, OwnTheirLists}, proofs.Rows.{row_made}}
+use Rattle.ppdb_values_reading.proofs.Rows.{numbered_row}
 
 all_at : {A : Type 0} (P : A → Type 0) (xs : List A) (i : ℕ) (x : A) → All P xs → slice_get xs i ≡ Some x → P x
 all_at P [] i x all is = absurd cc

@@ -1,35 +1,20 @@
 -- The map without lines fits a sound file, which stays what it is.
-use Rattle.std.proofs.Common.{◌≡◌, ℕ, ◌≤◌, ◌<◌, inl, true, [], ◌∷◌, Option, Some, None, refl, sym, ◌∙◌, ap, arith}
-use Rattle.std.specs.Prelude.{IfSome}
+use Rattle.std.{proofs.Common.{◌≡◌, ℕ, ◌≤◌, ◌<◌, inl, true, [], ◌∷◌, Option, Some, None, refl, sym, ◌∙◌, ap, arith}, specs.Prelude.{IfSome}}
 use Rattle.std.specs.List.Sorted.{IsStrictlySortedBy}
 use Rattle.ppdb_base.specs.Offsets.{every, old_size}
-use Rattle.custom_info.specs.AsyncStepping.{IsHandler, IsStep}
-use Rattle.custom_info.specs.HoistedScopes.{IsSlot}
-use Rattle.custom_info.specs.Kinds.{kind_of}
-use Rattle.custom_info.specs.declared.slots.Slot.{Slot}
+use Rattle.custom_info.specs.{AsyncStepping.{IsHandler, IsStep}, HoistedScopes.{IsSlot}, Kinds.{kind_of}, declared.slots.Slot.{Slot}}
 use Rattle.custom_info.specs.declared.slots.Slot.TheVariants.{Empty, Held}
 use Rattle.sequence_points.specs.declared.point.Point.{Point}
-use Rattle.ppdb_maps.specs.declared.image.RowImage.TheVariants.{Row}
-use Rattle.ppdb_maps.specs.Readable.{IsReadable}
-use Rattle.ppdb_values.specs.declared.custom.CustomBody.{CustomBody}
-use Rattle.ppdb_values.specs.declared.custom.CustomBody.TheVariants.{Async, Hoisted, TypeDocuments, Unread}
+use Rattle.ppdb_maps.specs.{declared.image.RowImage.TheVariants.{Row}, Readable.{IsReadable}, Map.{no_lines}}
+use Rattle.ppdb_values.specs.declared.custom.{CustomBody.{CustomBody}, CustomBody.TheVariants.{Async, Hoisted, TypeDocuments, Unread}}
 use Rattle.ppdb_values.specs.declared.file.FileValue.{FileValue}
-use Rattle.ppdb_values_sound_laws.specs.Customs.{SoundCustom}
-use Rattle.ppdb_values_sound_laws.specs.Methods.{SoundMethod}
-use Rattle.ppdb_merge_items.specs.declared.file.AnnotatedFile.{AnnotatedFile}
-use Rattle.ppdb_merge_items.specs.Each.{Each}
-use Rattle.ppdb_merge_items.specs.Laws.{SoundnessIsAnnotated, ValuesComeBack}
-use Rattle.ppdb_merge_items.specs.NamedRows.{named_rows, live_custom, live_scope}
-use Rattle.ppdb_merge_items.specs.Annotated.{annotated_file}
-use Rattle.ppdb_merge_items.specs.SoundParts.{SoundIn, SoundAnnotatedScope}
-use Rattle.ppdb_merge_items.specs.Unannotated.{value_of_annotated}
-use Rattle.ppdb_merge_items.proofs.Lists.{Each-weaker, each_of}
-use Rattle.ppdb_merge_joined.specs.Joined.{joined}
-use Rattle.ppdb_merge_joined.specs.Laws.{OneFileStays}
+use Rattle.ppdb_values_sound_laws.specs.{Customs.{SoundCustom}, Methods.{SoundMethod}}
+use Rattle.ppdb_merge_items.specs.{declared.file.AnnotatedFile.{AnnotatedFile}, Each.{Each}, Laws.{SoundnessIsAnnotated, ValuesComeBack}, NamedRows.{named_rows}}
+use Rattle.ppdb_merge_items.specs.{NamedRows.{live_custom, live_scope}, Annotated.{annotated_file}, SoundParts.{SoundIn, SoundAnnotatedScope}}
+use Rattle.ppdb_merge_items.{specs.Unannotated.{value_of_annotated}, proofs.Lists.{Each-weaker, each_of}}
+use Rattle.ppdb_merge_joined.specs.{Joined.{joined}, Laws.{OneFileStays}}
 use Rattle.ppdb_merge_moved.specs.Fits.{AreWithin, EndsWithin, Fits, HasSlot, IsImaged, IsKept, KeepsAsync, KeepsStep}
-use Rattle.ppdb_merge_unmoved_laws.specs.NoLines.{SoundFilesStay}
-use Rattle.ppdb_merge_unmoved_laws.proofs.Staying.{image_row, IsSmallBody, small_body, small_points, file_same}
-use Rattle.ppdb_maps.specs.Map.{no_lines}
+use Rattle.ppdb_merge_unmoved_laws.{specs.NoLines.{SoundFilesStay}, proofs.Staying.{image_row, IsSmallBody, small_body, small_points, file_same}}
 
 readable : IsReadable no_lines
 unfolding IsStrictlySortedBy

@@ -1,59 +1,32 @@
 -- A sound file that is moved by no lines is the same file.
-use Rattle.std.proofs.Common.{◌≡◌, ℕ, zero, suc, ◌+◌, ◌≤◌, ◌<◌, ◌&&◌, ◌||◌, Bool, true, false, cond, List, [], ◌∷◌, Option, Some, None, map}
-use Rattle.std.proofs.Common.{refl, sym, ◌∙◌, ap, arith}
-use Rattle.std.specs.Prelude.{not, nat_eq, nat_lt, unwrap_or}
-use Rattle.std.specs.List.{filter, filter_map, cons_option, list_any}
-use Rattle.std.specs.Option.{option_map}
-use Rattle.std.proofs.lemmas.Bool.{eq-eqb, ne_eqb, lt-ltb}
+use Rattle.std.proofs.Common.{◌≡◌, ℕ, zero, suc, ◌+◌, ◌≤◌, ◌<◌, ◌&&◌, ◌||◌, Bool, true, false, cond, List, [], ◌∷◌, Option, Some, None, map, refl, sym, ◌∙◌, ap}
+use Rattle.std.{proofs.Common.{arith}, specs.Prelude.{not, nat_eq, nat_lt, unwrap_or}, specs.List.{filter, filter_map, cons_option, list_any}}
+use Rattle.std.{specs.Option.{option_map}, proofs.lemmas.Bool.{eq-eqb, ne_eqb, lt-ltb}}
 use Rattle.ppdb_base.specs.Offsets.{every, Rise, moved, old_size, is_kept_between}
-use Rattle.custom_info.specs.AsyncStepping.{IsHandler, IsStep}
-use Rattle.custom_info.specs.HoistedScopes.{IsSlot}
-use Rattle.custom_info.specs.Kinds.{kind_of}
-use Rattle.custom_info.specs.declared.kinds.Kind.{Kind}
+use Rattle.custom_info.specs.{AsyncStepping.{IsHandler, IsStep}, HoistedScopes.{IsSlot}, Kinds.{kind_of}, declared.kinds.Kind.{Kind}}
 use Rattle.custom_info.specs.declared.kinds.Kind.TheVariants as kinds
-use Rattle.custom_info.specs.declared.slots.Range.{Range}
-use Rattle.custom_info.specs.declared.slots.Slot.{Slot}
-use Rattle.custom_info.specs.declared.slots.Slot.TheVariants.{Empty, Held}
-use Rattle.custom_info.specs.declared.stepping.AsyncStep.{AsyncStep}
-use Rattle.sequence_points.specs.declared.point.Point.{Point}
-use Rattle.sequence_points.specs.MovedPoints.{moved_points, first_offset}
-use Rattle.type_blobs.specs.declared.types.TypeToken.{TypeToken}
-use Rattle.type_blobs.specs.declared.types.Modifier.{Modifier}
-use Rattle.ppdb_maps.specs.declared.image.RowImage.TheVariants.{Row, Missing}
-use Rattle.ppdb_maps.specs.Map.{is_gone, row_image, row_within, moved_row, is_gone_row, leaves_table, no_lines}
+use Rattle.custom_info.specs.declared.{slots.Range.{Range}, slots.Slot.{Slot}, slots.Slot.TheVariants.{Empty, Held}, stepping.AsyncStep.{AsyncStep}}
+use Rattle.sequence_points.specs.{declared.point.Point.{Point}, MovedPoints.{moved_points, first_offset}}
+use Rattle.type_blobs.specs.declared.types.{TypeToken.{TypeToken}, Modifier.{Modifier}}
+use Rattle.ppdb_maps.specs.{declared.image.RowImage.TheVariants.{Row, Missing}, Map.{is_gone, row_image, row_within, moved_row, is_gone_row, leaves_table, no_lines}}
 use Rattle.ppdb_tables.specs.declared.rows.MachineRow.{MachineRow}
-use Rattle.ppdb_values.specs.declared.custom.CustomBody.{CustomBody}
-use Rattle.ppdb_values.specs.declared.custom.CustomBody.TheVariants.{Async, Hoisted, TypeDocuments, Unread}
-use Rattle.ppdb_values.specs.declared.custom.CustomValue.{CustomValue}
-use Rattle.ppdb_values.specs.declared.file.FileValue.{FileValue}
-use Rattle.ppdb_values.specs.declared.file.MethodValue.{MethodValue}
-use Rattle.ppdb_values.specs.declared.import.ImportScopeValue.{ImportScopeValue}
+use Rattle.ppdb_values.specs.declared.custom.{CustomBody.{CustomBody}, CustomBody.TheVariants.{Async, Hoisted, TypeDocuments, Unread}, CustomValue.{CustomValue}}
+use Rattle.ppdb_values.specs.declared.{file.FileValue.{FileValue}, file.MethodValue.{MethodValue}, import.ImportScopeValue.{ImportScopeValue}}
 use Rattle.ppdb_values.specs.declared.import.ImportValue.{ImportValue}
 use Rattle.ppdb_values.specs.declared.import.ImportValue.TheVariants as imports
-use Rattle.ppdb_values.specs.declared.annotation.Annotation.{Annotation}
-use Rattle.ppdb_values.specs.declared.scope.ConstantBody.{ConstantBody}
+use Rattle.ppdb_values.specs.declared.{annotation.Annotation.{Annotation}, scope.ConstantBody.{ConstantBody}}
 use Rattle.ppdb_values.specs.declared.scope.ConstantBody.TheVariants as constants
-use Rattle.ppdb_values.specs.declared.scope.ConstantValue.{ConstantValue}
-use Rattle.ppdb_values_sound_laws.specs.Customs.{IsBodyOfKind, SoundCustom}
-use Rattle.ppdb_values_sound_laws.specs.Methods.{SoundMethod, SoundPoint}
-use Rattle.ppdb_values_sound_laws.specs.Named.{count}
-use Rattle.ppdb_merge_items.specs.declared.file.AnnotatedScope.{AnnotatedScope}
-use Rattle.ppdb_merge_items.specs.declared.file.AnnotatedFile.{AnnotatedFile}
-use Rattle.ppdb_merge_items.specs.Each.{Each, Pairs}
-use Rattle.ppdb_merge_items.specs.NamedRows.{is_gone_type, is_type_documents, leaves_types, live_body, live_constants}
-use Rattle.ppdb_merge_items.specs.NamedRows.{live_custom, live_import, names_gone_class, with_live_body}
-use Rattle.ppdb_merge_items.specs.SoundParts.{SoundIn, SoundAnnotatedScope}
-use Rattle.ppdb_merge_items.proofs.Lists.{Each-weaker, each_of}
-use Rattle.ppdb_merge_joined.proofs.Each.{each_all, pairs_all}
-use Rattle.ppdb_merge_joined.proofs.One.{map_same}
-use Rattle.ppdb_merge_items.specs.Annotated.{with_item}
-use Rattle.ppdb_merge_moved.specs.Moved.{moved_body, moved_constant, moved_constant_body, moved_counts, moved_custom, moved_file, moved_import}
-use Rattle.ppdb_merge_moved.specs.Moved.{moved_import_scope, moved_machine, moved_method, moved_modifier, moved_range, moved_scope, moved_slot, moved_step}
-use Rattle.ppdb_values.specs.Parts.{is_link}
-use Rattle.ppdb_merge_moved.specs.Moved.{moved_token, moved_variable, scope_image, with_points, linked, moved_document, moved_parent, moved_record}
-use Rattle.ppdb_merge_moved.specs.Moved.{row_in, table_in}
+use Rattle.ppdb_values.specs.{declared.scope.ConstantValue.{ConstantValue}, Parts.{is_link}}
+use Rattle.ppdb_values_sound_laws.specs.{Customs.{IsBodyOfKind, SoundCustom}, Methods.{SoundMethod, SoundPoint}, Named.{count}}
+use Rattle.ppdb_merge_items.specs.{declared.file.AnnotatedScope.{AnnotatedScope}, declared.file.AnnotatedFile.{AnnotatedFile}, Each.{Each, Pairs}}
+use Rattle.ppdb_merge_items.specs.NamedRows.{is_gone_type, is_type_documents, leaves_types, live_body, live_constants, live_custom, live_import, names_gone_class}
+use Rattle.ppdb_merge_items.{specs.NamedRows.{with_live_body}, specs.SoundParts.{SoundIn, SoundAnnotatedScope}, proofs.Lists.{Each-weaker, each_of}}
+use Rattle.ppdb_merge_items.{specs.Annotated.{with_item}, proofs.Parts.{live_constant}}
+use Rattle.ppdb_merge_joined.proofs.{Each.{each_all, pairs_all}, One.{map_same}}
+use Rattle.ppdb_merge_moved.specs.Moved.{moved_body, moved_constant, moved_constant_body, moved_counts, moved_custom, moved_file, moved_import, moved_import_scope}
+use Rattle.ppdb_merge_moved.specs.Moved.{moved_machine, moved_method, moved_modifier, moved_range, moved_scope, moved_slot, moved_step, moved_token, moved_variable}
+use Rattle.ppdb_merge_moved.specs.Moved.{scope_image, with_points, linked, moved_document, moved_parent, moved_record, row_in, table_in}
 use Rattle.ppdb_merge_moved.proofs.RisingPoints.{itself_moved}
-use Rattle.ppdb_merge_items.proofs.Parts.{live_constant}
 
 -- ---- rows and offsets
 

@@ -1,26 +1,13 @@
 -- What is made of the rows of a table, and the rows themselves.
-use Rattle.std.proofs.Common.{◌≡◌, ℕ, ◌+◌, List, [], ◌∷◌, ◌++◌, map, refl, sym, ap, ◌∙◌, Bool, true, false, cond}
-use Rattle.std.specs.Prelude.{Option, Some, None, is_some, unwrap_or, ◌==◌, ◌&&◌}
-use Rattle.std.specs.List.{filter, filter_map, flat_map, enumerate_from, cons_option}
-use Rattle.std.specs.Option.{option_map}
-use Rattle.custom_info.specs.declared.slots.Slot.{Slot}
-use Rattle.custom_info.specs.declared.slots.Slot.TheVariants.{Empty, Held}
-use Rattle.ppdb_tables.specs.declared.rows.CustomRow.{CustomRow}
-use Rattle.ppdb_tables.specs.RawTables.{RawTables, numbered, row_at}
-use Rattle.ppdb_values.specs.Chains.{chain_of}
-use Rattle.ppdb_values.specs.Customs.{custom_of, parent_of}
-use Rattle.ppdb_values.specs.Documents.{document_of}
-use Rattle.ppdb_values.specs.Imports.{import_scope_of}
-use Rattle.ppdb_values.specs.Meaning.{SlotMeaning, slot_at, slots_at}
-use Rattle.ppdb_values.specs.Parts.{customs_on, import_chain, is_at, holds, scopes_at as scopes_of_value, slots_in}
-use Rattle.ppdb_values.specs.RawFile.{RawFile}
-use Rattle.ppdb_values.specs.Value.{value_of, scope_of, range_of}
-use Rattle.ppdb_values.proofs.Mapped.{scopes_are_rows, chain_is_rows, row_map}
-use Rattle.ppdb_queries.specs.Chains.{link_of, links_from}
-use Rattle.ppdb_queries.specs.Hoisted.{hoisted_at, hoisted_at_slot, hoisted_in, slots_from, slots_of}
-use Rattle.ppdb_queries.specs.Laws.{hoisted_records, at_position, of_scope, of_view, of_import, of_link}
-use Rattle.ppdb_queries.specs.Runs.{customs_at}
-use Rattle.ppdb_queries.specs.Scopes.{scope_view, scopes_at}
+use Rattle.std.{proofs.Common.{◌≡◌, ℕ, ◌+◌, List, [], ◌∷◌, ◌++◌, map, refl, sym, ap, ◌∙◌, Bool, true, false, cond}, specs.Prelude.{Option, Some, None, is_some}}
+use Rattle.std.specs.{Prelude.{unwrap_or, ◌==◌, ◌&&◌}, List.{filter, filter_map, flat_map, enumerate_from, cons_option}, Option.{option_map}}
+use Rattle.custom_info.specs.declared.slots.{Slot.{Slot}, Slot.TheVariants.{Empty, Held}}
+use Rattle.ppdb_tables.specs.{declared.rows.CustomRow.{CustomRow}, RawTables.{RawTables, numbered, row_at}}
+use Rattle.ppdb_values.specs.{Chains.{chain_of}, Customs.{custom_of, parent_of}, Documents.{document_of}, Imports.{import_scope_of}, Meaning.{SlotMeaning, slot_at}}
+use Rattle.ppdb_values.specs.{Meaning.{slots_at}, Parts.{customs_on, import_chain, is_at, holds, scopes_at as scopes_of_value, slots_in}, RawFile.{RawFile}}
+use Rattle.ppdb_values.{specs.Value.{value_of, scope_of, range_of}, proofs.Mapped.{scopes_are_rows, chain_is_rows, row_map}}
+use Rattle.ppdb_queries.specs.{Chains.{link_of, links_from}, Hoisted.{hoisted_at, hoisted_at_slot, hoisted_in, slots_from, slots_of}, Laws.{hoisted_records}}
+use Rattle.ppdb_queries.specs.{Laws.{at_position, of_scope, of_view, of_import, of_link}, Runs.{customs_at}, Scopes.{scope_view, scopes_at}}
 
 map_map : {X Y Z : Type 0} (f : X → Y) (g : Y → Z) (xs : List X) → map g (map f xs) ≡ map (λ x. g (f x)) xs
 map_map f g [] = refl

@@ -1,18 +1,13 @@
 -- One step of a chain.
-use Rattle.std.proofs.Common.{◌≡◌, ℕ, zero, suc, List, [], ◌∷◌, length, refl, sym, ap, ◌∙◌}
-use Rattle.std.specs.Prelude.{Some, None, map, ◌+◌, ◌≤◌}
-use Rattle.std.proofs.Common.{arith}
+use Rattle.std.{proofs.Common.{◌≡◌, ℕ, zero, suc, List, [], ◌∷◌, length, refl, sym, ap, ◌∙◌, arith}, specs.Prelude.{Some, None, map, ◌+◌, ◌≤◌}}
 use Rattle.std.specs.Option.{option_map_or}
-use Rattle.ppdb_tables.specs.declared.rows.ImportRow.{ImportRow}
-use Rattle.ppdb_values.specs.Rules.{KeepsImports}
+use Rattle.ppdb_tables.specs.{declared.rows.ImportRow.{ImportRow}, RawTables.{RawTables, row_at}}
+use Rattle.ppdb_values.specs.{Rules.{KeepsImports}, Chains.{chain_for, chain_of}}
 use Rattle.blob_grammar.specs.Reader.{tail, Left}
 use Rattle.type_blobs.specs.Imports.{ImportItem}
 use Rattle.ppdb_verify_rows.specs.Imports.{imports_in}
-use Rattle.ppdb_queries.specs.declared.imports.ImportLink.{ImportLink}
-use Rattle.ppdb_queries.specs.Chains.{link_of, links_from}
+use Rattle.ppdb_queries.specs.{declared.imports.ImportLink.{ImportLink}, Chains.{link_of, links_from}}
 use Rattle.sequence_points.specs.Written.{first_of}
-use Rattle.ppdb_tables.specs.RawTables.{RawTables, row_at}
-use Rattle.ppdb_values.specs.Chains.{chain_for, chain_of}
 
 -- a row that is there comes first, and then the chain of its parent
 pub chain_step : {X : Type 0} (parent : X → ℕ) (rows : List X) (row : ℕ) (x : X)

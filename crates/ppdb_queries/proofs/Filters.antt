@@ -1,18 +1,10 @@
 -- Rows with a key among rows that are sorted by it.
-use Rattle.std.proofs.Common.{◌≡◌, ℕ, zero, suc, ◌+◌, ◌-◌, ◌<◌, ◌≤◌, ◌≢◌, List, [], ◌∷◌, length, map, take, drop, refl, arith, sym, ap}
-use Rattle.std.proofs.Common.{◌∙◌, slice_index, false, inl, inr, ◌⊎◌}
-use Rattle.std.proofs.lemmas.List.{length-map}
-use Rattle.std.specs.Prelude.{Option, Some, None, slice_get, ◌==◌}
-use Rattle.std.specs.List.{filter, find, enumerate_from}
-use Rattle.std.proofs.lemmas.Bool.{eq-eqb}
-use Rattle.std.proofs.lemmas.Bool.Decides.{nat_tests}
-use Rattle.std.specs.Option.{option_map}
-use Rattle.ppdb_tables.specs.RawTables.{row_at}
-use Rattle.ppdb_values.specs.Ordered.{IsSorted, Rises}
-use Rattle.ppdb_values.specs.Links.{move_next_of}
-use Rattle.ppdb_tables.specs.declared.rows.MachineRow.{MachineRow}
-use Rattle.ppdb_queries.proofs.Keys.{key_at}
-use Rattle.ppdb_queries.specs.Runs.{IsRunOf, IsFirstNotBelow}
+use Rattle.std.proofs.Common.{◌≡◌, ℕ, zero, suc, ◌+◌, ◌-◌, ◌<◌, ◌≤◌, ◌≢◌, List, [], ◌∷◌, length, map, take, drop, refl, arith, sym, ap, ◌∙◌, slice_index, false, inl}
+use Rattle.std.{proofs.Common.{inr, ◌⊎◌}, proofs.lemmas.List.{length-map}, specs.Prelude.{Option, Some, None, slice_get, ◌==◌}, specs.List.{filter, find}}
+use Rattle.std.{specs.List.{enumerate_from}, proofs.lemmas.Bool.{eq-eqb}, proofs.lemmas.Bool.Decides.{nat_tests}, specs.Option.{option_map}}
+use Rattle.ppdb_tables.specs.{RawTables.{row_at}, declared.rows.MachineRow.{MachineRow}}
+use Rattle.ppdb_values.specs.{Ordered.{IsSorted, Rises}, Links.{move_next_of}}
+use Rattle.ppdb_queries.{proofs.Keys.{key_at}, specs.Runs.{IsRunOf, IsFirstNotBelow}}
 
 pub le_or_lt : (a b : ℕ) → (a ≤ b) ⊎ (b < a)
 le_or_lt a b = grind arith

@@ -1,6 +1,5 @@
 -- Keys of rows.
-use Rattle.std.proofs.Common.{◌≡◌, ℕ, zero, suc, ◌-◌, List, map, arith, slice_index}
-use Rattle.std.specs.Prelude.{Some}
+use Rattle.std.{proofs.Common.{◌≡◌, ℕ, zero, suc, ◌-◌, List, map, arith, slice_index}, specs.Prelude.{Some}}
 use Rattle.ppdb_tables.specs.RawTables.{row_at}
 use Rattle.ppdb_values.proofs.Lists.{index_map}
 

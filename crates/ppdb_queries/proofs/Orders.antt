@@ -1,15 +1,9 @@
 -- Machines that are read one by one: the first with a kickoff, and whether the kickoffs rise.
 use Rattle.std.proofs.Common.{◌≡◌, ◌≢◌, ℕ, ◌+◌, ◌-◌, ◌<◌, ◌≤◌, List, length, map, refl, arith, ap, ◌∙◌, slice_index, Bool, true, false, inl, inr}
-use Rattle.std.specs.Bool.{OnTrue}
-use Rattle.std.specs.Prelude.{Option, Some, None, ◌==◌}
-use Rattle.std.proofs.lemmas.Bool.Decides.{nat_tests}
-use Rattle.std.proofs.lemmas.List.{length-map}
-use Rattle.ppdb_tables.specs.RawTables.{row_at}
-use Rattle.ppdb_tables.specs.declared.rows.MachineRow.{MachineRow}
-use Rattle.ppdb_values.specs.Links.{move_next_of}
-use Rattle.ppdb_values.specs.Ordered.{Rises}
-use Rattle.ppdb_queries.specs.Machines.{first_found}
-use Rattle.ppdb_queries.proofs.Filters.{apart_more, le_or_lt, move_next_found, move_next_none}
+use Rattle.std.{specs.Bool.{OnTrue}, specs.Prelude.{Option, Some, None, ◌==◌}, proofs.lemmas.Bool.Decides.{nat_tests}, proofs.lemmas.List.{length-map}}
+use Rattle.ppdb_tables.specs.{RawTables.{row_at}, declared.rows.MachineRow.{MachineRow}}
+use Rattle.ppdb_values.specs.{Links.{move_next_of}, Ordered.{Rises}}
+use Rattle.ppdb_queries.{specs.Machines.{first_found}, proofs.Filters.{apart_more, le_or_lt, move_next_found, move_next_none}}
 
 -- what was found among the machines before a row
 abbrev pub FoundBefore : List MachineRow → ℕ → ℕ → Option ℕ → Type 0

@@ -1,27 +1,13 @@
 -- The rows of a scope's variables and constants, and those that it has in the value of the file.
 use Rattle.std.proofs.Common.{◌≡◌, ℕ, zero, suc, ◌+◌, ◌-◌, ◌≤◌, List, [], ◌∷◌, ◌++◌, length, map, take, drop, refl, sym, ap, subst, ◌∙◌, arith, slice_range}
-use Rattle.std.specs.Prelude.{Option, Some, None, All, slice_get, unwrap_or, ◌==◌, ◌&&◌}
-use Rattle.std.specs.List.{enumerate_from, filter, sum_by}
-use Rattle.std.specs.Option.{option_map}
-use Rattle.std.proofs.lemmas.List.{length-map, length-take, length-drop}
-use Rattle.std.proofs.lemmas.List.FromFn.{length-enumerate_from}
-use Rattle.std.proofs.lemmas.List.Sums.{sum_by-append}
-use Rattle.ppdb_tables.specs.declared.rows.ScopeRow.{ScopeRow}
-use Rattle.ppdb_tables.proofs.NumberedRows.{row_within}
-use Rattle.ppdb_tables.specs.RawTables.{RawTables, numbered, row_at}
-use Rattle.ppdb_values.specs.declared.scope.ScopeValue.{ScopeValue}
-use Rattle.ppdb_values.specs.Constants.{constant_of}
-use Rattle.ppdb_values.specs.Owners.{list_end, list_of}
-use Rattle.ppdb_values.specs.Parts.{first_item}
-use Rattle.ppdb_values.specs.RawFile.{RawFile}
-use Rattle.ppdb_values.specs.Rules.{KeepsLists, KeepsRules}
-use Rattle.ppdb_values.specs.Value.{value_of, scope_of, variable_of, owned_by}
+use Rattle.std.specs.{Prelude.{Option, Some, None, All, slice_get, unwrap_or, ◌==◌, ◌&&◌}, List.{enumerate_from, filter, sum_by}, Option.{option_map}}
+use Rattle.std.proofs.lemmas.{List.{length-map, length-take, length-drop}, List.FromFn.{length-enumerate_from}, List.Sums.{sum_by-append}, List.Elements.{All-nil}}
+use Rattle.std.proofs.lemmas.List.Elements.{All-cons, All-map, All-filter}
+use Rattle.ppdb_tables.{specs.declared.rows.ScopeRow.{ScopeRow}, proofs.NumberedRows.{row_within}, specs.RawTables.{RawTables, numbered, row_at}}
+use Rattle.ppdb_values.specs.{declared.scope.ScopeValue.{ScopeValue}, Constants.{constant_of}, Owners.{list_end, list_of}, Parts.{first_item, holds}}
+use Rattle.ppdb_values.specs.{RawFile.{RawFile}, Rules.{KeepsLists, KeepsRules}, Value.{value_of, scope_of, variable_of, owned_by, range_of}}
 use Rattle.ppdb_values.proofs.Lists.{owned_is_list, rises}
-use Rattle.ppdb_queries.specs.Laws.{ListsAreValues, ViewIsThere}
-use Rattle.ppdb_queries.specs.Scopes.{scope_view, scopes_at}
-use Rattle.std.proofs.lemmas.List.Elements.{All-nil, All-cons, All-map, All-filter}
-use Rattle.ppdb_values.specs.Parts.{holds}
-use Rattle.ppdb_values.specs.Value.{range_of}
+use Rattle.ppdb_queries.specs.{Laws.{ListsAreValues, ViewIsThere}, Scopes.{scope_view, scopes_at}}
 
 -- ---- lists in order
 

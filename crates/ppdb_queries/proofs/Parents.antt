@@ -1,19 +1,11 @@
 -- The custom records on a row, by its coded index and by the row itself.
-use Rattle.std.proofs.Common.{◌≡◌, ℕ, suc, ◌+◌, List, [], ◌∷◌, refl, sym, ap, subst, ◌∙◌, Bool, true, false, cond, arith, inl, inr}
-use Rattle.std.specs.Prelude.{Option, Some, None, IfSome, slice_get, ◌==◌, ◌&&◌, ◌/◌, ◌<◌, ◌≤◌}
-use Rattle.std.specs.Option.{option_map}
-use Rattle.std.specs.List.{filter, enumerate_from}
-use Rattle.std.proofs.lemmas.Bool.{eq-eqb, cases_eq}
-use Rattle.std.proofs.lemmas.Bool.Decides.{nat_tests}
-use Rattle.ppdb_tables.specs.declared.parent.Parent.{Parent}
-use Rattle.ppdb_tables.specs.declared.rows.CustomRow.{CustomRow}
-use Rattle.ppdb_tables.specs.Parents.{parent_in, coded_in, CodesAreParents}
+use Rattle.std.{proofs.Common.{◌≡◌, ℕ, suc, ◌+◌, List, [], ◌∷◌, refl, sym, ap, subst, ◌∙◌, Bool, true, false, cond, arith, inl, inr}, specs.Prelude.{Option, Some}}
+use Rattle.std.specs.{Prelude.{None, IfSome, slice_get, ◌==◌, ◌&&◌, ◌/◌, ◌<◌, ◌≤◌}, Option.{option_map}, List.{filter, enumerate_from}}
+use Rattle.std.proofs.lemmas.{Bool.{eq-eqb, cases_eq}, Bool.Decides.{nat_tests}}
+use Rattle.ppdb_tables.specs.{declared.parent.Parent.{Parent}, declared.rows.CustomRow.{CustomRow}, Parents.{parent_in, coded_in, CodesAreParents}}
 use Rattle.ppdb_tables.specs.RawTables.{RawTables}
-use Rattle.ppdb_values.specs.Customs.{parent_of}
-use Rattle.ppdb_values.specs.Parts.{is_at}
-use Rattle.ppdb_values.specs.Rules.{KeepsCustoms, IsCustom}
-use Rattle.ppdb_queries.specs.declared.run.Run.{Run}
-use Rattle.ppdb_queries.specs.Runs.{IsRunOf, rows_in, customs_at}
+use Rattle.ppdb_values.specs.{Customs.{parent_of}, Parts.{is_at}, Rules.{KeepsCustoms, IsCustom}}
+use Rattle.ppdb_queries.specs.{declared.run.Run.{Run}, Runs.{IsRunOf, rows_in, customs_at}}
 
 -- ---- tests of parents
 

@@ -1,17 +1,10 @@
 -- The last point of a method that is not after an offset.
-use Rattle.std.proofs.Common.{◌≡◌, ℕ, suc, List, [], ◌∷◌, sym, ap, subst, ◌∙◌, arith}
-use Rattle.std.specs.Prelude.{Option, Some, None, All, nat_le, IfSome}
-use Rattle.std.specs.List.{filter, last_or}
-use Rattle.std.specs.Option.{option_map_or}
-use Rattle.std.proofs.lemmas.List.Elements.{All-filter}
-use Rattle.sequence_points.specs.declared.point.Point.{Point}
+use Rattle.std.{proofs.Common.{◌≡◌, ℕ, suc, List, [], ◌∷◌, sym, ap, subst, ◌∙◌, arith}, specs.Prelude.{Option, Some, None, All, nat_le, IfSome}, specs.List.{filter}}
+use Rattle.std.{specs.List.{last_or}, specs.Option.{option_map_or}, proofs.lemmas.List.Elements.{All-filter}}
+use Rattle.sequence_points.specs.{declared.point.Point.{Point}, Places.{Shown}}
 use Rattle.ppdb_tables.specs.RawTables.{RawTables}
-use Rattle.ppdb_values.specs.declared.file.MethodValue.{MethodValue}
-use Rattle.ppdb_values.specs.Parts.{last_point, points_of, signature_of}
-use Rattle.ppdb_values.specs.RawFile.{RawFile}
-use Rattle.ppdb_values.specs.Rules.{HasRow}
+use Rattle.ppdb_values.specs.{declared.file.MethodValue.{MethodValue}, Parts.{last_point, points_of, signature_of}, RawFile.{RawFile}, Rules.{HasRow}}
 use Rattle.ppdb_values.specs.Value.{value_of}
-use Rattle.sequence_points.specs.Places.{Shown}
 use Rattle.ppdb_verify_rows.specs.Points.{PointsAre}
 
 -- what a cursor has are the points and the signature of the value

@@ -1,11 +1,7 @@
 -- How often a list can be halved.
 use Rattle.std.proofs.Common.{◌≡◌, ℕ, zero, suc, ◌+◌, ◌*◌, ◌<◌, ◌≤◌, ◌^◌, List, [], ◌∷◌, length, arith, mul_assoc, ◌∙◌, ap, Bool, true, false, cond}
-use Rattle.std.specs.Prelude.{nat_le}
-use Rattle.std.specs.List.{filter, range_with_len}
-use Rattle.std.proofs.Math.Pow.{pow_mono}
-use Rattle.std.proofs.Math.Nat.{pow-suc, mul-le-mul_left}
-use Rattle.std.proofs.lemmas.Bool.Decides.{nat_tests}
-use Rattle.std.proofs.lemmas.List.FromFn.{length-range_with_len}
+use Rattle.std.{specs.Prelude.{nat_le}, specs.List.{filter, range_with_len}, proofs.Math.Pow.{pow_mono}, proofs.Math.Nat.{pow-suc, mul-le-mul_left}}
+use Rattle.std.proofs.lemmas.{Bool.Decides.{nat_tests}, List.FromFn.{length-range_with_len}}
 use Rattle.ppdb_queries.specs.Digits.{digits}
 
 -- so many probes were made of a table of so many rows, and so many rows are left

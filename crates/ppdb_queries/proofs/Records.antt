@@ -1,22 +1,12 @@
 -- The slots of a record, by its kind.
-use Rattle.std.proofs.Common.{◌≡◌, ℕ, List, [], ◌∷◌, refl, ap, sym, ◌∙◌, Bool, true, false}
-use Rattle.std.specs.Prelude.{Option, None, unwrap_or, if◌then◌else◌}
-use Rattle.std.specs.Str.{bytes_eq}
-use Rattle.std.proofs.lemmas.Slice.Eq.{bytes_eq-Decides}
+use Rattle.std.{proofs.Common.{◌≡◌, ℕ, List, [], ◌∷◌, refl, ap, sym, ◌∙◌, Bool, true, false}, specs.Prelude.{Option, None, unwrap_or, if◌then◌else◌}}
+use Rattle.std.{specs.Str.{bytes_eq}, proofs.lemmas.Slice.Eq.{bytes_eq-Decides}}
 use Rattle.blob_grammar.specs.Reader as reader
 use Rattle.blob_grammar.proofs.Readers.{read_from-reads}
-use Rattle.custom_info.specs.declared.kinds.Kind.{Kind}
-use Rattle.custom_info.specs.declared.slots.Slot.{Slot}
-use Rattle.custom_info.specs.declared.kinds.Kind.TheVariants.{Async, Hoisted, TypeDocuments, Free, Unknown}
-use Rattle.custom_info.specs.Kinds.{kind_of, hoisted_scopes as hoisted_guid}
-use Rattle.custom_info.specs.AsyncStepping.{Entry, catch_handler, await_step}
-use Rattle.custom_info.specs.HoistedScopes.{hoisted_scopes}
-use Rattle.ppdb_tables.specs.declared.rows.CustomRow.{CustomRow}
-use Rattle.ppdb_tables.specs.RawTables.{RawTables}
-use Rattle.ppdb_values.specs.Customs.{custom_body, async_body, kind_in}
-use Rattle.ppdb_values.specs.Parts.{slots_in}
-use Rattle.ppdb_values.specs.RawFile.{blob, records_of}
-use Rattle.ppdb_values.specs.Rules.{IsWhole}
+use Rattle.custom_info.specs.declared.{kinds.Kind.{Kind}, slots.Slot.{Slot}, kinds.Kind.TheVariants.{Async, Hoisted, TypeDocuments, Free, Unknown}}
+use Rattle.custom_info.specs.{Kinds.{kind_of, hoisted_scopes as hoisted_guid}, AsyncStepping.{Entry, catch_handler, await_step}, HoistedScopes.{hoisted_scopes}}
+use Rattle.ppdb_tables.specs.{declared.rows.CustomRow.{CustomRow}, RawTables.{RawTables}}
+use Rattle.ppdb_values.specs.{Customs.{custom_body, async_body, kind_in}, Parts.{slots_in}, RawFile.{blob, records_of}, Rules.{IsWhole}}
 use Rattle.ppdb_queries.specs.Hoisted.{slots_of}
 
 -- ---- kinds

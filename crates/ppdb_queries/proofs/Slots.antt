@@ -1,15 +1,9 @@
 -- A walk over the records of a method, one after the other.
-use Rattle.std.proofs.Common.{◌≡◌, ℕ, ◌+◌, ◌<◌, ◌≤◌, List, [], ◌∷◌, length, refl, ap, arith}
-use Rattle.std.specs.Prelude.{Option, Some}
-use Rattle.ppdb_tables.specs.declared.rows.CustomRow.{CustomRow}
-use Rattle.ppdb_tables.specs.RawTables.{RawTables, row_at}
-use Rattle.ppdb_tables.proofs.NumberedRows.{row_there}
+use Rattle.std.{proofs.Common.{◌≡◌, ℕ, ◌+◌, ◌<◌, ◌≤◌, List, [], ◌∷◌, length, refl, ap, arith}, specs.Prelude.{Option, Some}}
+use Rattle.ppdb_tables.{specs.declared.rows.CustomRow.{CustomRow}, specs.RawTables.{RawTables, row_at}, proofs.NumberedRows.{row_there}}
 use Rattle.sequence_points.specs.Written.{first_of}
-use Rattle.ppdb_queries.specs.Hoisted.{slots_from, slots_of, hoisted_in, hoisted_left, hoisted_at}
-use Rattle.ppdb_queries.specs.declared.run.Run.{Run}
-use Rattle.ppdb_queries.specs.Runs.{rows_in, customs_at}
-use Rattle.ppdb_queries.specs.declared.hoisted.Hoisted.{Hoisted}
-use Rattle.ppdb_queries.proofs.Views.{run_step}
+use Rattle.ppdb_queries.specs.{Hoisted.{slots_from, slots_of, hoisted_in, hoisted_left, hoisted_at}, declared.run.Run.{Run}, Runs.{rows_in, customs_at}}
+use Rattle.ppdb_queries.{specs.declared.hoisted.Hoisted.{Hoisted}, proofs.Views.{run_step}}
 
 -- where there is no next item, nothing is left
 pub none_left : {X : Type 0} (xs : List X) (next : Option X) → next ≡ first_of xs → ((x : X) → next ≡ Some x → ⊥) → xs ≡ []

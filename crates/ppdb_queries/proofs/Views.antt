@@ -1,18 +1,11 @@
 -- Runs of rows, one row after the other.
-use Rattle.std.proofs.Common.{◌≡◌, ℕ, zero, suc, ◌+◌, ◌-◌, ◌<◌, List, [], ◌∷◌, length, map, take, drop, refl, arith, sym, ap, ◌∙◌}
-use Rattle.std.proofs.Common.{slice_range, Bool, true, false, cond}
-use Rattle.std.specs.Prelude.{Some, slice_get, ◌&&◌, ◌==◌}
-use Rattle.std.specs.List.{filter, enumerate_from}
-use Rattle.std.proofs.lemmas.List.{length-take, length-drop, length-map}
-use Rattle.std.proofs.lemmas.List.FromFn.{length-enumerate_from}
-use Rattle.ppdb_tables.specs.declared.rows.ScopeRow.{ScopeRow}
-use Rattle.ppdb_tables.specs.RawTables.{RawTables, numbered, row_at}
-use Rattle.ppdb_queries.specs.declared.run.Run.{Run}
-use Rattle.ppdb_queries.specs.Runs.{IsRunOf, rows_in}
-use Rattle.ppdb_values.specs.Parts.{holds}
-use Rattle.ppdb_values.specs.Value.{range_of}
-use Rattle.ppdb_queries.specs.Scopes.{scope_view, scopes_at, scope_count, views_between}
+use Rattle.std.proofs.Common.{◌≡◌, ℕ, zero, suc, ◌+◌, ◌-◌, ◌<◌, List, [], ◌∷◌, length, map, take, drop, refl, arith, sym, ap, ◌∙◌, slice_range, Bool, true, false}
+use Rattle.std.{proofs.Common.{cond}, specs.Prelude.{Some, slice_get, ◌&&◌, ◌==◌}, specs.List.{filter, enumerate_from}, proofs.lemmas.List.{length-take}}
+use Rattle.std.proofs.lemmas.{List.{length-drop, length-map}, List.FromFn.{length-enumerate_from}}
+use Rattle.ppdb_tables.specs.{declared.rows.ScopeRow.{ScopeRow}, RawTables.{RawTables, numbered, row_at}}
+use Rattle.ppdb_queries.specs.{declared.run.Run.{Run}, Runs.{IsRunOf, rows_in}, Scopes.{scope_view, scopes_at, scope_count, views_between}}
 use Rattle.ppdb_queries.proofs.Filters.{forward}
+use Rattle.ppdb_values.specs.{Parts.{holds}, Value.{range_of}}
 
 -- the first of a range, and the rest
 range_step : {Y : Type 0} (ys : List Y) (a b : ℕ) (y : Y) → slice_get ys a ≡ Some y → a < b → take (b - a) (drop a ys) ≡ y ∷ take (b - (a + 1))

@@ -1,16 +1,10 @@
 -- The lines of a text that were read, and those that are left.
-use Rattle.std.proofs.Common.{ℕ, ◌≡◌, ◌+◌, ◌-◌, ◌<◌, ◌≤◌, inl, inr, List, [], ◌∷◌, length, sym, subst, arith}
-use Rattle.std.specs.Str.Lines.{lines}
+use Rattle.std.{proofs.Common.{ℕ, ◌≡◌, ◌+◌, ◌-◌, ◌<◌, ◌≤◌, inl, inr, List, [], ◌∷◌, length, sym, subst, arith}, specs.Str.Lines.{lines}}
 use Rattle.ppdb_maps.specs.Cuts.{IsLineOf}
-use Rattle.ppdb_queries_list.specs.Lists.{IsListed, Lists, none, silent, asks, IsFirstOther, here, later}
-use Rattle.ppdb_queries_list.specs.Said.{IsSaid}
-use Rattle.ppdb_queries_list.specs.declared.line.MethodOffset.{MethodOffset}
+use Rattle.ppdb_queries_list.specs.{Lists.{IsListed, Lists, none, silent, asks, IsFirstOther, here, later}, Said.{IsSaid}, declared.line.MethodOffset.{MethodOffset}}
 use Rattle.ppdb_queries_list.specs.declared.line.Said.{Said}
 use Rattle.ppdb_queries_list.specs.declared.line.Said.TheVariants as answers
-use Rattle.std.proofs.Common.{Option, Some, None, MatchOption, true, false, refl}
-use Rattle.std.specs.Prelude.{◌==◌}
-use Rattle.std.specs.Option.{is_some}
-use Rattle.std.proofs.lemmas.Bool.{false≢true}
+use Rattle.std.{proofs.Common.{Option, Some, None, MatchOption, true, false, refl}, specs.Prelude.{◌==◌}, specs.Option.{is_some}, proofs.lemmas.Bool.{false≢true}}
 
 -- the first line of a text that is not empty
 pub first_of : (text line rest : List ℕ) → 0 < length text → IsLineOf text line rest → lines text ≡ line ∷ lines rest

@@ -1,15 +1,8 @@
 -- A line that is cut at its spaces.
-use Rattle.std.proofs.Common.{ℕ, ◌≡◌, Bool, true, false, List, [], ◌∷◌, refl, sym, ◌∙◌, subst}
-use Rattle.std.proofs.Common.{Option, Some, None, MatchOption, Bor}
-use Rattle.std.specs.Prelude.{◌==◌}
-use Rattle.std.specs.List.{onto_first}
-use Rattle.std.specs.Option.{is_some}
-use Rattle.std.proofs.lemmas.Bool.{false≢true}
-use Rattle.ppdb_maps.specs.Cuts.{IsCut, IsUncut}
-use Rattle.ppdb_queries_list.specs.Lists.{IsMethod, IsOffset}
-use Rattle.ppdb_queries_list.specs.Said.{AreWords}
-use Rattle.ppdb_queries_list.specs.declared.line.MethodOffset.{MethodOffset}
-use Rattle.ppdb_maps.specs.Cuts.{parts_at}
+use Rattle.std.{proofs.Common.{ℕ, ◌≡◌, Bool, true, false, List, [], ◌∷◌, refl, sym, ◌∙◌, subst, Option, Some, None, MatchOption, Bor}, specs.Prelude.{◌==◌}}
+use Rattle.std.{specs.List.{onto_first}, specs.Option.{is_some}, proofs.lemmas.Bool.{false≢true}}
+use Rattle.ppdb_maps.specs.Cuts.{IsCut, IsUncut, parts_at}
+use Rattle.ppdb_queries_list.specs.{Lists.{IsMethod, IsOffset}, Said.{AreWords}, declared.line.MethodOffset.{MethodOffset}}
 
 -- each line has a part
 some_part : (mark : ℕ) (xs : List ℕ) → parts_at mark xs ≡ [] → ⊥

@@ -1,15 +1,10 @@
 -- A line says one thing, and a text is a list that asks one thing or has one first line that a list cannot have.
 use Rattle.std.proofs.Common.{ℕ, suc, ◌≡◌, ◌+◌, ◌<◌, ◌≤◌, ◌^◌, ◌++◌, inl, inr, List, [], ◌∷◌, length, get_or, refl, sym, ap, ◌∙◌, subst, arith}
-use Rattle.std.specs.Prelude.{codes}
-use Rattle.std.specs.Fmt.{decimal}
-use Rattle.std.specs.Str.Parse.{digits_value}
-use Rattle.std.proofs.lemmas.Fmt.{decimal_injective}
+use Rattle.std.{specs.Prelude.{codes}, specs.Fmt.{decimal}, specs.Str.Parse.{digits_value}, proofs.lemmas.Fmt.{decimal_injective}}
 use Rattle.ppdb_base.specs.declared.limits.TheConstants.{MAX_ROWS, MAX_OFFSET}
 use Rattle.ppdb_maps.specs.Forms.{IsNumber}
-use Rattle.ppdb_queries_list.specs.Lists.{IsMethod, IsOffset, Asks, IsListed, Lists, none, silent, asks}
-use Rattle.ppdb_queries_list.specs.Lists.{IsFirstOther, here, later}
-use Rattle.ppdb_queries_list.specs.declared.line.MethodOffset.{MethodOffset}
-use Rattle.ppdb_queries_list.proofs.Numbers.{begins_as_number}
+use Rattle.ppdb_queries_list.specs.Lists.{IsMethod, IsOffset, Asks, IsListed, Lists, none, silent, asks, IsFirstOther, here, later}
+use Rattle.ppdb_queries_list.{specs.declared.line.MethodOffset.{MethodOffset}, proofs.Numbers.{begins_as_number}}
 
 -- ---- words
 

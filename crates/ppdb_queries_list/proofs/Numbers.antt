@@ -1,11 +1,8 @@
 -- How decimal numbers below 2^32 are spelled.
-use Rattle.std.proofs.Common.{zero, suc, ◌≡◌, ℕ, ◌<◌, ◌^◌, ◌≢◌, ◌⊎◌, List, [], ◌∷◌, length, get_or, sym, ap, ◌∙◌, subst, inl, inr, arith, Result, Ok}
-use Rattle.std.proofs.Common.{Err, IfSome, IfNone}
-use Rattle.std.specs.Fmt.{decimal}
-use Rattle.std.specs.Result.{result_ok, OkIff}
-use Rattle.std.specs.Str.Parse.{AllDigits, digits_value, ParsesUnsigned}
-use Rattle.std.proofs.lemmas.Str.Parse.{IsNumeralModel, numerals_by_value, tells_digits, digit_at, parse_plain}
-use Rattle.std.proofs.lemmas.Fmt.{digits_decimal, decimal_nonempty, first_decimal, decimal_digit, decimal-digits_value, parse-decimal}
+use Rattle.std.proofs.Common.{zero, suc, ◌≡◌, ℕ, ◌<◌, ◌^◌, ◌≢◌, ◌⊎◌, List, [], ◌∷◌, length, get_or, sym, ap, ◌∙◌, subst, inl, inr, arith, Result, Ok, Err, IfSome}
+use Rattle.std.{proofs.Common.{IfNone}, specs.Fmt.{decimal}, specs.Result.{result_ok, OkIff}, specs.Str.Parse.{AllDigits, digits_value, ParsesUnsigned}}
+use Rattle.std.proofs.lemmas.{Str.Parse.{IsNumeralModel, numerals_by_value, tells_digits, digit_at, parse_plain}, Fmt.{digits_decimal, decimal_nonempty}}
+use Rattle.std.proofs.lemmas.Fmt.{first_decimal, decimal_digit, decimal-digits_value, parse-decimal}
 
 numerals : IsNumeralModel (AllDigits 10) (digits_value 10)
 numerals = numerals_by_value (AllDigits 10) tells_digits

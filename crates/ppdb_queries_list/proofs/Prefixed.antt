@@ -1,13 +1,8 @@
 -- Words of hexadecimal digits after a prefix.
-use Rattle.std.proofs.Common.{ℕ, ◌≡◌, ◌-◌, ◌<◌, ◌≤◌, ◌^◌, ◌++◌, inl, inr, List, [], ◌∷◌, length, get_or, take, drop, sym, ap, ◌∙◌, subst, arith}
-use Rattle.std.proofs.Common.{Option, Some, None, MatchOption, IfSome, IfNone}
-use Rattle.std.specs.Prelude.{codes}
-use Rattle.std.specs.Str.Parse.{IsNumeral, digits_value}
-use Rattle.std.proofs.Math.Seq.{take-length}
+use Rattle.std.proofs.Common.{ℕ, ◌≡◌, ◌-◌, ◌<◌, ◌≤◌, ◌^◌, ◌++◌, inl, inr, List, [], ◌∷◌, length, get_or, take, drop, sym, ap, ◌∙◌, subst, arith, Option, Some, None}
+use Rattle.std.{proofs.Common.{MatchOption, IfSome, IfNone}, specs.Prelude.{codes}, specs.Str.Parse.{IsNumeral, digits_value}, proofs.Math.Seq.{take-length}}
 use Rattle.ppdb_base.specs.declared.limits.TheConstants.{MAX_ROWS, MAX_OFFSET}
-use Rattle.ppdb_queries_list.specs.Lists.{IsMethod, IsOffset}
-use Rattle.ppdb_queries_list.proofs.Lists.{no_decimal, same_rest, same_rest_of}
-use Rattle.ppdb_queries_list.proofs.Words.{six_digits}
+use Rattle.ppdb_queries_list.{specs.Lists.{IsMethod, IsOffset}, proofs.Lists.{no_decimal, same_rest, same_rest_of}, proofs.Words.{six_digits}}
 
 -- the bytes from n on, as a slice gives them
 abbrev pub from : ℕ → List ℕ → List ℕ

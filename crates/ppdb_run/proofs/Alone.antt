@@ -1,53 +1,26 @@
 -- The sample as the one input of a merger.
-use Rattle.std.proofs.Common.{◌≡◌, ◌≢◌, ℕ, ◌≤◌, ◌++◌, ◌&&◌, Bool, true, false, cond, List, [], ◌∷◌, Option, Some, None, Ok, refl, sym, ◌∙◌, ap}
-use Rattle.std.proofs.Common.{subst, inl, inr, slice_get, slice_index, ◌⊎◌}
-use Rattle.std.specs.Prelude.{nat_lt, not}
-use Rattle.std.specs.List.{filter_map, cons_option, enumerate_from, range_with_len}
-use Rattle.std.specs.Option.{option_or, option_to_list}
-use Rattle.std.proofs.lemmas.Bool.{le-ltb}
-use Rattle.std.proofs.lemmas.Option.{none-some}
-use Rattle.custom_info.specs.Kinds.{kind_of}
-use Rattle.custom_info.specs.declared.kinds.Kind.TheVariants.{Unknown}
+use Rattle.std.proofs.Common.{◌≡◌, ◌≢◌, ℕ, ◌≤◌, ◌++◌, ◌&&◌, Bool, true, false, cond, List, [], ◌∷◌, Option, Some, None, Ok, refl, sym, ◌∙◌, ap, subst, inl, inr}
+use Rattle.std.{proofs.Common.{slice_get, slice_index, ◌⊎◌}, specs.Prelude.{nat_lt, not}, specs.List.{filter_map, cons_option, enumerate_from, range_with_len}}
+use Rattle.std.{specs.Option.{option_or, option_to_list}, proofs.lemmas.Bool.{le-ltb}, proofs.lemmas.Option.{none-some}}
+use Rattle.custom_info.specs.{Kinds.{kind_of}, declared.kinds.Kind.TheVariants.{Unknown}}
 use Rattle.ppdb_merge_names_laws.specs.Laws.{ReferencesAreNamed, named_by}
-use Rattle.ppdb_base.specs.declared.merge_error.MergeError.{MergeError}
-use Rattle.ppdb_base.specs.declared.merge_error.MergeError.TheVariants.{Memory}
-use Rattle.ppdb_maps.specs.Map.{Map, row_image, is_gone_row}
-use Rattle.ppdb_maps.specs.declared.image.RowImage.TheVariants.{Row}
-use Rattle.ppdb_maps.specs.Readable.{IsReadable}
-use Rattle.ppdb_maps.specs.Sample.{sample_map_of}
-use Rattle.ppdb_merge_names.specs.declared.imaged.Imaged.{Imaged}
-use Rattle.ppdb_merge_names.specs.References.{Reference, references}
+use Rattle.ppdb_base.specs.declared.merge_error.{MergeError.{MergeError}, MergeError.TheVariants.{Memory}}
+use Rattle.ppdb_maps.specs.{Map.{Map, row_image, is_gone_row}, declared.image.RowImage.TheVariants.{Row}, Readable.{IsReadable}, Sample.{sample_map_of}}
+use Rattle.ppdb_merge_names.specs.{declared.imaged.Imaged.{Imaged}, References.{Reference, references}}
 use Rattle.ppdb_tables.specs.RawTables.{numbered}
-use Rattle.ppdb_values.specs.RawFile.{RawFile}
-use Rattle.ppdb_values.specs.Rules.{KeepsRules}
-use Rattle.ppdb_values.specs.Value.{value_of}
-use Rattle.ppdb_values.specs.declared.custom.CustomValue.{CustomValue}
-use Rattle.ppdb_values.specs.declared.file.FileValue.{FileValue}
-use Rattle.ppdb_merge_items.specs.Each.{Each}
-use Rattle.ppdb_merge_items.specs.NamedRows.{Named, named_rows}
-use Rattle.ppdb_merge_items.specs.Annotated.{annotated_file}
-use Rattle.ppdb_merge_items.specs.Sorted.{in_order}
+use Rattle.ppdb_values.specs.{RawFile.{RawFile}, Rules.{KeepsRules}, Value.{value_of}, declared.custom.CustomValue.{CustomValue}}
+use Rattle.ppdb_values.specs.{declared.file.FileValue.{FileValue}, Parts.{is_link}}
+use Rattle.ppdb_merge_items.specs.{Each.{Each}, NamedRows.{Named, named_rows}, Annotated.{annotated_file}, Sorted.{in_order}}
 use Rattle.ppdb_merge_items.proofs.Lists.{Each-weaker, Each-unmap, each_of}
-use Rattle.ppdb_merge_moved.specs.Fits.{Fits}
-use Rattle.ppdb_values.specs.Parts.{is_link}
-use Rattle.ppdb_merge_moved.specs.Moved.{moved_file}
-use Rattle.ppdb_merge_moved.proofs.Lists.{Each-filter_map}
-use Rattle.ppdb_merge_fits.specs.Clashes.{first_clash, is_at_gone}
-use Rattle.ppdb_merge_fits.specs.Laws.{NoClash}
-use Rattle.ppdb_merge_fits.specs.Rows.{imaged, imaged_rows}
-use Rattle.ppdb_merge_fits.specs.Signatures.{given_signature, given_signatures, with_given, all_images}
-use Rattle.ppdb_merge.specs.declared.trace.Trace.{Trace}
-use Rattle.ppdb_merge.specs.Merged.{Merged, trace_of, unless}
-use Rattle.ppdb_merge.specs.Refusals.{added, refusal_of, taken, moved_conflict, clashes_before, claims, methods_in, documents_differ}
-use Rattle.ppdb_merge.specs.Refusals.{link_differs, links_differ}
-use Rattle.ppdb_merge.specs.Together.{above, count_in, differs, images_above, misfit_of, rows_differ}
+use Rattle.ppdb_merge_moved.{specs.Fits.{Fits}, specs.Moved.{moved_file}, proofs.Lists.{Each-filter_map}}
+use Rattle.ppdb_merge_fits.specs.{Clashes.{first_clash, is_at_gone}, Laws.{NoClash}, Rows.{imaged, imaged_rows}, Signatures.{given_signature, given_signatures}}
+use Rattle.ppdb_merge_fits.specs.Signatures.{with_given, all_images}
+use Rattle.ppdb_merge.specs.{declared.trace.Trace.{Trace}, Merged.{Merged, trace_of, unless}, Refusals.{added, refusal_of, taken, moved_conflict, clashes_before}}
+use Rattle.ppdb_merge.specs.{Refusals.{claims, methods_in, documents_differ, link_differs, links_differ}, Together.{above, count_in, differs, images_above}}
+use Rattle.ppdb_merge.specs.Together.{misfit_of, rows_differ}
 use Rattle.ppdb_merge_meaning_laws.specs.Kept.{moved_input}
-use Rattle.ppdb_build_sample.specs.Laws.{SampleFits, sample_input}
-use Rattle.ppdb_build_sample.specs.Sample.{sample}
-use Rattle.ppdb_run.specs.Holding.{HoldsSample}
-use Rattle.ppdb_run.specs.SampleLaws.{FittingMapsDoNotClash}
-use Rattle.ppdb_run.proofs.Silent.{flat_nil}
-use Rattle.ppdb_run.proofs.SilentRows.{made, each_once_each}
+use Rattle.ppdb_build_sample.specs.{Laws.{SampleFits, sample_input}, Sample.{sample}}
+use Rattle.ppdb_run.{specs.Holding.{HoldsSample}, specs.SampleLaws.{FittingMapsDoNotClash}, proofs.Silent.{flat_nil}, proofs.SilentRows.{made, each_once_each}}
 
 filter_nil : {A B : Type 0} (f : A → Option B) (xs : List A) → Each (λ x. f x ≡ None) xs → filter_map f xs ≡ []
 filter_nil f [] each = refl

@@ -1,14 +1,10 @@
 -- What a lookup prints of a question is what its query prints.
-use Rattle.std.proofs.Common.{ℕ, ◌≡◌, ◌++◌, Bool, true, false, List, [], ◌∷◌, refl, sym, ap, ◌∙◌}
-use Rattle.std.specs.Prelude.{Err, if◌then◌else◌}
+use Rattle.std.{proofs.Common.{ℕ, ◌≡◌, ◌++◌, Bool, true, false, List, [], ◌∷◌, refl, sym, ap, ◌∙◌}, specs.Prelude.{Err, if◌then◌else◌}}
 use Rattle.std.proofs.lemmas.List.{append-nil}
 use Rattle.ppdb_queries_list.specs.declared.line.MethodOffset.{MethodOffset}
-use Rattle.ppdb_show.specs.Lookup.{answer_lines, at_line, has_method, lookup_text_of, no_method_line}
-use Rattle.ppdb_show.specs.Query.{query_lines, query_text_of}
+use Rattle.ppdb_show.specs.{Lookup.{answer_lines, at_line, has_method, lookup_text_of, no_method_line}, Query.{query_lines, query_text_of}}
 use Rattle.ppdb_show.proofs.Looked.{found_lines, one_answer, text_first, text_none}
-use Rattle.ppdb_show_lines.specs.declared.form.Form.{Form}
-use Rattle.ppdb_show_lines.specs.declared.form.Form.TheVariants.{Text, Json}
-use Rattle.ppdb_show_lines.specs.Forms.{lines_as, put_as}
+use Rattle.ppdb_show_lines.specs.{declared.form.Form.{Form}, declared.form.Form.TheVariants.{Text, Json}, Forms.{lines_as, put_as}}
 use Rattle.ppdb_show_lines.proofs.Texts.{one_line}
 use Rattle.ppdb_values.specs.RawFile.{RawFile}
 use Rattle.ppdb_run.specs.Outcome.{answer_of, done, outcome_of}

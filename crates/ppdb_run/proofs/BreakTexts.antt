@@ -1,16 +1,9 @@
 -- The document of a name is there, and the text of its breaks is what is due.
-use Rattle.std.proofs.Common.{ℕ, suc, ◌≡◌, ◌≤◌, ◌<◌, List, [], ◌∷◌, length, Bool, Option, Some, None, refl, sym, ◌∙◌, ap, subst, arith}
-use Rattle.std.specs.Prelude.{option_map, position}
-use Rattle.std.specs.Str.{bytes_eq}
-use Rattle.std.proofs.lemmas.List.Quantifiers.{position-Some}
+use Rattle.std.{proofs.Common.{ℕ, suc, ◌≡◌, ◌≤◌, ◌<◌, List, [], ◌∷◌, length, Bool, Option, Some, None, refl, sym, ◌∙◌, ap, subst, arith}, specs.Prelude.{option_map}}
+use Rattle.std.{specs.Prelude.{position}, specs.Str.{bytes_eq}, proofs.lemmas.List.Quantifiers.{position-Some}}
 use Rattle.ppdb_base.specs.Written.{appended}
-use Rattle.ppdb_values.specs.declared.file.DocumentValue.{DocumentValue}
-use Rattle.ppdb_values.specs.declared.file.FileValue.{FileValue}
-use Rattle.ppdb_values.specs.RawFile.{RawFile}
-use Rattle.ppdb_values.specs.Value.{value_of}
-use Rattle.break_lines.specs.declared.item.Break.{Break}
-use Rattle.break_lines.specs.Breaks.{breaks_in, document_named}
-use Rattle.break_lines.proofs.Documents.{documents_many}
+use Rattle.ppdb_values.specs.{declared.file.DocumentValue.{DocumentValue}, declared.file.FileValue.{FileValue}, RawFile.{RawFile}, Value.{value_of}}
+use Rattle.break_lines.{specs.declared.item.Break.{Break}, specs.Breaks.{breaks_in, document_named}, proofs.Documents.{documents_many}}
 use Rattle.ppdb_show_lines.specs.declared.form.Form.{Form}
 use Rattle.ppdb_show_sources.specs.Breaks.{text_of_breaks}
 use Rattle.ppdb_run.specs.Outcome.{breaks_answer, outcome_of}

@@ -1,16 +1,11 @@
 -- What a command that writes a file comes to, whether it stopped before the write or wrote.
-use Rattle.std.proofs.Common.{ℕ, ◌≡◌, List}
-use Rattle.std.specs.Prelude.{Option, Some, None, Result, Ok, Err, IfSome, IfErr}
+use Rattle.std.{proofs.Common.{ℕ, ◌≡◌, List}, specs.Prelude.{Option, Some, None, Result, Ok, Err, IfSome, IfErr}}
 use Rattle.ppdb_base.specs.Files.{Files}
-use Rattle.ppdb_run_stops.specs.declared.stop.Stop.{Stop}
-use Rattle.ppdb_run_stops.specs.Causes.{cause_of, refusal_of}
+use Rattle.ppdb_run_stops.specs.{declared.stop.Stop.{Stop}, Causes.{cause_of, refusal_of}}
 use Rattle.ppdb_run_words.specs.Words.{Task}
-use Rattle.ppdb_run.specs.Ends.{IsValid, OnTask, WritesAgain}
-use Rattle.ppdb_run.specs.Means.{WritesMeaning}
-use Rattle.ppdb_run.specs.Outcome.{steps_of, written}
-use Rattle.ppdb_run.specs.Stops.{Gives, Leaves, WritesOutcome}
-use Rattle.ppdb_run.proofs.Outcomes.{stop_found, stop_settles}
-use Rattle.ppdb_run.proofs.Writing.{nothing_due, nothing_written, on_done, written_found, written_leaves, written_settles, written_silent, written_valid}
+use Rattle.ppdb_run.specs.{Ends.{IsValid, OnTask, WritesAgain}, Means.{WritesMeaning}, Outcome.{steps_of, written}, Stops.{Gives, Leaves, WritesOutcome}}
+use Rattle.ppdb_run.proofs.{Outcomes.{stop_found, stop_settles}, Writing.{nothing_due, nothing_written, on_done, written_found, written_leaves, written_settles}}
+use Rattle.ppdb_run.proofs.Writing.{written_silent, written_valid}
 
 -- it stopped before
 pub stopped : (T : Type 0) (task : Task) (output : List ℕ) (old new : Option Files) (stop : Stop)

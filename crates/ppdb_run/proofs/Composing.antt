@@ -1,14 +1,10 @@
 -- What is known of the text of the map of two maps.
-use Rattle.std.proofs.Common.{ℕ, ◌≡◌, List, refl, subst}
-use Rattle.std.specs.Prelude.{Option, Some, None, Result, Ok, Err, IfSome}
+use Rattle.std.{proofs.Common.{ℕ, ◌≡◌, List, refl, subst}, specs.Prelude.{Option, Some, None, Result, Ok, Err, IfSome}}
 use Rattle.ppdb_base.specs.Files.{Files}
 use Rattle.ppdb_maps.specs.Map.{Map}
-use Rattle.ppdb_run_stops.specs.declared.stop.Stop.{Stop}
-use Rattle.ppdb_run_stops.specs.Refusals.{Outcome}
-use Rattle.ppdb_run.specs.Outcome.{Step, ◌>>=◌, composed_text, gives, map_at, steps_of, written}
-use Rattle.ppdb_run.specs.Stops.{Gives}
+use Rattle.ppdb_run_stops.specs.{declared.stop.Stop.{Stop}, Refusals.{Outcome}}
+use Rattle.ppdb_run.{specs.Outcome.{Step, ◌>>=◌, composed_text, gives, map_at, steps_of, written}, specs.Stops.{Gives}, proofs.Steps.{gives_stop, gives_next}}
 use Rattle.ppdb_run_words.specs.Words.{Compose}
-use Rattle.ppdb_run.proofs.Steps.{gives_stop, gives_next}
 
 -- ---- two maps are read
 

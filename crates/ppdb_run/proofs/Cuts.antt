@@ -1,12 +1,8 @@
 -- What holds in any case holds where a text may be cut off.
-use Rattle.std.proofs.Common.{ℕ, List}
-use Rattle.std.specs.Prelude.{Option, Some, None, Result, Ok, Err, IfErr}
-use Rattle.ppdb_base.specs.Files.{Files}
-use Rattle.ppdb_base.specs.Written.{AppendsPrefix}
-use Rattle.ppdb_base.proofs.Written.{prefix_nothing}
-use Rattle.ppdb_run_stops.specs.declared.stop.Stop.{Stop}
+use Rattle.std.{proofs.Common.{ℕ, List}, specs.Prelude.{Option, Some, None, Result, Ok, Err, IfErr}}
+use Rattle.ppdb_base.{specs.Files.{Files}, specs.Written.{AppendsPrefix}, proofs.Written.{prefix_nothing}}
+use Rattle.ppdb_run_stops.specs.{declared.stop.Stop.{Stop}, Causes.{Cause, Refusal, Unread, Unwritten, Unput, OutOfMemory, cause_of, OnCut}}
 use Rattle.ppdb_run.specs.Ends.{OnTask}
-use Rattle.ppdb_run_stops.specs.Causes.{Cause, Refusal, Unread, Unwritten, Unput, OutOfMemory, cause_of, OnCut}
 use Rattle.ppdb_run_words.specs.Words.{Task}
 
 pub on_cut : {P : Type 0} (cause : Cause) → P → OnCut cause P

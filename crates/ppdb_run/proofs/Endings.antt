@@ -1,22 +1,13 @@
 -- How a run ends that was stopped.
-use Rattle.std.proofs.Common.{ℕ, ◌≡◌, ◌≤◌, ◌⊎◌, inl, inr, List, refl, sym, ◌∙◌, ap, subst, arith}
-use Rattle.std.specs.Prelude.{Option, None, Some, Err, IfSome}
-use Rattle.ppdb_base.specs.Causes.{Rose}
-use Rattle.ppdb_base.specs.Files.{Files}
-use Rattle.ppdb_base.specs.Written.{appended}
+use Rattle.std.{proofs.Common.{ℕ, ◌≡◌, ◌≤◌, ◌⊎◌, inl, inr, List, refl, sym, ◌∙◌, ap, subst, arith}, specs.Prelude.{Option, None, Some, Err, IfSome}}
+use Rattle.ppdb_base.specs.{Causes.{Rose}, Files.{Files}, Written.{appended}}
 use Rattle.ppdb_run_stops.specs.declared.status.Status.{Status}
 use Rattle.ppdb_run_stops.specs.declared.status.Status.TheVariants as statuses
-use Rattle.ppdb_run_stops.specs.declared.stop.Stop.{Stop}
-use Rattle.ppdb_run.specs.Ends.{OnOutcome, HasOutcome, IsUnread, IsUnwritten, LeavesFiles, TellsUnread, TellsUnwritten}
-use Rattle.ppdb_run_stops.specs.Lines.{read_fault_line, write_fault_line}
-use Rattle.ppdb_run_stops.specs.Refusals.{Outcome}
-use Rattle.ppdb_run.specs.Outcome.{IsOutcome}
-use Rattle.ppdb_run_stops.specs.Status.{UnlessFault}
-use Rattle.ppdb_run_stops.specs.Causes.{Cause, Refusal, Unread, Unwritten, Unput, OutOfMemory, cause_of, line_of, status_of, refusal_of}
-use Rattle.ppdb_run_stops.specs.Causes.{ComesFrom, IsNoInput, OnKept, OnUntold}
-use Rattle.ppdb_run.specs.Stops.{FindsOutcome, LeavesAt, Tells, Told, Failed, NoMemory}
-use Rattle.ppdb_run.specs.Writes.{WritesPrefix}
-use Rattle.ppdb_run_stops.proofs.Causes.{IsRefusal, Refuses, refuses, at_refusal}
+use Rattle.ppdb_run_stops.specs.{declared.stop.Stop.{Stop}, Lines.{read_fault_line, write_fault_line}, Refusals.{Outcome}, Status.{UnlessFault}, Causes.{Cause}}
+use Rattle.ppdb_run_stops.specs.Causes.{Refusal, Unread, Unwritten, Unput, OutOfMemory, cause_of, line_of, status_of, refusal_of, ComesFrom, IsNoInput, OnKept}
+use Rattle.ppdb_run_stops.{specs.Causes.{OnUntold}, proofs.Causes.{IsRefusal, Refuses, refuses, at_refusal}}
+use Rattle.ppdb_run.specs.{Ends.{OnOutcome, HasOutcome, IsUnread, IsUnwritten, LeavesFiles, TellsUnread, TellsUnwritten}, Outcome.{IsOutcome}, Stops.{FindsOutcome}}
+use Rattle.ppdb_run.specs.{Stops.{LeavesAt, Tells, Told, Failed, NoMemory}, Writes.{WritesPrefix}}
 
 -- a count that rose has risen later
 rose_on : (a b c : ℕ) → a ≤ b → Rose a b → b ≤ c → Rose a c

@@ -1,10 +1,7 @@
 -- The identity that stands in a file that is written.
-use Rattle.std.proofs.Common.{◌≡◌, ◌+◌, ◌≤◌, ◌++◌, length, take, drop, ◌∙◌, ap, arith}
-use Rattle.std.proofs.lemmas.List.{length-append, length-take, length-drop, take_at, drop_at}
+use Rattle.std.proofs.{Common.{◌≡◌, ◌+◌, ◌≤◌, ◌++◌, length, take, drop, ◌∙◌, ap, arith}, lemmas.List.{length-append, length-take, length-drop, take_at, drop_at}}
 use Rattle.ppdb_build_layout.specs.Bytes.{file_bytes}
-use Rattle.ppdb_build_canon.specs.Canon.{canon, chosen_id}
-use Rattle.ppdb_build_canon.specs.Canonical.{canonical}
-use Rattle.ppdb_build_canon.specs.Laws.{CanonicalFilesForgetIds, IdsStandAfterTheRoot}
+use Rattle.ppdb_build_canon.specs.{Canon.{canon, chosen_id}, Canonical.{canonical}, Laws.{CanonicalFilesForgetIds, IdsStandAfterTheRoot}}
 use Rattle.ppdb_build_canon.specs.declared.choice.IdChoice.{IdChoice}
 use Rattle.ppdb_values.specs.declared.file.FileValue.{FileValue}
 

@@ -1,16 +1,9 @@
 -- Images of rows: none is gone in a table that no map counts, and the number of an image tells its table.
 use Rattle.std.proofs.Common.{◌≡◌, ℕ, ◌+◌, ◌*◌, ◌<◌, ◌⊎◌, ◌&&◌, Bool, true, false, cond, List, [], ◌∷◌, Option, Some, None, refl, sym, ◌∙◌, ap, inl, inr, arith}
-use Rattle.std.specs.Prelude.{nat_eq, IfSome}
-use Rattle.std.specs.List.{find, AllByRecursion}
-use Rattle.std.specs.Option.{option_map}
-use Rattle.std.proofs.lemmas.Bool.{and_parts, eqb-true, ne_eqb}
-use Rattle.ppdb_maps.specs.declared.entries.Count.{Count}
-use Rattle.ppdb_maps.specs.declared.entries.CrossLine.{CrossLine}
-use Rattle.ppdb_maps.specs.declared.image.RowImage.{RowImage}
-use Rattle.ppdb_maps.specs.declared.image.RowImage.TheVariants.{Row, Missing}
-use Rattle.ppdb_maps.specs.Forms.{Crosses, IsTypeTable}
-use Rattle.ppdb_maps.specs.Map.{Map, count_of, cross_line, has_gone_line, is_dropped, is_gone, line_image, row_image, row_line, told_image, is_gone_row}
-use Rattle.ppdb_maps.specs.Readable.{IsReadable, IsCount, IsCrossOf}
+use Rattle.std.{specs.Prelude.{nat_eq, IfSome}, specs.List.{find, AllByRecursion}, specs.Option.{option_map}, proofs.lemmas.Bool.{and_parts, eqb-true, ne_eqb}}
+use Rattle.ppdb_maps.specs.declared.{entries.Count.{Count}, entries.CrossLine.{CrossLine}, image.RowImage.{RowImage}, image.RowImage.TheVariants.{Row, Missing}}
+use Rattle.ppdb_maps.specs.{Forms.{Crosses, IsTypeTable}, Map.{Map, count_of, cross_line, has_gone_line, is_dropped, is_gone, line_image, row_image, row_line}}
+use Rattle.ppdb_maps.specs.{Map.{told_image, is_gone_row}, Readable.{IsReadable, IsCount, IsCrossOf}}
 
 -- ---- tables that no map counts
 

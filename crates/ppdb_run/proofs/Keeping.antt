@@ -1,37 +1,22 @@
 -- What is written keeps what is said of its inputs.
-use Rattle.std.proofs.Common.{◌≡◌, ◌≢◌, ℕ, ◌≤◌, List, [], ◌∷◌, Option, Some, None, map, length, refl, sym, ◌∙◌, ap, subst, arith}
-use Rattle.std.specs.Prelude.{Ok}
+use Rattle.std.{proofs.Common.{◌≡◌, ◌≢◌, ℕ, ◌≤◌, List, [], ◌∷◌, Option, Some, None, map, length, refl, sym, ◌∙◌, ap, subst, arith}, specs.Prelude.{Ok}}
 use Rattle.ppdb_base.specs.declared.merge_error.MergeError.{MergeError}
-use Rattle.ppdb_values.specs.declared.file.FileValue.{FileValue}
-use Rattle.ppdb_values.specs.RawFile.{RawFile}
-use Rattle.ppdb_values.specs.Rules.{KeepsRules}
-use Rattle.ppdb_values.specs.Value.{value_of}
+use Rattle.ppdb_values.specs.{declared.file.FileValue.{FileValue}, RawFile.{RawFile}, Rules.{KeepsRules}, Value.{value_of}}
 use Rattle.ppdb_values_sound_laws.specs.Sound.{IsSound}
 use Rattle.ppdb_build_canon.specs.Canon.{canon, chosen_id, with_id}
 use Rattle.ppdb_maps.specs.Readable.{MapsAreReadable}
 use Rattle.ppdb_verify_valid_laws.proofs.ValidFiles.{valid_keeps}
 use Rattle.ppdb_build_written_laws.specs.Written.{WrittenFilesAreCanonical, WrittenFilesAreValid}
-use Rattle.ppdb_merge_items.specs.Each.{Each}
-use Rattle.ppdb_merge_items.specs.Laws.{SoundnessIsAnnotated}
-use Rattle.ppdb_merge_items.specs.Unannotated.{value_of_annotated}
-use Rattle.ppdb_merge_items.proofs.Lists.{Each-map, Each-weaker}
+use Rattle.ppdb_merge_items.{specs.Each.{Each}, specs.Laws.{SoundnessIsAnnotated}, specs.Unannotated.{value_of_annotated}, proofs.Lists.{Each-map, Each-weaker}}
 use Rattle.ppdb_merge_names_laws.specs.Laws.{ReferencesAreNamed}
-use Rattle.ppdb_merge_joined.specs.Joined.{joined}
-use Rattle.ppdb_merge_joined.specs.Laws.{JoinedIsSound}
-use Rattle.ppdb_merge_meaning_laws.specs.Kept.{in_turn, MovedBy, KeepsMeaning, InputsKeepMeaning, joined_inputs}
-use Rattle.ppdb_merge_meaning_laws.specs.Origins.{KeepsOrigins, InputsKeepOrigins}
+use Rattle.ppdb_merge_joined.specs.{Joined.{joined}, Laws.{JoinedIsSound}}
+use Rattle.ppdb_merge_meaning_laws.specs.{Kept.{in_turn, MovedBy, KeepsMeaning, InputsKeepMeaning, joined_inputs}, Origins.{KeepsOrigins, InputsKeepOrigins}}
 use Rattle.ppdb_merge_unmoved_laws.specs.NoLines.{SoundFilesStay, left_alone}
 use Rattle.ppdb_merge_fits.specs.Laws.{NothingClashes}
-use Rattle.ppdb_merge.specs.declared.trace.Trace.{Trace}
-use Rattle.ppdb_merge.specs.Inputs.{IsFitting, ReadInput, moved_by, trace_by, traces_of}
-use Rattle.ppdb_merge.specs.Laws.{AddedInputsFit}
-use Rattle.ppdb_merge.specs.Merged.{moved_files, unless}
-use Rattle.ppdb_merge.specs.Together.{joined_of, misfit_of}
-use Rattle.ppdb_merge.proofs.Adding.{joined_sound}
-use Rattle.ppdb_merge.proofs.Turns.{all_fit}
-use Rattle.ppdb_run.specs.MeaningLaws.{AreJoinedTo, HasKnownKinds, InputsAreWritten, JoinedFilesKeepInputs, JoinedKindsAreKnown, KeepsInputs}
-use Rattle.ppdb_run.specs.MeaningLaws.{ReadInputsAreValid, RebuiltFilesKeepThemselves, SaysButForId}
-use Rattle.ppdb_run.proofs.KnownKinds.{KnownFile, joined_known, value_known}
+use Rattle.ppdb_merge.specs.{declared.trace.Trace.{Trace}, Inputs.{IsFitting, ReadInput, moved_by, trace_by, traces_of}, Laws.{AddedInputsFit}, Merged.{moved_files}}
+use Rattle.ppdb_merge.{specs.Merged.{unless}, specs.Together.{joined_of, misfit_of}, proofs.Adding.{joined_sound}, proofs.Turns.{all_fit}}
+use Rattle.ppdb_run.specs.MeaningLaws.{AreJoinedTo, HasKnownKinds, InputsAreWritten, JoinedFilesKeepInputs, JoinedKindsAreKnown, KeepsInputs, ReadInputsAreValid}
+use Rattle.ppdb_run.{specs.MeaningLaws.{RebuiltFilesKeepThemselves, SaysButForId}, proofs.KnownKinds.{KnownFile, joined_known, value_known}}
 use Rattle.ppdb_run.proofs.MovedKinds.{moved_known}
 
 -- what is joined is the value of the joined files

@@ -1,26 +1,18 @@
 -- What a question is asked of: one file, which it reads and does not write.
-use Rattle.std.proofs.Common.{ℕ, ◌≡◌, ◌<◌, ◌+◌, ◌-◌, ◌==◌, inl, inr, List, Bool, true, false, Option, Some, None, Result, Ok, Err, refl, sym, ◌∙◌, ap}
-use Rattle.std.proofs.Common.{subst, arith}
-use Rattle.std.specs.Prelude.{IfSome, slice_get, if◌then◌else◌}
-use Rattle.std.proofs.lemmas.Bool.{eqb-true}
-use Rattle.ppdb_base.specs.Causes.{counted}
-use Rattle.ppdb_base.specs.Files.{Files, Reading, Missing, Longer, Contents, reading}
-use Rattle.ppdb_base.specs.declared.limits.TheConstants.{MAX_FILE_BYTES}
-use Rattle.ppdb_run_stops.specs.declared.stop.Stop.{Stop}
-use Rattle.ppdb_maps.specs.Map.{Map}
-use Rattle.ppdb_run.specs.Ends.{ComesToRead, OnTask, IsUnread, IsUnreadOf, IsUnwritten}
-use Rattle.ppdb_run_stops.specs.Refusals.{Outcome, absent, no_method, too_long}
-use Rattle.ppdb_run.specs.Outcome.{IsOutcome, answer_of, breaks_answer, done, form_of, input_of, links_answer, map_at, verified}
-use Rattle.ppdb_run_stops.specs.Causes.{Cause, Refusal, Unread, Unwritten, Unput, OutOfMemory, cause_of}
-use Rattle.ppdb_run.specs.Stops.{Leaves, LeavesAt}
-use Rattle.ppdb_run_words.specs.Words.{Question, Id, Verify, Show, Query, Links, Breaks, Options, Task, Ask, Rebuild, Compose, Words, read_files, written_file}
+use Rattle.std.proofs.Common.{ℕ, ◌≡◌, ◌<◌, ◌+◌, ◌-◌, ◌==◌, inl, inr, List, Bool, true, false, Option, Some, None, Result, Ok, Err, refl, sym, ◌∙◌, ap, subst, arith}
+use Rattle.std.{specs.Prelude.{IfSome, slice_get, if◌then◌else◌}, proofs.lemmas.Bool.{eqb-true}}
+use Rattle.ppdb_base.specs.{Causes.{counted}, Files.{Files, Reading, Missing, Longer, Contents, reading}, declared.limits.TheConstants.{MAX_FILE_BYTES}}
 use Rattle.ppdb_base.specs.declared.link_error.LinkError.{LinkError}
+use Rattle.ppdb_run_stops.specs.{declared.stop.Stop.{Stop}, Refusals.{Outcome, absent, no_method, too_long}, Causes.{Cause, Refusal, Unread, Unwritten, Unput}}
+use Rattle.ppdb_run_stops.specs.Causes.{OutOfMemory, cause_of}
+use Rattle.ppdb_maps.specs.Map.{Map}
+use Rattle.ppdb_run.specs.{Ends.{ComesToRead, OnTask, IsUnread, IsUnreadOf, IsUnwritten}, Outcome.{IsOutcome, answer_of, breaks_answer, done, form_of, input_of}}
+use Rattle.ppdb_run.{specs.Outcome.{links_answer, map_at, verified}, specs.Stops.{Leaves, LeavesAt}, proofs.Endings.{prefix_none}}
+use Rattle.ppdb_run_words.specs.Words.{Question, Id, Verify, Show, Query, Links, Breaks, Options, Task, Ask, Rebuild, Compose, Words, read_files, written_file}
 use Rattle.source_link.specs.declared.pair.Pair.{Pair}
 use Rattle.ppdb_show_sources.specs.Links.{file_links}
 use Rattle.break_lines.specs.Breaks.{document_named}
-use Rattle.ppdb_values.specs.RawFile.{RawFile}
-use Rattle.ppdb_values.specs.Value.{value_of}
-use Rattle.ppdb_run.proofs.Endings.{prefix_none}
+use Rattle.ppdb_values.specs.{RawFile.{RawFile}, Value.{value_of}}
 
 -- ---- its outcome writes no file
 

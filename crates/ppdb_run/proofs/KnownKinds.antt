@@ -1,29 +1,16 @@
 -- Files all of whose custom records are of known kinds: so is what they are joined to, and its value.
-use Rattle.std.proofs.Common.{◌≢◌, ℕ, ◌+◌, List, [], ◌∷◌, map, length}
-use Rattle.std.specs.Prelude.{bytes_eq}
-use Rattle.std.specs.List.{filter, flat_map}
-use Rattle.custom_info.specs.Kinds.{kind_of}
-use Rattle.custom_info.specs.declared.kinds.Kind.TheVariants.{Unknown}
-use Rattle.ppdb_values.specs.declared.custom.CustomValue.{CustomValue}
-use Rattle.ppdb_values.specs.declared.file.DocumentValue.{DocumentValue}
-use Rattle.ppdb_values.specs.declared.import.ImportScopeValue.{ImportScopeValue}
-use Rattle.ppdb_values.specs.declared.annotation.Custom.{Custom}
-use Rattle.ppdb_values.specs.declared.annotation.Annotation.{Annotation}
-use Rattle.ppdb_values.specs.declared.scope.ConstantValue.{ConstantValue}
+use Rattle.std.{proofs.Common.{◌≢◌, ℕ, ◌+◌, List, [], ◌∷◌, map, length}, specs.Prelude.{bytes_eq}, specs.List.{filter, flat_map}}
+use Rattle.custom_info.specs.{Kinds.{kind_of}, declared.kinds.Kind.TheVariants.{Unknown}}
+use Rattle.ppdb_values.specs.declared.{custom.CustomValue.{CustomValue}, file.DocumentValue.{DocumentValue}, import.ImportScopeValue.{ImportScopeValue}}
+use Rattle.ppdb_values.specs.declared.{annotation.Custom.{Custom}, annotation.Annotation.{Annotation}, scope.ConstantValue.{ConstantValue}}
 use Rattle.ppdb_values.specs.declared.scope.VariableValue.{VariableValue}
 use Rattle.ppdb_tables.specs.Parents.{coded_of}
-use Rattle.ppdb_merge_items.specs.declared.file.AnnotatedFile.{AnnotatedFile}
-use Rattle.ppdb_merge_items.specs.declared.file.AnnotatedScope.{AnnotatedScope}
-use Rattle.ppdb_merge_items.specs.Each.{Each}
-use Rattle.ppdb_merge_items.specs.Annotated.{all_customs, customs_of, on_row, placed, with_item}
-use Rattle.ppdb_merge_items.specs.Unannotated.{value_of_annotated}
-use Rattle.ppdb_merge_items.proofs.Lists.{Each-append, Each-filter, Each-map, Each-weaker, each_of}
-use Rattle.ppdb_merge_items.proofs.Orders.{in_order_each}
+use Rattle.ppdb_merge_items.specs.{declared.file.AnnotatedFile.{AnnotatedFile}, declared.file.AnnotatedScope.{AnnotatedScope}, Each.{Each}, Annotated.{all_customs}}
+use Rattle.ppdb_merge_items.{specs.Annotated.{customs_of, on_row, placed, with_item}, specs.Unannotated.{value_of_annotated}, proofs.Lists.{Each-append}}
+use Rattle.ppdb_merge_items.proofs.{Lists.{Each-filter, Each-map, Each-weaker, each_of}, Orders.{in_order_each}}
 use Rattle.ppdb_merge_joined.specs.Joined.{customs_named, joined, joined_document, joined_documents, joined_parts, joined_rows, renumbered, renumbered_all}
-use Rattle.ppdb_merge_joined.specs.Joined.{renumbered_custom, renumbered_import, renumbered_scope, row_in}
-use Rattle.ppdb_merge_joined.specs.Same.{same_custom, same_record}
-use Rattle.ppdb_merge_joined.proofs.Each.{Each-flat}
-use Rattle.ppdb_merge_joined.proofs.Kept.{fresh_each}
+use Rattle.ppdb_merge_joined.specs.{Joined.{renumbered_custom, renumbered_import, renumbered_scope, row_in}, Same.{same_custom, same_record}}
+use Rattle.ppdb_merge_joined.proofs.{Each.{Each-flat}, Kept.{fresh_each}}
 
 module _ (marks : List (List ℕ)) where
   abbrev pub Known : List ℕ → Type 0

@@ -1,34 +1,22 @@
 -- What is known of a lookup: its steps, its outcome, the rows that it reads, and that it writes no file.
-use Rattle.std.proofs.Common.{ℕ, ◌≡◌, ◌≤◌, ◌+◌, inl, inr, List, Bool, refl, sym, ◌∙◌, ap, subst, arith}
-use Rattle.std.specs.Prelude.{Option, Some, None, Result, Ok, Err, IfErr, IfSome, IsErrAnd}
-use Rattle.std.specs.Str.Lines.{lines}
-use Rattle.ppdb_base.specs.Causes.{counted}
-use Rattle.ppdb_base.specs.Files.{Files, Reading, Missing, Longer, Contents, reading}
-use Rattle.ppdb_base.specs.First.{IsAccepted}
-use Rattle.ppdb_base.specs.Written.{appended, AppendsPrefix, Puts}
-use Rattle.ppdb_base.specs.declared.limits.TheConstants.{MAX_FILE_BYTES}
-use Rattle.ppdb_base.specs.declared.sink.WriteError.{WriteError}
+use Rattle.std.{proofs.Common.{ℕ, ◌≡◌, ◌≤◌, ◌+◌, inl, inr, List, Bool, refl, sym, ◌∙◌, ap, subst, arith}, specs.Prelude.{Option, Some, None, Result, Ok, Err, IfErr}}
+use Rattle.std.specs.{Prelude.{IfSome, IsErrAnd}, Str.Lines.{lines}}
+use Rattle.ppdb_base.specs.{Causes.{counted}, Files.{Files, Reading, Missing, Longer, Contents, reading}, First.{IsAccepted}, Written.{appended, AppendsPrefix}}
+use Rattle.ppdb_base.specs.{Written.{Puts}, declared.limits.TheConstants.{MAX_FILE_BYTES}, declared.sink.WriteError.{WriteError}}
 use Rattle.ppdb_base.specs.declared.sink.WriteError.TheVariants as write_errors
-use Rattle.ppdb_queries_list.specs.Lists.{IsFirstOther, Lists}
-use Rattle.ppdb_queries_list.specs.declared.line.MethodOffset.{MethodOffset}
+use Rattle.ppdb_queries_list.specs.{Lists.{IsFirstOther, Lists}, declared.line.MethodOffset.{MethodOffset}}
 use Rattle.ppdb_show.specs.Lookup.{lookup_rows, lookup_text_of}
 use Rattle.ppdb_show_lines.specs.declared.form.Form.{Form}
 use Rattle.ppdb_values.specs.RawFile.{RawFile}
 use Rattle.ppdb_verify.specs.Files.{FileFaults, IsRawOf}
-use Rattle.ppdb_run_stops.specs.declared.stop.Stop.{Stop}
-use Rattle.ppdb_run.specs.Ends.{ComesToRead, IsUnreadOf, IsWithinRows, OnLookup, OnTask}
-use Rattle.ppdb_run_stops.specs.Refusals.{Outcome, absent, prints}
-use Rattle.ppdb_run.specs.Outcome.{Step, ◌>>=◌, IsOutcome, done, file_at, form_of, gives, input_of, judged, listed, looked_up}
-use Rattle.ppdb_run.specs.Outcome.{steps_of}
-use Rattle.ppdb_run_stops.specs.Refusals.{too_long, unlisted}
+use Rattle.ppdb_run_stops.specs.{declared.stop.Stop.{Stop}, Refusals.{Outcome, absent, prints, too_long, unlisted}}
+use Rattle.ppdb_run.specs.{Ends.{ComesToRead, IsUnreadOf, IsWithinRows, OnLookup, OnTask}, Outcome.{Step, ◌>>=◌, IsOutcome, done, file_at, form_of, gives, input_of}}
+use Rattle.ppdb_run.specs.Outcome.{judged, listed, looked_up, steps_of}
 use Rattle.ppdb_run_stops.specs.declared.status.Status.TheVariants as statuses
 use Rattle.ppdb_run_stops.specs.Causes.{cause_of, refusal_of, stop_of, OnCut}
-use Rattle.ppdb_run.specs.Stops.{Delivers, Finds, Gives, IsEnd, Leaves, Settles}
+use Rattle.ppdb_run.{specs.Stops.{Delivers, Finds, Gives, IsEnd, Leaves, Settles}, proofs.Kept.{first_unread, leaves, one_more}, proofs.Merges.{on_told, stop_over}}
+use Rattle.ppdb_run.proofs.{Merges.{next_over}, Outcomes.{on_due, one_verified}, Steps.{gives_stop}}
 use Rattle.ppdb_run_words.specs.Words.{Lookup}
-use Rattle.ppdb_run.proofs.Kept.{first_unread, leaves, one_more}
-use Rattle.ppdb_run.proofs.Merges.{on_told, stop_over, next_over}
-use Rattle.ppdb_run.proofs.Outcomes.{on_due, one_verified}
-use Rattle.ppdb_run.proofs.Steps.{gives_stop}
 
 -- ---- the answer to a list
 

@@ -1,27 +1,16 @@
 -- The steps of the map of two maps: each gives one thing, and something.
-use Rattle.std.proofs.Common.{ℕ, ◌≡◌, ◌<◌, ◌≤◌, inl, inr, List, length, refl, sym, ◌∙◌, ap, arith}
-use Rattle.std.specs.Prelude.{Some, Result, Ok, Err}
+use Rattle.std.{proofs.Common.{ℕ, ◌≡◌, ◌<◌, ◌≤◌, inl, inr, List, length, refl, sym, ◌∙◌, ap, arith}, specs.Prelude.{Some, Result, Ok, Err}}
 use Rattle.std.proofs.lemmas.Bool.{cases_lt}
-use Rattle.ppdb_base.specs.Files.{Files, Reading, Missing, Longer, Contents, reading}
-use Rattle.ppdb_base.specs.declared.limits.TheConstants.{MAX_FILE_BYTES}
-use Rattle.map_compose.specs.Composed.{composed}
-use Rattle.map_compose.specs.Composition.{IsTextOfBoth}
-use Rattle.map_compose.proofs.Differing.{sizes_are_judged}
-use Rattle.map_compose.proofs.Readable.{text_of_both}
+use Rattle.ppdb_base.specs.{Files.{Files, Reading, Missing, Longer, Contents, reading}, declared.limits.TheConstants.{MAX_FILE_BYTES}}
+use Rattle.map_compose.{specs.Composed.{composed}, specs.Composition.{IsTextOfBoth}, proofs.Differing.{sizes_are_judged}, proofs.Readable.{text_of_both}}
 use Rattle.map_compose_determined_laws.proofs.Determined.{texts_of_both_are_one}
-use Rattle.ppdb_maps_text.specs.MapTexts.{map_text}
-use Rattle.ppdb_maps_text.proofs.Judged.{texts_are_judged}
-use Rattle.ppdb_maps.specs.Map.{Map}
-use Rattle.ppdb_maps.specs.Readable.{IsReadable}
-use Rattle.ppdb_maps.proofs.OneMap.{texts_have_one_map}
-use Rattle.ppdb_maps.proofs.Readable.{maps_are_readable}
+use Rattle.ppdb_maps_text.{specs.MapTexts.{map_text}, proofs.Judged.{texts_are_judged}}
+use Rattle.ppdb_maps.{specs.Map.{Map}, specs.Readable.{IsReadable}, proofs.OneMap.{texts_have_one_map}, proofs.Readable.{maps_are_readable}}
 use Rattle.ppdb_maps.proofs.Refusals.{refusals_are_one}
-use Rattle.ppdb_run_stops.specs.Refusals.{Outcome, absent, map_limited, no_map, sizes_differ}
-use Rattle.ppdb_run.specs.Outcome.{IsOutcome, composed_text, file_at, input_of, map_at, map_in}
-use Rattle.ppdb_run.specs.Outcome.{steps_of, written}
-use Rattle.ppdb_run_stops.specs.Refusals.{too_long}
+use Rattle.ppdb_run_stops.specs.Refusals.{Outcome, absent, map_limited, no_map, sizes_differ, too_long}
+use Rattle.ppdb_run.{specs.Outcome.{IsOutcome, composed_text, file_at, input_of, map_at, map_in, steps_of, written}, proofs.Steps.{GivesOne, is_one, one_given}}
+use Rattle.ppdb_run.proofs.Steps.{one_then}
 use Rattle.ppdb_run_words.specs.Words.{Compose}
-use Rattle.ppdb_run.proofs.Steps.{GivesOne, is_one, one_given, one_then}
 
 -- ---- one thing
 

@@ -1,51 +1,29 @@
 -- What is known of the meaning of a debug file that is written.
-use Rattle.std.proofs.Common.{ℕ, suc, ◌≡◌, ◌≢◌, ◌+◌, ◌≤◌, inl, inr, List, [], ◌∷◌, Bool, true, false, Option, Some, None, map, length, refl, sym}
-use Rattle.std.proofs.Common.{◌∙◌, ap, subst, arith}
-use Rattle.std.specs.Result.{result_map_both}
-use Rattle.std.specs.Prelude.{Result, Ok, Err, IfOk, IfSome, find, nat_lt, option_map, if◌then◌else◌}
-use Rattle.std.specs.List.{AllZip, enumerate_from}
-use Rattle.std.proofs.lemmas.Bool.{both_ways, cases_lt, lt-ltb}
-use Rattle.std.specs.FinMap.{get}
+use Rattle.std.proofs.Common.{ℕ, suc, ◌≡◌, ◌≢◌, ◌+◌, ◌≤◌, inl, inr, List, [], ◌∷◌, Bool, true, false, Option, Some, None, map, length, refl, sym, ◌∙◌, ap, subst}
+use Rattle.std.{proofs.Common.{arith}, specs.Result.{result_map_both}, specs.Prelude.{Result, Ok, Err, IfOk, IfSome, find, nat_lt, option_map, if◌then◌else◌}}
+use Rattle.std.{specs.List.{AllZip, enumerate_from}, proofs.lemmas.Bool.{both_ways, cases_lt, lt-ltb}, specs.FinMap.{get}}
 use Rattle.custom_info.specs.declared.kinds.Kind.{Kind}
 use Rattle.custom_info.specs.declared.kinds.Kind.TheVariants as kinds
 use Rattle.custom_info.specs.Kinds.{kind_of}
-use Rattle.ppdb_base.specs.declared.limits.TheConstants.{MAX_FILE_BYTES}
-use Rattle.ppdb_base.specs.declared.merge_error.MergeError.{MergeError}
-use Rattle.ppdb_base.specs.declared.merge_error.MergeError.TheVariants.{KindUnknown}
-use Rattle.ppdb_base.specs.Files.{Files, Longer, Contents, within_max}
-use Rattle.ppdb_base.specs.First.{IsAccepted}
+use Rattle.ppdb_base.specs.declared.{limits.TheConstants.{MAX_FILE_BYTES}, merge_error.MergeError.{MergeError}, merge_error.MergeError.TheVariants.{KindUnknown}}
+use Rattle.ppdb_base.specs.{Files.{Files, Longer, Contents, within_max}, First.{IsAccepted}}
 use Rattle.ppdb_merge_meaning_laws.specs.Kept.{MovedBy}
-use Rattle.ppdb_maps.specs.Map.{Map}
-use Rattle.ppdb_maps.specs.Text.{IsMapOf}
-use Rattle.ppdb_merge.specs.declared.trace.Trace.{Trace}
+use Rattle.ppdb_maps.specs.{Map.{Map}, Text.{IsMapOf}}
+use Rattle.ppdb_merge.specs.{declared.trace.Trace.{Trace}, Inputs.{AreAdded, IsValidInput, ReadInput, moved_by}, Refusals.{added}, Together.{joined_of}}
 use Rattle.ppdb_merge_fits.specs.Clashes.{is_unknown}
-use Rattle.ppdb_merge.specs.Inputs.{AreAdded, IsValidInput, ReadInput, moved_by}
-use Rattle.ppdb_merge.specs.Refusals.{added}
-use Rattle.ppdb_merge.specs.Together.{joined_of}
 use Rattle.ppdb_merge_items.specs.Each.{Each}
-use Rattle.ppdb_values.specs.declared.custom.CustomValue.{CustomValue}
-use Rattle.ppdb_values.specs.declared.file.FileValue.{FileValue}
-use Rattle.ppdb_values.specs.RawFile.{RawFile}
-use Rattle.ppdb_values.specs.Rules.{KeepsRules}
+use Rattle.ppdb_values.specs.{declared.custom.CustomValue.{CustomValue}, declared.file.FileValue.{FileValue}, RawFile.{RawFile}, Rules.{KeepsRules}}
 use Rattle.ppdb_values.specs.Value.{value_of}
 use Rattle.ppdb_verify.specs.Files.{FileFaults, IsRawOf}
 use Rattle.ppdb_verify_valid_laws.proofs.ValidFiles.{valid_keeps}
 use Rattle.ppdb_merge_unmoved_laws.specs.NoLines.{left_alone}
-use Rattle.ppdb_run.specs.Joined.{IsJoinedFile}
-use Rattle.ppdb_run.specs.MeaningLaws.{AreJoinedTo, HasKnownKinds, JoinedFilesKeepInputs, JoinedKindsAreKnown, KeepsInputs, ReadInputsAreValid}
-use Rattle.ppdb_run.specs.MeaningLaws.{RebuiltFilesKeepThemselves, SaysButForId}
-use Rattle.ppdb_run_stops.specs.declared.stop.Stop.{Stop}
-use Rattle.ppdb_run.specs.Ends.{OnAsked, OnTask, RebuildsToItself, RebuildsWhereKnown, WritesAgain}
-use Rattle.ppdb_run.specs.Means.{AreInputsOf, IsReadAs, ExactlyMeans, WritesExactly, WritesMeaning}
-use Rattle.ppdb_run_stops.specs.Refusals.{unfit, Outcome}
-use Rattle.ppdb_run.specs.Outcome.{file_at, input_of, map_at, steps_of, unknown_kind, verified, with_input}
-use Rattle.ppdb_run.specs.Outcome.{with_inputs}
-use Rattle.ppdb_run.specs.Outcome.{written}
-use Rattle.ppdb_run_words.specs.Words.{Input, Options, Task, Rebuild, Merge, Words}
-use Rattle.ppdb_run.proofs.MapSteps.{one_map}
-use Rattle.ppdb_run_words.proofs.OneTask.{one_task}
-use Rattle.ppdb_run.proofs.Outcomes.{one_verified}
+use Rattle.ppdb_run.specs.{Joined.{IsJoinedFile}, MeaningLaws.{AreJoinedTo, HasKnownKinds, JoinedFilesKeepInputs, JoinedKindsAreKnown, KeepsInputs}}
+use Rattle.ppdb_run.specs.{MeaningLaws.{ReadInputsAreValid, RebuiltFilesKeepThemselves, SaysButForId}, Ends.{OnAsked, OnTask, RebuildsToItself, RebuildsWhereKnown}}
+use Rattle.ppdb_run.specs.{Ends.{WritesAgain}, Means.{AreInputsOf, IsReadAs, ExactlyMeans, WritesExactly, WritesMeaning}, Outcome.{file_at, input_of, map_at}}
+use Rattle.ppdb_run.{specs.Outcome.{steps_of, unknown_kind, verified, with_input, with_inputs, written}, proofs.MapSteps.{one_map}, proofs.Outcomes.{one_verified}}
 use Rattle.ppdb_run.proofs.Writing.{on_written}
+use Rattle.ppdb_run_stops.specs.{declared.stop.Stop.{Stop}, Refusals.{unfit, Outcome}}
+use Rattle.ppdb_run_words.{specs.Words.{Input, Options, Task, Rebuild, Merge, Words}, proofs.OneTask.{one_task}}
 
 -- ---- kinds that are known
 

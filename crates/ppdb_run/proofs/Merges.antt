@@ -1,35 +1,21 @@
 -- What is known of inputs that are moved and joined.
-use Rattle.std.proofs.Common.{ℕ, zero, suc, ◌≡◌, ◌≤◌, ◌<◌, ◌+◌, ◌-◌, ◌*◌, ◌⊎◌, inl, inr, List, [], ◌∷◌, ◌++◌, length, drop, Bool, refl, sym, ◌∙◌, ap}
-use Rattle.std.proofs.Common.{subst, arith}
-use Rattle.std.specs.Result.{result_map_both}
-use Rattle.std.specs.Prelude.{Option, Some, None, Result, Ok, Err, IfSome, slice_get, slice_index_or, String}
-use Rattle.std.specs.String.{string_bytes}
+use Rattle.std.proofs.Common.{ℕ, zero, suc, ◌≡◌, ◌≤◌, ◌<◌, ◌+◌, ◌-◌, ◌*◌, ◌⊎◌, inl, inr, List, [], ◌∷◌, ◌++◌, length, drop, Bool, refl, sym, ◌∙◌, ap, subst, arith}
+use Rattle.std.specs.{Result.{result_map_both}, Prelude.{Option, Some, None, Result, Ok, Err, IfSome, slice_get, slice_index_or, String}, String.{string_bytes}}
 use Rattle.std.specs.declared.alloc.Global.{Global}
-use Rattle.ppdb_base.specs.Causes.{counted}
-use Rattle.ppdb_base.specs.Files.{Files}
-use Rattle.ppdb_base.specs.First.{IsAccepted}
-use Rattle.ppdb_base.specs.declared.merge_error.MergeError.{MergeError}
+use Rattle.ppdb_base.specs.{Causes.{counted}, Files.{Files}, First.{IsAccepted}, declared.merge_error.MergeError.{MergeError}}
 use Rattle.ppdb_base.specs.declared.merge_error.MergeError.TheVariants as merge_errors
-use Rattle.ppdb_maps.specs.Map.{Map}
-use Rattle.ppdb_maps.specs.Text.{IsMapOf}
-use Rattle.ppdb_merge.specs.declared.trace.Trace.{Trace}
-use Rattle.ppdb_merge.specs.Merged.{is_first, trace_of, unless}
-use Rattle.ppdb_merge.specs.Refusals.{added, refusal_of}
+use Rattle.ppdb_maps.specs.{Map.{Map}, Text.{IsMapOf}}
+use Rattle.ppdb_merge.specs.{declared.trace.Trace.{Trace}, Merged.{is_first, trace_of, unless}, Refusals.{added, refusal_of}}
 use Rattle.ppdb_values.specs.RawFile.{RawFile}
 use Rattle.ppdb_verify.specs.Files.{FileFaults, IsRawOf}
 use Rattle.ppdb_run_stops.specs.declared.stop.Stop.{Stop}
 use Rattle.ppdb_run_stops.specs.declared.stop.Stop.TheVariants as stops
-use Rattle.ppdb_run.specs.Ends.{ComesToInput, IsInputUnread, IsUnreadOf}
-use Rattle.ppdb_run_stops.specs.Refusals.{Outcome, unfit}
-use Rattle.ppdb_run.specs.Outcome.{Step, ◌>>=◌, file_at, gives, judged, map_in, with_input, with_inputs, with_texts}
-use Rattle.ppdb_run_stops.specs.Causes.{cause_of, refusal_of as told_by, ComesFrom, IsNoInput, no_file}
-use Rattle.ppdb_run_stops.specs.Causes.Cause.{Refusal}
+use Rattle.ppdb_run.specs.{Ends.{ComesToInput, IsInputUnread, IsUnreadOf}, Outcome.{Step, ◌>>=◌, file_at, gives, judged, map_in, with_input, with_inputs}}
+use Rattle.ppdb_run.specs.Outcome.{with_texts}
+use Rattle.ppdb_run_stops.specs.{Refusals.{Outcome, unfit}, Causes.{cause_of, refusal_of as told_by, ComesFrom, IsNoInput, no_file}, Causes.Cause.{Refusal}}
 use Rattle.ppdb_run_stops.specs.declared.status.Status.TheVariants as statuses
-use Rattle.ppdb_run.specs.Stops.{Gives}
-use Rattle.ppdb_run_words.specs.Task.{pairs_of}
-use Rattle.ppdb_run_words.specs.Words.{Input, Merge, input_words, texts}
-use Rattle.ppdb_run.proofs.Kept.{one_more}
-use Rattle.ppdb_run.proofs.Steps.{gives_next, gives_stop}
+use Rattle.ppdb_run.{specs.Stops.{Gives}, proofs.Kept.{one_more}, proofs.Steps.{gives_next, gives_stop}}
+use Rattle.ppdb_run_words.specs.{Task.{pairs_of}, Words.{Input, Merge, input_words, texts}}
 
 -- ---- steps over the files that are reported
 

@@ -1,36 +1,21 @@
 -- What is known of inputs that are joined and written.
-use Rattle.std.proofs.Common.{ℕ, Bool, ◌≡◌, ◌⊎◌, inl, inr, List, [], sym, ◌∙◌, ap, subst}
-use Rattle.std.specs.Prelude.{Option, Some, None, option_map, Result, Ok, Err, IfOk, IfSome, if◌then◌else◌}
-use Rattle.ppdb_base.specs.Files.{Files}
-use Rattle.ppdb_base.specs.First.{IsAccepted}
-use Rattle.ppdb_base.specs.declared.merge_error.MergeError.{MergeError}
+use Rattle.std.{proofs.Common.{ℕ, Bool, ◌≡◌, ◌⊎◌, inl, inr, List, [], sym, ◌∙◌, ap, subst}, specs.Prelude.{Option, Some, None, option_map, Result, Ok, Err, IfOk}}
+use Rattle.std.specs.Prelude.{IfSome, if◌then◌else◌}
+use Rattle.ppdb_base.specs.{Files.{Files}, First.{IsAccepted}, declared.merge_error.MergeError.{MergeError}}
 use Rattle.ppdb_base.specs.declared.merge_error.MergeError.TheVariants as merge_errors
-use Rattle.ppdb_build_canon.specs.Canon.{canon, chosen_id, with_id}
-use Rattle.ppdb_build_canon.specs.Limits.{first_limit}
-use Rattle.ppdb_build_canon.specs.declared.choice.IdChoice.{IdChoice, TheVariants.{Hash, Keep}}
-use Rattle.ppdb_merge.specs.declared.trace.Trace.{Trace}
-use Rattle.ppdb_merge.specs.Merged.{moved_files, unless}
-use Rattle.ppdb_merge.specs.Together.{joined_of, misfit_of}
+use Rattle.ppdb_build_canon.specs.{Canon.{canon, chosen_id, with_id}, Limits.{first_limit}, declared.choice.IdChoice.{IdChoice}}
+use Rattle.ppdb_build_canon.specs.declared.choice.IdChoice.TheVariants.{Hash, Keep}
+use Rattle.ppdb_merge.specs.{declared.trace.Trace.{Trace}, Merged.{moved_files, unless}, Together.{joined_of, misfit_of}}
 use Rattle.ppdb_merge_items.specs.Unannotated.{value_of_annotated}
 use Rattle.ppdb_merge_joined.specs.Joined.{joined}
-use Rattle.ppdb_values.specs.declared.file.FileValue.{FileValue}
-use Rattle.ppdb_values.specs.RawFile.{RawFile}
+use Rattle.ppdb_values.specs.{declared.file.FileValue.{FileValue}, RawFile.{RawFile}}
 use Rattle.ppdb_verify.specs.Files.{FileFaults, IsRawOf}
 use Rattle.ppdb_build_written_laws.specs.Written.{Says, IsSameAgain}
-use Rattle.ppdb_run_stops.specs.declared.stop.Stop.{Stop}
-use Rattle.ppdb_run.specs.Ends.{RebuildsWhereKnown}
-use Rattle.ppdb_run.specs.Joined.{GivesIfSome, IsJoinedFile, joined_steps}
-use Rattle.ppdb_run.specs.MeaningLaws.{SaysButForId}
-use Rattle.ppdb_run_stops.specs.Refusals.{Outcome, limited, unfit}
-use Rattle.ppdb_run.specs.Outcome.{Step, ◌>>=◌, all_joined, gives, in_limits, input_in, steps_of, unknown_kind}
-use Rattle.ppdb_run_words.specs.Task.{file_of}
-use Rattle.ppdb_run.specs.Outcome.{with_inputs, written}
-use Rattle.ppdb_run_stops.specs.Causes.{cause_of, refusal_of as told_by}
-use Rattle.ppdb_run.specs.Stops.{Gives}
-use Rattle.ppdb_run_words.specs.Words.{Input, Options, Merge}
-use Rattle.ppdb_run.proofs.Merges.{next_over, on_told, stop_over}
-use Rattle.ppdb_run.proofs.Rebuilds.{rebuilds}
-use Rattle.ppdb_run.proofs.Steps.{gives_next, gives_stop}
+use Rattle.ppdb_run_stops.specs.{declared.stop.Stop.{Stop}, Refusals.{Outcome, limited, unfit}, Causes.{cause_of, refusal_of as told_by}}
+use Rattle.ppdb_run.specs.{Ends.{RebuildsWhereKnown}, Joined.{GivesIfSome, IsJoinedFile, joined_steps}, MeaningLaws.{SaysButForId}, Outcome.{Step, ◌>>=◌}}
+use Rattle.ppdb_run.specs.{Outcome.{all_joined, gives, in_limits, input_in, steps_of, unknown_kind, with_inputs, written}, Stops.{Gives}}
+use Rattle.ppdb_run.proofs.{Merges.{next_over, on_told, stop_over}, Rebuilds.{rebuilds}, Steps.{gives_next, gives_stop}}
+use Rattle.ppdb_run_words.specs.{Task.{file_of}, Words.{Input, Options, Merge}}
 
 -- a value that is joined, or the refusal that is reported, or no memory
 pub joined_given : (inputs : List Input) (stop : Stop) (error : MergeError) (told : Result FileValue MergeError)

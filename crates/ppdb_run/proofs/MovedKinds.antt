@@ -1,42 +1,22 @@
 -- What stays of an input has no record of an unknown kind, where none of those was reported that stay.
-use Rattle.std.proofs.Common.{◌≡◌, ℕ, suc, ◌+◌, ◌<◌, ◌&&◌, ◌||◌, Bool, true, false, cond, List, [], ◌∷◌, ◌++◌, Option, Some, None, map, length}
-use Rattle.std.proofs.Common.{refl, sym, ◌∙◌, ap, subst, arith}
-use Rattle.std.specs.Prelude.{◌==◌, nat_eq, nat_lt, slice_get}
-use Rattle.std.specs.List.{filter, flat_map, list_any}
-use Rattle.std.specs.Option.{option_to_list}
-use Rattle.std.proofs.lemmas.Bool.{and_parts, both_ways, eqb-true, ltb-true, ne_eqb, not-true, or_from, or_parts}
+use Rattle.std.proofs.Common.{◌≡◌, ℕ, suc, ◌+◌, ◌<◌, ◌&&◌, ◌||◌, Bool, true, false, cond, List, [], ◌∷◌, ◌++◌, Option, Some, None, map, length, refl, sym, ◌∙◌, ap}
+use Rattle.std.{proofs.Common.{subst, arith}, specs.Prelude.{◌==◌, nat_eq, nat_lt, slice_get}, specs.List.{filter, flat_map, list_any}}
+use Rattle.std.{specs.Option.{option_to_list}, proofs.lemmas.Bool.{and_parts, both_ways, eqb-true, ltb-true, ne_eqb, not-true, or_from, or_parts}}
 use Rattle.ppdb_base.specs.Offsets.{gone}
-use Rattle.ppdb_maps.specs.Map.{Map, is_dropped, method_line, offsets_in, is_gone_row}
-use Rattle.ppdb_maps.specs.Readable.{IsReadable}
-use Rattle.ppdb_tables.specs.declared.parent.Parent.{Parent}
-use Rattle.ppdb_tables.specs.RawTables.{row_at}
-use Rattle.ppdb_values.specs.declared.custom.CustomValue.{CustomValue}
-use Rattle.ppdb_values.specs.declared.file.DocumentValue.{DocumentValue}
-use Rattle.ppdb_values.specs.declared.file.FileValue.{FileValue}
-use Rattle.ppdb_values.specs.declared.import.ImportScopeValue.{ImportScopeValue}
-use Rattle.ppdb_values.specs.declared.annotation.Custom.{Custom}
-use Rattle.ppdb_values.specs.declared.annotation.Annotation.{Annotation}
-use Rattle.ppdb_values.specs.declared.scope.ConstantValue.{ConstantValue}
-use Rattle.ppdb_values.specs.declared.scope.ScopeValue.{ScopeValue}
-use Rattle.ppdb_values.specs.declared.scope.VariableValue.{VariableValue}
-use Rattle.ppdb_values.specs.Meaning.{annotated_on, annotated_from, without_parent}
-use Rattle.ppdb_values.specs.Parts.{is_at}
-use Rattle.ppdb_merge_items.specs.declared.file.AnnotatedScope.{AnnotatedScope}
-use Rattle.ppdb_merge_items.specs.Each.{Each}
-use Rattle.ppdb_merge_items.specs.Annotated.{annotated_file, with_item}
-use Rattle.ppdb_merge_items.specs.NamedRows.{goes_constant, leaves_types, live_constants, live_custom, with_live_body}
-use Rattle.ppdb_merge_items.proofs.Lists.{Each-filter, Each-map}
-use Rattle.ppdb_merge_moved.specs.Moved.{is_empty, moved_constant, moved_custom, moved_file, moved_import_scope, moved_range, moved_scope, moved_variable}
-use Rattle.ppdb_merge_moved.specs.Moved.{linked, moved_body, moved_document, moved_parent, scope_image}
-use Rattle.ppdb_merge_moved.specs.OnRows.{annotated_by, annotated_scopes_by}
-use Rattle.ppdb_merge_moved.proofs.Lists.{Each-filter_map}
-use Rattle.ppdb_merge_moved.proofs.ScopesAtRows.{scopes_are}
-use Rattle.ppdb_merge_fits.specs.Clashes.{is_at_dropped, is_at_gone, method_at}
-use Rattle.ppdb_run.proofs.Images.{high_row}
-use Rattle.ppdb_run.proofs.KnownKinds.{Known, KnownFile, KnownScope, Notes}
+use Rattle.ppdb_maps.{specs.Map.{Map, is_dropped, method_line, offsets_in, is_gone_row}, specs.Readable.{IsReadable}, proofs.Parts.{line_offsets}}
+use Rattle.ppdb_tables.specs.{declared.parent.Parent.{Parent}, RawTables.{row_at}}
+use Rattle.ppdb_values.specs.declared.{custom.CustomValue.{CustomValue}, file.DocumentValue.{DocumentValue}, file.FileValue.{FileValue}}
+use Rattle.ppdb_values.specs.declared.{import.ImportScopeValue.{ImportScopeValue}, annotation.Custom.{Custom}, annotation.Annotation.{Annotation}}
+use Rattle.ppdb_values.specs.declared.scope.{ConstantValue.{ConstantValue}, ScopeValue.{ScopeValue}, VariableValue.{VariableValue}}
+use Rattle.ppdb_values.specs.{Meaning.{annotated_on, annotated_from, without_parent}, Parts.{is_at}}
+use Rattle.ppdb_merge_items.specs.{declared.file.AnnotatedScope.{AnnotatedScope}, Each.{Each}, Annotated.{annotated_file, with_item}, NamedRows.{goes_constant}}
+use Rattle.ppdb_merge_items.{specs.NamedRows.{leaves_types, live_constants, live_custom, with_live_body}, proofs.Lists.{Each-filter, Each-map}}
 use Rattle.ppdb_merge_items.proofs.Parts.{live_constant}
-use Rattle.ppdb_merge_fits.proofs.Parts.{scope_methods, variable_methods, constant_methods, all_constants}
-use Rattle.ppdb_maps.proofs.Parts.{line_offsets}
+use Rattle.ppdb_merge_moved.specs.Moved.{is_empty, moved_constant, moved_custom, moved_file, moved_import_scope, moved_range, moved_scope, moved_variable, linked}
+use Rattle.ppdb_merge_moved.specs.{Moved.{moved_body, moved_document, moved_parent, scope_image}, OnRows.{annotated_by, annotated_scopes_by}}
+use Rattle.ppdb_merge_moved.proofs.{Lists.{Each-filter_map}, ScopesAtRows.{scopes_are}}
+use Rattle.ppdb_merge_fits.{specs.Clashes.{is_at_dropped, is_at_gone, method_at}, proofs.Parts.{scope_methods, variable_methods, constant_methods, all_constants}}
+use Rattle.ppdb_run.proofs.{Images.{high_row}, KnownKinds.{Known, KnownFile, KnownScope, Notes}}
 
 -- ---- rows that follow each other
 

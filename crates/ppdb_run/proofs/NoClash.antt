@@ -1,31 +1,16 @@
 -- Where a map fits a file, nothing is reported of the two.
 use Rattle.std.proofs.Common.{◌≡◌, ℕ, Bool, List, [], None, map, sym, ap, subst, slice_get}
-use Rattle.ppdb_merge_names_laws.proofs.Whole.{all-named}
-use Rattle.ppdb_maps.specs.Map.{Map}
-use Rattle.ppdb_maps.specs.Readable.{IsReadable}
+use Rattle.ppdb_merge_names_laws.{proofs.Whole.{all-named}, specs.Laws.{named_by}}
+use Rattle.ppdb_maps.specs.{Map.{Map}, Readable.{IsReadable}}
 use Rattle.ppdb_tables.specs.Parents.{CodesAreParents}
-use Rattle.ppdb_values.specs.Owners.{ListsAreOwned}
-use Rattle.ppdb_values.specs.RawFile.{RawFile}
-use Rattle.ppdb_values.specs.Rules.{KeepsRules}
-use Rattle.ppdb_values.specs.Value.{value_of}
-use Rattle.ppdb_values_sound_laws.specs.Customs.{SoundCustom}
-use Rattle.ppdb_values_sound_laws.proofs.Values.{value_sound}
-use Rattle.ppdb_merge_names_laws.specs.Laws.{named_by}
+use Rattle.ppdb_values.specs.{Owners.{ListsAreOwned}, RawFile.{RawFile}, Rules.{KeepsRules}, Value.{value_of}}
+use Rattle.ppdb_values_sound_laws.{specs.Customs.{SoundCustom}, proofs.Values.{value_sound}}
 use Rattle.ppdb_merge_names.specs.References.{references}
-use Rattle.ppdb_merge_items.specs.Each.{Each}
-use Rattle.ppdb_merge_items.specs.NamedRows.{named_rows}
-use Rattle.ppdb_merge_items.specs.Annotated.{annotated_file}
-use Rattle.ppdb_merge_items.proofs.Lists.{each_row}
-use Rattle.ppdb_merge_moved.specs.Fits.{IsImaged, AreApart}
-use Rattle.ppdb_merge_moved.proofs.Elements.{each_in}
-use Rattle.ppdb_merge_fits.specs.Clashes.{first_clash, clashes}
-use Rattle.ppdb_merge_fits.specs.Laws.{NoClash}
-use Rattle.ppdb_merge_fits.specs.Offsets.{beyond}
-use Rattle.ppdb_merge_fits.proofs.Told.{both_fine}
-use Rattle.ppdb_run.specs.SampleLaws.{FittingMapsDoNotClash}
-use Rattle.ppdb_run.proofs.Silent.{kinds_silent, points_silent, ranges_silent, customs_silent, lost_silent}
-use Rattle.ppdb_run.proofs.SilentDocuments.{documents_silent}
-use Rattle.ppdb_run.proofs.SilentRows.{rows_silent, rows_apart_silent, slots_silent, slots_apart_silent}
+use Rattle.ppdb_merge_items.{specs.Each.{Each}, specs.NamedRows.{named_rows}, specs.Annotated.{annotated_file}, proofs.Lists.{each_row}}
+use Rattle.ppdb_merge_moved.{specs.Fits.{IsImaged, AreApart}, proofs.Elements.{each_in}}
+use Rattle.ppdb_merge_fits.{specs.Clashes.{first_clash, clashes}, specs.Laws.{NoClash}, specs.Offsets.{beyond}, proofs.Told.{both_fine}}
+use Rattle.ppdb_run.{specs.SampleLaws.{FittingMapsDoNotClash}, proofs.Silent.{kinds_silent, points_silent, ranges_silent, customs_silent, lost_silent}}
+use Rattle.ppdb_run.proofs.{SilentDocuments.{documents_silent}, SilentRows.{rows_silent, rows_apart_silent, slots_silent, slots_apart_silent}}
 
 module _ (codes : CodesAreParents) (owned : ListsAreOwned) (marks : List (List ℕ)) (first : Bool) (m : Map) (raw : RawFile) (keeps : KeepsRules raw)
     (ready : IsReadable m) (none : NoClash marks first m raw) where

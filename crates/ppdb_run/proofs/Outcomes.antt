@@ -1,38 +1,21 @@
 -- A task has one outcome over the files.
-use Rattle.std.proofs.Common.{ℕ, ◌≡◌, inl, inr, List, [], ◌∷◌, Bool, refl, sym, ◌∙◌, ap, subst, arith}
-use Rattle.std.specs.Result.{result_map_both}
-use Rattle.std.specs.Prelude.{Option, Some, None, Result, Ok, Err, IfSome}
-use Rattle.ppdb_base.specs.declared.code.Code.{Code}
-use Rattle.ppdb_base.specs.declared.fault.Place.{Place}
-use Rattle.ppdb_base.specs.First.{IsAccepted}
-use Rattle.ppdb_base.specs.Files.{Files, reading}
-use Rattle.ppdb_base.specs.declared.limits.TheConstants.{MAX_FILE_BYTES}
-use Rattle.ppdb_base.proofs.Judging.{one_first, first_not_accepted}
-use Rattle.ppdb_run_stops.specs.declared.stop.Stop.{Stop}
-use Rattle.ppdb_run.specs.Ends.{Asks, AreSeen, IsApart, OnOutcome, OnTask, OnRead, IsWithinBound, IsWithinRows}
-use Rattle.ppdb_run_stops.specs.Refusals.{unfit, Outcome, refused}
-use Rattle.ppdb_run.specs.Outcome.{Step, ◌>>=◌, gives, judged, file_at, input_of, verified, answer_of, rebuilt, outcome_of}
-use Rattle.ppdb_run.specs.Outcome.{all_joined, in_limits, map_in, with_input, with_inputs, with_texts}
-use Rattle.ppdb_merge.specs.declared.trace.Trace.{Trace}
-use Rattle.ppdb_merge.specs.Refusals.{added}
-use Rattle.ppdb_merge.specs.Together.{joined_of}
-use Rattle.ppdb_run.specs.Outcome.{steps_of, IsOutcome, done, form_of, listed, looked_up}
-use Rattle.ppdb_run_stops.specs.Refusals.{unlisted}
-use Rattle.std.specs.Str.Lines.{lines}
+use Rattle.std.{proofs.Common.{ℕ, ◌≡◌, inl, inr, List, [], ◌∷◌, Bool, refl, sym, ◌∙◌, ap, subst, arith}, specs.Result.{result_map_both}, specs.Prelude.{Option}}
+use Rattle.std.specs.{Prelude.{Some, None, Result, Ok, Err, IfSome}, Str.Lines.{lines}}
+use Rattle.ppdb_base.specs.{declared.code.Code.{Code}, declared.fault.Place.{Place}, First.{IsAccepted}, Files.{Files, reading}}
+use Rattle.ppdb_base.{specs.declared.limits.TheConstants.{MAX_FILE_BYTES}, proofs.Judging.{one_first, first_not_accepted}}
+use Rattle.ppdb_run_stops.specs.{declared.stop.Stop.{Stop}, Refusals.{unfit, Outcome, refused, unlisted}, Causes.{cause_of, refusal_of}}
+use Rattle.ppdb_run.specs.{Ends.{Asks, AreSeen, IsApart, OnOutcome, OnTask, OnRead, IsWithinBound, IsWithinRows}, Outcome.{Step, ◌>>=◌, gives, judged, file_at}}
+use Rattle.ppdb_run.specs.Outcome.{input_of, verified, answer_of, rebuilt, outcome_of, all_joined, in_limits, map_in, with_input, with_inputs, with_texts, steps_of}
+use Rattle.ppdb_run.{specs.Outcome.{IsOutcome, done, form_of, listed, looked_up}, specs.Stops.{Gives, Settles, Finds}, proofs.MapSteps.{one_composed, one_text}}
+use Rattle.ppdb_run.proofs.Steps.{GivesOne, gives_stop, is_one, one_next, one_given, one_then}
+use Rattle.ppdb_merge.specs.{declared.trace.Trace.{Trace}, Refusals.{added}, Together.{joined_of}}
 use Rattle.ppdb_show.specs.Lookup.{lookup_text_of}
 use Rattle.ppdb_show_lines.specs.declared.form.Form.{Form}
 use Rattle.ppdb_queries_list.proofs.Lists.{no_list, one_list, one_other}
-use Rattle.ppdb_run_stops.specs.Causes.{cause_of, refusal_of}
-use Rattle.ppdb_run.specs.Stops.{Gives, Settles, Finds}
-use Rattle.ppdb_run_words.specs.Words.{Question, Id, Verify, Show, Query, Links, Breaks, Options, Task, Ask, Lookup, Rebuild, Compose, Merge, Sample, Input}
-use Rattle.ppdb_run_words.specs.Words.{Words}
-use Rattle.ppdb_values.specs.RawFile.{RawFile, raw_in}
-use Rattle.ppdb_values.specs.Value.{value_of}
-use Rattle.ppdb_verify.specs.Files.{FileFaults, IsRawOf}
-use Rattle.ppdb_verify.proofs.Streamed.{same_streams}
-use Rattle.ppdb_run.proofs.MapSteps.{one_composed, one_text}
+use Rattle.ppdb_run_words.specs.Words.{Question, Id, Verify, Show, Query, Links, Breaks, Options, Task, Ask, Lookup, Rebuild, Compose, Merge, Sample, Input, Words}
 use Rattle.ppdb_run_words.proofs.OneTask.{one_task}
-use Rattle.ppdb_run.proofs.Steps.{GivesOne, gives_stop, is_one, one_next, one_given, one_then}
+use Rattle.ppdb_values.specs.{RawFile.{RawFile, raw_in}, Value.{value_of}}
+use Rattle.ppdb_verify.{specs.Files.{FileFaults, IsRawOf}, proofs.Streamed.{same_streams}}
 
 -- ---- a file that is verified is one thing
 

@@ -1,15 +1,9 @@
 -- What was put when a run has ended.
-use Rattle.std.proofs.Common.{ℕ, ◌≡◌, ◌⊎◌, inl, inr, List, [], ◌∷◌, ◌++◌, refl, sym, ◌∙◌, ap, subst}
-use Rattle.std.specs.Prelude.{Option, IfSome}
-use Rattle.ppdb_base.specs.Files.{Files}
-use Rattle.ppdb_base.specs.Written.{appended, AppendsPrefix}
-use Rattle.ppdb_base.proofs.Written.{prefix_whole, appended_nothing}
-use Rattle.ppdb_run_stops.specs.declared.status.Status.{Status}
-use Rattle.ppdb_run.specs.Ends.{OnOutcome, IsUnread, IsUnwritten, PutsPrefix, TellsUnread, TellsUnwritten}
-use Rattle.ppdb_run_stops.specs.Refusals.{Outcome}
-use Rattle.ppdb_run_stops.specs.Causes.{Cause, Refusal, Unread, Unwritten, Unput, OutOfMemory, line_of, refusal_of}
-use Rattle.ppdb_run_stops.specs.Causes.{ComesFrom, OnUntold, OnCut}
-use Rattle.ppdb_run.specs.Stops.{Tells, Told, Failed, NoMemory}
+use Rattle.std.{proofs.Common.{ℕ, ◌≡◌, ◌⊎◌, inl, inr, List, [], ◌∷◌, ◌++◌, refl, sym, ◌∙◌, ap, subst}, specs.Prelude.{Option, IfSome}}
+use Rattle.ppdb_base.{specs.Files.{Files}, specs.Written.{appended, AppendsPrefix}, proofs.Written.{prefix_whole, appended_nothing}}
+use Rattle.ppdb_run_stops.specs.{declared.status.Status.{Status}, Refusals.{Outcome}, Causes.{Cause, Refusal, Unread, Unwritten, Unput, OutOfMemory, line_of}}
+use Rattle.ppdb_run_stops.specs.Causes.{refusal_of, ComesFrom, OnUntold, OnCut}
+use Rattle.ppdb_run.specs.{Ends.{OnOutcome, IsUnread, IsUnwritten, PutsPrefix, TellsUnread, TellsUnwritten}, Stops.{Tells, Told, Failed, NoMemory}}
 
 module _ (words : List (List ℕ)) (files : Option Files) (before after : ℕ) (ReadFailed WriteFailed : Type 0) (old mid new : Option (List ℕ)) where
   abbrev Due : Outcome → List ℕ → Type 0

@@ -1,24 +1,15 @@
 -- What is known of a file that is rebuilt.
-use Rattle.std.proofs.Common.{ℕ, ◌≡◌, inl, List, sym, ◌∙◌, ap}
-use Rattle.std.specs.Prelude.{Option, Some, None, option_map, Result, Ok, Err, IfSome, if◌then◌else◌}
-use Rattle.ppdb_base.specs.Files.{Files}
-use Rattle.ppdb_base.specs.First.{IsAccepted}
-use Rattle.ppdb_build_canon.specs.Canon.{canon, chosen_id, with_id}
-use Rattle.ppdb_build_canon.specs.declared.choice.IdChoice.TheVariants.{Hash, Keep}
+use Rattle.std.{proofs.Common.{ℕ, ◌≡◌, inl, List, sym, ◌∙◌, ap}, specs.Prelude.{Option, Some, None, option_map, Result, Ok, Err, IfSome, if◌then◌else◌}}
+use Rattle.ppdb_base.specs.{Files.{Files}, First.{IsAccepted}}
+use Rattle.ppdb_build_canon.specs.{Canon.{canon, chosen_id, with_id}, declared.choice.IdChoice.TheVariants.{Hash, Keep}, Limits.{first_limit}}
 use Rattle.ppdb_merge.specs.Merged.{unless}
-use Rattle.ppdb_build_canon.specs.Limits.{first_limit}
-use Rattle.ppdb_values.specs.declared.file.FileValue.{FileValue}
-use Rattle.ppdb_values.specs.RawFile.{RawFile}
-use Rattle.ppdb_values.specs.Value.{value_of}
+use Rattle.ppdb_values.specs.{declared.file.FileValue.{FileValue}, RawFile.{RawFile}, Value.{value_of}}
 use Rattle.ppdb_verify.specs.Files.{FileFaults, IsRawOf}
 use Rattle.ppdb_build_written_laws.specs.Written.{Says, IsSameAgain}
-use Rattle.ppdb_run_stops.specs.declared.stop.Stop.{Stop}
-use Rattle.ppdb_run.specs.Ends.{RebuildsToItself}
-use Rattle.ppdb_run.specs.Outcome.{gives, input_of, rebuilt, steps_of, unknown_kind, verified, written}
-use Rattle.ppdb_run_stops.specs.Refusals.{limited, unfit}
-use Rattle.ppdb_run.specs.Stops.{Gives}
-use Rattle.ppdb_run_words.specs.Words.{Options, Task, Rebuild}
+use Rattle.ppdb_run_stops.specs.{declared.stop.Stop.{Stop}, Refusals.{limited, unfit}}
+use Rattle.ppdb_run.specs.{Ends.{RebuildsToItself}, Outcome.{gives, input_of, rebuilt, steps_of, unknown_kind, verified, written}, Stops.{Gives}}
 use Rattle.ppdb_run.proofs.Steps.{gives_next, gives_stop}
+use Rattle.ppdb_run_words.specs.Words.{Options, Task, Rebuild}
 
 -- ---- what it comes to
 

@@ -1,17 +1,11 @@
 -- What the sample comes to, part by part.
-use Rattle.std.proofs.Common.{◌≡◌, ℕ, ◌≤◌, List, None, length, take, drop, sym, ◌∙◌, ap, subst}
-use Rattle.std.specs.Option.{option_or}
-use Rattle.ppdb_build.specs.declared.error.BuildError.{BuildError}
-use Rattle.ppdb_build.specs.declared.error.BuildError.TheVariants.{Limit as Passed, Memory}
-use Rattle.ppdb_build.specs.Building.{IsLimit}
-use Rattle.ppdb_build_canon.specs.Canon.{canon, chosen_id}
-use Rattle.ppdb_build_canon.specs.Laws.{CanonicalFilesForgetIds, IdsStandAfterTheRoot}
-use Rattle.ppdb_build_canon.specs.Limits.{ValuesWithoutLimits, first_limit}
+use Rattle.std.{proofs.Common.{◌≡◌, ℕ, ◌≤◌, List, None, length, take, drop, sym, ◌∙◌, ap, subst}, specs.Option.{option_or}}
+use Rattle.ppdb_build.specs.{declared.error.BuildError.{BuildError}, declared.error.BuildError.TheVariants.{Limit as Passed, Memory}, Building.{IsLimit}}
+use Rattle.ppdb_build_canon.specs.{Canon.{canon, chosen_id}, Laws.{CanonicalFilesForgetIds, IdsStandAfterTheRoot}, Limits.{ValuesWithoutLimits, first_limit}}
 use Rattle.ppdb_build_canon.specs.declared.choice.IdChoice.TheVariants.{Hash, Keep}
 use Rattle.ppdb_values.specs.declared.file.FileValue.{FileValue}
 use Rattle.ppdb_build_sample.specs.Sample.{sample}
-use Rattle.ppdb_run.specs.Sampled.{limit_of_sample, remapped_sample, report_of}
-use Rattle.ppdb_run.proofs.Identity.{behind_root, identity_is, same_length}
+use Rattle.ppdb_run.{specs.Sampled.{limit_of_sample, remapped_sample, report_of}, proofs.Identity.{behind_root, identity_is, same_length}}
 
 -- ---- limits
 

@@ -1,19 +1,11 @@
 -- What is known of the sample: its outcome is the same over all files, and writes none.
-use Rattle.std.proofs.Common.{ℕ, ◌≡◌, inl, inr, List, refl, sym, ap, subst}
-use Rattle.std.specs.Prelude.{Option, Some, None, option_map, Result, Ok, Err, IfSome}
-use Rattle.ppdb_base.specs.Files.{Files}
-use Rattle.ppdb_base.specs.declared.limits.Limit.{Limit}
-use Rattle.ppdb_run.specs.Sampled.{limit_of_sample}
-use Rattle.ppdb_run_stops.specs.declared.stop.Stop.{Stop}
-use Rattle.ppdb_run.specs.Ends.{Asks, IsValid, OnAsked, OnOutcome, WritesAgain, WritesValid}
-use Rattle.ppdb_run_stops.specs.Refusals.{Outcome, limited}
-use Rattle.ppdb_run.specs.Outcome.{IsOutcome, done, outcome_of, sampled}
+use Rattle.std.{proofs.Common.{ℕ, ◌≡◌, inl, inr, List, refl, sym, ap, subst}, specs.Prelude.{Option, Some, None, option_map, Result, Ok, Err, IfSome}}
+use Rattle.ppdb_base.specs.{Files.{Files}, declared.limits.Limit.{Limit}}
+use Rattle.ppdb_run.specs.{Sampled.{limit_of_sample}, Ends.{Asks, IsValid, OnAsked, OnOutcome, WritesAgain, WritesValid}, Outcome.{IsOutcome, done, outcome_of}}
+use Rattle.ppdb_run.{specs.Outcome.{sampled}, specs.Stops.{Finds, FindsOutcome, Leaves, Settles}, proofs.Kept.{leaves}}
+use Rattle.ppdb_run_stops.specs.{declared.stop.Stop.{Stop}, Refusals.{Outcome, limited}, Causes.{cause_of, refusal_of}}
 use Rattle.ppdb_merge.specs.Merged.{unless}
-use Rattle.ppdb_run_stops.specs.Causes.{cause_of, refusal_of}
-use Rattle.ppdb_run.specs.Stops.{Finds, FindsOutcome, Leaves, Settles}
-use Rattle.ppdb_run_words.specs.Words.{Task, Sample, Words}
-use Rattle.ppdb_run.proofs.Kept.{leaves}
-use Rattle.ppdb_run_words.proofs.OneTask.{one_task}
+use Rattle.ppdb_run_words.{specs.Words.{Task, Sample, Words}, proofs.OneTask.{one_task}}
 
 -- what holds over all files holds over those that the words see
 of_all : (P : Option Task → Files → Type 0) (words : List (List ℕ)) (task : Task) → ((all : Files) → P (Some task) all) → Words task words

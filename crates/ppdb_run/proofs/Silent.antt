@@ -1,44 +1,22 @@
 -- Where a map fits a file, nothing is reported of kinds and offsets.
-use Rattle.std.proofs.Common.{◌≡◌, ◌≢◌, ℕ, ◌+◌, ◌<◌, ◌≤◌, ◌&&◌, ◌++◌, Bool, true, false, cond, List, [], ◌∷◌, Option, Some, None, flat_map}
-use Rattle.std.proofs.Common.{refl, ◌∙◌, ap, subst, arith}
-use Rattle.std.specs.Prelude.{IfSome, nat_le, nat_lt, not}
-use Rattle.std.specs.List.{enumerate_from}
-use Rattle.std.proofs.lemmas.Bool.{lt-leb, le-ltb}
-use Rattle.ppdb_base.specs.Offsets.{Offsets, Kept, Rise, every, gone, lined, old_size}
-use Rattle.ppdb_base.specs.declared.merge_error.MergeError.{MergeError}
+use Rattle.std.proofs.Common.{◌≡◌, ◌≢◌, ℕ, ◌+◌, ◌<◌, ◌≤◌, ◌&&◌, ◌++◌, Bool, true, false, cond, List, [], ◌∷◌, Option, Some, None, flat_map, refl, ◌∙◌, ap, subst}
+use Rattle.std.{proofs.Common.{arith}, specs.Prelude.{IfSome, nat_le, nat_lt, not}, specs.List.{enumerate_from}, proofs.lemmas.Bool.{lt-leb, le-ltb}}
+use Rattle.ppdb_base.specs.{Offsets.{Offsets, Kept, Rise, every, gone, lined, old_size}, declared.merge_error.MergeError.{MergeError}}
 use Rattle.ppdb_base.proofs.Moved.{keeps_between, kept_below}
-use Rattle.custom_info.specs.Kinds.{kind_of}
-use Rattle.custom_info.specs.declared.kinds.Kind.{Kind}
+use Rattle.custom_info.specs.{Kinds.{kind_of}, declared.kinds.Kind.{Kind}}
 use Rattle.custom_info.specs.declared.kinds.Kind.TheVariants as kinds
-use Rattle.custom_info.specs.declared.slots.Slot.{Slot}
-use Rattle.custom_info.specs.declared.slots.Slot.TheVariants.{Empty, Held}
-use Rattle.custom_info.specs.declared.stepping.AsyncStep.{AsyncStep}
-use Rattle.ppdb_maps.specs.Map.{Map, offsets_in}
-use Rattle.ppdb_maps.specs.Readable.{IsReadable}
-use Rattle.ppdb_maps.specs.Says.{sizes_of}
+use Rattle.custom_info.specs.declared.{slots.Slot.{Slot}, slots.Slot.TheVariants.{Empty, Held}, stepping.AsyncStep.{AsyncStep}}
+use Rattle.ppdb_maps.specs.{Map.{Map, offsets_in}, Readable.{IsReadable}, Says.{sizes_of}}
 use Rattle.sequence_points.specs.declared.point.Point.{Point}
-use Rattle.ppdb_values.specs.declared.custom.CustomBody.{CustomBody}
-use Rattle.ppdb_values.specs.declared.custom.CustomBody.TheVariants.{Async, Hoisted, TypeDocuments, Unread}
-use Rattle.ppdb_values.specs.declared.custom.CustomValue.{CustomValue}
-use Rattle.ppdb_values.specs.declared.file.FileValue.{FileValue}
-use Rattle.ppdb_values.specs.declared.file.MethodValue.{MethodValue}
-use Rattle.ppdb_values.specs.declared.scope.ScopeValue.{ScopeValue}
-use Rattle.ppdb_values.specs.Rules.{StandsOn}
+use Rattle.ppdb_values.specs.declared.custom.{CustomBody.{CustomBody}, CustomBody.TheVariants.{Async, Hoisted, TypeDocuments, Unread}, CustomValue.{CustomValue}}
+use Rattle.ppdb_values.specs.{declared.file.FileValue.{FileValue}, declared.file.MethodValue.{MethodValue}, declared.scope.ScopeValue.{ScopeValue}, Rules.{StandsOn}}
 use Rattle.ppdb_values_sound_laws.specs.Customs.{SoundCustom, IsBodyOfKind}
-use Rattle.ppdb_merge_items.specs.Each.{Each}
-use Rattle.ppdb_merge_items.specs.NamedRows.{live_custom}
-use Rattle.ppdb_merge_items.specs.Annotated.{annotated_file, annotated_scope}
-use Rattle.ppdb_merge_items.specs.declared.file.AnnotatedScope.{AnnotatedScope}
+use Rattle.ppdb_merge_items.specs.{Each.{Each}, NamedRows.{live_custom}, Annotated.{annotated_file, annotated_scope}, declared.file.AnnotatedScope.{AnnotatedScope}}
 use Rattle.ppdb_merge_items.proofs.Lists.{Each-weaker, Each-unmap}
-use Rattle.ppdb_merge_moved.specs.Fits.{IsKept, KeepsStep, KeepsAsync, EndsWithin, AreWithin}
-use Rattle.ppdb_merge_moved.proofs.Elements.{each_left}
-use Rattle.ppdb_merge_moved.proofs.Fitting.{offsets_rise}
-use Rattle.ppdb_merge_fits.specs.Clashes.{if_unknown, is_unknown, is_at_gone}
-use Rattle.ppdb_merge_fits.specs.Offsets.{MethodOffset, offset_in, step_offsets, handler_offsets, async_offsets, if_past, offset_beyond}
-use Rattle.ppdb_merge_fits.specs.Offsets.{points_beyond, scope_beyond, slot_beyond, body_beyond, is_kept, if_lost}
-use Rattle.ppdb_merge_fits.proofs.Apart.{each_both}
-use Rattle.ppdb_merge_fits.proofs.First.{flat_append, flat_nested}
-use Rattle.ppdb_merge_fits.proofs.Parts.{custom_beyond, custom_lost}
+use Rattle.ppdb_merge_moved.{specs.Fits.{IsKept, KeepsStep, KeepsAsync, EndsWithin, AreWithin}, proofs.Elements.{each_left}, proofs.Fitting.{offsets_rise}}
+use Rattle.ppdb_merge_fits.specs.{Clashes.{if_unknown, is_unknown, is_at_gone}, Offsets.{MethodOffset, offset_in, step_offsets, handler_offsets, async_offsets}}
+use Rattle.ppdb_merge_fits.specs.Offsets.{if_past, offset_beyond, points_beyond, scope_beyond, slot_beyond, body_beyond, is_kept, if_lost}
+use Rattle.ppdb_merge_fits.proofs.{Apart.{each_both}, First.{flat_append, flat_nested}, Parts.{custom_beyond, custom_lost}}
 use Rattle.ppdb_merge.proofs.Apart.{Each-unnumbered}
 
 -- nothing of a list of items of which nothing is reported

@@ -1,22 +1,14 @@
 -- Where a map fits a file, nothing is reported of the names of documents.
-use Rattle.std.proofs.Common.{◌≡◌, ◌≢◌, ℕ, ◌+◌, ◌<◌, ◌≤◌, ◌&&◌, Bool, true, false, List, [], ◌∷◌, refl, ap, ◌∙◌, arith}
-use Rattle.std.specs.Prelude.{bytes_eq, nat_lt}
-use Rattle.std.specs.List.{enumerate_from}
-use Rattle.std.proofs.lemmas.Bool.{le-ltb}
+use Rattle.std.{proofs.Common.{◌≡◌, ◌≢◌, ℕ, ◌+◌, ◌<◌, ◌≤◌, ◌&&◌, Bool, true, false, List, [], ◌∷◌, refl, ap, ◌∙◌, arith}, specs.Prelude.{bytes_eq, nat_lt}}
+use Rattle.std.{specs.List.{enumerate_from}, proofs.lemmas.Bool.{le-ltb}}
 use Rattle.ppdb_maps.specs.Map.{Map, moved_name}
-use Rattle.ppdb_values.specs.declared.annotation.Annotation.{Annotation}
-use Rattle.ppdb_values.specs.declared.file.DocumentValue.{DocumentValue}
-use Rattle.ppdb_values.specs.declared.file.FileValue.{FileValue}
+use Rattle.ppdb_values.specs.declared.{annotation.Annotation.{Annotation}, file.DocumentValue.{DocumentValue}, file.FileValue.{FileValue}}
 use Rattle.ppdb_values.specs.Meaning.{annotated_on}
-use Rattle.ppdb_merge_items.specs.Each.{Each, Pairs}
-use Rattle.ppdb_merge_items.specs.Annotated.{annotated_file}
-use Rattle.ppdb_merge_items.proofs.Lists.{Each-weaker, Pairs-unmap}
-use Rattle.ppdb_merge_joined.proofs.Each.{Each-with}
-use Rattle.ppdb_merge_joined.proofs.Names.{bytes_apart}
+use Rattle.ppdb_merge_items.{specs.Each.{Each, Pairs}, specs.Annotated.{annotated_file}, proofs.Lists.{Each-weaker, Pairs-unmap}}
+use Rattle.ppdb_merge_joined.proofs.{Each.{Each-with}, Names.{bytes_apart}}
 use Rattle.ppdb_merge_moved.specs.Fits.{NamesDiffer}
-use Rattle.ppdb_merge_fits.specs.Documents.{documents_twice, if_one_name}
+use Rattle.ppdb_merge_fits.{specs.Documents.{documents_twice, if_one_name}, proofs.Parts.{get_one_name, name_twice}}
 use Rattle.ppdb_run.proofs.Silent.{flat_nil, if_fails}
-use Rattle.ppdb_merge_fits.proofs.Parts.{get_one_name, name_twice}
 
 -- a document with its row
 abbrev Row : Type 0

@@ -1,40 +1,22 @@
 -- Where a map fits a file, nothing is reported of images of rows and slots.
-use Rattle.std.proofs.Common.{◌≡◌, ℕ, ◌+◌, ◌&&◌, ◌||◌, ◌++◌, Bool, true, false, cond, List, [], ◌∷◌, Option, Some, None, map, flat_map, refl, sym}
-use Rattle.std.proofs.Common.{◌∙◌, ap, subst}
-use Rattle.std.specs.Prelude.{nat_eq, is_some, not}
-use Rattle.std.specs.List.{dedup, dedup_from, filter_map, enumerate_from}
-use Rattle.std.specs.Option.{option_map}
+use Rattle.std.proofs.Common.{◌≡◌, ℕ, ◌+◌, ◌&&◌, ◌||◌, ◌++◌, Bool, true, false, cond, List, [], ◌∷◌, Option, Some, None, map, flat_map, refl, sym, ◌∙◌, ap, subst}
+use Rattle.std.specs.{Prelude.{nat_eq, is_some, not}, List.{dedup, dedup_from, filter_map, enumerate_from}, Option.{option_map}}
 use Rattle.std.proofs.lemmas.Bool.{both_ways, eq-eqb, eqb-true, not-true}
-use Rattle.ppdb_maps.specs.Map.{Map, row_image, slot_image, is_dropped}
-use Rattle.ppdb_maps.specs.Readable.{IsReadable}
-use Rattle.ppdb_maps.specs.declared.image.RowImage.{RowImage}
+use Rattle.ppdb_maps.specs.{Map.{Map, row_image, slot_image, is_dropped}, Readable.{IsReadable}, declared.image.RowImage.{RowImage}}
 use Rattle.ppdb_maps.specs.declared.image.RowImage.TheVariants.{Row, Gone, Missing}
-use Rattle.ppdb_merge_names.specs.declared.imaged.Imaged.{Imaged}
-use Rattle.ppdb_merge_names.specs.References.{Reference, references}
+use Rattle.ppdb_merge_names.specs.{declared.imaged.Imaged.{Imaged}, References.{Reference, references}}
 use Rattle.ppdb_merge_names_laws.specs.Laws.{named_by}
-use Rattle.ppdb_values.specs.RawFile.{RawFile}
-use Rattle.ppdb_values.specs.declared.file.FileValue.{FileValue}
-use Rattle.ppdb_values.specs.declared.scope.ScopeValue.{ScopeValue}
-use Rattle.ppdb_values.specs.declared.scope.VariableValue.{VariableValue}
-use Rattle.ppdb_values.specs.declared.annotation.Annotation.{Annotation}
-use Rattle.ppdb_merge_items.specs.Each.{Each, Pairs}
-use Rattle.ppdb_merge_items.specs.NamedRows.{live_scope}
-use Rattle.ppdb_merge_items.specs.Annotated.{annotated_file, annotated_scope}
-use Rattle.ppdb_merge_items.specs.Sorted.{in_order}
-use Rattle.ppdb_merge_items.specs.declared.file.AnnotatedScope.{AnnotatedScope}
-use Rattle.ppdb_merge_items.proofs.Lists.{Each-filter, Each-weaker, Each-map, Each-unmap, each_of}
+use Rattle.ppdb_values.specs.{RawFile.{RawFile}, declared.file.FileValue.{FileValue}, declared.scope.ScopeValue.{ScopeValue}}
+use Rattle.ppdb_values.specs.declared.{scope.VariableValue.{VariableValue}, annotation.Annotation.{Annotation}}
+use Rattle.ppdb_merge_items.specs.{Each.{Each, Pairs}, NamedRows.{live_scope}, Annotated.{annotated_file, annotated_scope}, Sorted.{in_order}}
+use Rattle.ppdb_merge_items.{specs.declared.file.AnnotatedScope.{AnnotatedScope}, proofs.Lists.{Each-filter, Each-weaker, Each-map, Each-unmap, each_of}}
 use Rattle.ppdb_merge_items.proofs.Orders.{in_order_each}
 use Rattle.ppdb_merge_joined.proofs.Each.{Each-flat}
-use Rattle.ppdb_merge_moved.specs.Fits.{may_share, IsImaged, AreApart, HasSlot, SlotsAreApart}
-use Rattle.ppdb_merge_moved.proofs.Elements.{each_in}
-use Rattle.ppdb_merge_moved.proofs.Lists.{Each-filter_map}
-use Rattle.ppdb_merge_fits.specs.Rows.{image_key, imaged, imaged_to, image_twice, is_row, unmapped, unshared, imaged_rows, rows_twice}
-use Rattle.ppdb_merge_fits.specs.Slots.{scope_slots, variable_slots, if_slot_unmapped, slots_unmapped, used, slot_twice, slots_twice}
-use Rattle.ppdb_merge_fits.specs.Twice.{beside, beside_from, each_once, is_same, if_one_image, twice}
-use Rattle.ppdb_merge_fits.proofs.Apart.{OneNumber}
-use Rattle.ppdb_run.proofs.Images.{same_image}
-use Rattle.ppdb_run.proofs.Silent.{flat_nil, if_holds}
-use Rattle.ppdb_merge_fits.proofs.Parts.{if_unmapped}
+use Rattle.ppdb_merge_moved.{specs.Fits.{may_share, IsImaged, AreApart, HasSlot, SlotsAreApart}, proofs.Elements.{each_in}, proofs.Lists.{Each-filter_map}}
+use Rattle.ppdb_merge_fits.specs.{Rows.{image_key, imaged, imaged_to, image_twice, is_row, unmapped, unshared, imaged_rows, rows_twice}, Slots.{scope_slots}}
+use Rattle.ppdb_merge_fits.specs.{Slots.{variable_slots, if_slot_unmapped, slots_unmapped, used, slot_twice, slots_twice}, Twice.{beside, beside_from, each_once}}
+use Rattle.ppdb_merge_fits.{specs.Twice.{is_same, if_one_image, twice}, proofs.Apart.{OneNumber}, proofs.Parts.{if_unmapped}}
+use Rattle.ppdb_run.proofs.{Images.{same_image}, Silent.{flat_nil, if_holds}}
 use Rattle.ppdb_merge.proofs.Apart.{Each-unnumbered}
 
 -- ---- lists in order, each item once

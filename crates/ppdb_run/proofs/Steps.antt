@@ -1,11 +1,7 @@
 -- What a step gives, and that it gives one thing.
-use Rattle.std.proofs.Common.{◌≡◌, inl, inr, refl, sym, ◌∙◌, ap, subst}
-use Rattle.std.specs.Prelude.{Option, Some, None, Result, Ok, Err, IfSome}
-use Rattle.ppdb_run_stops.specs.declared.stop.Stop.{Stop}
-use Rattle.ppdb_run_stops.specs.Refusals.{Outcome}
-use Rattle.ppdb_run.specs.Outcome.{Step, ◌>>=◌, gives}
-use Rattle.ppdb_run_stops.specs.Causes.{cause_of, refusal_of}
-use Rattle.ppdb_run.specs.Stops.{Gives}
+use Rattle.std.{proofs.Common.{◌≡◌, inl, inr, refl, sym, ◌∙◌, ap, subst}, specs.Prelude.{Option, Some, None, Result, Ok, Err, IfSome}}
+use Rattle.ppdb_run_stops.specs.{declared.stop.Stop.{Stop}, Refusals.{Outcome}, Causes.{cause_of, refusal_of}}
+use Rattle.ppdb_run.specs.{Outcome.{Step, ◌>>=◌, gives}, Stops.{Gives}}
 
 -- ---- what a step gives
 

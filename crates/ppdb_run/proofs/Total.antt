@@ -1,39 +1,22 @@
 -- What is asked for has an outcome.
 use Rattle.std.proofs.Common.{ℕ, ◌≡◌, ◌+◌, ◌≤◌, inl, inr, Bool, List, [], ◌∷◌, length, take, drop, Option, Some, None, Result, Ok, Err, refl, sym, ap}
-use Rattle.std.specs.Result.{result_map_both}
-use Rattle.std.specs.Prelude.{MatchOption}
-use Rattle.std.proofs.lemmas.Bool.{cases_lt}
-use Rattle.ppdb_base.specs.declared.code.Code.TheVariants.{StreamBounds}
-use Rattle.ppdb_base.specs.First.{IsAccepted}
-use Rattle.ppdb_base.specs.Files.{Files, Reading, Missing, Longer, Contents, reading}
-use Rattle.ppdb_base.specs.Place.{at_byte}
-use Rattle.ppdb_base.specs.declared.limits.TheConstants.{MAX_FILE_BYTES}
-use Rattle.ppdb_base.proofs.Least.{accepted_without_first}
-use Rattle.metadata_root.specs.declared.kind.StreamKind.{StreamKind}
-use Rattle.metadata_root.specs.declared.kind.StreamKind.TheVariants.{Pdb, Tables, Strings, UserStrings, Guids, Blobs}
-use Rattle.metadata_root.specs.Root.{header_place}
-use Rattle.metadata_root.specs.Streams.{AreStreamsOf, ContainerFaults, IsListed, IsStream, Stream, Streams, offset_in, size_in}
+use Rattle.std.{specs.Result.{result_map_both}, specs.Prelude.{MatchOption}, proofs.lemmas.Bool.{cases_lt}, specs.Str.Lines.{lines}}
+use Rattle.ppdb_base.specs.{declared.code.Code.TheVariants.{StreamBounds}, First.{IsAccepted}, Files.{Files, Reading, Missing, Longer, Contents, reading}}
+use Rattle.ppdb_base.{specs.Place.{at_byte}, specs.declared.limits.TheConstants.{MAX_FILE_BYTES}, proofs.Least.{accepted_without_first}}
+use Rattle.metadata_root.specs.declared.kind.{StreamKind.{StreamKind}, StreamKind.TheVariants.{Pdb, Tables, Strings, UserStrings, Guids, Blobs}}
+use Rattle.metadata_root.specs.{Root.{header_place}, Streams.{AreStreamsOf, ContainerFaults, IsListed, IsStream, Stream, Streams, offset_in, size_in}}
 use Rattle.metadata_root.specs.Streams.StreamFaults.{bounds}
-use Rattle.ppdb_values.specs.RawFile.{raw_in, RawFile}
-use Rattle.ppdb_verify.specs.Files.{FileFaults}
-use Rattle.ppdb_values.specs.Value.{value_of}
-use Rattle.ppdb_run_stops.specs.Refusals.{unfit, Outcome, absent, too_long, refused, usage}
-use Rattle.ppdb_run.specs.Outcome.{◌>>=◌, IsOutcome, gives, input_of, answer_of, rebuilt}
-use Rattle.ppdb_run.specs.Outcome.{outcome_of, sampled, steps_of, verified}
+use Rattle.ppdb_values.specs.{RawFile.{raw_in, RawFile}, Value.{value_of}}
+use Rattle.ppdb_verify.specs.Files.{FileFaults, IsRawOf}
+use Rattle.ppdb_run_stops.specs.Refusals.{unfit, Outcome, absent, too_long, refused, usage, no_map, unlisted}
+use Rattle.ppdb_run.specs.Outcome.{◌>>=◌, IsOutcome, gives, input_of, answer_of, rebuilt, outcome_of, sampled, steps_of, verified, Step, all_joined, file_at}
+use Rattle.ppdb_run.specs.Outcome.{in_limits, judged, map_in, with_input, with_inputs, with_texts, done, form_of, listed, looked_up}
+use Rattle.ppdb_run.proofs.MapSteps.{some_composed}
 use Rattle.ppdb_maps_text.proofs.Judged.{texts_are_judged}
-use Rattle.ppdb_verify.specs.Files.{IsRawOf}
-use Rattle.ppdb_merge.specs.declared.trace.Trace.{Trace}
-use Rattle.ppdb_merge.specs.Refusals.{added}
-use Rattle.ppdb_merge.specs.Together.{joined_of}
-use Rattle.ppdb_run.specs.Outcome.{Step, all_joined, file_at, in_limits, judged, map_in, with_input, with_inputs, with_texts}
-use Rattle.ppdb_run_stops.specs.Refusals.{no_map}
-use Rattle.std.specs.Str.Lines.{lines}
+use Rattle.ppdb_merge.specs.{declared.trace.Trace.{Trace}, Refusals.{added}, Together.{joined_of}}
 use Rattle.ppdb_queries_list.proofs.Lists.{lists_are_judged}
 use Rattle.ppdb_show.specs.Lookup.{lookup_text_of}
-use Rattle.ppdb_run.specs.Outcome.{done, form_of, listed, looked_up}
-use Rattle.ppdb_run_stops.specs.Refusals.{unlisted}
 use Rattle.ppdb_run_words.specs.Words.{Input, Options, Task, Ask, Lookup, Rebuild, Compose, Merge, Sample}
-use Rattle.ppdb_run.proofs.MapSteps.{some_composed}
 
 -- what a stream of a kind is: that it is not listed, or the slice that is
 abbrev Found : List ℕ → StreamKind → Option Stream → Type 0

@@ -1,13 +1,9 @@
 -- The first custom record of a kind that is neither read nor passed on, looked for row by row.
-use Rattle.std.proofs.Common.{ℕ, zero, suc, ◌≡◌, ◌+◌, ◌-◌, ◌≤◌, ◌<◌, List, [], ◌∷◌, length, map, drop, Bool, true, false, Option, Some, None, refl}
-use Rattle.std.proofs.Common.{sym, ◌∙◌, ap, subst, arith}
-use Rattle.std.specs.Prelude.{slice_get, if◌then◌else◌}
-use Rattle.std.specs.List.{enumerate_from, find}
+use Rattle.std.proofs.Common.{ℕ, zero, suc, ◌≡◌, ◌+◌, ◌-◌, ◌≤◌, ◌<◌, List, [], ◌∷◌, length, map, drop, Bool, true, false, Option, Some, None, refl, sym, ◌∙◌, ap}
+use Rattle.std.{proofs.Common.{subst, arith}, specs.Prelude.{slice_get, if◌then◌else◌}, specs.List.{enumerate_from, find}}
 use Rattle.custom_info.specs.Kinds.{kind_of}
-use Rattle.ppdb_tables.specs.declared.rows.CustomRow.{CustomRow}
-use Rattle.ppdb_tables.specs.RawTables.{RawTables, row_at}
-use Rattle.ppdb_values.specs.declared.custom.CustomValue.{CustomValue}
-use Rattle.ppdb_values.specs.Customs.{custom_of, kind_in}
+use Rattle.ppdb_tables.specs.{declared.rows.CustomRow.{CustomRow}, RawTables.{RawTables, row_at}}
+use Rattle.ppdb_values.specs.{declared.custom.CustomValue.{CustomValue}, Customs.{custom_of, kind_in}}
 use Rattle.ppdb_merge_fits.specs.Clashes.{is_unknown}
 
 module _ (marks : List (List ℕ)) (raw : RawTables) where

@@ -1,19 +1,10 @@
 -- What is known of a task that writes a file.
-use Rattle.std.proofs.Common.{ℕ, ◌≡◌, inl, List, [], refl, sym, ◌∙◌, ap, subst}
-use Rattle.std.specs.Prelude.{Option, Some, None, Result, Ok, Err, IfSome, IfErr, OnOk}
-use Rattle.ppdb_base.specs.Files.{Files}
-use Rattle.ppdb_base.specs.Written.{appended}
-use Rattle.ppdb_base.proofs.Written.{appended_nothing}
-use Rattle.ppdb_run_stops.specs.declared.stop.Stop.{Stop}
-use Rattle.ppdb_run.specs.Ends.{IsApart, IsValid, KeepsFiles, OnTask, OnAsked, WritesValid}
-use Rattle.ppdb_run_stops.specs.Refusals.{Outcome}
-use Rattle.ppdb_run.specs.Outcome.{IsOutcome, steps_of, written}
-use Rattle.ppdb_run_stops.specs.Causes.{cause_of, refusal_of}
-use Rattle.ppdb_run.specs.Stops.{Leaves, LeavesAt, Finds, Settles}
-use Rattle.ppdb_run_words.specs.Words.{Task, Words, written_file}
-use Rattle.ppdb_run.proofs.Kept.{leaves_unchanged}
-use Rattle.ppdb_run_words.proofs.OneTask.{one_task}
-use Rattle.ppdb_run.proofs.Outcomes.{of_told, on_due}
+use Rattle.std.{proofs.Common.{ℕ, ◌≡◌, inl, List, [], refl, sym, ◌∙◌, ap, subst}, specs.Prelude.{Option, Some, None, Result, Ok, Err, IfSome, IfErr, OnOk}}
+use Rattle.ppdb_base.{specs.Files.{Files}, specs.Written.{appended}, proofs.Written.{appended_nothing}}
+use Rattle.ppdb_run_stops.specs.{declared.stop.Stop.{Stop}, Refusals.{Outcome}, Causes.{cause_of, refusal_of}}
+use Rattle.ppdb_run.specs.{Ends.{IsApart, IsValid, KeepsFiles, OnTask, OnAsked, WritesValid}, Outcome.{IsOutcome, steps_of, written}, Stops.{Leaves, LeavesAt}}
+use Rattle.ppdb_run.{specs.Stops.{Finds, Settles}, proofs.Kept.{leaves_unchanged}, proofs.Outcomes.{of_told, on_due}}
+use Rattle.ppdb_run_words.{specs.Words.{Task, Words, written_file}, proofs.OneTask.{one_task}}
 
 module _ (task : Task) (output : List ℕ) (files : Option Files) where
   -- what holds of the file that is written holds of the outcome

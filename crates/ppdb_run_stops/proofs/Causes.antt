@@ -1,15 +1,10 @@
 -- What a cause can be, and that its grounds can be widened.
-use Rattle.std.proofs.Common.{ℕ, ◌≡◌, List, Option}
-use Rattle.std.specs.Prelude.{None, Result, Ok, Err, IfErr}
-use Rattle.ppdb_base.specs.Files.{Files}
-use Rattle.ppdb_base.specs.declared.link_error.LinkError.{LinkError}
-use Rattle.ppdb_base.specs.declared.merge_error.MergeError.{MergeError}
+use Rattle.std.{proofs.Common.{ℕ, ◌≡◌, List, Option}, specs.Prelude.{None, Result, Ok, Err, IfErr}}
+use Rattle.ppdb_base.specs.{Files.{Files}, declared.link_error.LinkError.{LinkError}, declared.merge_error.MergeError.{MergeError}}
 use Rattle.ppdb_base.specs.declared.link_error.LinkError.TheVariants as link_errors
 use Rattle.ppdb_base.specs.declared.merge_error.MergeError.TheVariants as merge_errors
-use Rattle.ppdb_run_stops.specs.declared.status.Status.{Status}
-use Rattle.ppdb_run_stops.specs.declared.status.Status.TheVariants.{Done, Refused, Usage, ReadFault, WriteFault, Memory, Absent, TooLong, Unfit, Limit}
-use Rattle.ppdb_run_stops.specs.declared.status.Status.TheVariants.{NoMethod, Unlinked, NoDocument, Uncomposed, Unlisted}
-use Rattle.ppdb_run_stops.specs.declared.stop.Stop.{Stop}
+use Rattle.ppdb_run_stops.specs.declared.status.{Status.{Status}, Status.TheVariants.{Done, Refused, Usage, ReadFault, WriteFault, Memory, Absent, TooLong, Unfit}}
+use Rattle.ppdb_run_stops.specs.declared.{status.Status.TheVariants.{Limit, NoMethod, Unlinked, NoDocument, Uncomposed, Unlisted}, stop.Stop.{Stop}}
 use Rattle.ppdb_run_stops.specs.declared.stop.Stop.TheVariants as stops
 use Rattle.ppdb_run_stops.specs.Causes.{Cause, Refusal, Unread, Unwritten, Unput, OutOfMemory, cause_of, ComesFrom}
 

@@ -1,9 +1,8 @@
 -- The options of words, read from the left.
-use Rattle.std.proofs.Common.{ℕ, ◌≡◌, ◌⊎◌, inl, inr, List, [], ◌∷◌, ◌++◌, Bool, true, false, Option, Some, None, refl, sym, ◌∙◌, ap, subst}
-use Rattle.std.specs.Prelude.{codes, ◌||◌, map, option_to_list}
+use Rattle.std.{proofs.Common.{ℕ, ◌≡◌, ◌⊎◌, inl, inr, List, [], ◌∷◌, ◌++◌, Bool, true, false, Option, Some, None, refl, sym, ◌∙◌, ap, subst}, specs.Prelude.{codes}}
+use Rattle.std.specs.Prelude.{◌||◌, map, option_to_list}
 use Rattle.uuid.specs.Parts.{swap_fields}
-use Rattle.ppdb_run_words.specs.Task.{IsBehindGuid, marks_in}
-use Rattle.ppdb_run_words.specs.Words.{Options, AreOptions, no_option, keep_id, free}
+use Rattle.ppdb_run_words.specs.{Task.{IsBehindGuid, marks_in}, Words.{Options, AreOptions, no_option, keep_id, free}}
 
 -- the marks of options are those of their words
 pub marks_are : (words : List (List ℕ)) (options : Options) → AreOptions words options → options.marks ≡ marks_in words

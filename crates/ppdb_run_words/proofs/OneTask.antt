@@ -1,15 +1,10 @@
 -- The words of two tasks differ: a task is read back from its words.
-use Rattle.std.proofs.Common.{ℕ, ◌≡◌, ◌≤◌, ◌<◌, ◌^◌, ◌==◌, ◌⊎◌, inl, inr, List, [], ◌∷◌, ◌++◌, Bool, true, false, if◌then◌else◌, Option, Some, None, refl, sym}
-use Rattle.std.proofs.Common.{◌∙◌, ap, subst, arith}
-use Rattle.std.specs.Fmt.{decimal}
-use Rattle.std.specs.Str.Parse.{AllDigits, digits_value}
-use Rattle.std.proofs.lemmas.Str.Parse.{IsNumeralModel, numerals_by_value, tells_digits}
-use Rattle.std.proofs.lemmas.Fmt.{digits_value-decimal}
+use Rattle.std.proofs.Common.{ℕ, ◌≡◌, ◌≤◌, ◌<◌, ◌^◌, ◌==◌, ◌⊎◌, inl, inr, List, [], ◌∷◌, ◌++◌, Bool, true, false, if◌then◌else◌, Option, Some, None, refl, sym, ◌∙◌}
+use Rattle.std.{proofs.Common.{ap, subst, arith}, specs.Fmt.{decimal}, specs.Str.Parse.{AllDigits, digits_value}, proofs.lemmas.Str.Parse.{IsNumeralModel}}
+use Rattle.std.proofs.lemmas.{Str.Parse.{numerals_by_value, tells_digits}, Fmt.{digits_value-decimal}}
 use Rattle.ppdb_base.specs.declared.limits.TheConstants.{MAX_ROWS, MAX_OFFSET}
-use Rattle.ppdb_run_words.specs.declared.words.TheConstants.{MAX_LINE}
-use Rattle.ppdb_run_words.specs.Words.{Question, Id, Verify, Show, Query, Links, Breaks, Options, AreOptions, no_option, keep_id, free, Task, Ask, Lookup}
-use Rattle.ppdb_run_words.specs.Words.{Rebuild}
-use Rattle.ppdb_run_words.specs.Words.{Compose, Input, Merge, Sample, Words, input_words, is_file_word, json_words}
+use Rattle.ppdb_run_words.specs.{declared.words.TheConstants.{MAX_LINE}, Words.{Question, Id, Verify, Show, Query, Links, Breaks, Options, AreOptions, no_option}}
+use Rattle.ppdb_run_words.specs.Words.{keep_id, free, Task, Ask, Lookup, Rebuild, Compose, Input, Merge, Sample, Words, input_words, is_file_word, json_words}
 use Rattle.ppdb_run_words.proofs.PairWords.{AfterMerge, AfterRemap, behind_first, first_letter, in_form, no_options_pair, same_inputs, third_letter}
 
 numerals : IsNumeralModel (AllDigits 10) (digits_value 10)

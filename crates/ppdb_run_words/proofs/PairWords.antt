@@ -1,15 +1,9 @@
 -- Words that name files and maps, two by two, and options after them.
-use Rattle.std.proofs.Common.{ℕ, zero, suc, ◌≡◌, ◌≤◌, ◌<◌, ◌+◌, ◌-◌, ◌⊎◌, List, [], ◌∷◌, ◌++◌, length, take, drop, get_or, String, string_bytes, inl}
-use Rattle.std.proofs.Common.{inr, Bool, true, false, cond, refl, sym, ◌∙◌, ap, subst, arith}
-use Rattle.std.specs.Prelude.{◌&&◌, ◌==◌, IsTrue, codes, take_while}
-use Rattle.std.specs.declared.alloc.Global.{Global}
-use Rattle.std.proofs.lemmas.Bool.{eqb-true}
-use Rattle.std.proofs.lemmas.List.{take_all}
-use Rattle.std.specs.List.{list_all, prefix_len}
-use Rattle.ppdb_run_words.specs.Task.{NoPair, pairs_of}
-use Rattle.ppdb_run_words.specs.Task.{file_of}
-use Rattle.ppdb_run_words.specs.Words.{Options, AreOptions, no_option, keep_id, free, Input, input_words, is_file_word, texts, NoTask, Words}
-use Rattle.ppdb_run_words.specs.Words.{Id, Verify, Show, Query, Links, Breaks, Ask, Lookup, Rebuild, Compose, Merge, Sample}
+use Rattle.std.proofs.Common.{ℕ, zero, suc, ◌≡◌, ◌≤◌, ◌<◌, ◌+◌, ◌-◌, ◌⊎◌, List, [], ◌∷◌, ◌++◌, length, take, drop, get_or, String, string_bytes, inl, inr, Bool}
+use Rattle.std.{proofs.Common.{true, false, cond, refl, sym, ◌∙◌, ap, subst, arith}, specs.Prelude.{◌&&◌, ◌==◌, IsTrue, codes, take_while}}
+use Rattle.std.{specs.declared.alloc.Global.{Global}, proofs.lemmas.Bool.{eqb-true}, proofs.lemmas.List.{take_all}, specs.List.{list_all, prefix_len}}
+use Rattle.ppdb_run_words.specs.{Task.{NoPair, pairs_of, file_of}, Words.{Options, AreOptions, no_option, keep_id, free, Input, input_words, is_file_word, texts}}
+use Rattle.ppdb_run_words.specs.Words.{NoTask, Words, Id, Verify, Show, Query, Links, Breaks, Ask, Lookup, Rebuild, Compose, Merge, Sample}
 
 -- what holds of two
 pub both : (a b : Bool) → IsTrue (a && b) → IsTrue a × IsTrue b

@@ -1,6 +1,5 @@
 -- Lists of words by their length and items.
-use Rattle.std.proofs.Common.{◌≡◌, ◌<◌, ◌≤◌, List, [], ◌∷◌, length, get_or, sym, String, string_bytes, arith}
-use Rattle.std.specs.declared.alloc.Global.{Global}
+use Rattle.std.{proofs.Common.{◌≡◌, ◌<◌, ◌≤◌, List, [], ◌∷◌, length, get_or, sym, String, string_bytes, arith}, specs.declared.alloc.Global.{Global}}
 use Rattle.ppdb_run_words.specs.Words.{texts}
 
 pub one_word : (words : List (String Global)) (first : String Global) → 1 ≤ length words → length words < 2 → first ≡ get_or words 0 first

@@ -1,18 +1,11 @@
 -- Lines put after a text, one after the other.
-use Rattle.std.proofs.Common.{◌≡◌, ℕ, ◌+◌, ◌≤◌, List, [], ◌∷◌, ◌++◌, refl, sym, ◌∙◌, ap, arith, append_assoc, zero-add, map, length, false}
-use Rattle.std.specs.Prelude.{Option, Some, Result, Ok, Err, OnOk, unwrap_or}
-use Rattle.std.specs.List.{flat_map, sum_by}
-use Rattle.std.specs.Result.{is_err}
-use Rattle.std.proofs.lemmas.List.{append-nil}
+use Rattle.std.{proofs.Common.{◌≡◌, ℕ, ◌+◌, ◌≤◌, List, [], ◌∷◌, ◌++◌, refl, sym, ◌∙◌, ap, arith, append_assoc, zero-add, map, length, false}, specs.Prelude.{Option}}
+use Rattle.std.{specs.Prelude.{Some, Result, Ok, Err, OnOk, unwrap_or}, specs.List.{flat_map, sum_by}, specs.Result.{is_err}, proofs.lemmas.List.{append-nil}}
 use Rattle.std.proofs.lemmas.List.Sums.{sum_by-append}
 use Rattle.ppdb_base.specs.Written.{appended}
 use Rattle.type_blobs.specs.Imports.{ImportItem}
 use Rattle.ppdb_values.specs.Imports.{import_value}
-use Rattle.ppdb_show_lines.specs.Uses.{use_line}
-use Rattle.ppdb_show_lines.specs.declared.form.Form.{Form}
-use Rattle.ppdb_show_lines.specs.Forms.{lines_as}
-use Rattle.ppdb_show_lines.specs.Lines.{Line}
-use Rattle.ppdb_show_lines.proofs.Texts.{no_lines, more_lines}
+use Rattle.ppdb_show_lines.{specs.Uses.{use_line}, specs.declared.form.Form.{Form}, specs.Forms.{lines_as}, specs.Lines.{Line}, proofs.Texts.{no_lines, more_lines}}
 use Rattle.ppdb_show.specs.QueryWalk.{Adds, Walked}
 
 -- what a sink in memory was given

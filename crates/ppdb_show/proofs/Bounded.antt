@@ -1,17 +1,10 @@
 -- The rows that are read for an answer, and what is shown.
-use Rattle.std.proofs.Common.{ℕ, ◌+◌, ◌*◌, ◌≤◌, List, [], ◌∷◌, length, arith}
-use Rattle.std.specs.List.{sum_by}
-use Rattle.std.proofs.Math.Nat.{mul-add, mul-le-mul_right}
+use Rattle.std.{proofs.Common.{ℕ, ◌+◌, ◌*◌, ◌≤◌, List, [], ◌∷◌, length, arith}, specs.List.{sum_by}, proofs.Math.Nat.{mul-add, mul-le-mul_right}}
 use Rattle.ppdb_tables.specs.RawTables.{RawTables}
-use Rattle.ppdb_queries.specs.declared.scopes.ScopeView.{ScopeView}
-use Rattle.ppdb_queries.specs.Digits.{digits}
-use Rattle.ppdb_queries.specs.Scopes.{scopes_at, scope_count}
-use Rattle.ppdb_show.specs.Bound.{with_customs, shown_of_scope, query_rows}
-use Rattle.ppdb_queries.specs.Runs.{customs_at}
-use Rattle.ppdb_show.specs.Query.{variables_of, constants_of, imports_of}
-use Rattle.ppdb_show.specs.QueryWalk.{customs_reads, item_reads, items_reads, scope_reads, scopes_reads}
+use Rattle.ppdb_queries.specs.{declared.scopes.ScopeView.{ScopeView}, Digits.{digits}, Scopes.{scopes_at, scope_count}, Runs.{customs_at}}
 use Rattle.ppdb_queries.proofs.Powers.{digits_most}
-use Rattle.ppdb_show.proofs.Added.{sum_first}
+use Rattle.ppdb_show.specs.{Bound.{with_customs, shown_of_scope, query_rows}, Query.{variables_of, constants_of, imports_of}, QueryWalk.{customs_reads, item_reads}}
+use Rattle.ppdb_show.{specs.QueryWalk.{items_reads, scope_reads, scopes_reads}, proofs.Added.{sum_first}}
 
 sum_most : {X : Type 0} (k : ℕ) (f g : X → ℕ) → ((x : X) → f x ≤ k * g x) → (xs : List X) → sum_by f xs ≤ k * sum_by g xs
 sum_most k f g each [] = omega arith

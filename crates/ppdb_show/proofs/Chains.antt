@@ -1,19 +1,11 @@
 -- The links of a chain of import scopes.
-use Rattle.std.proofs.Common.{◌≡◌, ℕ, zero, suc, ◌+◌, List, [], ◌∷◌, ◌++◌, length, map, refl, ap, arith}
-use Rattle.std.specs.Prelude.{Option, Some, None}
-use Rattle.std.specs.List.{flat_map, sum_by}
-use Rattle.std.specs.Option.{option_map_or}
-use Rattle.ppdb_tables.specs.declared.rows.ImportRow.{ImportRow}
-use Rattle.ppdb_tables.specs.RawTables.{RawTables, count, row_at}
-use Rattle.ppdb_tables.proofs.NumberedRows.{row_within}
-use Rattle.ppdb_values.specs.Chains.{chain_for}
-use Rattle.ppdb_values.specs.Rules.{HasRow}
-use Rattle.ppdb_queries.specs.declared.imports.ImportLink.{ImportLink}
-use Rattle.ppdb_queries.specs.Chains.{link_of, links_from}
+use Rattle.std.{proofs.Common.{◌≡◌, ℕ, zero, suc, ◌+◌, List, [], ◌∷◌, ◌++◌, length, map, refl, ap, arith}, specs.Prelude.{Option, Some, None}, specs.List.{flat_map}}
+use Rattle.std.specs.{List.{sum_by}, Option.{option_map_or}}
+use Rattle.ppdb_tables.{specs.declared.rows.ImportRow.{ImportRow}, specs.RawTables.{RawTables, count, row_at}, proofs.NumberedRows.{row_within}}
+use Rattle.ppdb_values.specs.{Chains.{chain_for}, Rules.{HasRow}}
+use Rattle.ppdb_queries.specs.{declared.imports.ImportLink.{ImportLink}, Chains.{link_of, links_from}}
 use Rattle.ppdb_show_lines.specs.Lines.{Line}
-use Rattle.ppdb_show.specs.Query.{import_answer}
-use Rattle.ppdb_show.specs.QueryWalk.{lines_of_link, customs_reads, item_reads, items_reads}
-use Rattle.ppdb_show.proofs.Added.{sum_first}
+use Rattle.ppdb_show.{specs.Query.{import_answer}, specs.QueryWalk.{lines_of_link, customs_reads, item_reads, items_reads}, proofs.Added.{sum_first}}
 use Rattle.ppdb_show.proofs.Given.{Each}
 
 -- the import scope is there, and its imports are whole

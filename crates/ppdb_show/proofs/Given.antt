@@ -1,6 +1,5 @@
 -- What cursors give, one item after the other.
-use Rattle.std.proofs.Common.{◌≡◌, List, [], ◌∷◌, refl, sym, ap, ◌∙◌}
-use Rattle.std.specs.Prelude.{Option, Some, None, Ok, Err}
+use Rattle.std.{proofs.Common.{◌≡◌, List, [], ◌∷◌, refl, sym, ap, ◌∙◌}, specs.Prelude.{Option, Some, None, Ok, Err}}
 use Rattle.ppdb_base.specs.declared.BlobFault.{BlobFault}
 use Rattle.blob_grammar.specs.Reader.{Left, answer, answer_from, tail}
 use Rattle.sequence_points.specs.Written.{first_of}

@@ -1,25 +1,14 @@
 -- Lines, one after the other, in a form.
 use Rattle.std.proofs.Common.{ℕ, suc, ◌+◌, ◌-◌, ◌≡◌, ◌≢◌, ◌<◌, ◌≤◌, List, [], ◌∷◌, ◌++◌, length, map, true, false, ◌==◌, refl, ◌∙◌, ap, arith}
-use Rattle.std.specs.Prelude.{Some}
-use Rattle.std.specs.List.{flat_map, range_with_len}
+use Rattle.std.specs.{Prelude.{Some}, List.{flat_map, range_with_len}}
 use Rattle.blob_grammar.specs.Reader.{tail}
 use Rattle.type_blobs.specs.Imports.{ImportItem}
-use Rattle.ppdb_tables.specs.declared.rows.MethodDebugRow.{MethodDebugRow}
-use Rattle.ppdb_tables.specs.declared.rows.ImportRow.{ImportRow}
-use Rattle.ppdb_tables.specs.RawTables.{RawTables, row_at, count}
-use Rattle.ppdb_values.specs.RawFile.{RawFile, blob}
-use Rattle.ppdb_values.specs.Documents.{method_with, points_in, signature_in}
-use Rattle.ppdb_values.specs.Imports.{import_value, import_scope_of}
-use Rattle.ppdb_show_lines.specs.declared.form.Form.{Form}
-use Rattle.ppdb_show_lines.specs.Lines.{Line, line_with, bare, named, number}
-use Rattle.ppdb_show_lines.proofs.Texts.{no_lines, more_lines}
-use Rattle.ppdb_show_lines.specs.Forms.{lines_as}
-use Rattle.ppdb_show_lines.specs.Heads.{id_line, entry_line}
-use Rattle.ppdb_show_lines.specs.Uses.{use_line}
-use Rattle.ppdb_show.specs.Show.{lines_of_method, point_line, count_lines, count_lines_of, head_lines}
-use Rattle.ppdb_show.specs.Show.{row_lines}
-use Rattle.ppdb_show.specs.declared.show.rows.Rows.TheVariants.{Documents, Methods, Scopes, Imports, Machines, Customs}
-use Rattle.ppdb_show.specs.declared.show.owned.Owned.TheVariants.{Variables, Constants}
+use Rattle.ppdb_tables.specs.{declared.rows.MethodDebugRow.{MethodDebugRow}, declared.rows.ImportRow.{ImportRow}, RawTables.{RawTables, row_at, count}}
+use Rattle.ppdb_values.specs.{RawFile.{RawFile, blob}, Documents.{method_with, points_in, signature_in}, Imports.{import_value, import_scope_of}}
+use Rattle.ppdb_show_lines.{specs.declared.form.Form.{Form}, specs.Lines.{Line, line_with, bare, named, number}, proofs.Texts.{no_lines, more_lines}}
+use Rattle.ppdb_show_lines.specs.{Forms.{lines_as}, Heads.{id_line, entry_line}, Uses.{use_line}}
+use Rattle.ppdb_show.specs.{Show.{lines_of_method, point_line, count_lines, count_lines_of, head_lines, row_lines}, declared.show.rows.Rows.TheVariants.{Documents}}
+use Rattle.ppdb_show.specs.declared.show.{rows.Rows.TheVariants.{Methods, Scopes, Imports, Machines, Customs}, owned.Owned.TheVariants.{Variables, Constants}}
 use Rattle.ppdb_show.specs.ShowWalk.{between, lines_of_method_row, lines_of_import_row, lines_of_table, lines_of_items}
 
 range_first : (row end : ℕ) → row < end → range_with_len row (end - row) ≡ row ∷ range_with_len (row + 1) (end - (row + 1))

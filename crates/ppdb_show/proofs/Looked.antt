@@ -1,31 +1,21 @@
 -- What was put of the answers to a list, and what is left.
-use Rattle.std.proofs.Common.{ℕ, ◌≡◌, ◌+◌, ◌≤◌, ◌&&◌, Bool, true, false, List, [], ◌∷◌, ◌++◌, refl, sym, ap, ◌∙◌, subst, arith, inl, inr}
-use Rattle.std.specs.Prelude.{Option, Result, Ok, Err, IsErrAnd, IsErrOf, if◌then◌else◌, nat_le}
-use Rattle.std.specs.List.{flat_map}
-use Rattle.std.proofs.lemmas.Bool.{cases_lt, le-leb, lt-leb}
-use Rattle.ppdb_base.specs.Written.{Puts}
-use Rattle.ppdb_base.specs.declared.sink.WriteError.{WriteError}
+use Rattle.std.{proofs.Common.{ℕ, ◌≡◌, ◌+◌, ◌≤◌, ◌&&◌, Bool, true, false, List, [], ◌∷◌, ◌++◌, refl, sym, ap, ◌∙◌, subst, arith, inl, inr}, specs.Prelude.{Option}}
+use Rattle.std.{specs.Prelude.{Result, Ok, Err, IsErrAnd, IsErrOf, if◌then◌else◌, nat_le}, specs.List.{flat_map}, proofs.lemmas.Bool.{cases_lt, le-leb, lt-leb}}
+use Rattle.ppdb_base.specs.{Written.{Puts}, declared.sink.WriteError.{WriteError}}
 use Rattle.ppdb_base.specs.declared.sink.WriteError.TheVariants as write_errors
 use Rattle.ppdb_base.proofs.Written.{appended_nothing, puts_then}
 use Rattle.ppdb_maps.specs.Words.{IsSilent}
 use Rattle.ppdb_queries.specs.Runs.{IsNoMethod}
-use Rattle.ppdb_queries_list.specs.Lists.{Asks, IsListed, Lists, none, silent, asks}
-use Rattle.ppdb_queries_list.specs.Said.{IsSaid}
-use Rattle.ppdb_queries_list.specs.declared.line.MethodOffset.{MethodOffset}
+use Rattle.ppdb_queries_list.specs.{Lists.{Asks, IsListed, Lists, none, silent, asks}, Said.{IsSaid}, declared.line.MethodOffset.{MethodOffset}}
 use Rattle.ppdb_queries_list.specs.declared.line.Said.{Said}
 use Rattle.ppdb_queries_list.specs.declared.line.Said.TheVariants as answers
 use Rattle.ppdb_queries_list.proofs.Lists.{one_asked}
-use Rattle.ppdb_show_lines.specs.declared.form.Form.{Form}
-use Rattle.ppdb_show_lines.specs.Forms.{lines_as}
-use Rattle.ppdb_show_lines.specs.Lines.{Line}
-use Rattle.ppdb_show_lines.proofs.Putting.{Putting, put_none, put_piece, put_prefix, put_whole}
-use Rattle.ppdb_show_lines.proofs.Texts.{more_lines, no_lines}
+use Rattle.ppdb_show_lines.{specs.declared.form.Form.{Form}, specs.Forms.{lines_as}, specs.Lines.{Line}, proofs.Putting.{Putting, put_none, put_piece, put_prefix}}
+use Rattle.ppdb_show_lines.proofs.{Putting.{put_whole}, Texts.{more_lines, no_lines}}
 use Rattle.ppdb_tables.specs.RawTables.{RawTables, count}
 use Rattle.ppdb_values.specs.RawFile.{RawFile}
-use Rattle.ppdb_show.specs.Bound.{query_rows}
-use Rattle.ppdb_show.specs.Lookup.{answer_lines, at_line, has_method, lookup_rows, lookup_text_of, no_method_line}
-use Rattle.ppdb_show.specs.Query.{query_lines, query_text_of}
-use Rattle.ppdb_show.proofs.Added.{sum_first}
+use Rattle.ppdb_show.specs.{Bound.{query_rows}, Lookup.{answer_lines, at_line, has_method, lookup_rows, lookup_text_of, no_method_line}, Query.{query_lines}}
+use Rattle.ppdb_show.{specs.Query.{query_text_of}, proofs.Added.{sum_first}}
 
 -- ---- one question
 

@@ -1,15 +1,9 @@
 -- The point that was found, and the name of its document.
-use Rattle.std.proofs.Common.{◌≡◌, ℕ, ◌++◌, List, [], ◌∷◌, sym, ap, ◌∙◌}
-use Rattle.std.specs.Prelude.{Option, Some, None, flat_map, unwrap_or, option_map}
+use Rattle.std.{proofs.Common.{◌≡◌, ℕ, ◌++◌, List, [], ◌∷◌, sym, ap, ◌∙◌}, specs.Prelude.{Option, Some, None, flat_map, unwrap_or, option_map}}
 use Rattle.ppdb_tables.specs.declared.rows.DocumentRow.{DocumentRow}
-use Rattle.ppdb_values.specs.Documents.{document_of}
-use Rattle.ppdb_values.specs.Parts.{last_point, points_of}
-use Rattle.ppdb_values.specs.RawFile.{RawFile}
-use Rattle.ppdb_values.specs.Value.{value_of}
-use Rattle.ppdb_queries.specs.declared.points.PointAt.{PointAt}
-use Rattle.ppdb_queries.specs.Points.{PointIs}
-use Rattle.ppdb_show.specs.Query.{document_name, line_of_point, point_found}
-use Rattle.ppdb_show.specs.QueryWalk.{HasWholeName, found_line}
+use Rattle.ppdb_values.specs.{Documents.{document_of}, Parts.{last_point, points_of}, RawFile.{RawFile}, Value.{value_of}}
+use Rattle.ppdb_queries.specs.{declared.points.PointAt.{PointAt}, Points.{PointIs}}
+use Rattle.ppdb_show.specs.{Query.{document_name, line_of_point, point_found}, QueryWalk.{HasWholeName, found_line}}
 
 -- the line of the point that was found is that of the method's last point
 pub found_is : (raw : RawFile) (m x : ℕ) (found : Option PointAt) → PointIs raw m x found

@@ -1,18 +1,10 @@
 -- What the answers about one file note for one another.
-use Rattle.std.proofs.Common.{◌≡◌, ℕ, List, [], ◌++◌, sym, ap, ◌∙◌}
-use Rattle.std.specs.Prelude.{Result, Ok, Err, OnOk}
-use Rattle.std.specs.List.{flat_map}
+use Rattle.std.{proofs.Common.{◌≡◌, ℕ, List, [], ◌++◌, sym, ap, ◌∙◌}, specs.Prelude.{Result, Ok, Err, OnOk}, specs.List.{flat_map}}
 use Rattle.ppdb_tables.specs.RawTables.{RawTables}
-use Rattle.ppdb_queries.proofs.Chained.{chain_zero}
-use Rattle.ppdb_queries.specs.declared.machines.KickoffOrder.TheVariants.{Unread}
-use Rattle.ppdb_show_lines.specs.declared.form.Form.{Form}
-use Rattle.ppdb_show_lines.specs.Forms.{lines_as}
-use Rattle.ppdb_show_lines.proofs.Texts.{no_lines}
-use Rattle.ppdb_show.specs.declared.query.notes.NotedText.{NotedText}
-use Rattle.ppdb_show.specs.declared.query.notes.Notes.{Notes}
-use Rattle.ppdb_show.specs.Noted.{AreNotes, IsNotedText, lines_of_chain}
-use Rattle.ppdb_show.specs.Query.{import_answer}
-use Rattle.ppdb_show.specs.QueryWalk.{Adds}
+use Rattle.ppdb_queries.{proofs.Chained.{chain_zero}, specs.declared.machines.KickoffOrder.TheVariants.{Unread}}
+use Rattle.ppdb_show_lines.{specs.declared.form.Form.{Form}, specs.Forms.{lines_as}, proofs.Texts.{no_lines}}
+use Rattle.ppdb_show.specs.{declared.query.notes.NotedText.{NotedText}, declared.query.notes.Notes.{Notes}, Noted.{AreNotes, IsNotedText, lines_of_chain}}
+use Rattle.ppdb_show.specs.{Query.{import_answer}, QueryWalk.{Adds}}
 
 no_chain : (raw : RawTables) → lines_of_chain raw 0 ≡ []
 no_chain raw = ap (flat_map (import_answer raw)) (chain_zero (λ scope. scope.parent) raw.imports)

@@ -1,24 +1,13 @@
 -- The lines of the rows of a table, by their numbers.
-use Rattle.std.proofs.Common.{ℕ, zero, suc, ◌+◌, ◌-◌, ◌≡◌, ◌<◌, ◌≤◌, List, [], ◌∷◌, ◌++◌, length, map, refl, sym, ◌∙◌, ap, arith}
-use Rattle.std.proofs.Common.{slice_get, append_assoc, inl, inr}
-use Rattle.std.specs.Prelude.{Option, Some, None}
-use Rattle.std.specs.List.{flat_map, range_with_len, enumerate_from}
-use Rattle.std.proofs.lemmas.Option.{slice_get_cases, slice_get_within}
+use Rattle.std.proofs.Common.{ℕ, zero, suc, ◌+◌, ◌-◌, ◌≡◌, ◌<◌, ◌≤◌, List, [], ◌∷◌, ◌++◌, length, map, refl, sym, ◌∙◌, ap, arith, slice_get, append_assoc, inl, inr}
+use Rattle.std.{specs.Prelude.{Option, Some, None}, specs.List.{flat_map, range_with_len, enumerate_from}, proofs.lemmas.Option.{slice_get_cases, slice_get_within}}
 use Rattle.ppdb_tables.specs.RawTables.{RawTables, HasShape, numbered, row_at, count}
-use Rattle.ppdb_values.specs.Documents.{document_of, method_of}
-use Rattle.ppdb_values.specs.Imports.{import_scope_of}
-use Rattle.ppdb_values.specs.Value.{variable_of}
-use Rattle.ppdb_show.specs.declared.show.rows.Rows.{Rows}
-use Rattle.ppdb_show.specs.declared.show.rows.Rows.TheVariants.{Documents, Methods, Scopes, Imports, Machines, Customs}
-use Rattle.ppdb_show.specs.declared.show.owned.Owned.{Owned}
-use Rattle.ppdb_show.specs.declared.show.owned.Owned.TheVariants.{Variables, Constants}
-use Rattle.ppdb_show_lines.specs.Lines.{Line}
-use Rattle.ppdb_show_lines.specs.declared.form.Form.{Form}
-use Rattle.ppdb_show_lines.specs.Forms.{lines_as}
-use Rattle.ppdb_show.specs.Show.{document_line, lines_of_method, scope_line, variable_line, constant_line, lines_of_import, machine_line}
-use Rattle.ppdb_show.specs.Show.{custom_line, scope_of_item}
-use Rattle.ppdb_show.specs.ShowWalk.{made_of, between, number_of, lines_of_row, lines_of_table, items_of, item_table, lines_of_item, lines_of_items}
-use Rattle.ppdb_show_lines.proofs.Texts.{more_lines}
+use Rattle.ppdb_values.specs.{Documents.{document_of, method_of}, Imports.{import_scope_of}, Value.{variable_of}}
+use Rattle.ppdb_show.specs.declared.show.{rows.Rows.{Rows}, rows.Rows.TheVariants.{Documents, Methods, Scopes, Imports, Machines, Customs}, owned.Owned.{Owned}}
+use Rattle.ppdb_show.specs.{declared.show.owned.Owned.TheVariants.{Variables, Constants}, Show.{document_line, lines_of_method, scope_line, variable_line}}
+use Rattle.ppdb_show.specs.{Show.{constant_line, lines_of_import, machine_line, custom_line, scope_of_item}, ShowWalk.{made_of, between, number_of, lines_of_row}}
+use Rattle.ppdb_show.specs.ShowWalk.{lines_of_table, items_of, item_table, lines_of_item, lines_of_items}
+use Rattle.ppdb_show_lines.{specs.Lines.{Line}, specs.declared.form.Form.{Form}, specs.Forms.{lines_as}, proofs.Texts.{more_lines}}
 
 rows_from : {X : Type 0} (lines : ℕ → X → List Line) (at : ℕ → Option X) (k : ℕ) (rows : List X) → ((i : ℕ) → at (k + i) ≡ slice_get rows i)
     → flat_map (λ row. lines row.0 row.1) (enumerate_from k rows) ≡ flat_map (λ n. made_of (lines n) (at n)) (range_with_len k (length rows))

@@ -1,17 +1,10 @@
 -- The kind of a custom record, and the lines of a record of a kind.
 use Rattle.std.proofs.Common.{◌≡◌, ℕ, List, [], sym, ap, subst, ◌∙◌}
-use Rattle.custom_info.specs.declared.kinds.Kind.{Kind}
-use Rattle.custom_info.specs.declared.kinds.Kind.TheVariants.{Hoisted as HoistedKind}
-use Rattle.custom_info.specs.Kinds.{kind_of}
-use Rattle.ppdb_tables.specs.declared.rows.CustomRow.{CustomRow}
-use Rattle.ppdb_tables.specs.RawTables.{RawTables}
-use Rattle.ppdb_values.specs.Customs.{custom_body, kind_in}
-use Rattle.ppdb_values.specs.RawFile.{blob}
-use Rattle.ppdb_show_lines.specs.declared.form.Form.{Form}
-use Rattle.ppdb_show_lines.specs.Lines.{Line}
-use Rattle.ppdb_show.specs.Query.{custom_found, lines_of_body, lines_of_record}
-use Rattle.ppdb_show.specs.QueryWalk.{Adds}
-use Rattle.ppdb_show.proofs.Added.{adds_none}
+use Rattle.custom_info.specs.{declared.kinds.Kind.{Kind}, declared.kinds.Kind.TheVariants.{Hoisted as HoistedKind}, Kinds.{kind_of}}
+use Rattle.ppdb_tables.specs.{declared.rows.CustomRow.{CustomRow}, RawTables.{RawTables}}
+use Rattle.ppdb_values.specs.{Customs.{custom_body, kind_in}, RawFile.{blob}}
+use Rattle.ppdb_show_lines.specs.{declared.form.Form.{Form}, Lines.{Line}}
+use Rattle.ppdb_show.{specs.Query.{custom_found, lines_of_body, lines_of_record}, specs.QueryWalk.{Adds}, proofs.Added.{adds_none}}
 
 -- ---- the lines of a record of a kind
 

@@ -1,17 +1,9 @@
 -- Runs of rows, and where they stand.
-use Rattle.std.proofs.Common.{◌≡◌, ℕ, suc, ◌+◌, ◌-◌, ◌≤◌, List, [], ◌∷◌, length, map, refl, arith, slice_range}
-use Rattle.std.specs.Prelude.{Option, Some, None, IsSome, IfSome, unwrap_or}
-use Rattle.std.specs.Option.{option_map}
-use Rattle.std.proofs.lemmas.List.{length-map}
-use Rattle.ppdb_tables.specs.declared.rows.ScopeRow.{ScopeRow}
-use Rattle.ppdb_tables.specs.RawTables.{row_at}
-use Rattle.ppdb_tables.proofs.NumberedRows.{row_within}
-use Rattle.ppdb_values.specs.Owners.{list_end}
-use Rattle.ppdb_values.specs.Rules.{KeepsLists}
-use Rattle.ppdb_values.proofs.Lists.{rises}
-use Rattle.ppdb_queries.specs.declared.run.Run.{Run}
-use Rattle.ppdb_queries.specs.Runs.{IsRunOf}
-use Rattle.ppdb_queries.proofs.Filters.{forward}
+use Rattle.std.{proofs.Common.{◌≡◌, ℕ, suc, ◌+◌, ◌-◌, ◌≤◌, List, [], ◌∷◌, length, map, refl, arith, slice_range}, specs.Prelude.{Option, Some, None, IsSome, IfSome}}
+use Rattle.std.{specs.Prelude.{unwrap_or}, specs.Option.{option_map}, proofs.lemmas.List.{length-map}}
+use Rattle.ppdb_tables.{specs.declared.rows.ScopeRow.{ScopeRow}, specs.RawTables.{row_at}, proofs.NumberedRows.{row_within}}
+use Rattle.ppdb_values.{specs.Owners.{list_end}, specs.Rules.{KeepsLists}, proofs.Lists.{rises}}
+use Rattle.ppdb_queries.{specs.declared.run.Run.{Run}, specs.Runs.{IsRunOf}, proofs.Filters.{forward}}
 
 -- a run of rows with a key
 pub bounds : {X : Type 0} (wanted : Option ℕ) (key : X → ℕ) (rows : List X) (run : Run) → IsSome wanted → IfSome wanted (λ w. IsRunOf key w rows run)

@@ -1,20 +1,10 @@
 -- The items of the scopes, one list after the other.
-use Rattle.std.proofs.Common.{◌≡◌, ℕ, zero, suc, ◌+◌, ◌≤◌, ◌<◌, List, [], ◌∷◌, length, refl, arith}
-use Rattle.std.specs.Prelude.{Option, Some, None, unwrap_or}
-use Rattle.std.specs.Option.{option_map}
-use Rattle.std.proofs.lemmas.List.{length-map}
-use Rattle.std.proofs.lemmas.Option.{slice_get_within}
-use Rattle.ppdb_tables.specs.declared.rows.ScopeRow.{ScopeRow}
-use Rattle.ppdb_tables.specs.RawTables.{row_at}
-use Rattle.ppdb_tables.proofs.NumberedRows.{row_there}
-use Rattle.ppdb_values.specs.Value.{owner_of}
-use Rattle.ppdb_values.specs.Rules.{KeepsLists, KeepsRules}
-use Rattle.ppdb_values.specs.Owners.{list_end}
-use Rattle.ppdb_values.specs.RawFile.{RawFile}
-use Rattle.ppdb_values.proofs.Lists.{owner_in_list, index_map}
-use Rattle.ppdb_show.specs.declared.show.owned.Owned.{Owned}
-use Rattle.ppdb_show.specs.declared.show.owned.Owned.TheVariants.{Variables, Constants}
-use Rattle.ppdb_show.specs.ShowWalk.{list_by, items_of}
+use Rattle.std.{proofs.Common.{◌≡◌, ℕ, zero, suc, ◌+◌, ◌≤◌, ◌<◌, List, [], ◌∷◌, length, refl, arith}, specs.Prelude.{Option, Some, None, unwrap_or}}
+use Rattle.std.{specs.Option.{option_map}, proofs.lemmas.List.{length-map}, proofs.lemmas.Option.{slice_get_within}}
+use Rattle.ppdb_tables.{specs.declared.rows.ScopeRow.{ScopeRow}, specs.RawTables.{row_at}, proofs.NumberedRows.{row_there}}
+use Rattle.ppdb_values.{specs.Value.{owner_of}, specs.Rules.{KeepsLists, KeepsRules}, specs.Owners.{list_end}, specs.RawFile.{RawFile}, proofs.Lists.{owner_in_list}}
+use Rattle.ppdb_values.proofs.Lists.{index_map}
+use Rattle.ppdb_show.specs.{declared.show.owned.Owned.{Owned}, declared.show.owned.Owned.TheVariants.{Variables, Constants}, ShowWalk.{list_by, items_of}}
 use Rattle.ppdb_show.proofs.Numbered.{row_past}
 
 -- where the list of a row begins, right after the last item where there is no such row

@@ -1,15 +1,9 @@
 -- Lines of the items of lists that are the same.
-use Rattle.std.proofs.Common.{◌≡◌, ℕ, List, [], ◌∷◌, length, map, ap, ◌∙◌}
-use Rattle.std.specs.List.{flat_map, sum_by}
-use Rattle.ppdb_tables.specs.declared.parent.Parent.{Parent}
-use Rattle.ppdb_tables.specs.declared.rows.CustomRow.{CustomRow}
-use Rattle.ppdb_tables.specs.RawTables.{RawTables}
-use Rattle.ppdb_queries.specs.declared.run.Run.{Run}
-use Rattle.ppdb_queries.specs.Runs.{rows_in, customs_at}
+use Rattle.std.{proofs.Common.{◌≡◌, ℕ, List, [], ◌∷◌, length, map, ap, ◌∙◌}, specs.List.{flat_map, sum_by}}
+use Rattle.ppdb_tables.specs.{declared.parent.Parent.{Parent}, declared.rows.CustomRow.{CustomRow}, RawTables.{RawTables}}
+use Rattle.ppdb_queries.specs.{declared.run.Run.{Run}, Runs.{rows_in, customs_at}}
 use Rattle.ppdb_show_lines.specs.declared.form.Form.{Form}
-use Rattle.ppdb_show.specs.Query.{custom_found, customs_found, lines_of_record}
-use Rattle.ppdb_show.specs.QueryWalk.{Adds}
-use Rattle.ppdb_show.proofs.Added.{lines_each, one_each, adds_same}
+use Rattle.ppdb_show.{specs.Query.{custom_found, customs_found, lines_of_record}, specs.QueryWalk.{Adds}, proofs.Added.{lines_each, one_each, adds_same}}
 
 -- the custom records of a run
 pub customs_all : (form : Form) (raw : RawTables) (parent : Parent) (run : Run) (old new : List ℕ)

@@ -1,18 +1,10 @@
 -- The views of scopes, and the lists of a scope.
-use Rattle.std.proofs.Common.{◌≡◌, ℕ, suc, ◌+◌, ◌≤◌, List, [], ◌∷◌, length, map, refl, sym, ap, ◌∙◌, arith, cond, Bool, true, false}
-use Rattle.std.specs.Prelude.{Some, slice_get}
-use Rattle.std.specs.List.{filter, enumerate_from}
-use Rattle.ppdb_tables.specs.declared.rows.ScopeRow.{ScopeRow}
-use Rattle.ppdb_tables.specs.RawTables.{RawTables, count, row_at}
-use Rattle.ppdb_values.specs.Rules.{KeepsLists, KeepsScopes}
-use Rattle.ppdb_values.proofs.Lists.{owned_is_list}
-use Rattle.ppdb_queries.specs.declared.scopes.ScopeView.{ScopeView}
-use Rattle.ppdb_queries.specs.Runs.{rows_in}
-use Rattle.ppdb_queries.specs.Scopes.{scope_view, scopes_at}
-use Rattle.ppdb_show.specs.Query.{variables_of, constants_of}
-use Rattle.ppdb_show.specs.QueryWalk.{IsViewOf}
-use Rattle.ppdb_show.proofs.Given.{Each}
-use Rattle.ppdb_show.proofs.Runs.{list_bounds}
+use Rattle.std.{proofs.Common.{◌≡◌, ℕ, suc, ◌+◌, ◌≤◌, List, [], ◌∷◌, length, map, refl, sym, ap, ◌∙◌, arith, cond, Bool, true, false}, specs.Prelude.{Some}}
+use Rattle.std.specs.{Prelude.{slice_get}, List.{filter, enumerate_from}}
+use Rattle.ppdb_tables.specs.{declared.rows.ScopeRow.{ScopeRow}, RawTables.{RawTables, count, row_at}}
+use Rattle.ppdb_values.{specs.Rules.{KeepsLists, KeepsScopes}, proofs.Lists.{owned_is_list}}
+use Rattle.ppdb_queries.specs.{declared.scopes.ScopeView.{ScopeView}, Runs.{rows_in}, Scopes.{scope_view, scopes_at}}
+use Rattle.ppdb_show.{specs.Query.{variables_of, constants_of}, specs.QueryWalk.{IsViewOf}, proofs.Given.{Each}, proofs.Runs.{list_bounds}}
 
 views_from : (raw : RawTables) (p : ℕ × ScopeRow → Bool) (n : ℕ) (rows : List ScopeRow)
     → ((i : ℕ) (x : ScopeRow) → slice_get rows i ≡ Some x → row_at raw.scopes (n + i) ≡ Some x)

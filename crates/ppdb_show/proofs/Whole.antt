@@ -1,19 +1,10 @@
 -- The blobs of a valid file are whole, and so are what is read of them.
-use Rattle.std.proofs.Common.{ℕ, ◌≡◌, ◌≢◌, List, [], ◌∷◌, refl, sym, ◌∙◌, ap, inl, inr, arith}
-use Rattle.std.specs.Prelude.{Option, Some, None, Result, Ok}
+use Rattle.std.{proofs.Common.{ℕ, ◌≡◌, ◌≢◌, List, [], ◌∷◌, refl, sym, ◌∙◌, ap, inl, inr, arith}, specs.Prelude.{Option, Some, None, Result, Ok}}
 use Rattle.ppdb_base.specs.declared.BlobFault.{BlobFault}
-use Rattle.blob_grammar.specs.Grammar.{Grammar}
-use Rattle.blob_grammar.specs.Reading.{Reading}
-use Rattle.blob_grammar.specs.Reader.{answer_from, tail}
-use Rattle.blob_grammar.proofs.Unique.{reading-unique}
-use Rattle.sequence_points.specs.declared.point.Point.{Point}
-use Rattle.sequence_points.specs.Records.{sequence_points}
-use Rattle.sequence_points.specs.Points.{PointsReading}
-use Rattle.ppdb_tables.specs.declared.rows.MethodDebugRow.{MethodDebugRow}
-use Rattle.ppdb_tables.specs.RawTables.{RawTables, row_at}
-use Rattle.ppdb_values.specs.RawFile.{blob, records_of, point_limits}
-use Rattle.ppdb_values.specs.Documents.{points_in, signature_in}
-use Rattle.ppdb_values.specs.Rules.{IsWhole, KeepsMethods}
+use Rattle.blob_grammar.{specs.Grammar.{Grammar}, specs.Reading.{Reading}, specs.Reader.{answer_from, tail}, proofs.Unique.{reading-unique}}
+use Rattle.sequence_points.specs.{declared.point.Point.{Point}, Records.{sequence_points}, Points.{PointsReading}}
+use Rattle.ppdb_tables.specs.{declared.rows.MethodDebugRow.{MethodDebugRow}, RawTables.{RawTables, row_at}}
+use Rattle.ppdb_values.specs.{RawFile.{blob, records_of, point_limits}, Documents.{points_in, signature_in}, Rules.{IsWhole, KeepsMethods}}
 use Rattle.ppdb_values.proofs.Readings.{points_are, signature_is}
 
 none_some : {X : Type 0} (x : X) → Some x ≡ None → ⊥

@@ -1,23 +1,12 @@
 -- What is put for a field is ASCII.
-use Rattle.std.proofs.Common.{ℕ, ◌≡◌, ◌<◌, List, [], ◌∷◌, ◌++◌, Bool, true, false, nat_lt, if◌then◌else◌, refl, arith, ◌∙◌, ap, inl}
-use Rattle.std.specs.Prelude.{Option, Some, None, codes, Result, Ok, Err, OnOk, unwrap_or}
-use Rattle.std.specs.Result.{is_err}
-use Rattle.ppdb_base.specs.Written.{appended}
-use Rattle.std.specs.List.{flat_map, list_all}
-use Rattle.std.specs.Int.{to_be_bytes, w32}
-use Rattle.std.specs.Str.{IsAscii}
-use Rattle.std.proofs.lemmas.Bool.Decides.{nat_tests}
-use Rattle.std.proofs.lemmas.Str.{IsAscii-append}
-use Rattle.std.proofs.lemmas.Str.Ascii.{IsAscii-nil, IsAscii-cons}
-use Rattle.hex.specs.Hex.{encode_lower, lower_digits}
-use Rattle.hex.proofs.HexLemmas.{IsAscii-encode_with}
-use Rattle.uuid.specs.Text.{lower}
-use Rattle.uuid.specs.Parts.{swap_fields}
-use Rattle.uuid.proofs.TextLemmas.{hyphenated_ascii}
-use Rattle.ppdb_base.specs.Escaped.{escaped, escaped_byte, code_of, is_plain}
-use Rattle.ppdb_show_lines.specs.Values.{table_text, token_text, guid_text, hex_text}
-use Rattle.ppdb_show_lines.specs.Lines.{Content, number, table, token, guid, octets, name, absent, content_text}
-use Rattle.ppdb_show_lines.specs.Views.{IsText}
+use Rattle.std.{proofs.Common.{ℕ, ◌≡◌, ◌<◌, List, [], ◌∷◌, ◌++◌, Bool, true, false, nat_lt, if◌then◌else◌, refl, arith, ◌∙◌, ap, inl}, specs.Prelude.{Option, Some}}
+use Rattle.std.specs.{Prelude.{None, codes, Result, Ok, Err, OnOk, unwrap_or}, Result.{is_err}, List.{flat_map, list_all}, Int.{to_be_bytes, w32}, Str.{IsAscii}}
+use Rattle.std.proofs.lemmas.{Bool.Decides.{nat_tests}, Str.{IsAscii-append}, Str.Ascii.{IsAscii-nil, IsAscii-cons}}
+use Rattle.ppdb_base.specs.{Written.{appended}, Escaped.{escaped, escaped_byte, code_of, is_plain}}
+use Rattle.hex.{specs.Hex.{encode_lower, lower_digits}, proofs.HexLemmas.{IsAscii-encode_with}}
+use Rattle.uuid.{specs.Text.{lower}, specs.Parts.{swap_fields}, proofs.TextLemmas.{hyphenated_ascii}}
+use Rattle.ppdb_show_lines.specs.{Values.{table_text, token_text, guid_text, hex_text}, Lines.{Content, number, table, token, guid, octets, name, absent}}
+use Rattle.ppdb_show_lines.specs.{Lines.{content_text}, Views.{IsText}}
 
 all_small : (xs : List ℕ) → list_all (λ c. nat_lt c 128) xs ≡ true → IsAscii xs
 all_small [] h = IsAscii-nil

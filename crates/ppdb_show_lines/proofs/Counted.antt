@@ -1,7 +1,6 @@
 -- How many digits a number has.
 use Rattle.std.proofs.Common.{ℕ, ◌+◌, ◌/◌, ◌≡◌, ◌<◌, ◌≤◌, List, ◌++◌, length, take, drop, sym, ◌∙◌, ap, append_assoc, arith, length-append}
-use Rattle.std.proofs.lemmas.List.{length-take-le, take-append-drop, take_at}
-use Rattle.std.specs.Fmt.{decimal}
+use Rattle.std.{proofs.lemmas.List.{length-take-le, take-append-drop, take_at}, specs.Fmt.{decimal}}
 use Rattle.itoa.proofs.Decimal.{length_one, length_two, length_pair, length_four}
 
 pub one_digit : (n : ℕ) → n < 10 → 1 ≡ length (decimal n)

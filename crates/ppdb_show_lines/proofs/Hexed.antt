@@ -1,6 +1,5 @@
 -- The digits of bytes around one of them.
-use Rattle.std.proofs.Common.{ℕ, ◌≡◌, ◌==◌, true, false, List, [], ◌∷◌, ◌++◌, length, take, drop, refl, sym, ◌∙◌, ap, arith}
-use Rattle.std.proofs.lemmas.List.{take-append-drop}
+use Rattle.std.proofs.{Common.{ℕ, ◌≡◌, ◌==◌, true, false, List, [], ◌∷◌, ◌++◌, length, take, drop, refl, sym, ◌∙◌, ap, arith}, lemmas.List.{take-append-drop}}
 use Rattle.hex.specs.Hex.{encode_lower, encode_with}
 use Rattle.ppdb_show_lines.specs.Values.{hex_text}
 

@@ -1,10 +1,8 @@
 -- Bytes that are put into a sink in pieces, of which the last are kept before it.
-use Rattle.std.proofs.Common.{ℕ, ◌≡◌, List, [], ◌++◌, refl, sym, ◌∙◌, ap, append_assoc, arith}
-use Rattle.std.proofs.lemmas.List.{append-nil}
-use Rattle.std.specs.Prelude.{Option, Result, Ok, Err, OnOk, IsErrAnd}
-use Rattle.ppdb_base.specs.Written.{appended, AppendsPrefix, Puts}
-use Rattle.ppdb_base.specs.declared.sink.WriteError.{WriteError}
-use Rattle.ppdb_base.proofs.Written.{appended_nothing, appended_twice, prefix_of_first, on_err}
+use Rattle.std.{proofs.Common.{ℕ, ◌≡◌, List, [], ◌++◌, refl, sym, ◌∙◌, ap, append_assoc, arith}, proofs.lemmas.List.{append-nil}, specs.Prelude.{Option, Result, Ok}}
+use Rattle.std.specs.Prelude.{Err, OnOk, IsErrAnd}
+use Rattle.ppdb_base.{specs.Written.{appended, AppendsPrefix, Puts}, specs.declared.sink.WriteError.{WriteError}, proofs.Written.{appended_nothing, appended_twice}}
+use Rattle.ppdb_base.proofs.Written.{prefix_of_first, on_err}
 use Rattle.ppdb_show_lines.specs.Keeping.{Keeps}
 
 -- nothing more was put, and the text is kept

@@ -1,13 +1,8 @@
 -- The text of the parts of a line up to one.
-use Rattle.std.proofs.Common.{ℕ, suc, ◌+◌, ◌≡◌, ◌<◌, ◌≤◌, List, [], ◌∷◌, ◌++◌, length, take, drop, get_or, refl, sym, ◌∙◌, ap, append_assoc}
-use Rattle.std.proofs.Math.Seq.{drop-cons}
-use Rattle.std.proofs.lemmas.List.{append-nil, take-append-drop, take_all, take_more}
-use Rattle.std.specs.Prelude.{Option, Result, Ok, Err, IsErrAnd}
+use Rattle.std.proofs.{Common.{ℕ, suc, ◌+◌, ◌≡◌, ◌<◌, ◌≤◌, List, [], ◌∷◌, ◌++◌, length, take, drop, get_or, refl, sym, ◌∙◌, ap, append_assoc}, Math.Seq.{drop-cons}}
+use Rattle.std.{proofs.lemmas.List.{append-nil, take-append-drop, take_all, take_more}, specs.Prelude.{Option, Result, Ok, Err, IsErrAnd}}
 use Rattle.ppdb_base.specs.declared.sink.WriteError.{WriteError}
-use Rattle.ppdb_show_lines.specs.declared.line.Part.{Part}
-use Rattle.ppdb_show_lines.specs.Keeping.{Keeps}
-use Rattle.ppdb_show_lines.specs.Lines.{field_text}
-use Rattle.ppdb_show_lines.specs.Views.{field_of, fields_text}
+use Rattle.ppdb_show_lines.specs.{declared.line.Part.{Part}, Keeping.{Keeps}, Lines.{field_text}, Views.{field_of, fields_text}}
 use Rattle.ppdb_show_lines.proofs.Keeping.{keeps_cut, keeps_then}
 
 fields_append : (xs ys : List Part) → fields_text (xs ++ ys) ≡ fields_text xs ++ fields_text ys

@@ -1,12 +1,8 @@
 -- The tokens of a part by its place.
 use Rattle.std.proofs.Common.{ℕ, zero, suc, ◌-◌, ◌≡◌, ◌<◌, ◌≤◌, List, [], ◌∷◌, ◌++◌, length, get_or, refl, sym, ◌∙◌, ap, append_assoc, arith, append-nil}
-use Rattle.std.specs.Prelude.{Some, Result, Ok, Err, OnOk}
-use Rattle.std.specs.Option.{option_map}
-use Rattle.std.proofs.lemmas.Option.{slice_get-map, slice_get-get_or, slice_get_past}
+use Rattle.std.{specs.Prelude.{Some, Result, Ok, Err, OnOk}, specs.Option.{option_map}, proofs.lemmas.Option.{slice_get-map, slice_get-get_or, slice_get_past}}
 use Rattle.json.specs.Token.{Token}
-use Rattle.ppdb_show_lines.specs.declared.line.Part.{Part}
-use Rattle.ppdb_show_lines.specs.Tokens.{field_tokens, member_tokens}
-use Rattle.ppdb_show_lines.specs.Views.{field_of, line_of}
+use Rattle.ppdb_show_lines.specs.{declared.line.Part.{Part}, Tokens.{field_tokens, member_tokens}, Views.{field_of, line_of}}
 
 pub part_there : (word : List ℕ) (parts : List Part) (place : ℕ) (p : Part) → (place ≡ 0 → ⊥) → place - 1 < length parts → get_or parts (place - 1) p ≡ p
     → member_tokens (line_of word parts) place ≡ field_tokens (Some (field_of p))

@@ -1,12 +1,10 @@
 -- The tokens of a line's object are printed as its members.
-use Rattle.std.proofs.Common.{ℕ, suc, zero, ◌≡◌, List, [], ◌∷◌, ◌++◌, Bool, true, false, refl, sym, ◌∙◌, ap, append_assoc, slice_get}
-use Rattle.std.specs.Prelude.{Option, Some, None, codes}
-use Rattle.std.specs.List.{flat_map}
+use Rattle.std.{proofs.Common.{ℕ, suc, zero, ◌≡◌, List, [], ◌∷◌, ◌++◌, Bool, true, false, refl, sym, ◌∙◌, ap, append_assoc, slice_get}, specs.Prelude.{Option, Some}}
+use Rattle.std.specs.{Prelude.{None, codes}, List.{flat_map}}
 use Rattle.json.specs.Token.{Token}
 use Rattle.json.specs.Token as tokens
 use Rattle.json.specs.Print.{print, print_from, quoted, token_text, ends}
-use Rattle.serde_json.specs.Data.{Members, object}
-use Rattle.serde_json.specs.Written.{compact_text, members_text, comma_if}
+use Rattle.serde_json.specs.{Data.{Members, object}, Written.{compact_text, members_text, comma_if}}
 use Rattle.ppdb_show_lines.specs.Lines.{Content, number, table, token, guid, octets, name, absent, content_data, Field, field, mark, Line, members_of}
 use Rattle.ppdb_show_lines.specs.Tokens.{content_token, field_tokens, member_tokens, object_tokens, with_member, listed, IsKeyOrder}
 

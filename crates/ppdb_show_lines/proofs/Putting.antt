@@ -1,10 +1,7 @@
 -- A text that is put piece by piece: its start, its pieces, its end, and a piece that fails.
-use Rattle.std.proofs.Common.{ℕ, ◌≡◌, List, [], ◌++◌, refl, sym, ◌∙◌, append_assoc, arith}
-use Rattle.std.proofs.lemmas.List.{append-nil}
-use Rattle.std.specs.Prelude.{Option, Result, Ok, Err, IsErrAnd}
-use Rattle.ppdb_base.specs.Written.{Puts}
-use Rattle.ppdb_base.specs.declared.sink.WriteError.{WriteError}
-use Rattle.ppdb_base.specs.declared.sink.WriteError.TheVariants.{Memory}
+use Rattle.std.{proofs.Common.{ℕ, ◌≡◌, List, [], ◌++◌, refl, sym, ◌∙◌, append_assoc, arith}, proofs.lemmas.List.{append-nil}, specs.Prelude.{Option, Result, Ok}}
+use Rattle.std.specs.Prelude.{Err, IsErrAnd}
+use Rattle.ppdb_base.specs.{Written.{Puts}, declared.sink.WriteError.{WriteError}, declared.sink.WriteError.TheVariants.{Memory}}
 use Rattle.ppdb_base.proofs.Written.{appended_nothing, prefix_nothing, puts_then, puts_cut}
 
 -- a part of the whole was put, and the rest is still to come

@@ -1,10 +1,6 @@
 -- Lines, one after the other, in a form.
-use Rattle.std.proofs.Common.{◌≡◌, List, [], ◌∷◌, ◌++◌, refl}
-use Rattle.std.proofs.lemmas.List.{append-nil}
-use Rattle.std.proofs.lemmas.Grind.{flat_map-append}
-use Rattle.ppdb_show_lines.specs.declared.form.Form.{Form}
-use Rattle.ppdb_show_lines.specs.Lines.{Line}
-use Rattle.ppdb_show_lines.specs.Forms.{put_as, lines_as}
+use Rattle.std.proofs.{Common.{◌≡◌, List, [], ◌∷◌, ◌++◌, refl}, lemmas.List.{append-nil}, lemmas.Grind.{flat_map-append}}
+use Rattle.ppdb_show_lines.specs.{declared.form.Form.{Form}, Lines.{Line}, Forms.{put_as, lines_as}}
 
 pub one_line : (form : Form) (shown : Line) → lines_as form (shown ∷ []) ≡ put_as form shown
 unfolding lines_as

@@ -1,21 +1,11 @@
 -- The lines of documents, row by row, and with links in another order.
 use Rattle.std.proofs.Common.{◌≡◌, ℕ, zero, suc, ◌+◌, ◌-◌, ◌≤◌, ◌∙◌, List, [], ◌∷◌, ◌++◌, length, drop, map, refl, sym, ap, arith, Option, Some}
-use Rattle.std.specs.List.{enumerate_from}
-use Rattle.std.proofs.lemmas.List.{drop_all}
-use Rattle.std.proofs.lemmas.List.FromFn.{length-enumerate_from}
-use Rattle.ppdb_show_lines.specs.declared.form.Form.{Form}
-use Rattle.ppdb_show_lines.specs.Forms.{lines_as}
-use Rattle.ppdb_show_lines.specs.Lines.{Line}
-use Rattle.ppdb_show_lines.proofs.Texts.{no_lines as nothing, more_lines}
-use Rattle.ppdb_tables.specs.declared.rows.DocumentRow.{DocumentRow}
-use Rattle.ppdb_tables.specs.RawTables.{RawTables, numbered, row_at}
-use Rattle.ppdb_values.specs.declared.file.DocumentValue.{DocumentValue}
-use Rattle.ppdb_values.specs.declared.file.FileValue.{FileValue}
-use Rattle.ppdb_values.specs.Documents.{document_of}
-use Rattle.ppdb_values.specs.RawFile.{RawFile}
+use Rattle.std.{specs.List.{enumerate_from}, proofs.lemmas.List.{drop_all}, proofs.lemmas.List.FromFn.{length-enumerate_from}}
+use Rattle.ppdb_show_lines.{specs.declared.form.Form.{Form}, specs.Forms.{lines_as}, specs.Lines.{Line}, proofs.Texts.{no_lines as nothing, more_lines}}
+use Rattle.ppdb_tables.specs.{declared.rows.DocumentRow.{DocumentRow}, RawTables.{RawTables, numbered, row_at}}
+use Rattle.ppdb_values.specs.{declared.file.DocumentValue.{DocumentValue}, declared.file.FileValue.{FileValue}, Documents.{document_of}, RawFile.{RawFile}}
 use Rattle.ppdb_values.specs.Value.{value_of}
-use Rattle.source_link.specs.declared.pair.Pair.{Pair}
-use Rattle.source_link.specs.Address.{address_of}
+use Rattle.source_link.specs.{declared.pair.Pair.{Pair}, Address.{address_of}}
 use Rattle.ppdb_show_sources.specs.Links.{link_line, link_of, link_lines, link_text}
 use Rattle.break_lines.proofs.Methods.{from_row}
 

@@ -2,24 +2,12 @@
 use Rattle.std.proofs.Common.{◌≡◌, ℕ, ◌∙◌, Bool, true, false, List, [], ◌∷◌, ◌++◌, map, refl, sym, ap, subst, Option, Some, None, Result, Ok, Err}
 use Rattle.std.specs.Prelude.{IfOk, OnOk, option_map, unwrap_or}
 use Rattle.blob_grammar.specs.Reader.{tail}
-use Rattle.ppdb_base.specs.Written.{Puts}
-use Rattle.ppdb_base.specs.declared.link_error.LinkError.{LinkError}
-use Rattle.ppdb_base.specs.declared.list.Memory.{Memory}
-use Rattle.ppdb_base.specs.declared.sink.WriteError.{WriteError}
-use Rattle.ppdb_show_lines.proofs.Putting.{Putting}
-use Rattle.ppdb_show_lines.specs.declared.form.Form.{Form}
-use Rattle.ppdb_show_lines.specs.Forms.{lines_as}
-use Rattle.ppdb_show_lines.proofs.Texts.{more_lines, no_lines}
-use Rattle.ppdb_values.specs.Names.{first_of}
-use Rattle.ppdb_values.specs.declared.file.FileValue.{FileValue}
+use Rattle.ppdb_base.specs.{Written.{Puts}, declared.link_error.LinkError.{LinkError}, declared.list.Memory.{Memory}, declared.sink.WriteError.{WriteError}}
+use Rattle.ppdb_show_lines.{proofs.Putting.{Putting}, specs.declared.form.Form.{Form}, specs.Forms.{lines_as}, proofs.Texts.{more_lines, no_lines}}
+use Rattle.ppdb_values.specs.{Names.{first_of}, declared.file.FileValue.{FileValue}}
 use Rattle.break_lines.specs.declared.item.Break.{Break}
-use Rattle.source_link.specs.declared.pair.Pair.{Pair}
-use Rattle.source_link.specs.FileLinks.{link_record}
-use Rattle.source_link.specs.Laws.{AreLinks, OrderIsFree}
-use Rattle.source_link.specs.Record.{links_of}
-use Rattle.ppdb_show_sources.specs.Breaks.{break_line, text_of_breaks}
-use Rattle.ppdb_show_sources.specs.Found.{AreFileLinks}
-use Rattle.ppdb_show_sources.proofs.Documents.{same_lines_of}
+use Rattle.source_link.specs.{declared.pair.Pair.{Pair}, FileLinks.{link_record}, Laws.{AreLinks, OrderIsFree}, Record.{links_of}}
+use Rattle.ppdb_show_sources.{specs.Breaks.{break_line, text_of_breaks}, specs.Found.{AreFileLinks}, proofs.Documents.{same_lines_of}}
 
 pub rest_is : (old new : Option (List ℕ)) (before after : ℕ) (rest other whole : List ℕ) → rest ≡ other
     → Putting old new before after rest whole → Putting old new before after other whole

@@ -1,10 +1,7 @@
 -- Fields among more fields.
-use Rattle.std.proofs.Common.{◌≡◌, ℕ, suc, ◌+◌, ◌<◌, ◌≤◌, inl, inr, List, [], ◌∷◌, ◌++◌, length, sum, take, drop, get_or, refl, sym, ap}
-use Rattle.std.proofs.Common.{◌∙◌, append_assoc, arith}
-use Rattle.std.proofs.lemmas.Bool.{cases_lt}
-use Rattle.std.proofs.Math.Seq.{split_at}
-use Rattle.ppdb_base.specs.Fields.{IsField}
-use Rattle.ppdb_base.proofs.Fields.{ends_by_cut, ends_within, sum_append, sum_cons}
+use Rattle.std.proofs.Common.{◌≡◌, ℕ, suc, ◌+◌, ◌<◌, ◌≤◌, inl, inr, List, [], ◌∷◌, ◌++◌, length, sum, take, drop, get_or, refl, sym, ap, ◌∙◌, append_assoc, arith}
+use Rattle.std.proofs.{lemmas.Bool.{cases_lt}, Math.Seq.{split_at}}
+use Rattle.ppdb_base.{specs.Fields.{IsField}, proofs.Fields.{ends_by_cut, ends_within, sum_append, sum_cons}}
 
 -- a field is one of more fields, after those before them
 pub field_within : (prefix fields back : List ℕ) (at len : ℕ) → IsField fields at len → IsField (prefix ++ (fields ++ back)) (sum prefix + at) len

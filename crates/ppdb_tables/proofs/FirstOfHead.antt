@@ -1,22 +1,13 @@
 -- The first fault of the #Pdb stream, from what its readers saw.
-use Rattle.std.proofs.Common.{◌≡◌, ◌≢◌, ℕ, suc, ◌+◌, ◌-◌, ◌*◌, ◌^◌, ◌<◌, ◌≤◌, inl, inr, List, [], ◌∷◌, ◌++◌, length, sum, replicate}
-use Rattle.std.proofs.Common.{refl, sym, ap, subst, ◌∙◌, arith, lit≤}
-use Rattle.ppdb_base.specs.declared.code.Code.{Code}
-use Rattle.ppdb_base.specs.declared.code.Code.TheVariants.{PdbShort, PdbTables, PdbRows, EntryPoint}
-use Rattle.ppdb_base.specs.declared.fault.Place.{Place}
-use Rattle.ppdb_base.specs.declared.fault.Fault.{Fault}
-use Rattle.ppdb_base.specs.Place.{ComesBefore, numbers, number_of, at_byte}
-use Rattle.ppdb_base.specs.First.{IsAccepted, IsFirst}
-use Rattle.std.proofs.lemmas.Bool.{cases_lt}
-use Rattle.ppdb_base.proofs.Judging.{first_at, byte_before}
-use Rattle.ppdb_base.specs.Fields.{IsField}
-use Rattle.ppdb_base.proofs.Fields.{ends_by_cut, ends_within}
-use Rattle.ppdb_tables.specs.declared.counts.Part.{Part}
-use Rattle.ppdb_tables.specs.Counts.{HasCount, counts_below, count_fields, IsShort, IsCountFault, count_place}
-use Rattle.ppdb_tables.specs.Head.{PdbFaults, PdbFieldFaults, short, foreign, rows, EntryFaults, entry, NamesMethod, entry_in, referenced}
-use Rattle.ppdb_tables.specs.Head.{pdb_fields, pdb_rows}
-use Rattle.ppdb_tables.proofs.FieldLists.{field_within, starts_by, all_fit}
-use Rattle.ppdb_tables.proofs.RowCounts.{cut, sum-cut, sum-fields, fields_cut, count_cut, one_more, counts_mono, earlier_table, rows_in-set, has_count}
+use Rattle.std.proofs.Common.{◌≡◌, ◌≢◌, ℕ, suc, ◌+◌, ◌-◌, ◌*◌, ◌^◌, ◌<◌, ◌≤◌, inl, inr, List, [], ◌∷◌, ◌++◌, length, sum, replicate, refl, sym, ap, subst, ◌∙◌}
+use Rattle.std.proofs.{Common.{arith, lit≤}, lemmas.Bool.{cases_lt}}
+use Rattle.ppdb_base.specs.declared.{code.Code.{Code}, code.Code.TheVariants.{PdbShort, PdbTables, PdbRows, EntryPoint}, fault.Place.{Place}, fault.Fault.{Fault}}
+use Rattle.ppdb_base.{specs.Place.{ComesBefore, numbers, number_of, at_byte}, specs.First.{IsAccepted, IsFirst}, proofs.Judging.{first_at, byte_before}}
+use Rattle.ppdb_base.{specs.Fields.{IsField}, proofs.Fields.{ends_by_cut, ends_within}}
+use Rattle.ppdb_tables.specs.{declared.counts.Part.{Part}, Counts.{HasCount, counts_below, count_fields, IsShort, IsCountFault, count_place}, Head.{PdbFaults}}
+use Rattle.ppdb_tables.specs.Head.{PdbFieldFaults, short, foreign, rows, EntryFaults, entry, NamesMethod, entry_in, referenced, pdb_fields, pdb_rows}
+use Rattle.ppdb_tables.proofs.{FieldLists.{field_within, starts_by, all_fit}, RowCounts.{cut, sum-cut, sum-fields, fields_cut, count_cut, one_more, counts_mono}}
+use Rattle.ppdb_tables.proofs.RowCounts.{earlier_table, rows_in-set, has_count}
 
 -- the fields before the row counts
 abbrev prefix : List ℕ

@@ -1,33 +1,15 @@
 -- The first row that passes the end of the #~ stream.
-use Rattle.std.proofs.Common.{◌≡◌, ℕ, suc, true, false, Bool, ◌+◌, ◌-◌, ◌*◌, ◌<◌, ◌≤◌, List, [], ◌∷◌, ◌++◌, length, sum, take, drop}
-use Rattle.std.proofs.Common.{get_or, replicate, map, refl, sym, ap, subst, ◌∙◌, append_assoc, arith, lit≤, lit<}
-use Rattle.std.specs.Prelude.{slice_index, nat_lt}
-use Rattle.std.specs.List.{list_any, list_all}
-use Rattle.std.specs.Int.{bit_at}
-use Rattle.std.specs.Prelude.{◌==◌}
-use Rattle.std.proofs.Math.Seq.{split_at}
-use Rattle.std.proofs.lemmas.List.{take_more, replicate-append-replicate, get_or-map}
-use Rattle.std.proofs.lemmas.Bool.{ltb-true, false≢true}
-use Rattle.std.proofs.lemmas.List.Folds.{list_all_at}
-use Rattle.std.proofs.lemmas.List.Concat.{flat_map-cons}
-use Rattle.std.proofs.lemmas.Grind.{flat_map-append}
+use Rattle.std.proofs.Common.{◌≡◌, ℕ, suc, true, false, Bool, ◌+◌, ◌-◌, ◌*◌, ◌<◌, ◌≤◌, List, [], ◌∷◌, ◌++◌, length, sum, take, drop, get_or, replicate, map, refl}
+use Rattle.std.{proofs.Common.{sym, ap, subst, ◌∙◌, append_assoc, arith, lit≤, lit<}, specs.Prelude.{slice_index, nat_lt, ◌==◌}, specs.List.{list_any, list_all}}
+use Rattle.std.{specs.Int.{bit_at}, proofs.Math.Seq.{split_at}, proofs.lemmas.List.{take_more, replicate-append-replicate, get_or-map}}
+use Rattle.std.proofs.lemmas.{Bool.{ltb-true, false≢true}, List.Folds.{list_all_at}, List.Concat.{flat_map-cons}, Grind.{flat_map-append}}
 use Rattle.std.proofs.lemmas.List.FromFn.{get_or-range_with_len}
-use Rattle.ppdb_base.specs.declared.code.Code.{Code}
-use Rattle.ppdb_base.specs.declared.code.Code.TheVariants.{TablesBounds}
-use Rattle.ppdb_base.specs.declared.fault.Place.{Place}
-use Rattle.ppdb_base.specs.declared.fault.Fault.{Fault}
-use Rattle.ppdb_base.specs.Place.{ComesBefore, numbers, number_of, at_byte}
-use Rattle.ppdb_base.specs.First.{IsAccepted, IsFirst}
-use Rattle.ppdb_base.proofs.Judging.{first_at, byte_before}
-use Rattle.ppdb_base.specs.Fields.{IsField}
-use Rattle.ppdb_base.proofs.Fields.{ends_by_cut, ends_within, sum_append, sum_cons}
-use Rattle.row_layout.specs.declared.column.Sizes.{Sizes}
-use Rattle.row_layout.specs.declared.column.Column.{Column}
-use Rattle.row_layout.specs.declared.column.Column.TheVariants.{U16, U32, Text, Blob, Guid, Row, Parent}
+use Rattle.ppdb_base.specs.declared.{code.Code.{Code}, code.Code.TheVariants.{TablesBounds}, fault.Place.{Place}, fault.Fault.{Fault}}
+use Rattle.ppdb_base.{specs.Place.{ComesBefore, numbers, number_of, at_byte}, specs.First.{IsAccepted, IsFirst}, proofs.Judging.{first_at, byte_before}}
+use Rattle.ppdb_base.{specs.Fields.{IsField}, proofs.Fields.{ends_by_cut, ends_within, sum_append, sum_cons}}
+use Rattle.row_layout.specs.declared.column.{Sizes.{Sizes}, Column.{Column}, Column.TheVariants.{U16, U32, Text, Blob, Guid, Row, Parent}}
 use Rattle.row_layout.specs.Columns.{width_of, index_width, has_rows, parent_tables}
-use Rattle.ppdb_tables.specs.Layouts.{debug_tables, row_len, row_fields}
-use Rattle.ppdb_tables.specs.Tables.{BoundFaults, bounds, rows_start}
-use Rattle.ppdb_tables.specs.Bounds.{IsRowFault}
+use Rattle.ppdb_tables.specs.{Layouts.{debug_tables, row_len, row_fields}, Tables.{BoundFaults, bounds, rows_start}, Bounds.{IsRowFault}}
 use Rattle.ppdb_tables.proofs.RowCounts.{sum-replicate}
 
 pub no_table : ℕ × List Column

@@ -1,24 +1,13 @@
 -- The first fault of the #~ stream before its rows, from what its readers saw.
-use Rattle.std.proofs.Common.{◌≡◌, ◌≢◌, ℕ, suc, ◌+◌, ◌-◌, ◌<◌, ◌≤◌, inl, inr, List, [], ◌∷◌, ◌++◌, length, sum, replicate, refl, sym, ap}
-use Rattle.std.proofs.Common.{subst, ◌∙◌, append_assoc, arith, lit≤, lit<}
-use Rattle.ppdb_base.specs.declared.code.Code.{Code}
-use Rattle.ppdb_base.specs.declared.code.Code.TheVariants.{TablesShort, HeapBits, TablesForeign, TableRows, MethodRows}
-use Rattle.ppdb_base.specs.declared.fault.Place.{Place}
-use Rattle.ppdb_base.specs.declared.fault.Fault.{Fault}
-use Rattle.ppdb_base.specs.Place.{ComesBefore, numbers, number_of, at_byte}
-use Rattle.ppdb_base.specs.First.{IsAccepted, IsFirst, IsJudgedTo}
-use Rattle.ppdb_base.proofs.Judging.{first_at, byte_before}
-use Rattle.ppdb_base.specs.Fields.{IsField}
-use Rattle.ppdb_base.proofs.Fields.{ends_by_cut, ends_within}
-use Rattle.std.specs.Prelude.{nat_lt, if◌then◌else◌, slice_index}
-use Rattle.std.proofs.lemmas.Bool.{cases_lt}
-use Rattle.ppdb_tables.specs.declared.head.PdbHead.{PdbHead}
-use Rattle.ppdb_tables.specs.declared.counts.Part.{Part}
-use Rattle.ppdb_tables.specs.Counts.{HasCount, counts_below, count_fields, IsShort, IsCountFault, count_place}
-use Rattle.ppdb_tables.specs.Tables.{TableFieldFaults, short, heap_bits, foreign, rows, method_rows, IsForeign, heap_sizes, valid}
-use Rattle.ppdb_tables.specs.Tables.{table_fields, table_rows, rows_start, count_in}
-use Rattle.ppdb_tables.proofs.FieldLists.{field_within, starts_by}
-use Rattle.ppdb_tables.proofs.RowCounts.{cut, sum-cut, sum-fields, fields_cut, count_cut, one_more, earlier_table, same_table, rows_in-set}
+use Rattle.std.proofs.Common.{◌≡◌, ◌≢◌, ℕ, suc, ◌+◌, ◌-◌, ◌<◌, ◌≤◌, inl, inr, List, [], ◌∷◌, ◌++◌, length, sum, replicate, refl, sym, ap, subst, ◌∙◌, append_assoc}
+use Rattle.std.{proofs.Common.{arith, lit≤, lit<}, specs.Prelude.{nat_lt, if◌then◌else◌, slice_index}, proofs.lemmas.Bool.{cases_lt}}
+use Rattle.ppdb_base.specs.declared.{code.Code.{Code}, code.Code.TheVariants.{TablesShort, HeapBits, TablesForeign, TableRows, MethodRows}, fault.Place.{Place}}
+use Rattle.ppdb_base.specs.{declared.fault.Fault.{Fault}, Place.{ComesBefore, numbers, number_of, at_byte}, First.{IsAccepted, IsFirst, IsJudgedTo}}
+use Rattle.ppdb_base.{proofs.Judging.{first_at, byte_before}, specs.Fields.{IsField}, proofs.Fields.{ends_by_cut, ends_within}}
+use Rattle.ppdb_tables.specs.{declared.head.PdbHead.{PdbHead}, declared.counts.Part.{Part}, Counts.{HasCount, counts_below, count_fields, IsShort, IsCountFault}}
+use Rattle.ppdb_tables.specs.{Counts.{count_place}, Tables.{TableFieldFaults, short, heap_bits, foreign, rows, method_rows, IsForeign, heap_sizes, valid}}
+use Rattle.ppdb_tables.{specs.Tables.{table_fields, table_rows, rows_start, count_in}, proofs.FieldLists.{field_within, starts_by}, proofs.RowCounts.{cut, sum-cut}}
+use Rattle.ppdb_tables.proofs.RowCounts.{sum-fields, fields_cut, count_cut, one_more, earlier_table, same_table, rows_in-set}
 
 -- the fields before the row counts
 abbrev prefix : List ℕ

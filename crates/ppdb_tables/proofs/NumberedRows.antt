@@ -1,6 +1,5 @@
 -- Rows by their numbers.
-use Rattle.std.proofs.Common.{◌≡◌, ℕ, zero, suc, ◌≤◌, List, length, Some, arith, inl, inr}
-use Rattle.std.proofs.lemmas.Option.{slice_get_cases, slice_get_within}
+use Rattle.std.proofs.{Common.{◌≡◌, ℕ, zero, suc, ◌≤◌, List, length, Some, arith, inl, inr}, lemmas.Option.{slice_get_cases, slice_get_within}}
 use Rattle.ppdb_tables.specs.RawTables.{row_at}
 
 -- a row that is there has a number from 1 to the count of rows

@@ -1,16 +1,10 @@
 -- Coded parents and parents undo each other.
 use Rattle.std.proofs.Common.{◌≡◌, ℕ, true, false, Bool, ◌+◌, ◌*◌, ◌/◌, ◌%◌, ◌<◌, get_or, Option, Some, None, refl, ap, subst, ◌∙◌, arith, eqb}
-use Rattle.std.specs.Prelude.{IfSome, slice_get}
-use Rattle.std.specs.List.{position, list_all, range_with_len}
-use Rattle.std.specs.Option.{option_map}
-use Rattle.std.proofs.lemmas.Bool.{eqb-true}
-use Rattle.std.proofs.lemmas.Option.{slice_get-get_or, slice_get_within, get_or_from_slice_get}
-use Rattle.std.proofs.lemmas.List.Quantifiers.{position-Some}
-use Rattle.std.proofs.lemmas.List.Folds.{list_all_at}
+use Rattle.std.{specs.Prelude.{IfSome, slice_get}, specs.List.{position, list_all, range_with_len}, specs.Option.{option_map}, proofs.lemmas.Bool.{eqb-true}}
+use Rattle.std.proofs.lemmas.{Option.{slice_get-get_or, slice_get_within, get_or_from_slice_get}, List.Quantifiers.{position-Some}, List.Folds.{list_all_at}}
 use Rattle.std.proofs.lemmas.List.FromFn.{get_or-range_with_len}
 use Rattle.row_layout.specs.Columns.{parent_tables}
-use Rattle.ppdb_tables.specs.declared.parent.Parent.{Parent}
-use Rattle.ppdb_tables.specs.Parents.{parent_in, coded_in}
+use Rattle.ppdb_tables.specs.{declared.parent.Parent.{Parent}, Parents.{parent_in, coded_in}}
 
 coded_case : (parent : Parent) (o : Option ℕ) → position (λ table. eqb table parent.table) parent_tables ≡ o
     → IfSome (option_map (λ tag. parent.row * 32 + tag) o) (λ coded. parent_in coded ≡ Some parent)

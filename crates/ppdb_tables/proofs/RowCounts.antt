@@ -1,9 +1,6 @@
 -- The places and values of row counts.
-use Rattle.std.proofs.Common.{◌≡◌, ◌≢◌, ℕ, zero, suc, ◌+◌, ◌-◌, ◌*◌, ◌<◌, ◌≤◌, inl, inr, List, ◌∷◌, ◌++◌, sum, replicate, refl, sym, ap}
-use Rattle.std.proofs.Common.{◌∙◌, append_assoc, arith, add-one, if◌then◌else◌}
-use Rattle.std.specs.Prelude.{◌==◌}
-use Rattle.std.specs.Int.{bit_at}
-use Rattle.std.proofs.lemmas.Bool.{cases_lt, cases_eq, eq-eqb, ne_eqb}
+use Rattle.std.proofs.Common.{◌≡◌, ◌≢◌, ℕ, zero, suc, ◌+◌, ◌-◌, ◌*◌, ◌<◌, ◌≤◌, inl, inr, List, ◌∷◌, ◌++◌, sum, replicate, refl, sym, ap, ◌∙◌, append_assoc, arith}
+use Rattle.std.{proofs.Common.{add-one, if◌then◌else◌}, specs.Prelude.{◌==◌}, specs.Int.{bit_at}, proofs.lemmas.Bool.{cases_lt, cases_eq, eq-eqb, ne_eqb}}
 use Rattle.std.proofs.lemmas.List.{replicate-append-replicate}
 use Rattle.ppdb_base.proofs.Fields.{sum_append, sum_cons}
 use Rattle.metadata_root.specs.Fields.{number_at}

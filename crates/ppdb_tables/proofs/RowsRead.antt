@@ -1,10 +1,7 @@
 -- The row of a number among the rows of a table.
-use Rattle.std.proofs.Common.{◌≡◌, ℕ, zero, suc, ◌-◌, ◌<◌, ◌≤◌, List, length, map, Some, sym, ap, ◌∙◌, arith}
-use Rattle.std.specs.List.{range_with_len}
-use Rattle.std.proofs.lemmas.Option.{slice_get-get_or}
-use Rattle.std.proofs.lemmas.List.FromFn.{length-map-range_with_len, get_or-map-range_with_len}
-use Rattle.ppdb_tables.specs.RawTables.{row_at}
-use Rattle.ppdb_tables.specs.Layouts.{row_in, rows_by}
+use Rattle.std.{proofs.Common.{◌≡◌, ℕ, zero, suc, ◌-◌, ◌<◌, ◌≤◌, List, length, map, Some, sym, ap, ◌∙◌, arith}, specs.List.{range_with_len}}
+use Rattle.std.proofs.lemmas.{Option.{slice_get-get_or}, List.FromFn.{length-map-range_with_len, get_or-map-range_with_len}}
+use Rattle.ppdb_tables.specs.{RawTables.{row_at}, Layouts.{row_in, rows_by}}
 
 row_is : {X : Type 0} (row_of : List ℕ → List ℕ → X) (widths bytes : List ℕ) (count row : ℕ) → 1 ≤ row → row ≤ count
     → row_at (rows_by row_of widths bytes count) row ≡ Some (row_of widths (row_in widths bytes (row - 1)))

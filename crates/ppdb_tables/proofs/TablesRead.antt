@@ -1,24 +1,15 @@
 -- The tables that stand in the stream, from where they were placed.
-use Rattle.std.proofs.Common.{◌≡◌, ℕ, ◌+◌, ◌*◌, ◌<◌, ◌≤◌, inl, inr, List, length, map, sum, Some, refl, sym, ap, ◌∙◌, arith, lit≤}
-use Rattle.std.specs.Prelude.{slice_get, slice_index}
-use Rattle.std.specs.List.{range_with_len}
-use Rattle.std.proofs.lemmas.Bool.{cases_lt, lt-ltb, le-ltb}
-use Rattle.std.proofs.lemmas.Option.{get_or_from_slice_get, slice_get_within}
-use Rattle.std.proofs.lemmas.List.{get_or_past}
-use Rattle.std.proofs.lemmas.List.FromFn.{length-map-range_with_len, get_or-map-range_with_len}
+use Rattle.std.{proofs.Common.{◌≡◌, ℕ, ◌+◌, ◌*◌, ◌<◌, ◌≤◌, inl, inr, List, length, map, sum, Some, refl, sym, ap, ◌∙◌, arith, lit≤}, specs.Prelude.{slice_get}}
+use Rattle.std.{specs.Prelude.{slice_index}, specs.List.{range_with_len}, proofs.lemmas.Bool.{cases_lt, lt-ltb, le-ltb}}
+use Rattle.std.proofs.lemmas.{Option.{get_or_from_slice_get, slice_get_within}, List.{get_or_past}, List.FromFn.{length-map-range_with_len}}
+use Rattle.std.proofs.lemmas.List.FromFn.{get_or-map-range_with_len}
 use Rattle.ppdb_base.specs.First.{IsAccepted}
-use Rattle.row_layout.specs.declared.column.Sizes.{Sizes}
-use Rattle.row_layout.specs.declared.column.Column.{Column}
+use Rattle.row_layout.specs.declared.column.{Sizes.{Sizes}, Column.{Column}}
 use Rattle.ppdb_tables.specs.declared.head.PdbHead.{PdbHead}
 use Rattle.ppdb_tables.specs.declared.table.Table as declared
-use Rattle.ppdb_tables.specs.Head.{PdbFaults, IsHeadOf}
-use Rattle.ppdb_tables.specs.Layouts.{debug_tables, widths_of, row_len}
-use Rattle.ppdb_tables.specs.Tables.{count_in, sizes_in, table_rows, table_place, rows_at}
-use Rattle.ppdb_tables.specs.TableOf.{IsTableAt, rows_of}
-use Rattle.ppdb_tables.specs.RawTables.{RawTables}
-use Rattle.ppdb_tables.specs.Bounds.{StandsAt}
-use Rattle.ppdb_tables.proofs.FirstOfRows.{table, no_table, number_is, next_table}
-use Rattle.ppdb_tables.proofs.FirstOfHead.{few_rows}
+use Rattle.ppdb_tables.specs.{Head.{PdbFaults, IsHeadOf}, Layouts.{debug_tables, widths_of, row_len}, Tables.{count_in, sizes_in, table_rows, table_place, rows_at}}
+use Rattle.ppdb_tables.{specs.TableOf.{IsTableAt, rows_of}, specs.RawTables.{RawTables}, specs.Bounds.{StandsAt}, proofs.FirstOfRows.{table, no_table, number_is}}
+use Rattle.ppdb_tables.proofs.{FirstOfRows.{next_table}, FirstOfHead.{few_rows}}
 
 -- a table that was placed ends in the stream
 pub table_fits : (sizes : Sizes) (stream : List ℕ) (index number : ℕ) (columns : List Column) (widths : List ℕ) (place : ℕ)

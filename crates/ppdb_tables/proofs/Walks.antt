@@ -1,14 +1,9 @@
 -- Chains of parents: a chain that comes back to a row never ends.
-use Rattle.std.proofs.Common.{◌≡◌, ℕ, ◌+◌, ◌-◌, ◌<◌, ◌≤◌, ◌≢◌, List, length, get_or, None, refl, sym, subst, ap, ◌∙◌, arith, inl, inr, zero, suc}
-use Rattle.std.proofs.Common.{true, false, IsTrue, ◌↔◌, replicate}
-use Rattle.std.proofs.lemmas.Bool.{cases_lt, cases_eq}
-use Rattle.std.proofs.lemmas.List.{get_or-set_same, get_or-set_other, length-set, get_or-replicate, length-replicate}
-use Rattle.std.proofs.lemmas.Option.{slice_get_past}
-use Rattle.std.proofs.Math.ListN.{set}
-use Rattle.std.specs.Prelude.{Some, slice_get}
-use Rattle.ppdb_tables.specs.RawTables.{row_at}
-use Rattle.ppdb_tables.specs.Chains.{NeverEnds, ancestor_of, parent_at}
-use Rattle.ppdb_tables.specs.Marks.{Ends, MarksEnd, WalksTo}
+use Rattle.std.proofs.Common.{◌≡◌, ℕ, ◌+◌, ◌-◌, ◌<◌, ◌≤◌, ◌≢◌, List, length, get_or, None, refl, sym, subst, ap, ◌∙◌, arith, inl, inr, zero, suc, true, false}
+use Rattle.std.proofs.{Common.{IsTrue, ◌↔◌, replicate}, lemmas.Bool.{cases_lt, cases_eq}, lemmas.List.{get_or-set_same, get_or-set_other, length-set}}
+use Rattle.std.{proofs.lemmas.List.{get_or-replicate, length-replicate}, proofs.lemmas.Option.{slice_get_past}, proofs.Math.ListN.{set}, specs.Prelude.{Some}}
+use Rattle.std.specs.Prelude.{slice_get}
+use Rattle.ppdb_tables.specs.{RawTables.{row_at}, Chains.{NeverEnds, ancestor_of, parent_at}, Marks.{Ends, MarksEnd, WalksTo}}
 
 module _ (parent : ℕ → ℕ) (top : parent 0 ≡ 0) where
   -- a walk of two parts

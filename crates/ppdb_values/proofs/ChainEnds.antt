@@ -1,10 +1,8 @@
 -- A chain of import scopes that does not go on for ever is no longer than the table (Portable PDB v1.0, ImportScope: Parent).
-use Rattle.std.proofs.Common.{◌≡◌, ℕ, zero, suc, ◌≤◌, List, [], ◌∷◌, length, refl, sym, ap, ◌∙◌, arith}
-use Rattle.std.specs.Prelude.{Option, Some, None}
+use Rattle.std.{proofs.Common.{◌≡◌, ℕ, zero, suc, ◌≤◌, List, [], ◌∷◌, length, refl, sym, ap, ◌∙◌, arith}, specs.Prelude.{Option, Some, None}}
 use Rattle.std.specs.Option.{option_map_or}
 use Rattle.ppdb_tables.specs.RawTables.{row_at}
-use Rattle.ppdb_values.specs.Chains.{chain_for, parent_at, ancestor_of, ChainsEnd}
-use Rattle.ppdb_values.proofs.Pigeons.{ends_within}
+use Rattle.ppdb_values.{specs.Chains.{chain_for, parent_at, ancestor_of, ChainsEnd}, proofs.Pigeons.{ends_within}}
 
 none_for : {X : Type 0} (parent : X → ℕ) (rows : List X) (most : ℕ) → chain_for parent rows most 0 ≡ []
 unfolding chain_for

@@ -1,24 +1,14 @@
 -- The worked program's file keeps the rules.
-use Rattle.std.proofs.Common.{◌≡◌, ◌≢◌, ℕ, zero, suc, ◌≤◌, List, [], ◌∷◌, refl, sym, subst, arith, inl, inr, true, slice_index}
-use Rattle.std.specs.Prelude.{Option, Some, None, nat_le}
-use Rattle.std.specs.List.{list_all}
-use Rattle.std.proofs.lemmas.Bool.Decides.{nat_tests}
+use Rattle.std.{proofs.Common.{◌≡◌, ◌≢◌, ℕ, zero, suc, ◌≤◌, List, [], ◌∷◌, refl, sym, subst, arith, inl, inr, true, slice_index}, specs.Prelude.{Option, Some, None}}
+use Rattle.std.{specs.Prelude.{nat_le}, specs.List.{list_all}, proofs.lemmas.Bool.Decides.{nat_tests}}
 use Rattle.ppdb_base.specs.declared.fault.BlobFault.{BlobFault}
-use Rattle.blob_grammar.specs.Grammar.{Grammar}
-use Rattle.blob_grammar.specs.Reading.{Reading}
-use Rattle.blob_grammar.specs.Reader.{read_from, read_for, fields_from, fields_for, unsigned_at, signed_at, two_at, four_at, character_len}
-use Rattle.blob_grammar.proofs.PrefixFields.{records_read}
-use Rattle.blob_grammar.proofs.Readers.{read_from-reads}
+use Rattle.blob_grammar.specs.{Grammar.{Grammar}, Reading.{Reading}, Reader.{read_from, read_for, fields_from, fields_for, unsigned_at, signed_at, two_at, four_at}}
+use Rattle.blob_grammar.{specs.Reader.{character_len}, proofs.PrefixFields.{records_read}, proofs.Readers.{read_from-reads}}
 use Rattle.ppdb_heaps.specs.Heaps.{text_at, blob_at, guid_at}
-use Rattle.ppdb_tables.specs.declared.rows.ScopeRow.{ScopeRow}
-use Rattle.ppdb_tables.specs.RawTables.{row_at, HasShape}
-use Rattle.ppdb_values.specs.RawFile.{text, records_of, begun_of}
-use Rattle.ppdb_values.specs.Chains.{chain_for}
-use Rattle.ppdb_values.specs.Ordered.{EachRow, EachPair, IsSorted, Rises}
-use Rattle.ppdb_values.specs.Rules.{IsWhole, IsDocument, KeepsDocuments, IsMethod, KeepsMethods, IsScope, KeepsScopes, KeepsLists}
-use Rattle.ppdb_values.specs.Rules.{KeepsVariables, IsConstant, KeepsConstants, IsImport, KeepsImports, KeepsMachines, IsCustom}
-use Rattle.ppdb_values.specs.Rules.{KeepsCustoms, KeepsRules}
-use Rattle.ppdb_values.specs.WorkedProgram.{program_file}
+use Rattle.ppdb_tables.specs.{declared.rows.ScopeRow.{ScopeRow}, RawTables.{row_at, HasShape}}
+use Rattle.ppdb_values.specs.{RawFile.{text, records_of, begun_of}, Chains.{chain_for}, Ordered.{EachRow, EachPair, IsSorted, Rises}, Rules.{IsWhole, IsDocument}}
+use Rattle.ppdb_values.specs.Rules.{KeepsDocuments, IsMethod, KeepsMethods, IsScope, KeepsScopes, KeepsLists, KeepsVariables, IsConstant, KeepsConstants, IsImport}
+use Rattle.ppdb_values.specs.{Rules.{KeepsImports, KeepsMachines, IsCustom, KeepsCustoms, KeepsRules}, WorkedProgram.{program_file}}
 
 -- ---- rows that are listed
 

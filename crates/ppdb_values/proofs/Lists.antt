@@ -1,20 +1,10 @@
 -- Where the lists of scopes are in order, a scope owns the items of its list.
-use Rattle.std.proofs.Common.{◌≡◌, ℕ, zero, suc, ◌+◌, ◌-◌, ◌≤◌, ◌<◌, ◌↔◌, List, [], ◌∷◌, length, map, take, drop, refl, ap, sym, arith}
-use Rattle.std.proofs.Common.{inl, inr, Bool, true, false, slice_get, slice_index}
-use Rattle.std.specs.Prelude.{Option, Some, None, unwrap_or, nat_eq}
-use Rattle.std.specs.List.{filter, enumerate_from}
-use Rattle.std.specs.Option.{option_map, option_map_or}
-use Rattle.std.proofs.lemmas.Bool.{cases_lt, cases_eq}
-use Rattle.std.proofs.lemmas.Bool.Decides.{nat_tests}
-use Rattle.std.proofs.lemmas.List.{length-map}
-use Rattle.std.proofs.lemmas.Option.{slice_get_cases, slice_get_within}
-use Rattle.ppdb_tables.specs.declared.rows.ScopeRow.{ScopeRow}
-use Rattle.ppdb_tables.specs.RawTables.{row_at}
-use Rattle.ppdb_values.specs.Value.{owner_of, owned_by}
-use Rattle.ppdb_values.specs.Rules.{KeepsLists}
-use Rattle.ppdb_tables.specs.Owners.{Owns}
-use Rattle.ppdb_values.specs.Owners.{list_end, list_of}
-use Rattle.ppdb_values.proofs.Owners.{owner_is_last, owner_is_found}
+use Rattle.std.proofs.Common.{◌≡◌, ℕ, zero, suc, ◌+◌, ◌-◌, ◌≤◌, ◌<◌, ◌↔◌, List, [], ◌∷◌, length, map, take, drop, refl, ap, sym, arith, inl, inr, Bool, true, false}
+use Rattle.std.{proofs.Common.{slice_get, slice_index}, specs.Prelude.{Option, Some, None, unwrap_or, nat_eq}, specs.List.{filter, enumerate_from}}
+use Rattle.std.{specs.Option.{option_map, option_map_or}, proofs.lemmas.Bool.{cases_lt, cases_eq}, proofs.lemmas.Bool.Decides.{nat_tests}}
+use Rattle.std.proofs.lemmas.{List.{length-map}, Option.{slice_get_cases, slice_get_within}}
+use Rattle.ppdb_tables.specs.{declared.rows.ScopeRow.{ScopeRow}, RawTables.{row_at}, Owners.{Owns}}
+use Rattle.ppdb_values.{specs.Value.{owner_of, owned_by}, specs.Rules.{KeepsLists}, specs.Owners.{list_end, list_of}, proofs.Owners.{owner_is_last, owner_is_found}}
 
 -- ---- keys of rows
 

@@ -1,16 +1,9 @@
 -- Filters and chains of the rows of a table, and of what is made of them.
-use Rattle.std.proofs.Common.{◌≡◌, ℕ, zero, suc, ◌+◌, List, [], ◌∷◌, length, map, refl, ap, ◌∙◌, Bool, true, false, cond}
-use Rattle.std.specs.Prelude.{Some, None, slice_get, ◌&&◌, ◌==◌}
-use Rattle.std.specs.List.{filter, enumerate_from}
-use Rattle.std.specs.Option.{option_map}
-use Rattle.std.proofs.lemmas.List.{length-map}
-use Rattle.std.specs.Option.{option_map_or}
+use Rattle.std.{proofs.Common.{◌≡◌, ℕ, zero, suc, ◌+◌, List, [], ◌∷◌, length, map, refl, ap, ◌∙◌, Bool, true, false, cond}, specs.Prelude.{Some, None, slice_get}}
+use Rattle.std.{specs.Prelude.{◌&&◌, ◌==◌}, specs.List.{filter, enumerate_from}, specs.Option.{option_map, option_map_or}, proofs.lemmas.List.{length-map}}
 use Rattle.ppdb_tables.specs.RawTables.{numbered, row_at}
-use Rattle.ppdb_values.specs.RawFile.{RawFile}
-use Rattle.ppdb_values.specs.Imports.{import_scope_of}
-use Rattle.ppdb_values.specs.Value.{value_of, scope_of, range_of}
-use Rattle.ppdb_values.specs.Chains.{chain_for, chain_of}
-use Rattle.ppdb_values.specs.Parts.{scopes_at, import_chain, holds}
+use Rattle.ppdb_values.specs.{RawFile.{RawFile}, Imports.{import_scope_of}, Value.{value_of, scope_of, range_of}, Chains.{chain_for, chain_of}, Parts.{scopes_at}}
+use Rattle.ppdb_values.specs.Parts.{import_chain, holds}
 
 numbered_map : {X Y : Type 0} (f : ℕ × X → Y) (n : ℕ) (rows : List X) → enumerate_from n (map f (enumerate_from n rows)) ≡ map (λ row. (row.0, f row))
     (enumerate_from n rows)

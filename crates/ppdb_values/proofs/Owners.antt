@@ -1,14 +1,9 @@
 -- The owner of an item is the last scope whose list begins at or before it.
 use Rattle.std.proofs.Common.{◌≡◌, ℕ, zero, suc, ◌+◌, ◌≤◌, ◌<◌, ◌⊎◌, List, [], ◌∷◌, refl, ap, sym, ◌∙◌, arith, inl, inr, true, false, slice_get}
-use Rattle.std.specs.Prelude.{Option, Some, None, nat_le}
-use Rattle.std.specs.List.{filter, last_or, enumerate_from}
-use Rattle.std.specs.Option.{option_map}
-use Rattle.std.proofs.lemmas.Bool.{cases_lt}
+use Rattle.std.{specs.Prelude.{Option, Some, None, nat_le}, specs.List.{filter, last_or, enumerate_from}, specs.Option.{option_map}, proofs.lemmas.Bool.{cases_lt}}
 use Rattle.std.proofs.lemmas.Bool.Decides.{nat_tests}
-use Rattle.ppdb_tables.specs.declared.rows.ScopeRow.{ScopeRow}
-use Rattle.ppdb_tables.specs.RawTables.{row_at}
+use Rattle.ppdb_tables.specs.{declared.rows.ScopeRow.{ScopeRow}, RawTables.{row_at}, Owners.{Owns}}
 use Rattle.ppdb_values.specs.Value.{owner_of}
-use Rattle.ppdb_tables.specs.Owners.{Owns}
 
 -- the last of some scopes whose list begins at or before an item
 record IsLastOf (list : ScopeRow → ℕ) (scopes : List ScopeRow) (item index : ℕ) : Type 0 where

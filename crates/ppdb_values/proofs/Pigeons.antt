@@ -1,8 +1,6 @@
 -- More numbers than there are values: two are equal.
 use Rattle.std.proofs.Common.{◌≡◌, ℕ, zero, suc, ◌+◌, ◌-◌, ◌<◌, ◌≤◌, ◌≢◌, refl, arith, sym, ap, ◌∙◌, true, false, cond, inl, inr, ◌⊎◌, ◌*◌, zero-add}
-use Rattle.std.specs.Prelude.{◌==◌}
-use Rattle.std.proofs.Math.Nat.{mul-le-mul_left}
-use Rattle.std.proofs.lemmas.Bool.Decides.{nat_tests}
+use Rattle.std.{specs.Prelude.{◌==◌}, proofs.Math.Nat.{mul-le-mul_left}, proofs.lemmas.Bool.Decides.{nat_tests}}
 use Rattle.ppdb_values.specs.Chains.{ancestor_of}
 
 -- two places below a number where the values are equal

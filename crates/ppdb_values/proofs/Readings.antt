@@ -1,24 +1,15 @@
 -- A blob has one reading, and the plain reader's is it.
-use Rattle.std.proofs.Common.{◌≡◌, ℕ, List, [], ◌∷◌, map, Option, Some, None, refl, ap, sym, ◌∙◌}
-use Rattle.std.specs.List.{filter_map}
+use Rattle.std.{proofs.Common.{◌≡◌, ℕ, List, [], ◌∷◌, map, Option, Some, None, refl, ap, sym, ◌∙◌}, specs.List.{filter_map}}
 use Rattle.ppdb_base.specs.declared.fault.BlobFault.{BlobFault}
-use Rattle.blob_grammar.specs.Grammar.{Value, Field, Grammar, cut}
-use Rattle.blob_grammar.specs.Reading.{Reading, IsLongestPrefix}
-use Rattle.blob_grammar.proofs.PrefixFields.{longest-prefix_of, records_are_cut}
+use Rattle.blob_grammar.{specs.Grammar.{Value, Field, Grammar, cut}, specs.Reading.{Reading, IsLongestPrefix}, proofs.PrefixFields.{longest-prefix_of}}
+use Rattle.blob_grammar.proofs.PrefixFields.{records_are_cut}
 use Rattle.ppdb_heaps.specs.Names.{IsName, names, joined, name_of}
-use Rattle.sequence_points.specs.declared.point.Point.{Point}
-use Rattle.sequence_points.specs.Records.{Entry as PointEntry, sequence_points}
-use Rattle.sequence_points.specs.Points.{PointsReading, points_after, signature_of}
-use Rattle.type_blobs.specs.declared.types.Modifier.{Modifier}
-use Rattle.type_blobs.specs.Constants.{constants, ConstantBody, body_of}
-use Rattle.type_blobs.specs.ConstantReading.{ConstantReading, body}
-use Rattle.custom_info.specs.declared.stepping.AsyncStep.{AsyncStep}
-use Rattle.custom_info.specs.AsyncStepping.{async_stepping, Entry, await_step, entries_of}
+use Rattle.sequence_points.specs.{declared.point.Point.{Point}, Records.{Entry as PointEntry, sequence_points}, Points.{PointsReading, points_after, signature_of}}
+use Rattle.type_blobs.specs.{declared.types.Modifier.{Modifier}, Constants.{constants, ConstantBody, body_of}, ConstantReading.{ConstantReading, body}}
+use Rattle.custom_info.specs.{declared.stepping.AsyncStep.{AsyncStep}, AsyncStepping.{async_stepping, Entry, await_step, entries_of}}
 use Rattle.ppdb_tables.specs.RawTables.{RawTables, count}
-use Rattle.ppdb_values.specs.declared.custom.CustomBody.TheVariants.{Async}
-use Rattle.ppdb_values.specs.RawFile.{records_of, begun_of, point_limits, type_limits}
-use Rattle.ppdb_values.specs.Documents.{points_in, signature_in}
-use Rattle.ppdb_values.specs.Customs.{step_of, async_body}
+use Rattle.ppdb_values.specs.{declared.custom.CustomBody.TheVariants.{Async}, RawFile.{records_of, begun_of, point_limits, type_limits}, Documents.{points_in}}
+use Rattle.ppdb_values.specs.{Documents.{signature_in}, Customs.{step_of, async_body}}
 
 -- the records of a reading
 pub records_are : {R : Type 0} (g : Grammar R) (blob : List ℕ) (records : List R) (fault : Option BlobFault) → Reading g blob records fault

@@ -1,18 +1,10 @@
 -- What a value has of a method is what the method's row has.
-use Rattle.std.proofs.Common.{◌≡◌, ℕ, zero, suc, ◌+◌, ◌<◌, ◌⊎◌, List, [], ◌∷◌, refl, arith, inl, inr, true, false, slice_get}
-use Rattle.std.specs.Prelude.{Option, Some, None, ◌==◌}
-use Rattle.std.specs.List.{filter_map, find, enumerate_from}
-use Rattle.std.specs.Option.{option_map}
-use Rattle.std.proofs.lemmas.Bool.Decides.{nat_tests}
+use Rattle.std.{proofs.Common.{◌≡◌, ℕ, zero, suc, ◌+◌, ◌<◌, ◌⊎◌, List, [], ◌∷◌, refl, arith, inl, inr, true, false, slice_get}, specs.Prelude.{Option, Some, None}}
+use Rattle.std.{specs.Prelude.{◌==◌}, specs.List.{filter_map, find, enumerate_from}, specs.Option.{option_map}, proofs.lemmas.Bool.Decides.{nat_tests}}
 use Rattle.sequence_points.specs.declared.point.Point.{Point}
-use Rattle.ppdb_tables.specs.declared.rows.MethodDebugRow.{MethodDebugRow}
-use Rattle.ppdb_tables.specs.RawTables.{RawTables, row_at}
-use Rattle.ppdb_values.specs.declared.file.MethodValue.{MethodValue}
-use Rattle.ppdb_values.specs.RawFile.{RawFile, blob}
-use Rattle.ppdb_values.specs.Documents.{method_of, method_with, points_in, signature_in}
-use Rattle.ppdb_values.specs.Value.{value_of}
-use Rattle.ppdb_values.specs.Parts.{method_at}
-use Rattle.ppdb_values.specs.Rows.{method_in}
+use Rattle.ppdb_tables.specs.{declared.rows.MethodDebugRow.{MethodDebugRow}, RawTables.{RawTables, row_at}}
+use Rattle.ppdb_values.specs.{declared.file.MethodValue.{MethodValue}, RawFile.{RawFile, blob}, Documents.{method_of, method_with, points_in, signature_in}}
+use Rattle.ppdb_values.specs.{Value.{value_of}, Parts.{method_at}, Rows.{method_in}}
 
 -- a row has no points, or a value with its number
 abbrev IsNumbered : ℕ → Option MethodValue → Type 0

@@ -1,16 +1,10 @@
 -- The imports of values as they are stored and written.
-use Rattle.std.proofs.Common.{◌≡◌, ℕ, List, refl, ap, ◌∙◌, arith}
-use Rattle.std.specs.Prelude.{Option, Some, ◌≤◌}
-use Rattle.type_blobs.specs.declared.types.TypeToken.{TypeToken}
-use Rattle.type_blobs.specs.Imports.{ImportItem, namespace, assembly_namespace, target, xml, alias, assembly_alias, namespace_alias}
-use Rattle.type_blobs.specs.Imports.{assembly_namespace_alias, target_alias, text_of}
-use Rattle.type_blobs.specs.Spelling.{import_item}
-use Rattle.type_blobs.specs.Types.{IsToken, token_of, number_of}
-use Rattle.type_blobs.proofs.WrittenNumbers.{token-back}
-use Rattle.ppdb_values.specs.declared.import.ImportValue.{ImportValue}
-use Rattle.ppdb_values.specs.declared.import.ImportValue.TheVariants.{Namespace, AssemblyNamespace, Target, Xml, Alias, AssemblyAlias}
-use Rattle.ppdb_values.specs.declared.import.ImportValue.TheVariants.{NamespaceAlias, AssemblyNamespaceAlias, TargetAlias}
-use Rattle.ppdb_values.specs.Imports.{import_value}
+use Rattle.std.{proofs.Common.{◌≡◌, ℕ, List, refl, ap, ◌∙◌, arith}, specs.Prelude.{Option, Some, ◌≤◌}}
+use Rattle.type_blobs.specs.{declared.types.TypeToken.{TypeToken}, Imports.{ImportItem, namespace, assembly_namespace, target, xml, alias, assembly_alias}}
+use Rattle.type_blobs.specs.{Imports.{namespace_alias, assembly_namespace_alias, target_alias, text_of}, Spelling.{import_item}, Types.{IsToken, token_of}}
+use Rattle.type_blobs.{specs.Types.{number_of}, proofs.WrittenNumbers.{token-back}}
+use Rattle.ppdb_values.specs.declared.import.{ImportValue.{ImportValue}, ImportValue.TheVariants.{Namespace, AssemblyNamespace, Target, Xml, Alias, AssemblyAlias}}
+use Rattle.ppdb_values.specs.{declared.import.ImportValue.TheVariants.{NamespaceAlias, AssemblyNamespaceAlias, TargetAlias}, Imports.{import_value}}
 use Rattle.ppdb_values.specs.WrittenImports.{stored_import, kind_of_import, import_numbers, target_type, AreTextsOf}
 
 pub back : (import : ImportValue) → import_value (stored_import import) ≡ import

@@ -1,13 +1,9 @@
 -- The value of a file has what the types of the code carry.
-use Rattle.std.proofs.Common.{◌≡◌, ℕ, zero, suc, ◌+◌, ◌*◌, List, [], ◌∷◌, length, refl, sym, ap, ◌∙◌, Bool, true, false, arith}
-use Rattle.std.specs.Prelude.{◌≤◌, Option, Some, None, All, IfSome, nat_le, take, drop, if◌then◌else◌}
-use Rattle.std.specs.List.{enumerate_from}
-use Rattle.std.proofs.lemmas.Bool.Decides.{nat_tests}
-use Rattle.std.proofs.lemmas.List.{length-take-le, length-drop}
-use Rattle.std.proofs.lemmas.List.Elements.{All-nil, All-cons, All-head, All-tail}
+use Rattle.std.{proofs.Common.{◌≡◌, ℕ, zero, suc, ◌+◌, ◌*◌, List, [], ◌∷◌, length, refl, sym, ap, ◌∙◌, Bool, true, false, arith}, specs.Prelude.{◌≤◌, Option, Some}}
+use Rattle.std.{specs.Prelude.{None, All, IfSome, nat_le, take, drop, if◌then◌else◌}, specs.List.{enumerate_from}, proofs.lemmas.Bool.Decides.{nat_tests}}
+use Rattle.std.proofs.lemmas.{List.{length-take-le, length-drop}, List.Elements.{All-nil, All-cons, All-head, All-tail}}
 use Rattle.ppdb_heaps.specs.Heaps.{guid_at}
-use Rattle.ppdb_values.specs.Ordered.{EachRow}
-use Rattle.ppdb_values.specs.Types.{IsGuid}
+use Rattle.ppdb_values.specs.{Ordered.{EachRow}, Types.{IsGuid}}
 
 -- ---- lists of rows
 

@@ -1,15 +1,10 @@
 -- The worked files, by computation.
 use Rattle.std.proofs.Common.{◌≡◌, refl}
 use Rattle.blob_grammar.specs.Reader.{fields_from, fields_for, unsigned_at, signed_at, two_at, four_at, character_len}
-use Rattle.ppdb_heaps.specs.Heaps.{text_at, blob_at, guid_at}
-use Rattle.ppdb_heaps.specs.Names.{name_of}
-use Rattle.ppdb_values.specs.Chains.{chain_for}
-use Rattle.ppdb_values.specs.RawFile.{records_of, begun_of}
-use Rattle.ppdb_values.specs.Value.{value_of}
-use Rattle.ppdb_values.specs.Meaning.{meaning}
-use Rattle.ppdb_values.specs.Links.{links}
-use Rattle.ppdb_values.specs.WorkedSmall.{empty_file, empty_value, small_file, small_value, small_meaning, small_links}
-use Rattle.ppdb_values.specs.WorkedProgram.{program_file, program_value, program_meaning, program_links}
+use Rattle.ppdb_heaps.specs.{Heaps.{text_at, blob_at, guid_at}, Names.{name_of}}
+use Rattle.ppdb_values.specs.{Chains.{chain_for}, RawFile.{records_of, begun_of}, Value.{value_of}, Meaning.{meaning}, Links.{links}, WorkedSmall.{empty_file}}
+use Rattle.ppdb_values.specs.{WorkedSmall.{empty_value, small_file, small_value, small_meaning, small_links}, WorkedProgram.{program_file, program_value}}
+use Rattle.ppdb_values.specs.WorkedProgram.{program_meaning, program_links}
 
 pub empty_is : value_of empty_file ≡ empty_value
 empty_is = refl

@@ -1,30 +1,16 @@
 -- What the passes report, joined to what makes a part of a value sound.
-use Rattle.std.proofs.Common.{◌≡◌, ◌≢◌, ◌<◌, ◌≤◌, ℕ, Bool, List, get_or, sym, subst, true, false, IsTrue, ◌↔◌}
-use Rattle.std.specs.Prelude.{All, AllPairs, IfOk, Result}
-use Rattle.ppdb_base.specs.declared.list.Memory.{Memory}
-use Rattle.ppdb_tables.specs.declared.rows.MachineRow.{MachineRow}
-use Rattle.ppdb_tables.specs.Parents.{coded_of}
-use Rattle.ppdb_values.specs.declared.file.FileValue.{FileValue}
-use Rattle.ppdb_values.specs.declared.file.DocumentValue.{DocumentValue}
-use Rattle.ppdb_values.specs.declared.file.MethodValue.{MethodValue}
-use Rattle.ppdb_values.specs.declared.custom.CustomValue.{CustomValue}
-use Rattle.ppdb_values.specs.declared.import.ImportScopeValue.{ImportScopeValue}
-use Rattle.ppdb_values.specs.declared.scope.ConstantValue.{ConstantValue}
-use Rattle.ppdb_values.specs.declared.scope.ScopeValue.{ScopeValue}
-use Rattle.ppdb_values.specs.declared.scope.VariableValue.{VariableValue}
-use Rattle.ppdb_values.specs.Chains.{NeverEnds}
-use Rattle.ppdb_values.specs.Ordered.{EachPair, EachRow}
-use Rattle.ppdb_values_sound_laws.specs.Customs.{SoundCustom, SoundCustoms}
-use Rattle.ppdb_values_sound_laws.specs.Imports.{SoundImportScope, SoundImports}
-use Rattle.ppdb_values_sound_laws.specs.Methods.{SoundMethod, SoundMethods}
-use Rattle.ppdb_values.specs.Ranges.{ComesAfter}
-use Rattle.ppdb_values_sound_laws.specs.Scopes.{SoundScope, SoundScopes}
-use Rattle.ppdb_values_sound_laws.specs.Sound.{SoundDocuments, SoundMachine, SoundMachines}
-use Rattle.ppdb_values_check.specs.Scopes.{ComesBefore, HasDistinctItems, IsNested, IsPlainScope}
-use Rattle.ppdb_values_check.specs.Chains.{parent_of}
-use Rattle.ppdb_values_check.proofs.Open.{comes_after, comes_before, method_rises}
-use Rattle.ppdb_values_check.proofs.Listed.{each_pair, each_row, rises, sorted}
+use Rattle.std.{proofs.Common.{◌≡◌, ◌≢◌, ◌<◌, ◌≤◌, ℕ, Bool, List, get_or, sym, subst, true, false, IsTrue, ◌↔◌}, specs.Prelude.{All, AllPairs, IfOk, Result}}
 use Rattle.std.proofs.lemmas.Result.{IfOk-weaker}
+use Rattle.ppdb_base.specs.declared.list.Memory.{Memory}
+use Rattle.ppdb_tables.specs.{declared.rows.MachineRow.{MachineRow}, Parents.{coded_of}}
+use Rattle.ppdb_values.specs.declared.file.{FileValue.{FileValue}, DocumentValue.{DocumentValue}, MethodValue.{MethodValue}}
+use Rattle.ppdb_values.specs.declared.{custom.CustomValue.{CustomValue}, import.ImportScopeValue.{ImportScopeValue}, scope.ConstantValue.{ConstantValue}}
+use Rattle.ppdb_values.specs.{declared.scope.ScopeValue.{ScopeValue}, declared.scope.VariableValue.{VariableValue}, Chains.{NeverEnds}, Ordered.{EachPair, EachRow}}
+use Rattle.ppdb_values.specs.Ranges.{ComesAfter}
+use Rattle.ppdb_values_sound_laws.specs.{Customs.{SoundCustom, SoundCustoms}, Imports.{SoundImportScope, SoundImports}, Methods.{SoundMethod, SoundMethods}}
+use Rattle.ppdb_values_sound_laws.specs.{Scopes.{SoundScope, SoundScopes}, Sound.{SoundDocuments, SoundMachine, SoundMachines}}
+use Rattle.ppdb_values_check.{specs.Scopes.{ComesBefore, HasDistinctItems, IsNested, IsPlainScope}, specs.Chains.{parent_of}, proofs.Open.{comes_after}}
+use Rattle.ppdb_values_check.proofs.{Open.{comes_before, method_rises}, Listed.{each_pair, each_row, rises, sorted}}
 
 -- an answer about one fact, where another holds
 pub beside : {P Q answer : Type 0} → P → answer ↔ Q → answer ↔ (P × Q)

@@ -1,16 +1,8 @@
 -- Keys that are noted in a set, one by one.
 use Rattle.std.proofs.Common.{◌≡◌, ℕ, ◌+◌, ◌<◌, List, length, get_or, map, take, Bool, true, false, cond, ◌||◌, refl, sym, ap, ◌∙◌, arith, inl, inr, ◌↔◌, ◌≢◌}
-use Rattle.std.specs.Prelude.{AllPairs}
-use Rattle.std.specs.BTreeSet.{BTreeSet, contains, Updates}
-use Rattle.std.specs.List.{list_any}
-use Rattle.std.specs.declared.cmp.Ordering.{Ordering}
-use Rattle.std.specs.Cmp.Lexicographic.{slice_cmp}
-use Rattle.std.specs.Ordering.{is_eq, nat_cmp}
-use Rattle.std.proofs.lemmas.Bool.Decides.{nat_tests}
-use Rattle.std.proofs.lemmas.List.{get_or_read, get_or-map, get_or-take, length-map, length-take}
-use Rattle.std.proofs.lemmas.List.Folds.{Any-from_list_any, list_any_at, list_any_more}
-use Rattle.std.proofs.lemmas.Map.Text.{is_eq-slice_cmp}
-use Rattle.std.proofs.lemmas.Option.{slice_get_cases}
+use Rattle.std.specs.{Prelude.{AllPairs}, BTreeSet.{BTreeSet, contains, Updates}, List.{list_any}, declared.cmp.Ordering.{Ordering}, Cmp.Lexicographic.{slice_cmp}}
+use Rattle.std.{specs.Ordering.{is_eq, nat_cmp}, proofs.lemmas.Bool.Decides.{nat_tests}, proofs.lemmas.List.{get_or_read, get_or-map, get_or-take, length-map}}
+use Rattle.std.proofs.lemmas.{List.{length-take}, List.Folds.{Any-from_list_any, list_any_at, list_any_more}, Map.Text.{is_eq-slice_cmp}, Option.{slice_get_cases}}
 use Rattle.std.proofs.lemmas.Slice.Eq.{bytes_eq-Decides}
 use Rattle.ppdb_values_check.specs.Pairs.{AreApart, PrefixStands}
 

@@ -1,8 +1,6 @@
 -- Facts about rows by their numbers, and about the items of a list by their places.
 use Rattle.std.proofs.Common.{◌≡◌, ℕ, Bool, zero, suc, ◌<◌, ◌≤◌, List, length, get_or, map, take, refl, sym, subst, arith, inl, inr, ◌↔◌, IsTrue, true, false}
-use Rattle.std.specs.Prelude.{All, AllPairs, Some}
-use Rattle.std.proofs.lemmas.Bool.{cases_lt}
-use Rattle.std.proofs.lemmas.List.{get_or-map, get_or-take, length-map, length-take}
+use Rattle.std.{specs.Prelude.{All, AllPairs, Some}, proofs.lemmas.Bool.{cases_lt}, proofs.lemmas.List.{get_or-map, get_or-take, length-map, length-take}}
 use Rattle.std.proofs.lemmas.Option.{get_or_from_slice_get, slice_get-get_or, slice_get_cases, slice_get_within}
 use Rattle.ppdb_tables.specs.RawTables.{row_at}
 use Rattle.ppdb_values.specs.Ordered.{EachRow, EachPair, IsSorted, Rises}

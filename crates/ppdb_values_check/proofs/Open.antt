@@ -1,15 +1,9 @@
 -- The open scopes of a method, from scope to scope.
-use Rattle.std.proofs.Common.{◌≡◌, ℕ, zero, suc, ◌+◌, ◌-◌, ◌<◌, ◌≤◌, List, [], ◌∷◌, ◌++◌, length, take, get_or, sym, subst, ap, ◌∙◌}
-use Rattle.std.proofs.Common.{arith, inl, inr, length-append}
-use Rattle.std.specs.Prelude.{AllPairs}
-use Rattle.std.proofs.lemmas.List.{get_or_read, get_or-take, length-take}
-use Rattle.std.proofs.lemmas.Bool.{cases_lt}
-use Rattle.std.proofs.Math.ListN.{get_or-append}
-use Rattle.std.proofs.Math.Seq.{get_or-append_seam}
-use Rattle.ppdb_values.specs.declared.scope.ScopeValue.{ScopeValue}
-use Rattle.ppdb_values.specs.Ranges.{ComesAfter, IsInOrAfter}
-use Rattle.ppdb_values_check.specs.Pairs.{PrefixStands}
-use Rattle.ppdb_values_check.specs.Scopes.{AreOpen, ComesBefore, EndsThere, IsNested, IsOpen, WasOpen}
+use Rattle.std.proofs.Common.{◌≡◌, ℕ, zero, suc, ◌+◌, ◌-◌, ◌<◌, ◌≤◌, List, [], ◌∷◌, ◌++◌, length, take, get_or, sym, subst, ap, ◌∙◌, arith, inl, inr, length-append}
+use Rattle.std.{specs.Prelude.{AllPairs}, proofs.lemmas.List.{get_or_read, get_or-take, length-take}, proofs.lemmas.Bool.{cases_lt}}
+use Rattle.std.proofs.Math.{ListN.{get_or-append}, Seq.{get_or-append_seam}}
+use Rattle.ppdb_values.specs.{declared.scope.ScopeValue.{ScopeValue}, Ranges.{ComesAfter, IsInOrAfter}}
+use Rattle.ppdb_values_check.specs.{Pairs.{PrefixStands}, Scopes.{AreOpen, ComesBefore, EndsThere, IsNested, IsOpen, WasOpen}}
 
 -- a later scope is of no earlier method
 pub method_rises : (a b : ScopeValue) → ComesBefore a b → a.method ≤ b.method

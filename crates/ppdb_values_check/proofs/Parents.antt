@@ -1,6 +1,5 @@
 -- The parents of import scopes.
-use Rattle.std.proofs.Common.{◌≡◌, ℕ, zero, suc, ◌-◌, ◌<◌, ◌≤◌, List, length, get_or, sym, ap, arith}
-use Rattle.std.specs.Prelude.{Some, slice_get}
+use Rattle.std.{proofs.Common.{◌≡◌, ℕ, zero, suc, ◌-◌, ◌<◌, ◌≤◌, List, length, get_or, sym, ap, arith}, specs.Prelude.{Some, slice_get}}
 use Rattle.std.proofs.lemmas.Option.{slice_get-get_or}
 use Rattle.ppdb_values.specs.declared.import.ImportScopeValue.{ImportScopeValue}
 use Rattle.ppdb_values_check.specs.Chains.{parent_of}

@@ -1,6 +1,5 @@
 -- What the answers of cursors say of the items that are left.
-use Rattle.std.proofs.Common.{◌≡◌, suc, List, [], ◌∷◌, refl, ap, arith, All}
-use Rattle.std.specs.Prelude.{slice_get, Some, None}
+use Rattle.std.{proofs.Common.{◌≡◌, suc, List, [], ◌∷◌, refl, ap, arith, All}, specs.Prelude.{slice_get, Some, None}}
 use Rattle.blob_grammar.specs.Reader.{tail}
 
 -- ---- cursors over lists

@@ -1,21 +1,11 @@
 -- What records of custom debug information say, by their kinds.
-use Rattle.std.proofs.Common.{◌≡◌, ℕ, List, sym, ap, ◌∙◌}
-use Rattle.std.specs.Prelude.{None}
-use Rattle.blob_grammar.specs.Reader.{Left}
-use Rattle.blob_grammar.specs.Reading.{Reading}
-use Rattle.custom_info.specs.declared.kinds.Kind.{Kind}
-use Rattle.custom_info.specs.declared.kinds.Kind.TheVariants.{TypeDocuments as DocumentsKind}
-use Rattle.custom_info.specs.TypeDocuments.{type_documents}
-use Rattle.ppdb_tables.specs.declared.rows.CustomRow.{CustomRow}
-use Rattle.ppdb_tables.specs.RawTables.{RawTables, count}
-use Rattle.ppdb_values.specs.declared.custom.CustomBody.TheVariants.{TypeDocuments}
-use Rattle.ppdb_values.specs.Customs.{custom_body, custom_of}
-use Rattle.ppdb_values.specs.RawFile.{blob}
-use Rattle.ppdb_values.specs.Readings.{ValuesAreRead}
+use Rattle.std.{proofs.Common.{◌≡◌, ℕ, List, sym, ap, ◌∙◌}, specs.Prelude.{None}}
+use Rattle.blob_grammar.specs.{Reader.{Left}, Reading.{Reading}}
+use Rattle.custom_info.specs.{declared.kinds.Kind.{Kind}, declared.kinds.Kind.TheVariants.{TypeDocuments as DocumentsKind}, TypeDocuments.{type_documents}}
+use Rattle.ppdb_tables.specs.{declared.rows.CustomRow.{CustomRow}, RawTables.{RawTables, count}}
+use Rattle.ppdb_values.specs.{declared.custom.CustomBody.TheVariants.{TypeDocuments}, Customs.{custom_body, custom_of}, RawFile.{blob}, Readings.{ValuesAreRead}}
 use Rattle.ppdb_values.specs.Rules.{IsCustom}
-use Rattle.ppdb_verify_rows.specs.Customs.{IsOfKind}
-use Rattle.ppdb_verify_rows.proofs.Records.{whole_of_kind}
-use Rattle.ppdb_verify_rows.proofs.Whole.{whole_left}
+use Rattle.ppdb_verify_rows.{specs.Customs.{IsOfKind}, proofs.Records.{whole_of_kind}, proofs.Whole.{whole_left}}
 
 -- the body, by the kind
 pub body_of_kind : (raw : RawTables) (row : CustomRow) (kind : Kind) → IsOfKind raw row kind

@@ -1,8 +1,6 @@
 -- The row counts of the type system, number by number.
-use Rattle.std.proofs.Common.{replicate, set, ◌≢◌, length-set, get_or-set_other, get_or-set_same, below_more, length-append, ◌≡◌, ℕ, zero, suc, ◌+◌, ◌-◌}
-use Rattle.std.proofs.Common.{◌≤◌, ◌<◌, List, [], ◌∷◌, length, take, get_or, refl, sym, ◌∙◌, arith, inl, inr}
-use Rattle.std.specs.List.{repeat}
-use Rattle.std.proofs.lemmas.Bool.{cases_lt}
+use Rattle.std.proofs.Common.{replicate, set, ◌≢◌, length-set, get_or-set_other, get_or-set_same, below_more, length-append, ◌≡◌, ℕ, zero, suc, ◌+◌, ◌-◌, ◌≤◌, ◌<◌}
+use Rattle.std.{proofs.Common.{List, [], ◌∷◌, length, take, get_or, refl, sym, ◌∙◌, arith, inl, inr}, specs.List.{repeat}, proofs.lemmas.Bool.{cases_lt}}
 use Rattle.std.proofs.lemmas.List.{ext_get_or, get_or-take, get_or_append_left, get_or-append_right, length-take-le}
 use Rattle.ppdb_values.specs.Value.{type_system_rows}
 

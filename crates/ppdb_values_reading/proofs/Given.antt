@@ -1,15 +1,8 @@
 -- What the methods and the scopes of a file give, one after the other.
-use Rattle.std.proofs.Common.{◌≡◌, ℕ, ◌+◌, ◌-◌, ◌≤◌, List, [], ◌∷◌, ◌++◌, length, take, map, refl, sym, ap, ◌∙◌, append_assoc}
-use Rattle.std.specs.Prelude.{Option, Some, None}
+use Rattle.std.{proofs.Common.{◌≡◌, ℕ, ◌+◌, ◌-◌, ◌≤◌, List, [], ◌∷◌, ◌++◌, length, take, map, refl, sym, ap, ◌∙◌, append_assoc}, specs.Prelude.{Option, Some, None}}
 use Rattle.std.specs.List.{filter_map}
-use Rattle.ppdb_tables.specs.declared.rows.MethodDebugRow.{MethodDebugRow}
-use Rattle.ppdb_tables.specs.RawTables.{numbered, row_at}
-use Rattle.ppdb_tables.proofs.NumberedRows.{row_there}
-use Rattle.ppdb_values.specs.declared.file.MethodValue.{MethodValue}
-use Rattle.ppdb_values.specs.Documents.{method_of}
-use Rattle.ppdb_values.specs.Parts.{method_at}
-use Rattle.ppdb_values.specs.RawFile.{RawFile}
-use Rattle.ppdb_values.specs.Rows.{ValuesAreRows, method_in}
+use Rattle.ppdb_tables.{specs.declared.rows.MethodDebugRow.{MethodDebugRow}, specs.RawTables.{numbered, row_at}, proofs.NumberedRows.{row_there}}
+use Rattle.ppdb_values.specs.{declared.file.MethodValue.{MethodValue}, Documents.{method_of}, Parts.{method_at}, RawFile.{RawFile}, Rows.{ValuesAreRows, method_in}}
 use Rattle.ppdb_values.specs.Value.{value_of}
 use Rattle.ppdb_values_reading.proofs.Rows.{given_more}
 

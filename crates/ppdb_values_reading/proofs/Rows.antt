@@ -1,12 +1,7 @@
 -- Rows of a table, and what is made of them, row after row.
-use Rattle.std.proofs.Common.{◌≡◌, ℕ, zero, suc, ◌+◌, ◌-◌, ◌≤◌, ◌<◌, List, [], ◌∷◌, ◌++◌, length, take, drop, map, refl, sym, ap, ◌∙◌, arith, inl, inr}
-use Rattle.std.proofs.Common.{slice_get}
-use Rattle.std.specs.Prelude.{Option, Some, None}
-use Rattle.std.specs.List.{enumerate_from, filter_map}
-use Rattle.std.specs.Option.{option_map}
-use Rattle.std.proofs.lemmas.List.{take_all}
-use Rattle.std.proofs.lemmas.List.Elements.{filter_map-append}
-use Rattle.std.proofs.lemmas.Option.{slice_get_cases, slice_get_within}
+use Rattle.std.proofs.Common.{◌≡◌, ℕ, zero, suc, ◌+◌, ◌-◌, ◌≤◌, ◌<◌, List, [], ◌∷◌, ◌++◌, length, take, drop, map, refl, sym, ap, ◌∙◌, arith, inl, inr, slice_get}
+use Rattle.std.{specs.Prelude.{Option, Some, None}, specs.List.{enumerate_from, filter_map}, specs.Option.{option_map}, proofs.lemmas.List.{take_all}}
+use Rattle.std.proofs.lemmas.{List.Elements.{filter_map-append}, Option.{slice_get_cases, slice_get_within}}
 use Rattle.ppdb_tables.specs.RawTables.{numbered, row_at}
 use Rattle.ppdb_values.proofs.Mapped.{row_map}
 

@@ -1,26 +1,13 @@
 -- The lists of the scopes share out the items of a table.
-use Rattle.std.proofs.Common.{◌≡◌, ℕ, zero, suc, ◌+◌, ◌-◌, ◌≤◌, ◌<◌, List, [], ◌∷◌, length, map, refl, sym, ap, ◌∙◌, arith, inl, inr, slice_get}
-use Rattle.std.proofs.Common.{All}
-use Rattle.std.specs.Prelude.{Option, Some, None, unwrap_or}
-use Rattle.std.specs.List.{enumerate_from, sum_by}
-use Rattle.std.specs.Option.{option_map}
-use Rattle.std.proofs.lemmas.List.{length-map}
-use Rattle.std.proofs.lemmas.List.Sums.{sum_by-cons}
-use Rattle.std.proofs.lemmas.Option.{slice_get_cases, slice_get_within}
-use Rattle.ppdb_tables.specs.declared.rows.ScopeRow.{ScopeRow}
-use Rattle.ppdb_tables.specs.RawTables.{RawTables, numbered, row_at}
-use Rattle.ppdb_values.specs.declared.scope.ConstantValue.{ConstantValue}
-use Rattle.ppdb_values.specs.declared.scope.ScopeValue.{ScopeValue}
-use Rattle.ppdb_values.specs.declared.scope.VariableValue.{VariableValue}
-use Rattle.ppdb_values.specs.Constants.{constant_of}
-use Rattle.ppdb_values.specs.Owners.{list_end, ListsAreOwned}
-use Rattle.ppdb_values.specs.RawFile.{RawFile}
-use Rattle.ppdb_values.specs.Rules.{KeepsLists, KeepsRules}
-use Rattle.ppdb_values.specs.Value.{owned_by, range_of, scope_of, variable_of}
-use Rattle.ppdb_values.proofs.Lists.{index_map}
-use Rattle.ppdb_values_reading.specs.Lent.{variables_of, constants_of}
-use Rattle.ppdb_values_reading.specs.Scopes.{list_range, scope_in, items_in, scope_with, IsWithin, HasLists, rows_of, OwnTheirLists}
-use Rattle.ppdb_values_reading.proofs.Lists.{slice_made}
+use Rattle.std.proofs.Common.{◌≡◌, ℕ, zero, suc, ◌+◌, ◌-◌, ◌≤◌, ◌<◌, List, [], ◌∷◌, length, map, refl, sym, ap, ◌∙◌, arith, inl, inr, slice_get, All}
+use Rattle.std.{specs.Prelude.{Option, Some, None, unwrap_or}, specs.List.{enumerate_from, sum_by}, specs.Option.{option_map}, proofs.lemmas.List.{length-map}}
+use Rattle.std.proofs.lemmas.{List.Sums.{sum_by-cons}, Option.{slice_get_cases, slice_get_within}}
+use Rattle.ppdb_tables.specs.{declared.rows.ScopeRow.{ScopeRow}, RawTables.{RawTables, numbered, row_at}}
+use Rattle.ppdb_values.specs.declared.scope.{ConstantValue.{ConstantValue}, ScopeValue.{ScopeValue}, VariableValue.{VariableValue}}
+use Rattle.ppdb_values.specs.{Constants.{constant_of}, Owners.{list_end, ListsAreOwned}, RawFile.{RawFile}, Rules.{KeepsLists, KeepsRules}, Value.{owned_by}}
+use Rattle.ppdb_values.{specs.Value.{range_of, scope_of, variable_of}, proofs.Lists.{index_map}}
+use Rattle.ppdb_values_reading.specs.{Lent.{variables_of, constants_of}, Scopes.{list_range, scope_in, items_in, scope_with, IsWithin, HasLists, rows_of}}
+use Rattle.ppdb_values_reading.{specs.Scopes.{OwnTheirLists}, proofs.Lists.{slice_made}}
 use Rattle.ppdb_values_sound_laws.proofs.Listed.{sum_of_map}
 
 -- ---- lists in order

@@ -1,13 +1,10 @@
 -- What a cursor over the scopes has left, row after row.
-use Rattle.std.proofs.Common.{◌≡◌, ℕ, ◌+◌, ◌-◌, ◌≤◌, List, [], ◌∷◌, length, drop, map, sym, ap, ◌∙◌, arith}
-use Rattle.std.specs.Prelude.{slice_get, Some, None}
+use Rattle.std.{proofs.Common.{◌≡◌, ℕ, ◌+◌, ◌-◌, ◌≤◌, List, [], ◌∷◌, length, drop, map, sym, ap, ◌∙◌, arith}, specs.Prelude.{slice_get, Some, None}}
 use Rattle.std.proofs.lemmas.List.{length-map}
 use Rattle.blob_grammar.specs.Reader.{tail}
-use Rattle.ppdb_tables.specs.declared.rows.ScopeRow.{ScopeRow}
-use Rattle.ppdb_tables.specs.RawTables.{RawTables, numbered, row_at}
-use Rattle.ppdb_values_reading.specs.declared.scopes.Scope.{Scope}
-use Rattle.ppdb_values_reading.specs.Scopes.{scope_in, scopes_from}
-use Rattle.ppdb_values_reading.proofs.Rows.{from_row, from_past, length-from, length-numbered}
+use Rattle.ppdb_tables.specs.{declared.rows.ScopeRow.{ScopeRow}, RawTables.{RawTables, numbered, row_at}}
+use Rattle.ppdb_values_reading.{specs.declared.scopes.Scope.{Scope}, specs.Scopes.{scope_in, scopes_from}, proofs.Rows.{from_row, from_past, length-from}}
+use Rattle.ppdb_values_reading.proofs.Rows.{length-numbered}
 
 module _ (raw : RawTables) (row : ℕ) where
   pub left_some : (scope : ScopeRow) → row_at raw.scopes row ≡ Some scope → scopes_from raw row ≡ scope_in raw (row, scope) ∷ scopes_from raw (row + 1)

@@ -1,21 +1,12 @@
 -- The constants of a valid file are whole.
-use Rattle.std.proofs.Common.{◌≡◌, List, refl, sym, ap, ◌∙◌, subst}
-use Rattle.std.specs.Prelude.{Option, Some, None, Result, Ok, Err}
-use Rattle.std.specs.Option.{option_map_or}
+use Rattle.std.{proofs.Common.{◌≡◌, List, refl, sym, ap, ◌∙◌, subst}, specs.Prelude.{Option, Some, None, Result, Ok, Err}, specs.Option.{option_map_or}}
 use Rattle.ppdb_base.specs.declared.BlobFault.{BlobFault}
-use Rattle.type_blobs.specs.declared.constant.Constant.{Constant}
-use Rattle.type_blobs.specs.declared.types.Modifier.{Modifier}
-use Rattle.type_blobs.specs.ConstantReading.{ConstantLeft, ConstantReading, ConstantEnd, body, invalid_body, invalid_modifier, fault_of, modifier_fault}
-use Rattle.type_blobs.specs.ConstantReading.{body_answer, shown, shown_body}
+use Rattle.type_blobs.specs.{declared.constant.Constant.{Constant}, declared.types.Modifier.{Modifier}, ConstantReading.{ConstantLeft, ConstantReading, ConstantEnd}}
+use Rattle.type_blobs.specs.ConstantReading.{body, invalid_body, invalid_modifier, fault_of, modifier_fault, body_answer, shown, shown_body}
 use Rattle.type_blobs.specs.Constants.{ConstantBody, constants, body_of}
-use Rattle.ppdb_tables.specs.declared.rows.ConstantRow.{ConstantRow}
-use Rattle.ppdb_tables.specs.RawTables.{RawTables}
-use Rattle.ppdb_values.specs.declared.scope.ConstantValue.{ConstantValue}
-use Rattle.ppdb_values.specs.declared.scope.ConstantBody.TheVariants.{Object}
-use Rattle.ppdb_values.specs.Constants.{constant_of, body_value}
-use Rattle.ppdb_values.specs.RawFile.{blob, text, begun_of, type_limits}
-use Rattle.ppdb_values.specs.Readings.{ConstantsAreRead}
-use Rattle.ppdb_values.specs.Rules.{IsConstant}
+use Rattle.ppdb_tables.specs.{declared.rows.ConstantRow.{ConstantRow}, RawTables.{RawTables}}
+use Rattle.ppdb_values.specs.{declared.scope.ConstantValue.{ConstantValue}, declared.scope.ConstantBody.TheVariants.{Object}, Constants.{constant_of, body_value}}
+use Rattle.ppdb_values.specs.{RawFile.{blob, text, begun_of, type_limits}, Readings.{ConstantsAreRead}, Rules.{IsConstant}}
 use Rattle.ppdb_verify_rows.proofs.Whole.{whole_left}
 
 -- how a whole constant ends

@@ -1,27 +1,14 @@
 -- A table has as many rows in the value of a file as in the file.
-use Rattle.std.proofs.Common.{◌≡◌, ℕ, zero, suc, ◌-◌, ◌<◌, ◌≤◌, List, [], ◌∷◌, length, take, refl, sym, ap, ◌∙◌, subst, arith}
-use Rattle.std.proofs.Common.{slice_index, inl, inr, Bool, true, false, slice_get}
-use Rattle.std.specs.Prelude.{Some, nat_lt, ◌||◌, ◌==◌}
-use Rattle.std.specs.List.{repeat, list_all, sum_by}
-use Rattle.std.proofs.lemmas.Bool.{cases_lt, ltb-true, eqb-true, or_cases}
-use Rattle.std.proofs.lemmas.Bool.Decides.{nat_tests}
-use Rattle.std.proofs.lemmas.List.{get_or-take, get_or_append_left, get_or-append_right, length-take, length-map}
-use Rattle.std.proofs.lemmas.List.Folds.{list_all_at}
-use Rattle.std.proofs.lemmas.List.FromFn.{length-enumerate_from}
-use Rattle.std.proofs.lemmas.Option.{slice_get_within, get_or_from_slice_get}
+use Rattle.std.proofs.Common.{◌≡◌, ℕ, zero, suc, ◌-◌, ◌<◌, ◌≤◌, List, [], ◌∷◌, length, take, refl, sym, ap, ◌∙◌, subst, arith, slice_index, inl, inr, Bool, true}
+use Rattle.std.{proofs.Common.{false, slice_get}, specs.Prelude.{Some, nat_lt, ◌||◌, ◌==◌}, specs.List.{repeat, list_all, sum_by}, proofs.lemmas.Bool.{cases_lt}}
+use Rattle.std.proofs.lemmas.{Bool.{ltb-true, eqb-true, or_cases}, Bool.Decides.{nat_tests}, List.{get_or-take, get_or_append_left, get_or-append_right}}
+use Rattle.std.proofs.lemmas.{List.{length-take, length-map}, List.Folds.{list_all_at}, List.FromFn.{length-enumerate_from}, Option.{slice_get_within}}
+use Rattle.std.proofs.lemmas.Option.{get_or_from_slice_get}
 use Rattle.row_layout.specs.Columns.{parent_tables}
 use Rattle.ppdb_tables.specs.RawTables.{count, numbered}
-use Rattle.ppdb_values.specs.declared.file.FileValue.{FileValue}
-use Rattle.ppdb_values.specs.RawFile.{RawFile}
-use Rattle.ppdb_values.specs.Rules.{KeepsRules}
-use Rattle.ppdb_values.specs.Documents.{document_of}
-use Rattle.ppdb_values.specs.Constants.{constant_of}
-use Rattle.ppdb_values.specs.Imports.{import_scope_of}
-use Rattle.ppdb_values.specs.Value.{type_system_rows, value_of, scope_of, variable_of, owned_by}
-use Rattle.ppdb_values_sound_laws.specs.Sound.{SoundRows}
-use Rattle.ppdb_values_sound_laws.specs.Named.{count as value_count}
-use Rattle.ppdb_values_sound_laws.proofs.Listed.{sum_of_map}
-use Rattle.ppdb_values_sound_laws.proofs.Owned.{owned_by_all}
+use Rattle.ppdb_values.specs.{declared.file.FileValue.{FileValue}, RawFile.{RawFile}, Rules.{KeepsRules}, Documents.{document_of}, Constants.{constant_of}}
+use Rattle.ppdb_values.specs.{Imports.{import_scope_of}, Value.{type_system_rows, value_of, scope_of, variable_of, owned_by}}
+use Rattle.ppdb_values_sound_laws.{specs.Sound.{SoundRows}, specs.Named.{count as value_count}, proofs.Listed.{sum_of_map}, proofs.Owned.{owned_by_all}}
 
 -- ---- the type system
 

@@ -1,38 +1,19 @@
 -- The custom records of a value.
-use Rattle.std.proofs.Common.{◌≡◌, ℕ, zero, suc, ◌/◌, ◌%◌, ◌≤◌, List, [], ◌∷◌, map, refl, sym, ap, ◌∙◌, subst, arith, slice_get}
-use Rattle.std.specs.Prelude.{Option, Some, None, Result, Ok, Err, IfSome, is_some, unwrap_or}
-use Rattle.std.specs.Option.{option_map}
-use Rattle.std.proofs.lemmas.List.Elements.{All-weaker}
+use Rattle.std.{proofs.Common.{◌≡◌, ℕ, zero, suc, ◌/◌, ◌%◌, ◌≤◌, List, [], ◌∷◌, map, refl, sym, ap, ◌∙◌, subst, arith, slice_get}, specs.Prelude.{Option, Some}}
+use Rattle.std.{specs.Prelude.{None, Result, Ok, Err, IfSome, is_some, unwrap_or}, specs.Option.{option_map}, proofs.lemmas.List.Elements.{All-weaker}}
 use Rattle.ppdb_base.specs.declared.fault.BlobFault.{BlobFault}
-use Rattle.blob_grammar.specs.Reading.{Reading}
-use Rattle.blob_grammar.specs.Reader.{placed, word_at}
-use Rattle.blob_grammar.proofs.Unique.{reading-unique}
-use Rattle.custom_info.specs.declared.kinds.Kind.{Kind}
-use Rattle.custom_info.specs.declared.kinds.Kind.TheVariants.{Async as AsyncKind, Hoisted as HoistedKind, TypeDocuments as DocumentsKind, Free, Unknown}
-use Rattle.custom_info.specs.declared.stepping.AsyncStep.{AsyncStep}
-use Rattle.custom_info.specs.Kinds.{kind_of}
-use Rattle.custom_info.specs.Fields.{checked}
-use Rattle.custom_info.specs.AsyncStepping.{async_stepping, Entry, entries_of, handler_of, is_stored, steps_left}
-use Rattle.custom_info.specs.TypeDocuments.{IsRowNumber}
-use Rattle.custom_info.proofs.ReadRows.{read_rows}
-use Rattle.custom_info.proofs.ReadSlots.{read_slots}
-use Rattle.custom_info.proofs.ReadSteps.{read_steps}
-use Rattle.custom_info.proofs.StepsLeft.{no_handler, a_handler}
+use Rattle.blob_grammar.{specs.Reading.{Reading}, specs.Reader.{placed, word_at}, proofs.Unique.{reading-unique}}
+use Rattle.custom_info.specs.declared.kinds.{Kind.{Kind}, Kind.TheVariants.{Async as AsyncKind, Hoisted as HoistedKind, TypeDocuments as DocumentsKind, Free}}
+use Rattle.custom_info.specs.{declared.kinds.Kind.TheVariants.{Unknown}, declared.stepping.AsyncStep.{AsyncStep}, Kinds.{kind_of}, Fields.{checked}}
+use Rattle.custom_info.specs.{AsyncStepping.{async_stepping, Entry, entries_of, handler_of, is_stored, steps_left}, TypeDocuments.{IsRowNumber}}
+use Rattle.custom_info.proofs.{ReadRows.{read_rows}, ReadSlots.{read_slots}, ReadSteps.{read_steps}, StepsLeft.{no_handler, a_handler}}
 use Rattle.row_layout.specs.Columns.{parent_tables}
-use Rattle.ppdb_tables.specs.declared.parent.Parent.{Parent}
-use Rattle.ppdb_tables.specs.declared.rows.CustomRow.{CustomRow}
-use Rattle.ppdb_tables.specs.Parents.{parent_in, coded_in, CodesAreParents, coded_of}
+use Rattle.ppdb_tables.specs.{declared.parent.Parent.{Parent}, declared.rows.CustomRow.{CustomRow}, Parents.{parent_in, coded_in, CodesAreParents, coded_of}}
 use Rattle.ppdb_tables.specs.RawTables.{count, row_at}
-use Rattle.ppdb_values.specs.Customs.{custom_body, custom_of, kind_in, parent_of}
-use Rattle.ppdb_values.specs.Ordered.{IsSorted}
-use Rattle.ppdb_values.specs.RawFile.{RawFile, blob, records_of}
-use Rattle.ppdb_values.specs.Rules.{KeepsRules, IsCustom, IsWholeOfKind}
-use Rattle.ppdb_values.specs.Value.{value_of}
-use Rattle.ppdb_values.proofs.Readings.{stepping_is}
-use Rattle.ppdb_values_sound_laws.specs.Named.{HasRow}
-use Rattle.ppdb_values_sound_laws.specs.Customs.{IsBodyOfKind, SoundCustom, SoundCustoms}
-use Rattle.ppdb_values_sound_laws.proofs.Counts.{documents_counted, parents_counted, type_system_counted}
-use Rattle.ppdb_values_sound_laws.proofs.Listed.{row_of_map}
+use Rattle.ppdb_values.specs.{Customs.{custom_body, custom_of, kind_in, parent_of}, Ordered.{IsSorted}, RawFile.{RawFile, blob, records_of}, Rules.{KeepsRules}}
+use Rattle.ppdb_values.{specs.Rules.{IsCustom, IsWholeOfKind}, specs.Value.{value_of}, proofs.Readings.{stepping_is}}
+use Rattle.ppdb_values_sound_laws.{specs.Named.{HasRow}, specs.Customs.{IsBodyOfKind, SoundCustom, SoundCustoms}, proofs.Counts.{documents_counted, parents_counted}}
+use Rattle.ppdb_values_sound_laws.proofs.{Counts.{type_system_counted}, Listed.{row_of_map}}
 
 -- ---- parents
 

@@ -1,12 +1,7 @@
 -- The documents of a value have names of their own.
 use Rattle.std.proofs.Common.{ap, sym, ◌∙◌}
-use Rattle.ppdb_values.specs.declared.file.DocumentValue.{DocumentValue}
-use Rattle.ppdb_values.specs.Documents.{document_of}
-use Rattle.ppdb_values.specs.RawFile.{RawFile}
-use Rattle.ppdb_values.specs.Rules.{KeepsRules}
-use Rattle.ppdb_values.specs.Value.{value_of}
-use Rattle.ppdb_values_sound_laws.specs.Sound.{SoundDocuments}
-use Rattle.ppdb_values_sound_laws.proofs.Listed.{row_of_map}
+use Rattle.ppdb_values.specs.{declared.file.DocumentValue.{DocumentValue}, Documents.{document_of}, RawFile.{RawFile}, Rules.{KeepsRules}, Value.{value_of}}
+use Rattle.ppdb_values_sound_laws.{specs.Sound.{SoundDocuments}, proofs.Listed.{row_of_map}}
 
 pub documents_sound : (raw : RawFile) → KeepsRules raw → SoundDocuments (value_of raw)
 documents_sound raw keeps = record {

@@ -1,27 +1,15 @@
 -- The import scopes of a value.
-use Rattle.std.proofs.Common.{◌≡◌, ℕ, zero, suc, List, [], ◌∷◌, length, map, refl, ap, ◌∙◌, subst, arith}
-use Rattle.std.specs.Prelude.{Option, Some, None, unwrap_or}
-use Rattle.std.specs.Option.{option_map}
-use Rattle.std.specs.Option.{option_map_or}
-use Rattle.type_blobs.specs.declared.types.TypeLimits.{TypeLimits}
-use Rattle.type_blobs.specs.Imports.{ImportItem, namespace, assembly_namespace, target, xml, alias, assembly_alias, namespace_alias}
-use Rattle.type_blobs.specs.Imports.{assembly_namespace_alias, target_alias}
-use Rattle.ppdb_tables.specs.declared.rows.ImportRow.{ImportRow}
-use Rattle.ppdb_tables.specs.RawTables.{row_at}
+use Rattle.std.{proofs.Common.{◌≡◌, ℕ, zero, suc, List, [], ◌∷◌, length, map, refl, ap, ◌∙◌, subst, arith}, specs.Prelude.{Option, Some, None, unwrap_or}}
+use Rattle.std.specs.Option.{option_map, option_map_or}
+use Rattle.type_blobs.specs.{declared.types.TypeLimits.{TypeLimits}, Imports.{ImportItem, namespace, assembly_namespace, target, xml, alias, assembly_alias}}
+use Rattle.type_blobs.specs.Imports.{namespace_alias, assembly_namespace_alias, target_alias}
+use Rattle.ppdb_tables.specs.{declared.rows.ImportRow.{ImportRow}, RawTables.{row_at}}
 use Rattle.ppdb_heaps.specs.Heaps.{blob_at}
-use Rattle.ppdb_values.specs.declared.file.FileValue.{FileValue}
-use Rattle.ppdb_values.specs.declared.import.ImportScopeValue.{ImportScopeValue}
-use Rattle.ppdb_values.specs.Chains.{NeverEnds, ancestor_of, parent_at, chain_for, chain_of}
-use Rattle.ppdb_values.specs.Imports.{import_value, import_scope_of}
-use Rattle.ppdb_values.specs.RawFile.{RawFile, blob, type_limits as raw_limits}
-use Rattle.ppdb_values.specs.Rules.{KeepsRules, IsImport}
-use Rattle.ppdb_values.specs.Value.{value_of}
-use Rattle.ppdb_values_sound_laws.specs.Named.{type_limits}
-use Rattle.ppdb_values_sound_laws.specs.Imports.{SoundImport, SoundImportScope, SoundImports}
-use Rattle.ppdb_values_sound_laws.proofs.Counts.{imports_counted}
-use Rattle.ppdb_values_sound_laws.proofs.Listed.{all_at, row_of_map, row_within}
-use Rattle.ppdb_values_sound_laws.proofs.ReadImports.{IsRead, imports_read}
-use Rattle.ppdb_values_sound_laws.proofs.Scopes.{limits_are, limits_small}
+use Rattle.ppdb_values.specs.{declared.file.FileValue.{FileValue}, declared.import.ImportScopeValue.{ImportScopeValue}, Chains.{NeverEnds, ancestor_of, parent_at}}
+use Rattle.ppdb_values.specs.{Chains.{chain_for, chain_of}, Imports.{import_value, import_scope_of}, RawFile.{RawFile, blob, type_limits as raw_limits}}
+use Rattle.ppdb_values.specs.{Rules.{KeepsRules, IsImport}, Value.{value_of}}
+use Rattle.ppdb_values_sound_laws.{specs.Named.{type_limits}, specs.Imports.{SoundImport, SoundImportScope, SoundImports}, proofs.Counts.{imports_counted}}
+use Rattle.ppdb_values_sound_laws.proofs.{Listed.{all_at, row_of_map, row_within}, ReadImports.{IsRead, imports_read}, Scopes.{limits_are, limits_small}}
 
 -- ---- imports
 

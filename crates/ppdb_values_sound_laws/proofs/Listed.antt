@@ -1,11 +1,7 @@
 -- Lists that are made of the numbered rows of a table, and the rows that their items come from.
-use Rattle.std.proofs.Common.{◌≡◌, ℕ, zero, suc, ◌+◌, ◌<◌, Bool, true, false, cond, List, [], ◌∷◌, length, map, refl, sym, ap, ◌∙◌}
-use Rattle.std.proofs.Common.{subst, arith, inl, inr, slice_get, slice_index}
-use Rattle.std.specs.Prelude.{Option, Some, None, All}
-use Rattle.std.specs.List.{filter, filter_map, cons_option, enumerate_from, sum_by}
-use Rattle.std.specs.Option.{option_map}
-use Rattle.std.proofs.lemmas.List.{length-map}
-use Rattle.std.proofs.lemmas.List.Sums.{sum_by-cons}
+use Rattle.std.proofs.Common.{◌≡◌, ℕ, zero, suc, ◌+◌, ◌<◌, Bool, true, false, cond, List, [], ◌∷◌, length, map, refl, sym, ap, ◌∙◌, subst, arith, inl, inr}
+use Rattle.std.{proofs.Common.{slice_get, slice_index}, specs.Prelude.{Option, Some, None, All}, specs.List.{filter, filter_map, cons_option, enumerate_from}}
+use Rattle.std.{specs.List.{sum_by}, specs.Option.{option_map}, proofs.lemmas.List.{length-map}, proofs.lemmas.List.Sums.{sum_by-cons}}
 use Rattle.std.proofs.lemmas.Option.{get_or_from_slice_get, slice_get-map, slice_get_cases, slice_get_within}
 pub use Rattle.ppdb_tables.proofs.NumberedRows.{row_within}
 use Rattle.ppdb_tables.specs.RawTables.{numbered, row_at}

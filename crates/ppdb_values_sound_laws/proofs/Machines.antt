@@ -1,11 +1,7 @@
 -- The state machines of a value keep their rules.
 use Rattle.std.proofs.Common.{ℕ, ◌<◌, arith}
-use Rattle.ppdb_values.specs.RawFile.{RawFile}
-use Rattle.ppdb_values.specs.Rules.{KeepsRules, HasRow as HasRawRow, HasRowOrNone as HasRawRowOrNone}
-use Rattle.ppdb_values.specs.Value.{value_of}
-use Rattle.ppdb_values_sound_laws.specs.Named.{HasRow, HasRowOrNone}
-use Rattle.ppdb_values_sound_laws.specs.Sound.{SoundMachines}
-use Rattle.ppdb_values_sound_laws.proofs.Counts.{type_system_counted}
+use Rattle.ppdb_values.specs.{RawFile.{RawFile}, Rules.{KeepsRules, HasRow as HasRawRow, HasRowOrNone as HasRawRowOrNone}, Value.{value_of}}
+use Rattle.ppdb_values_sound_laws.{specs.Named.{HasRow, HasRowOrNone}, specs.Sound.{SoundMachines}, proofs.Counts.{type_system_counted}}
 
 module _ (raw : RawFile) (keeps : KeepsRules raw) where
   pub type_row : (table row : ℕ) → table < 0x2d → HasRawRow raw.tables table row → HasRow (value_of raw) table row

@@ -1,25 +1,13 @@
 -- The methods of a value: their points are those of whole blobs.
-use Rattle.std.proofs.Common.{◌≡◌, ℕ, suc, ◌+◌, ◌≤◌, ◌⊎◌, List, [], ◌∷◌, length, refl, ap, ◌∙◌, subst, arith, inl, inr, get_or}
-use Rattle.std.specs.Prelude.{Option, Some, None}
-use Rattle.std.specs.Option.{option_map}
-use Rattle.std.proofs.lemmas.Option.{slice_get_within}
-use Rattle.sequence_points.specs.declared.point.Point.{Point}
-use Rattle.sequence_points.specs.Points.{PointsReading}
-use Rattle.sequence_points.specs.Records.{sequence_points}
-use Rattle.sequence_points.specs.Written.{IsSpan}
-use Rattle.sequence_points.specs.Ranges.{IsOffset}
+use Rattle.std.{proofs.Common.{◌≡◌, ℕ, suc, ◌+◌, ◌≤◌, ◌⊎◌, List, [], ◌∷◌, length, refl, ap, ◌∙◌, subst, arith, inl, inr, get_or}, specs.Prelude.{Option, Some, None}}
+use Rattle.std.{specs.Option.{option_map}, proofs.lemmas.Option.{slice_get_within}}
+use Rattle.sequence_points.specs.{declared.point.Point.{Point}, Points.{PointsReading}, Records.{sequence_points}, Written.{IsSpan}, Ranges.{IsOffset}}
 use Rattle.sequence_points.proofs.ReadPoints.{read_points}
 use Rattle.ppdb_tables.specs.RawTables.{count}
-use Rattle.ppdb_values.specs.declared.file.MethodValue.{MethodValue}
-use Rattle.ppdb_values.specs.Documents.{method_of, method_with, entries_of, points_in, signature_in}
-use Rattle.ppdb_values.specs.RawFile.{RawFile, blob, point_limits}
-use Rattle.ppdb_values.specs.Rules.{KeepsRules, IsWhole}
-use Rattle.ppdb_values.specs.Value.{value_of}
-use Rattle.ppdb_values_sound_laws.specs.Named.{HasRow}
-use Rattle.ppdb_values_sound_laws.specs.Methods.{SoundPoint, SoundMethod, SoundMethods}
-use Rattle.ppdb_values_sound_laws.proofs.Listed.{IsMade, made, both_made, rises_by}
-use Rattle.ppdb_values_sound_laws.proofs.Counts.{documents_counted}
-use Rattle.ppdb_values_sound_laws.proofs.Machines.{type_row, type_row_or_none}
+use Rattle.ppdb_values.specs.{declared.file.MethodValue.{MethodValue}, Documents.{method_of, method_with, entries_of, points_in, signature_in}, RawFile.{RawFile}}
+use Rattle.ppdb_values.specs.{RawFile.{blob, point_limits}, Rules.{KeepsRules, IsWhole}, Value.{value_of}}
+use Rattle.ppdb_values_sound_laws.{specs.Named.{HasRow}, specs.Methods.{SoundPoint, SoundMethod, SoundMethods}, proofs.Listed.{IsMade, made, both_made, rises_by}}
+use Rattle.ppdb_values_sound_laws.proofs.{Counts.{documents_counted}, Machines.{type_row, type_row_or_none}}
 
 module _ (raw : RawFile) (keeps : KeepsRules raw) where
   -- ---- a method has the points that the blob of its row holds

@@ -1,19 +1,10 @@
 -- The scopes share out the items of a table: together they own as many as there are.
-use Rattle.std.proofs.Common.{◌≡◌, ℕ, suc, ◌+◌, ◌-◌, ◌≤◌, List, [], ◌∷◌, length, drop, refl, sym, ap, arith, slice_get, zero-add}
-use Rattle.std.specs.Prelude.{Some}
-use Rattle.std.specs.List.{enumerate_from, sum_by}
-use Rattle.std.proofs.lemmas.List.{length-take, length-drop, length-map}
-use Rattle.std.proofs.lemmas.List.FromFn.{length-enumerate_from}
-use Rattle.std.proofs.lemmas.List.Sums.{sum_by-cons}
-use Rattle.std.proofs.lemmas.Option.{slice_get_within}
-use Rattle.ppdb_tables.specs.declared.rows.ScopeRow.{ScopeRow}
-use Rattle.ppdb_tables.specs.RawTables.{numbered, row_at}
-use Rattle.ppdb_values.specs.Value.{owned_by}
-use Rattle.ppdb_values.specs.Owners.{list_end}
-use Rattle.ppdb_values.specs.Rules.{KeepsLists}
-use Rattle.ppdb_values.proofs.Lists.{owned_is_list}
-use Rattle.ppdb_values_sound_laws.proofs.Listed.{row_of, key_at}
-use Rattle.ppdb_values_sound_laws.proofs.Rests.{IsRest, begin_of, end_is, here_is, rest_later}
+use Rattle.std.{proofs.Common.{◌≡◌, ℕ, suc, ◌+◌, ◌-◌, ◌≤◌, List, [], ◌∷◌, length, drop, refl, sym, ap, arith, slice_get, zero-add}, specs.Prelude.{Some}}
+use Rattle.std.{specs.List.{enumerate_from, sum_by}, proofs.lemmas.List.{length-take, length-drop, length-map}, proofs.lemmas.List.FromFn.{length-enumerate_from}}
+use Rattle.std.proofs.lemmas.{List.Sums.{sum_by-cons}, Option.{slice_get_within}}
+use Rattle.ppdb_tables.specs.{declared.rows.ScopeRow.{ScopeRow}, RawTables.{numbered, row_at}}
+use Rattle.ppdb_values.{specs.Value.{owned_by}, specs.Owners.{list_end}, specs.Rules.{KeepsLists}, proofs.Lists.{owned_is_list}}
+use Rattle.ppdb_values_sound_laws.proofs.{Listed.{row_of, key_at}, Rests.{IsRest, begin_of, end_is, here_is, rest_later}}
 
 module _ {X : Type 0} (list : ScopeRow → ℕ) (scopes : List ScopeRow) (items : List X) (keeps : KeepsLists list scopes (length items)) where
   up : (i j : ℕ) (x y : ScopeRow) → row_at scopes (suc i) ≡ Some x → row_at scopes (suc j) ≡ Some y → i ≤ j → list x ≤ list y

@@ -1,11 +1,7 @@
 -- The items of a scope are made of rows that it owns.
-use Rattle.std.proofs.Common.{◌≡◌, ℕ, suc, ◌+◌, ◌<◌, Bool, true, cond, List, map, sym, ap, subst, arith}
-use Rattle.std.specs.Option.{option_map_or}
-use Rattle.std.specs.Prelude.{Option, Some, None, nat_eq, false}
-use Rattle.std.proofs.lemmas.Bool.{eqb-true}
-use Rattle.std.proofs.lemmas.Option.{cond_some}
-use Rattle.ppdb_tables.specs.declared.rows.ScopeRow.{ScopeRow}
-use Rattle.ppdb_tables.specs.RawTables.{numbered, row_at}
+use Rattle.std.{proofs.Common.{◌≡◌, ℕ, suc, ◌+◌, ◌<◌, Bool, true, cond, List, map, sym, ap, subst, arith}, specs.Option.{option_map_or}, specs.Prelude.{Option}}
+use Rattle.std.{specs.Prelude.{Some, None, nat_eq, false}, proofs.lemmas.Bool.{eqb-true}, proofs.lemmas.Option.{cond_some}}
+use Rattle.ppdb_tables.specs.{declared.rows.ScopeRow.{ScopeRow}, RawTables.{numbered, row_at}}
 use Rattle.ppdb_values.specs.Value.{owner_of, owned_by}
 use Rattle.ppdb_values_sound_laws.proofs.Listed.{IsMade, made, both_made, map_filter}
 

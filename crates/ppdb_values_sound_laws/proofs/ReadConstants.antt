@@ -1,22 +1,14 @@
 -- The modifiers and the body that a signature is read as can be written, and their types are there.
-use Rattle.std.proofs.Common.{◌≡◌, ℕ, Bool, true, false, List, [], ◌∷◌, length, Option, Some, None, refl, sym, ap, subst, ◌∙◌, inl, inr}
-use Rattle.std.specs.Prelude.{All, if◌then◌else◌}
-use Rattle.std.proofs.lemmas.Bool.{or_cases}
-use Rattle.std.proofs.lemmas.List.Elements.{All-push, All-nil}
+use Rattle.std.{proofs.Common.{◌≡◌, ℕ, Bool, true, false, List, [], ◌∷◌, length, Option, Some, None, refl, sym, ap, subst, ◌∙◌, inl, inr}, specs.Prelude.{All}}
+use Rattle.std.{specs.Prelude.{if◌then◌else◌}, proofs.lemmas.Bool.{or_cases}, proofs.lemmas.List.Elements.{All-push, All-nil}}
 use Rattle.ppdb_base.specs.declared.fault.BlobFault.{BlobFault}
 use Rattle.blob_grammar.specs.Grammar.{Value, number, integer, octets, Form, unsigned, byte, fixed, rest, Spells, Field, Cut, with_value, cut, IsAllowed}
-use Rattle.blob_grammar.specs.Reading.{Reading}
-use Rattle.blob_grammar.proofs.ReadRecords.{of_reading}
-use Rattle.type_blobs.specs.declared.types.TypeLimits.{TypeLimits}
-use Rattle.type_blobs.specs.declared.types.Modifier.{Modifier}
-use Rattle.type_blobs.specs.Types.{is_type, token_of, IsToken, IsThere}
-use Rattle.type_blobs.specs.Constants.{ConstantBody, primitive, enumerated, general, object, is_modifier, is_primitive, is_enumerable}
-use Rattle.type_blobs.specs.Constants.{is_general, is_string, is_object, is_code, size_of, after_code, after_two, allows}
-use Rattle.type_blobs.specs.Constants.{body_of, constants}
-use Rattle.type_blobs.specs.Spelling.{IsPrimitive, IsBody, IsBodyThere}
+use Rattle.blob_grammar.{specs.Reading.{Reading}, proofs.ReadRecords.{of_reading}}
+use Rattle.type_blobs.specs.{declared.types.TypeLimits.{TypeLimits}, declared.types.Modifier.{Modifier}, Types.{is_type, token_of, IsToken, IsThere}}
+use Rattle.type_blobs.specs.Constants.{ConstantBody, primitive, enumerated, general, object, is_modifier, is_primitive, is_enumerable, is_general, is_string}
+use Rattle.type_blobs.specs.{Constants.{is_object, is_code, size_of, after_code, after_two, allows, body_of, constants}, Spelling.{IsPrimitive, IsBody, IsBodyThere}}
 use Rattle.type_blobs.proofs.Codes.{eq-is, modifier_is, general_is, of_general, of_primitive, primitive_range, enumerable_range}
-use Rattle.ppdb_values.specs.RawFile.{begun_of}
-use Rattle.ppdb_values.proofs.Readings.{begun_is}
+use Rattle.ppdb_values.{specs.RawFile.{begun_of}, proofs.Readings.{begun_is}}
 use Rattle.ppdb_values_sound_laws.proofs.ReadTypes.{AreSmall, type_read}
 
 -- what a signature may hold

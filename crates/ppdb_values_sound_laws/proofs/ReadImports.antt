@@ -1,19 +1,13 @@
 -- The assemblies and the types of imports that are read are there.
-use Rattle.std.proofs.Common.{◌≡◌, ℕ, zero, suc, ◌≤◌, Bool, true, false, ◌&&◌, List, [], ◌∷◌, ◌++◌, length, Option, Some, None, refl}
-use Rattle.std.proofs.Common.{sym, ap, subst, ◌∙◌, arith, slice_get}
-use Rattle.std.specs.Prelude.{All, ◌==◌, nat_le, if◌then◌else◌}
-use Rattle.std.proofs.lemmas.Bool.{and_parts, leb-true, eqb-true}
+use Rattle.std.proofs.Common.{◌≡◌, ℕ, zero, suc, ◌≤◌, Bool, true, false, ◌&&◌, List, [], ◌∷◌, ◌++◌, length, Option, Some, None, refl, sym, ap, subst, ◌∙◌, arith}
+use Rattle.std.{proofs.Common.{slice_get}, specs.Prelude.{All, ◌==◌, nat_le, if◌then◌else◌}, proofs.lemmas.Bool.{and_parts, leb-true, eqb-true}}
 use Rattle.std.proofs.lemmas.List.Elements.{All-push, All-nil}
 use Rattle.ppdb_base.specs.declared.fault.BlobFault.{BlobFault}
-use Rattle.blob_grammar.specs.Grammar.{Value, number, integer, octets, Field, Cut, closed, with_value, IsAllowed}
-use Rattle.blob_grammar.specs.Reading.{Reading}
+use Rattle.blob_grammar.specs.{Grammar.{Value, number, integer, octets, Field, Cut, closed, with_value, IsAllowed}, Reading.{Reading}}
 use Rattle.blob_grammar.proofs.ReadRecords.{of_reading}
-use Rattle.type_blobs.specs.declared.types.TypeToken.{TypeToken}
-use Rattle.type_blobs.specs.declared.types.TypeLimits.{TypeLimits}
-use Rattle.type_blobs.specs.Types.{IsToken, IsThere}
-use Rattle.type_blobs.specs.Imports.{parts_of, ImportItem, assembly_namespace, target, assembly_alias, assembly_namespace_alias}
-use Rattle.type_blobs.specs.Imports.{target_alias, item_of, part_allows, next_part, next_allows, numbers_of, imports}
-use Rattle.type_blobs.specs.declared.import_part.ImportPart.{ImportPart}
+use Rattle.type_blobs.specs.{declared.types.TypeToken.{TypeToken}, declared.types.TypeLimits.{TypeLimits}, Types.{IsToken, IsThere}, Imports.{parts_of, ImportItem}}
+use Rattle.type_blobs.specs.Imports.{assembly_namespace, target, assembly_alias, assembly_namespace_alias, target_alias, item_of, part_allows, next_part}
+use Rattle.type_blobs.specs.{Imports.{next_allows, numbers_of, imports}, declared.import_part.ImportPart.{ImportPart}}
 use Rattle.type_blobs.specs.declared.import_part.ImportPart.TheVariants.{Alias, Assembly, Namespace, Target}
 use Rattle.ppdb_values_sound_laws.proofs.ReadTypes.{AreSmall, row_there, type_read}
 

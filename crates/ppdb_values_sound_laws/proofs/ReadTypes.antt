@@ -1,11 +1,8 @@
 -- A number that names a type is that of a type that is there.
-use Rattle.std.proofs.Common.{◌≡◌, ℕ, zero, suc, ◌/◌, ◌%◌, ◌≤◌, true, refl, arith, inl, inr}
-use Rattle.std.specs.Prelude.{nat_le}
-use Rattle.std.proofs.lemmas.Bool.{and_parts, leb-true}
-use Rattle.type_blobs.specs.declared.types.TypeToken.{TypeToken}
-use Rattle.type_blobs.specs.declared.types.TypeLimits.{TypeLimits}
+use Rattle.std.{proofs.Common.{◌≡◌, ℕ, zero, suc, ◌/◌, ◌%◌, ◌≤◌, true, refl, arith, inl, inr}, specs.Prelude.{nat_le}, proofs.lemmas.Bool.{and_parts, leb-true}}
+use Rattle.type_blobs.specs.{declared.types.TypeToken.{TypeToken}, declared.types.TypeLimits.{TypeLimits}, Types.{table_of, rows_of, is_type, token_of, IsToken}}
+use Rattle.type_blobs.specs.Types.{IsThere}
 use Rattle.blob_grammar.specs.Allowed.{is_row}
-use Rattle.type_blobs.specs.Types.{table_of, rows_of, is_type, token_of, IsToken, IsThere}
 
 -- the tables have no more rows than three bytes say
 pub record AreSmall (limits : TypeLimits) : Type 0 where

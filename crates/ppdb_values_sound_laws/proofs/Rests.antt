@@ -1,9 +1,6 @@
 -- The scopes from a row on, and where their lists begin.
-use Rattle.std.proofs.Common.{◌≡◌, ℕ, suc, ◌+◌, List, [], ◌∷◌, refl, ap, ◌∙◌, arith, slice_get}
-use Rattle.std.specs.Prelude.{Some, unwrap_or}
-use Rattle.std.specs.Option.{option_map}
-use Rattle.ppdb_tables.specs.declared.rows.ScopeRow.{ScopeRow}
-use Rattle.ppdb_tables.specs.RawTables.{row_at}
+use Rattle.std.{proofs.Common.{◌≡◌, ℕ, suc, ◌+◌, List, [], ◌∷◌, refl, ap, ◌∙◌, arith, slice_get}, specs.Prelude.{Some, unwrap_or}, specs.Option.{option_map}}
+use Rattle.ppdb_tables.specs.{declared.rows.ScopeRow.{ScopeRow}, RawTables.{row_at}}
 use Rattle.ppdb_values.specs.Owners.{list_end}
 
 -- where the list of the first of some scopes begins, or right after the last item

@@ -1,29 +1,16 @@
 -- The scopes of a value, with the variables and the constants that they own.
-use Rattle.std.proofs.Common.{◌≡◌, ◌≢◌, ℕ, List, refl, sym, ap, ◌∙◌, subst, arith, true}
-use Rattle.std.specs.Prelude.{Option, Some, None, All, is_some}
+use Rattle.std.{proofs.Common.{◌≡◌, ◌≢◌, ℕ, List, refl, sym, ap, ◌∙◌, subst, arith, true}, specs.Prelude.{Option, Some, None, All, is_some}}
 use Rattle.std.specs.Option.{option_map_or}
-use Rattle.type_blobs.specs.declared.types.TypeLimits.{TypeLimits}
-use Rattle.type_blobs.specs.Constants.{ConstantBody as StoredBody, primitive, enumerated, general, object, constants, body_of}
-use Rattle.ppdb_tables.specs.declared.rows.ScopeRow.{ScopeRow}
-use Rattle.ppdb_tables.specs.declared.rows.ConstantRow.{ConstantRow}
-use Rattle.ppdb_tables.specs.RawTables.{row_at}
-use Rattle.ppdb_values.specs.declared.scope.ScopeValue.{ScopeValue}
-use Rattle.ppdb_values.specs.declared.scope.ConstantBody.TheVariants.{Object}
-use Rattle.ppdb_values.specs.Constants.{constant_of, body_value}
-use Rattle.ppdb_values.specs.Ordered.{EachRow, EachPair, IsSorted}
-use Rattle.ppdb_values.specs.RawFile.{RawFile, text, blob, begun_of, type_limits as raw_limits}
-use Rattle.ppdb_values.specs.Rules.{KeepsRules, DifferInScope, IsConstant}
-use Rattle.ppdb_values.specs.Value.{value_of, scope_of, variable_of, range_of}
-use Rattle.ppdb_values.specs.Ranges.{ComesAfter, IsInOrAfter}
-use Rattle.ppdb_values_sound_laws.specs.Named.{type_limits}
-use Rattle.ppdb_values_sound_laws.specs.Scopes.{SoundVariable, stored_body, SoundConstant, SoundScope, SoundScopes}
-use Rattle.ppdb_values_sound_laws.proofs.Counts.{imports_counted, type_system_counted}
-use Rattle.ppdb_values_sound_laws.proofs.Listed.{row_of_numbered, keys_numbered}
-use Rattle.ppdb_values_sound_laws.proofs.Machines.{type_row}
-use Rattle.ppdb_values_sound_laws.proofs.OwnedItems.{AreOwned, owned, both_owned}
-use Rattle.ppdb_values_sound_laws.proofs.ReadConstants.{IsModifier, IsRead, modifiers_read, body_read}
-use Rattle.ppdb_values_sound_laws.proofs.ReadTypes.{AreSmall}
-use Rattle.ppdb_values_sound_laws.proofs.Texts.{no_zero}
+use Rattle.type_blobs.specs.{declared.types.TypeLimits.{TypeLimits}, Constants.{ConstantBody as StoredBody, primitive, enumerated, general, object, constants}}
+use Rattle.type_blobs.specs.Constants.{body_of}
+use Rattle.ppdb_tables.specs.{declared.rows.ScopeRow.{ScopeRow}, declared.rows.ConstantRow.{ConstantRow}, RawTables.{row_at}}
+use Rattle.ppdb_values.specs.{declared.scope.ScopeValue.{ScopeValue}, declared.scope.ConstantBody.TheVariants.{Object}, Constants.{constant_of, body_value}}
+use Rattle.ppdb_values.specs.{Ordered.{EachRow, EachPair, IsSorted}, RawFile.{RawFile, text, blob, begun_of, type_limits as raw_limits}, Rules.{KeepsRules}}
+use Rattle.ppdb_values.specs.{Rules.{DifferInScope, IsConstant}, Value.{value_of, scope_of, variable_of, range_of}, Ranges.{ComesAfter, IsInOrAfter}}
+use Rattle.ppdb_values_sound_laws.specs.{Named.{type_limits}, Scopes.{SoundVariable, stored_body, SoundConstant, SoundScope, SoundScopes}}
+use Rattle.ppdb_values_sound_laws.proofs.{Counts.{imports_counted, type_system_counted}, Listed.{row_of_numbered, keys_numbered}, Machines.{type_row}}
+use Rattle.ppdb_values_sound_laws.proofs.{OwnedItems.{AreOwned, owned, both_owned}, ReadConstants.{IsModifier, IsRead, modifiers_read, body_read}}
+use Rattle.ppdb_values_sound_laws.proofs.{ReadTypes.{AreSmall}, Texts.{no_zero}}
 
 -- two rows that differ in a key make items that do
 pub differ : {X Y K : Type 0} (f : X → Y) (key : Y → K) (list : ScopeRow → ℕ) (scopes : List ScopeRow) (owner : ℕ) (items : List X)

@@ -1,11 +1,7 @@
 -- A text of #Strings holds no zero byte.
-use Rattle.std.proofs.Common.{◌≡◌, ◌≢◌, ℕ, zero, suc, ◌<◌, true, List, [], take, drop, refl, sym, ap, ◌∙◌, subst, arith, get_or}
-use Rattle.std.specs.Prelude.{Option, Some, None, ◌==◌}
-use Rattle.std.specs.List.{position}
-use Rattle.std.specs.Option.{option_map}
-use Rattle.std.proofs.lemmas.List.{length-take, get_or-take}
-use Rattle.std.proofs.lemmas.List.Quantifiers.{position-Some}
-use Rattle.std.proofs.lemmas.List.Elements.{All-nil}
+use Rattle.std.{proofs.Common.{◌≡◌, ◌≢◌, ℕ, zero, suc, ◌<◌, true, List, [], take, drop, refl, sym, ap, ◌∙◌, subst, arith, get_or}, specs.Prelude.{Option, Some}}
+use Rattle.std.{specs.Prelude.{None, ◌==◌}, specs.List.{position}, specs.Option.{option_map}, proofs.lemmas.List.{length-take, get_or-take}}
+use Rattle.std.proofs.lemmas.List.{Quantifiers.{position-Some}, Elements.{All-nil}}
 use Rattle.ppdb_heaps.specs.Heaps.{text_at}
 use Rattle.ppdb_values_sound_laws.specs.Scopes.{HoldsNoZero}
 

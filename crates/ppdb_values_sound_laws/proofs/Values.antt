@@ -1,16 +1,8 @@
 -- The value of a file that keeps the rules is sound.
 use Rattle.ppdb_tables.specs.Parents.{CodesAreParents}
-use Rattle.ppdb_values.specs.RawFile.{RawFile}
-use Rattle.ppdb_values.specs.Rules.{KeepsRules}
-use Rattle.ppdb_values.specs.Value.{value_of}
-use Rattle.ppdb_values_sound_laws.specs.Sound.{IsSound}
-use Rattle.ppdb_values_sound_laws.proofs.Counts.{rows_sound}
-use Rattle.ppdb_values_sound_laws.proofs.Documents.{documents_sound}
-use Rattle.ppdb_values_sound_laws.proofs.Methods.{methods_sound}
-use Rattle.ppdb_values_sound_laws.proofs.Scopes.{scopes_sound}
-use Rattle.ppdb_values_sound_laws.proofs.Imports.{imports_sound}
-use Rattle.ppdb_values_sound_laws.proofs.Machines.{entry_sound, machines_sound}
-use Rattle.ppdb_values_sound_laws.proofs.Customs.{customs_sound}
+use Rattle.ppdb_values.specs.{RawFile.{RawFile}, Rules.{KeepsRules}, Value.{value_of}}
+use Rattle.ppdb_values_sound_laws.{specs.Sound.{IsSound}, proofs.Counts.{rows_sound}, proofs.Documents.{documents_sound}, proofs.Methods.{methods_sound}}
+use Rattle.ppdb_values_sound_laws.proofs.{Scopes.{scopes_sound}, Imports.{imports_sound}, Machines.{entry_sound, machines_sound}, Customs.{customs_sound}}
 
 pub value_sound : CodesAreParents → (raw : RawFile) → KeepsRules raw → IsSound (value_of raw)
 value_sound codes raw keeps = record {

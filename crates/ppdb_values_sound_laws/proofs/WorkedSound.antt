@@ -1,36 +1,16 @@
 -- The values of three worked files are sound.
-use Rattle.std.proofs.Common.{◌≡◌, ◌≢◌, ℕ, zero, suc, ◌+◌, ◌-◌, ◌≤◌, ◌<◌, ◌⊎◌, true, List, [], ◌∷◌, length, drop, map, refl, sym, ◌∙◌}
-use Rattle.std.proofs.Common.{subst, arith, inl, inr, slice_index}
-use Rattle.std.specs.Prelude.{All, AllPairs, nat_le, ◌==◌}
-use Rattle.std.specs.List.{list_all}
-use Rattle.std.proofs.lemmas.Bool.Decides.{nat_tests}
-use Rattle.std.proofs.lemmas.List.{get_or-drop}
-use Rattle.std.proofs.lemmas.List.Elements.{All-nil, All-cons}
-use Rattle.std.proofs.lemmas.List.Kept.{AllPairs-cons}
-use Rattle.sequence_points.specs.declared.point.Point.{Point}
-use Rattle.sequence_points.specs.declared.point.Span.{Span}
-use Rattle.sequence_points.specs.declared.point.Span.TheVariants.{Hidden, Lines}
-use Rattle.sequence_points.specs.Written.{IsSpan}
+use Rattle.std.proofs.Common.{◌≡◌, ◌≢◌, ℕ, zero, suc, ◌+◌, ◌-◌, ◌≤◌, ◌<◌, ◌⊎◌, true, List, [], ◌∷◌, length, drop, map, refl, sym, ◌∙◌, subst, arith, inl, inr}
+use Rattle.std.{proofs.Common.{slice_index}, specs.Prelude.{All, AllPairs, nat_le, ◌==◌}, specs.List.{list_all}, proofs.lemmas.Bool.Decides.{nat_tests}}
+use Rattle.std.proofs.lemmas.{List.{get_or-drop}, List.Elements.{All-nil, All-cons}, List.Kept.{AllPairs-cons}}
+use Rattle.sequence_points.specs.{declared.point.Point.{Point}, declared.point.Span.{Span}, declared.point.Span.TheVariants.{Hidden, Lines}, Written.{IsSpan}}
 use Rattle.ppdb_tables.specs.Parents.{CodesAreParents, coded_of}
-use Rattle.ppdb_values.specs.declared.file.FileValue.{FileValue}
-use Rattle.ppdb_values.specs.declared.import.ImportScopeValue.{ImportScopeValue}
-use Rattle.ppdb_values.specs.declared.file.MethodValue.{MethodValue}
-use Rattle.ppdb_values.specs.declared.scope.ScopeValue.{ScopeValue}
-use Rattle.ppdb_values.specs.declared.scope.VariableValue.{VariableValue}
-use Rattle.ppdb_values.specs.Chains.{parent_at}
-use Rattle.ppdb_values.specs.Ordered.{EachRow, EachPair, IsSorted, Rises}
-use Rattle.ppdb_values.specs.WorkedSmall.{empty_value, small_value, outer_scope, inner_scope}
-use Rattle.ppdb_values.specs.WorkedProgram.{program_file}
-use Rattle.ppdb_values.proofs.Kept.{program_kept}
-use Rattle.ppdb_values.proofs.Worked.{program_is}
-use Rattle.ppdb_values_sound_laws.specs.Customs.{SoundCustoms}
-use Rattle.ppdb_values_sound_laws.specs.Imports.{SoundImports}
-use Rattle.ppdb_values_sound_laws.specs.Named.{count}
-use Rattle.ppdb_values_sound_laws.specs.Methods.{SoundPoint, SoundMethod, SoundMethods}
-use Rattle.ppdb_values_sound_laws.specs.Scopes.{SoundVariable, SoundConstant, SoundScope, SoundScopes}
-use Rattle.ppdb_values_sound_laws.specs.Sound.{SoundRows, SoundMachines, IsSound}
-use Rattle.ppdb_values_sound_laws.specs.Worked.{WorkedSound, with_points, with_scopes, scope_at}
-use Rattle.ppdb_values_sound_laws.proofs.Values.{value_sound}
+use Rattle.ppdb_values.specs.declared.{file.FileValue.{FileValue}, import.ImportScopeValue.{ImportScopeValue}, file.MethodValue.{MethodValue}}
+use Rattle.ppdb_values.specs.{declared.scope.ScopeValue.{ScopeValue}, declared.scope.VariableValue.{VariableValue}, Chains.{parent_at}, Ordered.{EachRow, EachPair}}
+use Rattle.ppdb_values.specs.{Ordered.{IsSorted, Rises}, WorkedSmall.{empty_value, small_value, outer_scope, inner_scope}, WorkedProgram.{program_file}}
+use Rattle.ppdb_values.proofs.{Kept.{program_kept}, Worked.{program_is}}
+use Rattle.ppdb_values_sound_laws.specs.{Customs.{SoundCustoms}, Imports.{SoundImports}, Named.{count}, Methods.{SoundPoint, SoundMethod, SoundMethods}}
+use Rattle.ppdb_values_sound_laws.specs.{Scopes.{SoundVariable, SoundConstant, SoundScope, SoundScopes}, Sound.{SoundRows, SoundMachines, IsSound}}
+use Rattle.ppdb_values_sound_laws.{specs.Worked.{WorkedSound, with_points, with_scopes, scope_at}, proofs.Values.{value_sound}}
 
 -- ---- rows that are listed
 

@@ -1,7 +1,6 @@
 -- Values that are not sound.
 use Rattle.std.proofs.Common.{◌≡◌, ℕ, zero, suc, false, true, refl, arith, inl, inr}
-use Rattle.sequence_points.specs.declared.point.Point.{Point}
-use Rattle.sequence_points.specs.declared.point.Span.TheVariants.{Hidden}
+use Rattle.sequence_points.specs.declared.point.{Point.{Point}, Span.TheVariants.{Hidden}}
 use Rattle.ppdb_values.specs.Chains.{ancestor_of}
 use Rattle.ppdb_values_sound_laws.specs.Worked.{WorkedUnsound}
 

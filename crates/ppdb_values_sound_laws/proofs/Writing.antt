@@ -1,29 +1,15 @@
 -- The parts of a sound value can be written.
-use Rattle.std.proofs.Common.{ℕ, ◌≤◌, ◌<◌, [], arith}
-use Rattle.std.specs.Prelude.{All, length, ◌^◌}
-use Rattle.std.proofs.lemmas.List.Elements.{All-weaker}
-use Rattle.custom_info.specs.declared.kinds.Kind.{Kind}
-use Rattle.custom_info.specs.declared.kinds.Kind.TheVariants.{Async as AsyncKind, Hoisted as HoistedKind, TypeDocuments as DocumentsKind, Free, Unknown}
-use Rattle.custom_info.specs.declared.stepping.AsyncStep.{AsyncStep}
-use Rattle.custom_info.specs.AsyncStepping.{IsStep}
-use Rattle.custom_info.specs.Kinds.{kind_of}
+use Rattle.std.{proofs.Common.{ℕ, ◌≤◌, ◌<◌, [], arith}, specs.Prelude.{All, length, ◌^◌}, proofs.lemmas.List.Elements.{All-weaker}}
+use Rattle.custom_info.specs.declared.kinds.{Kind.{Kind}, Kind.TheVariants.{Async as AsyncKind, Hoisted as HoistedKind, TypeDocuments as DocumentsKind, Free}}
+use Rattle.custom_info.specs.{declared.kinds.Kind.TheVariants.{Unknown}, declared.stepping.AsyncStep.{AsyncStep}, AsyncStepping.{IsStep}, Kinds.{kind_of}}
 use Rattle.custom_info.specs.TypeDocuments.{IsRowNumber}
-use Rattle.sequence_points.specs.Written.{CanBeWritten}
-use Rattle.sequence_points.specs.Ranges.{IsOffset}
-use Rattle.type_blobs.specs.declared.types.Modifier.{Modifier}
-use Rattle.type_blobs.specs.Types.{IsToken}
-use Rattle.ppdb_values.specs.declared.custom.CustomBody.{CustomBody}
-use Rattle.ppdb_values.specs.declared.custom.CustomBody.TheVariants.{Async, Hoisted, TypeDocuments, Unread}
-use Rattle.ppdb_values.specs.declared.file.FileValue.{FileValue}
-use Rattle.ppdb_values.specs.declared.file.MethodValue.{MethodValue}
-use Rattle.ppdb_values.specs.declared.import.ImportValue.{ImportValue}
-use Rattle.ppdb_values.specs.declared.import.ImportValue.TheVariants.{Namespace, AssemblyNamespace, Target, Xml, Alias, AssemblyAlias}
-use Rattle.ppdb_values.specs.declared.import.ImportValue.TheVariants.{NamespaceAlias, AssemblyNamespaceAlias, TargetAlias}
-use Rattle.ppdb_values_sound_laws.specs.Imports.{SoundImport}
-use Rattle.ppdb_values_sound_laws.specs.Customs.{IsBodyOfKind}
-use Rattle.ppdb_values_sound_laws.specs.Methods.{SoundMethod}
-use Rattle.ppdb_values_sound_laws.specs.Named.{HasRow, HasType, count}
-use Rattle.ppdb_values_sound_laws.specs.Sound.{IsSound}
+use Rattle.sequence_points.specs.{Written.{CanBeWritten}, Ranges.{IsOffset}}
+use Rattle.type_blobs.specs.{declared.types.Modifier.{Modifier}, Types.{IsToken}}
+use Rattle.ppdb_values.specs.declared.custom.{CustomBody.{CustomBody}, CustomBody.TheVariants.{Async, Hoisted, TypeDocuments, Unread}}
+use Rattle.ppdb_values.specs.declared.{file.FileValue.{FileValue}, file.MethodValue.{MethodValue}, import.ImportValue.{ImportValue}}
+use Rattle.ppdb_values.specs.declared.import.ImportValue.TheVariants.{Namespace, AssemblyNamespace, Target, Xml, Alias, AssemblyAlias, NamespaceAlias}
+use Rattle.ppdb_values.specs.declared.import.ImportValue.TheVariants.{AssemblyNamespaceAlias, TargetAlias}
+use Rattle.ppdb_values_sound_laws.specs.{Imports.{SoundImport}, Customs.{IsBodyOfKind}, Methods.{SoundMethod}, Named.{HasRow, HasType, count}, Sound.{IsSound}}
 use Rattle.ppdb_values_sound_laws.specs.Writing.{HasSpelling, IsWritable, SoundPartsCanBeWritten}
 
 module _ (value : FileValue) (s : IsSound value) (few : length value.documents ≤ 16777215) where

@@ -1,16 +1,10 @@
 -- The streams of the worked files, and the files that these hold.
-use Rattle.std.proofs.Common.{◌≡◌, ℕ, zero, suc, List, refl, arith}
-use Rattle.std.specs.Prelude.{Some, None, take, drop, codes, false, true}
-use Rattle.std.specs.Str.{bytes_eq}
-use Rattle.ppdb_values.specs.WorkedBytes.{stored_empty, stored_small, stored_program}
-use Rattle.metadata_root.specs.declared.kind.StreamKind.TheVariants.{Pdb, Tables, Strings, UserStrings, Guids, Blobs}
-use Rattle.metadata_root.specs.Fields.{number_at}
-use Rattle.metadata_root.specs.Root.{name_at, fields_to}
-use Rattle.metadata_root.specs.Streams.{Stream, Streams, IsListed, AreStreamsOf}
-use Rattle.ppdb_tables.specs.Counts.{counts_below}
-use Rattle.ppdb_values.specs.WorkedProgram.{program_file}
-use Rattle.ppdb_values.specs.WorkedSmall.{empty_file, small_file}
+use Rattle.std.{proofs.Common.{◌≡◌, ℕ, zero, suc, List, refl, arith}, specs.Prelude.{Some, None, take, drop, codes, false, true}, specs.Str.{bytes_eq}}
+use Rattle.ppdb_values.specs.{WorkedBytes.{stored_empty, stored_small, stored_program}, WorkedProgram.{program_file}, WorkedSmall.{empty_file, small_file}}
 use Rattle.ppdb_values.specs.RawFile.{raw_in}
+use Rattle.metadata_root.specs.{declared.kind.StreamKind.TheVariants.{Pdb, Tables, Strings, UserStrings, Guids, Blobs}, Fields.{number_at}, Root.{name_at}}
+use Rattle.metadata_root.specs.{Root.{fields_to}, Streams.{Stream, Streams, IsListed, AreStreamsOf}}
+use Rattle.ppdb_tables.specs.Counts.{counts_below}
 use Rattle.ppdb_verify.specs.Files.{IsRawOf}
 
 -- a slice of a file

@@ -1,21 +1,10 @@
 -- There is debug information for each method or for none.
-use Rattle.std.proofs.Common.{◌≡◌, ◌≢◌, ℕ, ◌≤◌, List, [], ◌∷◌, length, inl, inr, refl, sym, ◌∙◌, false, arith}
-use Rattle.std.specs.Prelude.{◌==◌, slice_index}
-use Rattle.std.proofs.lemmas.Bool.{cases_eq}
-use Rattle.std.proofs.lemmas.Bool.Decides.{nat_tests}
-use Rattle.std.specs.Int.{bit_at}
-use Rattle.std.proofs.lemmas.List.FromFn.{get_or-map-range_with_len}
-use Rattle.ppdb_base.specs.declared.code.Code.TheVariants.{TablesShort, MethodRows}
-use Rattle.ppdb_base.specs.First.{IsAccepted}
-use Rattle.ppdb_base.specs.Place.{at_byte}
-use Rattle.ppdb_base.proofs.Fields.{sum_append}
-use Rattle.metadata_root.specs.declared.kind.StreamKind.TheVariants.{Tables}
-use Rattle.metadata_root.specs.Streams.{Streams, bytes_of}
-use Rattle.ppdb_tables.specs.Counts.{count_fields, counts_below, count_place}
-use Rattle.ppdb_tables.specs.declared.head.PdbHead.{PdbHead}
-use Rattle.ppdb_tables.specs.RawTables.{count}
-use Rattle.ppdb_tables.specs.Tables.{TableFieldFaults, TablesFaults, count_in, table_fields, table_rows, tables_in, valid}
-use Rattle.ppdb_tables.specs.Tables.TableFieldFaults.{short, method_rows}
+use Rattle.std.{proofs.Common.{◌≡◌, ◌≢◌, ℕ, ◌≤◌, List, [], ◌∷◌, length, inl, inr, refl, sym, ◌∙◌, false, arith}, specs.Prelude.{◌==◌, slice_index}}
+use Rattle.std.{proofs.lemmas.Bool.{cases_eq}, proofs.lemmas.Bool.Decides.{nat_tests}, specs.Int.{bit_at}, proofs.lemmas.List.FromFn.{get_or-map-range_with_len}}
+use Rattle.ppdb_base.{specs.declared.code.Code.TheVariants.{TablesShort, MethodRows}, specs.First.{IsAccepted}, specs.Place.{at_byte}, proofs.Fields.{sum_append}}
+use Rattle.metadata_root.specs.{declared.kind.StreamKind.TheVariants.{Tables}, Streams.{Streams, bytes_of}}
+use Rattle.ppdb_tables.specs.{Counts.{count_fields, counts_below, count_place}, declared.head.PdbHead.{PdbHead}, RawTables.{count}, Tables.{TableFieldFaults}}
+use Rattle.ppdb_tables.specs.{Tables.{TablesFaults, count_in, table_fields, table_rows, tables_in, valid}, Tables.TableFieldFaults.{short, method_rows}}
 use Rattle.ppdb_tables.proofs.RowCounts.{counts_mono, sum-replicate}
 use Rattle.ppdb_verify.proofs.Fitting.{fields_fit}
 

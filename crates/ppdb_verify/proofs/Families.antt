@@ -1,16 +1,9 @@
 -- The rules of the rows and the sum of the items, as one.
-use Rattle.std.proofs.Common.{ℕ, ◌⊎◌, inl, inr, List, [], ◌∷◌, sym, ◌∙◌, arith}
-use Rattle.std.proofs.lemmas.Bool.{cases_order}
-use Rattle.ppdb_base.specs.declared.code.Code.{Code}
-use Rattle.ppdb_base.specs.declared.fault.Fault.{Fault}
-use Rattle.ppdb_base.specs.declared.fault.Place.{Place}
-use Rattle.ppdb_base.specs.First.{IsAccepted, IsFirst, IsJudgedTo}
-use Rattle.ppdb_base.specs.Place.{ComesBefore, numbers}
-use Rattle.ppdb_base.proofs.Judging.{first_of_one, first_of_two}
+use Rattle.std.proofs.{Common.{ℕ, ◌⊎◌, inl, inr, List, [], ◌∷◌, sym, ◌∙◌, arith}, lemmas.Bool.{cases_order}}
+use Rattle.ppdb_base.specs.{declared.code.Code.{Code}, declared.fault.Fault.{Fault}, declared.fault.Place.{Place}, First.{IsAccepted, IsFirst, IsJudgedTo}}
+use Rattle.ppdb_base.{specs.Place.{ComesBefore, numbers}, proofs.Judging.{first_of_one, first_of_two}}
 use Rattle.ppdb_tables.specs.RawTables.{RawTables}
-use Rattle.ppdb_verify_rules.specs.declared.errors.VerifyError.{VerifyError}
-use Rattle.ppdb_verify_rules.specs.declared.errors.VerifyError.TheVariants.{Fault as TheFault, Memory}
-use Rattle.ppdb_verify_rules.specs.Errors.{FaultIs}
+use Rattle.ppdb_verify_rules.specs.{declared.errors.VerifyError.{VerifyError}, declared.errors.VerifyError.TheVariants.{Fault as TheFault, Memory}, Errors.{FaultIs}}
 use Rattle.ppdb_verify_rules.specs.Rows.{RowFaults}
 use Rattle.ppdb_verify_total.specs.Spans.{SpanFaults}
 use Rattle.ppdb_verify.specs.Files.{RowsFaults}

@@ -1,9 +1,7 @@
 -- Fields of which none passes the end.
-use Rattle.std.proofs.Common.{◌≡◌, ℕ, ◌+◌, ◌<◌, ◌≤◌, List, [], ◌∷◌, ◌++◌, sum, inl, inr, refl, sym, ap, ◌∙◌, append_assoc, arith}
-use Rattle.std.proofs.lemmas.Bool.{cases_lt}
+use Rattle.std.proofs.{Common.{◌≡◌, ℕ, ◌+◌, ◌<◌, ◌≤◌, List, [], ◌∷◌, ◌++◌, sum, inl, inr, refl, sym, ap, ◌∙◌, append_assoc, arith}, lemmas.Bool.{cases_lt}}
 use Rattle.std.proofs.lemmas.List.{append-nil}
-use Rattle.ppdb_base.specs.Fields.{IsField}
-use Rattle.ppdb_base.proofs.Fields.{sum_append}
+use Rattle.ppdb_base.{specs.Fields.{IsField}, proofs.Fields.{sum_append}}
 
 module _ (fields : List ℕ) (most : ℕ) (none_past : (at len : ℕ) → IsField fields at len → at ≤ most → most < at + len → ⊥) where
   fit_from : (before after : List ℕ) → fields ≡ before ++ after → sum before ≤ most → sum fields ≤ most

@@ -1,25 +1,16 @@
 -- What was read of #Pdb is what its bytes say.
 use Rattle.std.proofs.Common.{◌≡◌, ℕ, ◌%◌, ◌^◌, ◌<◌, ◌≤◌, Bool, true, false, cond, List, [], ◌∷◌, map, inl, inr, refl, sym, ap, subst, ◌∙◌, arith, nat_lt}
-use Rattle.std.specs.Prelude.{slice_index, if◌then◌else◌}
-use Rattle.std.specs.List.{range_with_len}
-use Rattle.std.proofs.lemmas.Bool.{cases_lt, lt-ltb, ltb-true}
+use Rattle.std.{specs.Prelude.{slice_index, if◌then◌else◌}, specs.List.{range_with_len}, proofs.lemmas.Bool.{cases_lt, lt-ltb, ltb-true}}
 use Rattle.std.proofs.lemmas.List.FromFn.{get_or-map-range_with_len}
-use Rattle.ppdb_base.specs.declared.code.Code.TheVariants.{EntryPoint}
-use Rattle.ppdb_base.specs.declared.code.Code.{Code}
-use Rattle.ppdb_base.specs.declared.fault.Place.{Place}
-use Rattle.ppdb_base.specs.First.{IsAccepted, Then}
+use Rattle.ppdb_base.specs.{declared.code.Code.TheVariants.{EntryPoint}, declared.code.Code.{Code}, declared.fault.Place.{Place}, First.{IsAccepted, Then}}
 use Rattle.ppdb_base.specs.Place.{at_byte}
-use Rattle.metadata_root.specs.declared.kind.StreamKind.TheVariants.{Tables, Strings, Guids, Blobs}
-use Rattle.metadata_root.specs.Streams.{Streams, bytes_of}
+use Rattle.metadata_root.specs.{declared.kind.StreamKind.TheVariants.{Tables, Strings, Guids, Blobs}, Streams.{Streams, bytes_of}}
 use Rattle.row_layout.specs.declared.column.Sizes.{Sizes}
-use Rattle.ppdb_tables.specs.declared.head.PdbHead.{PdbHead}
-use Rattle.ppdb_tables.specs.Head.{PdbFaults, IsHeadOf, NamesMethod, entry_in, pdb_rows, head_in}
-use Rattle.ppdb_tables.specs.Head.EntryFaults.{entry}
-use Rattle.ppdb_tables.specs.Layouts.{document_columns, method_columns, scope_columns, variable_columns, constant_columns}
-use Rattle.ppdb_tables.specs.Layouts.{import_columns, machine_columns, custom_columns, document_row, method_row, scope_row, variable_row}
-use Rattle.ppdb_tables.specs.Layouts.{constant_row, import_row, machine_row, custom_row}
-use Rattle.ppdb_tables.specs.RawTables.{RawTables, count}
-use Rattle.ppdb_tables.specs.Tables.{BoundFaults, TableFieldFaults, TablesFaults, count_in, heap_sizes, rows_at, sizes_in, table_rows, tables_in}
+use Rattle.ppdb_tables.specs.{declared.head.PdbHead.{PdbHead}, Head.{PdbFaults, IsHeadOf, NamesMethod, entry_in, pdb_rows, head_in}, Head.EntryFaults.{entry}}
+use Rattle.ppdb_tables.specs.Layouts.{document_columns, method_columns, scope_columns, variable_columns, constant_columns, import_columns, machine_columns}
+use Rattle.ppdb_tables.specs.Layouts.{custom_columns, document_row, method_row, scope_row, variable_row, constant_row, import_row, machine_row, custom_row}
+use Rattle.ppdb_tables.specs.{RawTables.{RawTables, count}, Tables.{BoundFaults, TableFieldFaults, TablesFaults, count_in, heap_sizes, rows_at, sizes_in}}
+use Rattle.ppdb_tables.specs.Tables.{table_rows, tables_in}
 
 -- one function makes one list of another
 map_alike : {X : Type 0} (f g : ℕ → X) → ((n : ℕ) → f n ≡ g n) → (ns : List ℕ) → map f ns ≡ map g ns

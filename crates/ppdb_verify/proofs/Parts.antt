@@ -1,20 +1,11 @@
 -- The parts of a file one after the other.
 use Rattle.std.proofs.Common.{◌≡◌, List, ℕ, inl, subst, ◌∙◌}
-use Rattle.ppdb_base.specs.declared.code.Code.{Code}
-use Rattle.ppdb_base.specs.declared.fault.Fault.{Fault}
-use Rattle.ppdb_base.specs.declared.fault.Place.{Place}
-use Rattle.ppdb_base.specs.First.{IsAccepted, IsFirst, Then}
+use Rattle.ppdb_base.specs.{declared.code.Code.{Code}, declared.fault.Fault.{Fault}, declared.fault.Place.{Place}, First.{IsAccepted, IsFirst, Then}}
 use Rattle.ppdb_base.proofs.Judging.{accepted_then, first_of_after, first_of_before, first_of_same}
-use Rattle.metadata_root.specs.declared.kind.StreamKind.TheVariants.{Pdb, Tables}
-use Rattle.metadata_root.specs.Streams.{AreStreamsOf, ContainerFaults, Streams, bytes_of}
-use Rattle.ppdb_tables.specs.declared.head.PdbHead.{PdbHead}
-use Rattle.ppdb_tables.specs.Head.{PdbFaults, IsHeadOf, head_in}
-use Rattle.ppdb_tables.specs.RawTables.{RawTables}
-use Rattle.ppdb_tables.specs.Tables.{TablesFaults, tables_in}
+use Rattle.metadata_root.specs.{declared.kind.StreamKind.TheVariants.{Pdb, Tables}, Streams.{AreStreamsOf, ContainerFaults, Streams, bytes_of}}
+use Rattle.ppdb_tables.specs.{declared.head.PdbHead.{PdbHead}, Head.{PdbFaults, IsHeadOf, head_in}, RawTables.{RawTables}, Tables.{TablesFaults, tables_in}}
 use Rattle.ppdb_values.specs.RawFile.{raw_in}
-use Rattle.ppdb_verify.specs.Files.{ContentFaults, FileFaults, RowsFaults}
-use Rattle.ppdb_verify.proofs.Headed.{invalid_alike, tables_alike}
-use Rattle.ppdb_verify.proofs.Streamed.{same_streams}
+use Rattle.ppdb_verify.{specs.Files.{ContentFaults, FileFaults, RowsFaults}, proofs.Headed.{invalid_alike, tables_alike}, proofs.Streamed.{same_streams}}
 
 module _ (file : List ℕ) (root : Streams) (container : IsAccepted (ContainerFaults file)) (are : AreStreamsOf file root) where
   abbrev Inside : Code → Place → Type 0

@@ -1,17 +1,12 @@
 -- A file whose root keeps its rules has its streams once.
 use Rattle.std.proofs.Common.{◌≡◌, ℕ, zero, suc, ◌+◌, ◌<◌, ◌≤◌, inl, inr, List, length, take, drop, sum, Option, Some, None, refl, sym, ap, ◌∙◌, arith}
-use Rattle.std.specs.Prelude.{MatchOption}
-use Rattle.std.proofs.lemmas.Bool.{cases_lt}
-use Rattle.ppdb_base.specs.declared.code.Code.TheVariants.{RootTruncated, StreamRepeated}
-use Rattle.ppdb_base.specs.First.{IsAccepted}
-use Rattle.ppdb_base.specs.Place.{at_byte}
+use Rattle.std.{specs.Prelude.{MatchOption}, proofs.lemmas.Bool.{cases_lt}}
+use Rattle.ppdb_base.specs.{declared.code.Code.TheVariants.{RootTruncated, StreamRepeated}, First.{IsAccepted}, Place.{at_byte}}
 use Rattle.ppdb_base.proofs.Fields.{sum_append}
 use Rattle.ppdb_verify.proofs.Fitting.{fields_fit}
-use Rattle.metadata_root.specs.declared.kind.StreamKind.{StreamKind}
-use Rattle.metadata_root.specs.declared.kind.StreamKind.TheVariants.{Pdb, Tables, Strings, UserStrings, Guids, Blobs}
+use Rattle.metadata_root.specs.declared.kind.{StreamKind.{StreamKind}, StreamKind.TheVariants.{Pdb, Tables, Strings, UserStrings, Guids, Blobs}}
 use Rattle.metadata_root.specs.Root.{RootFaults, fields_to, header_fields, header_place, name_len, name_place, root_fields, stream_count}
-use Rattle.metadata_root.specs.Root.RootFaults.{truncated, repeated}
-use Rattle.metadata_root.specs.Streams.{AreStreamsOf, IsHeaderOf, IsListed, IsStream, Stream, Streams, offset_in, size_in}
+use Rattle.metadata_root.specs.{Root.RootFaults.{truncated, repeated}, Streams.{AreStreamsOf, IsHeaderOf, IsListed, IsStream, Stream, Streams, offset_in, size_in}}
 
 next_header : (file : List ℕ) (k : ℕ) → header_place file (suc k) ≡ header_place file k + 8 + name_len file (header_place file k + 8)
 unfolding fields_to

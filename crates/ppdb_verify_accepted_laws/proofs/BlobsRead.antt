@@ -1,25 +1,15 @@
 -- In a file that keeps the rules each cursor over a blob of a row answers no fault.
-use Rattle.std.proofs.Common.{◌≡◌, ◌≢◌, ◌⊎◌, ℕ, List, [], Bool, true, false, cond, sym, ap, ◌∙◌, subst, inl, inr}
-use Rattle.std.specs.Prelude.{Some, ◌||◌}
-use Rattle.std.specs.Str.{bytes_eq}
-use Rattle.custom_info.specs.declared.kinds.Kind.{Kind}
-use Rattle.custom_info.specs.declared.kinds.Kind.TheVariants.{Async, Hoisted, TypeDocuments, Free, Unknown}
-use Rattle.custom_info.specs.HoistedScopes.{hoisted_scopes}
-use Rattle.custom_info.specs.TypeDocuments.{type_documents}
-use Rattle.custom_info.specs.Kinds.{async_stepping as async_guid, hoisted_scopes as hoisted_guid, is_one_of, kind_of, passed_on}
-use Rattle.custom_info.specs.Kinds.{type_documents as documents_guid}
-use Rattle.ppdb_heaps.specs.Heaps.{blob_at, guid_at}
-use Rattle.ppdb_heaps.specs.Names.{names}
-use Rattle.ppdb_tables.specs.declared.rows.CustomRow.{CustomRow}
-use Rattle.ppdb_tables.specs.RawTables.{RawTables, count, row_at}
+use Rattle.std.{proofs.Common.{◌≡◌, ◌≢◌, ◌⊎◌, ℕ, List, [], Bool, true, false, cond, sym, ap, ◌∙◌, subst, inl, inr}, specs.Prelude.{Some, ◌||◌}, specs.Str.{bytes_eq}}
+use Rattle.custom_info.specs.declared.kinds.{Kind.{Kind}, Kind.TheVariants.{Async, Hoisted, TypeDocuments, Free, Unknown}}
+use Rattle.custom_info.specs.{HoistedScopes.{hoisted_scopes}, TypeDocuments.{type_documents}, Kinds.{async_stepping as async_guid, hoisted_scopes as hoisted_guid}}
+use Rattle.custom_info.specs.Kinds.{is_one_of, kind_of, passed_on, type_documents as documents_guid}
+use Rattle.ppdb_heaps.specs.{Heaps.{blob_at, guid_at}, Names.{names}}
+use Rattle.ppdb_tables.specs.{declared.rows.CustomRow.{CustomRow}, RawTables.{RawTables, count, row_at}}
 use Rattle.sequence_points.specs.Records.{sequence_points}
-use Rattle.type_blobs.specs.Constants.{constants}
-use Rattle.type_blobs.specs.Imports.{imports}
-use Rattle.ppdb_values.specs.Customs.{kind_in}
-use Rattle.ppdb_values.specs.RawFile.{RawFile, blob, point_limits, type_limits}
-use Rattle.ppdb_values.specs.Rules.{IsWhole, IsWholeOfKind, KeepsRules}
-use Rattle.ppdb_verify_accepted_laws.specs.Cursors.{CursorsNeverFault, HasKind}
-use Rattle.ppdb_verify_accepted_laws.proofs.Cursors.{constant_reads_on, name_reads_on, named, points_read_on, reads_on, stepping_reads_on}
+use Rattle.type_blobs.specs.{Constants.{constants}, Imports.{imports}}
+use Rattle.ppdb_values.specs.{Customs.{kind_in}, RawFile.{RawFile, blob, point_limits, type_limits}, Rules.{IsWhole, IsWholeOfKind, KeepsRules}}
+use Rattle.ppdb_verify_accepted_laws.{specs.Cursors.{CursorsNeverFault, HasKind}, proofs.Cursors.{constant_reads_on, name_reads_on, named, points_read_on, reads_on}}
+use Rattle.ppdb_verify_accepted_laws.proofs.Cursors.{stepping_reads_on}
 
 -- ---- a kind that is read, whatever kinds are marked
 

@@ -1,26 +1,14 @@
 -- The constants keep their rules.
-use Rattle.std.proofs.Common.{◌≡◌, ℕ, List, length, refl, sym, ap, ◌∙◌, subst, true}
-use Rattle.std.specs.Prelude.{Some, is_some}
-use Rattle.ppdb_base.specs.declared.code.Code.{Code}
-use Rattle.ppdb_base.specs.First.{IsAccepted}
-use Rattle.blob_grammar.specs.Grammar.{Field, cut}
-use Rattle.blob_grammar.proofs.PrefixFields.{longest-prefix_of}
-use Rattle.ppdb_tables.specs.declared.rows.ScopeRow.{ScopeRow}
-use Rattle.ppdb_tables.specs.declared.rows.ConstantRow.{ConstantRow}
-use Rattle.ppdb_tables.specs.RawTables.{RawTables, HasShape, row_at}
-use Rattle.type_blobs.specs.declared.types.TypeLimits.{TypeLimits}
-use Rattle.type_blobs.specs.Constants.{constants, body_of}
-use Rattle.ppdb_verify_rules.specs.Rows.{RowFaults, ConstantFault}
-use Rattle.ppdb_verify_rules.specs.Rows.RowFaults.{in_constant}
-use Rattle.ppdb_verify_rules.specs.Rows.ConstantFault.{no_text, alone, same_text, no_signature, invalid_signature}
-use Rattle.ppdb_verify_rules.specs.Rows.ScopeFault.{no_constants}
-use Rattle.ppdb_verify_rules.specs.Scopes.{IsListOut}
-use Rattle.ppdb_values.specs.RawFile.{begun_of, blob, text, type_limits}
-use Rattle.ppdb_values.specs.Rules.{HasBlob, HasText, IsConstant, IsWhole, KeepsConstants, KeepsLists}
-use Rattle.ppdb_verify_accepted_laws.proofs.Items.{blob_there, text_there, whole_there}
-use Rattle.ppdb_verify_accepted_laws.proofs.ScopeLists.{differ, lists_kept, none_alone}
-use Rattle.ppdb_verify_accepted_laws.proofs.Scopes.{no_fault as no_scope_fault}
-use Rattle.ppdb_verify_accepted_laws.proofs.Variables.{are_same_text}
+use Rattle.std.{proofs.Common.{◌≡◌, ℕ, List, length, refl, sym, ap, ◌∙◌, subst, true}, specs.Prelude.{Some, is_some}}
+use Rattle.ppdb_base.specs.{declared.code.Code.{Code}, First.{IsAccepted}}
+use Rattle.blob_grammar.{specs.Grammar.{Field, cut}, proofs.PrefixFields.{longest-prefix_of}}
+use Rattle.ppdb_tables.specs.{declared.rows.ScopeRow.{ScopeRow}, declared.rows.ConstantRow.{ConstantRow}, RawTables.{RawTables, HasShape, row_at}}
+use Rattle.type_blobs.specs.{declared.types.TypeLimits.{TypeLimits}, Constants.{constants, body_of}}
+use Rattle.ppdb_verify_rules.specs.{Rows.{RowFaults, ConstantFault}, Rows.RowFaults.{in_constant}, Rows.ConstantFault.{no_text, alone, same_text, no_signature}}
+use Rattle.ppdb_verify_rules.specs.{Rows.ConstantFault.{invalid_signature}, Rows.ScopeFault.{no_constants}, Scopes.{IsListOut}}
+use Rattle.ppdb_values.specs.{RawFile.{begun_of, blob, text, type_limits}, Rules.{HasBlob, HasText, IsConstant, IsWhole, KeepsConstants, KeepsLists}}
+use Rattle.ppdb_verify_accepted_laws.proofs.{Items.{blob_there, text_there, whole_there}, ScopeLists.{differ, lists_kept, none_alone}}
+use Rattle.ppdb_verify_accepted_laws.proofs.{Scopes.{no_fault as no_scope_fault}, Variables.{are_same_text}}
 
 -- a whole signature ends with a body
 body_there : (limits : TypeLimits) (content : List ℕ) → IsWhole (constants limits) content → is_some (body_of (begun_of (constants limits) content)) ≡ true

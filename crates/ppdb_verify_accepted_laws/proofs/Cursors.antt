@@ -1,25 +1,14 @@
 -- A cursor over a whole blob answers no fault.
-use Rattle.std.proofs.Common.{◌≡◌, ℕ, zero, suc, List, [], ◌∷◌, refl, subst}
-use Rattle.std.specs.Prelude.{Option, Some, None, Result, Ok, Err, IsOk, IsOkAnd}
+use Rattle.std.{proofs.Common.{◌≡◌, ℕ, zero, suc, List, [], ◌∷◌, refl, subst}, specs.Prelude.{Option, Some, None, Result, Ok, Err, IsOk, IsOkAnd}}
 use Rattle.ppdb_base.specs.declared.fault.BlobFault.{BlobFault}
-use Rattle.blob_grammar.specs.Grammar.{Grammar}
-use Rattle.blob_grammar.specs.Reader.{Left, answer_from, rest_of}
-use Rattle.blob_grammar.specs.Reading.{Reading}
-use Rattle.blob_grammar.proofs.Unique.{reading-unique}
-use Rattle.ppdb_heaps.specs.Cursor.{NameLeft}
-use Rattle.ppdb_heaps.specs.Heaps.{blob_at}
-use Rattle.ppdb_heaps.specs.Names.{names}
-use Rattle.sequence_points.specs.declared.point.PointLimits.{PointLimits}
-use Rattle.sequence_points.specs.Places.{Shown}
-use Rattle.sequence_points.specs.Records.{sequence_points}
-use Rattle.type_blobs.specs.declared.types.TypeLimits.{TypeLimits}
-use Rattle.type_blobs.specs.ConstantReading.{ConstantEnd, ConstantLeft, ConstantReading, body, invalid_body, invalid_modifier, fault_of}
-use Rattle.type_blobs.specs.ConstantReading.{modifier_answer, body_answer, rest_of as constant_rest}
-use Rattle.type_blobs.specs.Constants.{constants}
+use Rattle.blob_grammar.{specs.Grammar.{Grammar}, specs.Reader.{Left, answer_from, rest_of}, specs.Reading.{Reading}, proofs.Unique.{reading-unique}}
+use Rattle.ppdb_heaps.specs.{Cursor.{NameLeft}, Heaps.{blob_at}, Names.{names}}
+use Rattle.sequence_points.specs.{declared.point.PointLimits.{PointLimits}, Places.{Shown}, Records.{sequence_points}}
+use Rattle.type_blobs.specs.{declared.types.TypeLimits.{TypeLimits}, ConstantReading.{ConstantEnd, ConstantLeft, ConstantReading, body, invalid_body}}
+use Rattle.type_blobs.specs.{ConstantReading.{invalid_modifier, fault_of, modifier_answer, body_answer, rest_of as constant_rest}, Constants.{constants}}
 use Rattle.custom_info.specs.AsyncStepping.{Stepping, async_stepping, entries_of}
 use Rattle.ppdb_tables.specs.RawTables.{RawTables}
-use Rattle.ppdb_values.specs.RawFile.{blob, records_of}
-use Rattle.ppdb_values.specs.Rules.{HasBlob, IsWhole}
+use Rattle.ppdb_values.specs.{RawFile.{blob, records_of}, Rules.{HasBlob, IsWhole}}
 use Rattle.ppdb_verify_accepted_laws.specs.Cursors.{ConstantNeverFaults, MayBeName, MayBePoints, MayBeStepping, NeverFaults}
 
 -- a whole blob is not read with a fault

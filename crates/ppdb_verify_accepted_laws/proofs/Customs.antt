@@ -1,33 +1,16 @@
 -- The custom records keep their rules.
-use Rattle.std.proofs.Common.{◌≡◌, ℕ, ◌/◌, ◌%◌, ◌<◌, ◌≤◌, [], refl, sym, ◌∙◌, subst, inl, inr, arith, slice_get}
-use Rattle.std.specs.Prelude.{Option, Some, None, unwrap_or}
-use Rattle.std.specs.Option.{option_map}
-use Rattle.std.proofs.lemmas.Bool.{cases_eq, cases_lt}
-use Rattle.std.proofs.lemmas.Option.{slice_get_cases}
-use Rattle.ppdb_base.specs.declared.code.Code.{Code}
-use Rattle.ppdb_base.specs.declared.fault.BlobFault.{BlobFault}
-use Rattle.ppdb_base.specs.First.{IsAccepted}
-use Rattle.custom_info.specs.declared.kinds.Kind.{Kind}
-use Rattle.custom_info.specs.declared.kinds.Kind.TheVariants.{Async, Hoisted, TypeDocuments, Free, Unknown}
-use Rattle.custom_info.specs.AsyncStepping.{async_stepping}
-use Rattle.custom_info.specs.HoistedScopes.{hoisted_scopes}
-use Rattle.custom_info.specs.TypeDocuments.{type_documents}
-use Rattle.custom_info.specs.Kinds.{kind_of}
+use Rattle.std.{proofs.Common.{◌≡◌, ℕ, ◌/◌, ◌%◌, ◌<◌, ◌≤◌, [], refl, sym, ◌∙◌, subst, inl, inr, arith, slice_get}, specs.Prelude.{Option, Some, None, unwrap_or}}
+use Rattle.std.{specs.Option.{option_map}, proofs.lemmas.Bool.{cases_eq, cases_lt}, proofs.lemmas.Option.{slice_get_cases}}
+use Rattle.ppdb_base.specs.{declared.code.Code.{Code}, declared.fault.BlobFault.{BlobFault}, First.{IsAccepted}}
+use Rattle.custom_info.specs.declared.kinds.{Kind.{Kind}, Kind.TheVariants.{Async, Hoisted, TypeDocuments, Free, Unknown}}
+use Rattle.custom_info.specs.{AsyncStepping.{async_stepping}, HoistedScopes.{hoisted_scopes}, TypeDocuments.{type_documents}, Kinds.{kind_of}}
 use Rattle.ppdb_heaps.specs.Heaps.{guid_at}
-use Rattle.ppdb_tables.specs.declared.parent.Parent.{Parent}
-use Rattle.ppdb_tables.specs.declared.rows.CustomRow.{CustomRow}
-use Rattle.ppdb_tables.specs.RawTables.{RawTables, count, row_at}
+use Rattle.ppdb_tables.specs.{declared.parent.Parent.{Parent}, declared.rows.CustomRow.{CustomRow}, RawTables.{RawTables, count, row_at}}
 use Rattle.row_layout.specs.Columns.{parent_tables}
-use Rattle.ppdb_verify_rules.specs.Customs.{IsOfKind, ReadsValue, parent_table}
-use Rattle.ppdb_verify_rules.specs.Rows.{RowFaults, CustomFault}
-use Rattle.ppdb_verify_rules.specs.Rows.RowFaults.{in_custom}
-use Rattle.ppdb_verify_rules.specs.Rows.CustomFault.{no_parent, no_tag, out_of_order, no_kind, other_parent, no_value, invalid_value}
-use Rattle.ppdb_verify_rules.proofs.BlobFaults.{no_guid}
-use Rattle.ppdb_values.specs.Customs.{kind_in, parent_of}
-use Rattle.ppdb_values.specs.RawFile.{blob}
-use Rattle.ppdb_values.specs.Rules.{HasBlob, HasRow, IsCustom, IsWholeOfKind, KeepsCustoms, StandsOn}
-use Rattle.ppdb_verify_accepted_laws.proofs.Items.{blob_there, is_there, row_named, whole}
-use Rattle.ppdb_verify_accepted_laws.proofs.Orders.{sorted_by}
+use Rattle.ppdb_verify_rules.specs.{Customs.{IsOfKind, ReadsValue, parent_table}, Rows.{RowFaults, CustomFault}, Rows.RowFaults.{in_custom}}
+use Rattle.ppdb_verify_rules.{specs.Rows.CustomFault.{no_parent, no_tag, out_of_order, no_kind, other_parent, no_value, invalid_value}, proofs.BlobFaults.{no_guid}}
+use Rattle.ppdb_values.specs.{Customs.{kind_in, parent_of}, RawFile.{blob}, Rules.{HasBlob, HasRow, IsCustom, IsWholeOfKind, KeepsCustoms, StandsOn}}
+use Rattle.ppdb_verify_accepted_laws.proofs.{Items.{blob_there, is_there, row_named, whole}, Orders.{sorted_by}}
 
 -- ---- the parent that a coded index names
 

@@ -1,18 +1,11 @@
 -- The documents keep their rules.
-use Rattle.std.proofs.Common.{◌≡◌, ◌≢◌, ℕ, ◌<◌, List, refl, subst}
-use Rattle.std.specs.Prelude.{Some}
-use Rattle.ppdb_base.specs.declared.code.Code.{Code}
-use Rattle.ppdb_base.specs.First.{IsAccepted}
+use Rattle.std.{proofs.Common.{◌≡◌, ◌≢◌, ℕ, ◌<◌, List, refl, subst}, specs.Prelude.{Some}}
+use Rattle.ppdb_base.specs.{declared.code.Code.{Code}, First.{IsAccepted}}
 use Rattle.ppdb_heaps.specs.Names.{names, name_of}
-use Rattle.ppdb_tables.specs.declared.rows.DocumentRow.{DocumentRow}
-use Rattle.ppdb_tables.specs.RawTables.{RawTables, row_at}
-use Rattle.ppdb_verify_rules.specs.Names.{SpellsName}
-use Rattle.ppdb_verify_rules.specs.Rows.{RowFaults, DocumentFault}
-use Rattle.ppdb_verify_rules.specs.Rows.RowFaults.{in_document}
-use Rattle.ppdb_verify_rules.specs.Rows.DocumentFault.{no_name, nil_name, repeated, invalid_name, no_algorithm, no_hash, no_language}
-use Rattle.ppdb_values.specs.RawFile.{blob, records_of}
-use Rattle.ppdb_values.specs.Documents.{document_of}
-use Rattle.ppdb_values.specs.Rules.{HasBlob, IsDocument, IsWhole, KeepsDocuments}
+use Rattle.ppdb_tables.specs.{declared.rows.DocumentRow.{DocumentRow}, RawTables.{RawTables, row_at}}
+use Rattle.ppdb_verify_rules.specs.{Names.{SpellsName}, Rows.{RowFaults, DocumentFault}, Rows.RowFaults.{in_document}, Rows.DocumentFault.{no_name, nil_name}}
+use Rattle.ppdb_verify_rules.specs.Rows.DocumentFault.{repeated, invalid_name, no_algorithm, no_hash, no_language}
+use Rattle.ppdb_values.specs.{RawFile.{blob, records_of}, Documents.{document_of}, Rules.{HasBlob, IsDocument, IsWhole, KeepsDocuments}}
 use Rattle.ppdb_verify_accepted_laws.proofs.Items.{blob_there, guid_or_none, whole_there}
 
 module _ (raw : RawTables) (accepted : IsAccepted (RowFaults raw)) where

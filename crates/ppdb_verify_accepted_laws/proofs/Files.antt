@@ -1,15 +1,8 @@
 -- A file in whose rows nothing is bad keeps the rules.
-use Rattle.ppdb_verify_accepted_laws.specs.Accepted.{HasGoodRows}
-use Rattle.ppdb_values.specs.RawFile.{RawFile}
-use Rattle.ppdb_values.specs.Rules.{KeepsRules}
-use Rattle.ppdb_verify_accepted_laws.proofs.Documents.{documents_kept}
-use Rattle.ppdb_verify_accepted_laws.proofs.Methods.{methods_kept}
-use Rattle.ppdb_verify_accepted_laws.proofs.Scopes.{scopes_kept}
-use Rattle.ppdb_verify_accepted_laws.proofs.Variables.{variables_kept}
-use Rattle.ppdb_verify_accepted_laws.proofs.Constants.{constants_kept}
-use Rattle.ppdb_verify_accepted_laws.proofs.Imports.{imports_kept}
-use Rattle.ppdb_verify_accepted_laws.proofs.Machines.{machines_kept}
+use Rattle.ppdb_verify_accepted_laws.{specs.Accepted.{HasGoodRows}, proofs.Documents.{documents_kept}, proofs.Methods.{methods_kept}, proofs.Scopes.{scopes_kept}}
+use Rattle.ppdb_verify_accepted_laws.proofs.{Variables.{variables_kept}, Constants.{constants_kept}, Imports.{imports_kept}, Machines.{machines_kept}}
 use Rattle.ppdb_verify_accepted_laws.proofs.Customs.{customs_kept}
+use Rattle.ppdb_values.specs.{RawFile.{RawFile}, Rules.{KeepsRules}}
 
 pub rules_kept : (raw : RawFile) → HasGoodRows raw → KeepsRules raw
 rules_kept raw good =

@@ -1,19 +1,11 @@
 -- The import scopes keep their rules.
-use Rattle.std.proofs.Common.{◌≡◌, ℕ, ◌≤◌, List, refl, ap, arith}
-use Rattle.std.specs.Prelude.{Option, Some, None, unwrap_or}
-use Rattle.std.specs.Option.{option_map}
-use Rattle.ppdb_base.specs.declared.code.Code.{Code}
-use Rattle.ppdb_base.specs.First.{IsAccepted}
-use Rattle.ppdb_tables.specs.declared.rows.ImportRow.{ImportRow}
-use Rattle.ppdb_tables.specs.RawTables.{RawTables, HasShape, count, row_at}
+use Rattle.std.{proofs.Common.{◌≡◌, ℕ, ◌≤◌, List, refl, ap, arith}, specs.Prelude.{Option, Some, None, unwrap_or}, specs.Option.{option_map}}
+use Rattle.ppdb_base.specs.{declared.code.Code.{Code}, First.{IsAccepted}}
+use Rattle.ppdb_tables.specs.{declared.rows.ImportRow.{ImportRow}, RawTables.{RawTables, HasShape, count, row_at}}
 use Rattle.type_blobs.specs.Imports.{imports as import_grammar}
-use Rattle.ppdb_verify_rules.specs.Rows.{RowFaults, ImportFault}
-use Rattle.ppdb_verify_rules.specs.Rows.RowFaults.{in_import}
-use Rattle.ppdb_verify_rules.specs.Rows.ImportFault.{no_parent, cycle, no_list, invalid_list}
+use Rattle.ppdb_verify_rules.specs.{Rows.{RowFaults, ImportFault}, Rows.RowFaults.{in_import}, Rows.ImportFault.{no_parent, cycle, no_list, invalid_list}}
 use Rattle.ppdb_heaps.specs.Heaps.{blob_at}
-use Rattle.ppdb_values.specs.Chains.{NeverEnds, parent_at}
-use Rattle.ppdb_values.specs.RawFile.{type_limits}
-use Rattle.ppdb_values.specs.Rules.{HasBlob, HasRowOrNone, IsImport, KeepsImports}
+use Rattle.ppdb_values.specs.{Chains.{NeverEnds, parent_at}, RawFile.{type_limits}, Rules.{HasBlob, HasRowOrNone, IsImport, KeepsImports}}
 use Rattle.ppdb_values.proofs.ChainEnds.{chains_end}
 use Rattle.ppdb_verify_accepted_laws.proofs.Items.{blob_there, row_named, whole_there}
 

@@ -1,20 +1,13 @@
 -- What a cell names is there where it is not at fault, and what blobs hold is whole.
-use Rattle.std.proofs.Common.{◌≡◌, ℕ, ◌≤◌, List, [], refl, sym, subst, inl, inr, true}
-use Rattle.std.specs.Prelude.{Option, Some, None, unwrap_or, is_some}
+use Rattle.std.{proofs.Common.{◌≡◌, ℕ, ◌≤◌, List, [], refl, sym, subst, inl, inr, true}, specs.Prelude.{Option, Some, None, unwrap_or, is_some}}
 use Rattle.std.proofs.lemmas.Bool.{cases_eq, cases_lt}
 use Rattle.ppdb_base.specs.declared.fault.BlobFault.{BlobFault}
-use Rattle.blob_grammar.specs.Grammar.{Grammar}
-use Rattle.blob_grammar.specs.Reader.{read_from}
-use Rattle.blob_grammar.specs.Reading.{Reading}
-use Rattle.blob_grammar.proofs.PrefixFields.{records_read}
-use Rattle.blob_grammar.proofs.Readers.{read_from-reads}
+use Rattle.blob_grammar.{specs.Grammar.{Grammar}, specs.Reader.{read_from}, specs.Reading.{Reading}, proofs.PrefixFields.{records_read}}
+use Rattle.blob_grammar.{proofs.Readers.{read_from-reads}, specs.Places.{HasEnd}}
 use Rattle.ppdb_heaps.specs.Heaps.{text_at, blob_at, guid_at}
 use Rattle.ppdb_tables.specs.RawTables.{RawTables}
-use Rattle.blob_grammar.specs.Places.{HasEnd}
-use Rattle.ppdb_verify_rules.specs.Blobs.{HasFault, NamesNoGuid}
-use Rattle.ppdb_verify_rules.specs.Earlier.{NamesNoRow}
-use Rattle.ppdb_values.specs.RawFile.{blob, records_of}
-use Rattle.ppdb_values.specs.Rules.{HasText, HasBlob, HasGuidOrNone, IsWhole}
+use Rattle.ppdb_verify_rules.specs.{Blobs.{HasFault, NamesNoGuid}, Earlier.{NamesNoRow}}
+use Rattle.ppdb_values.specs.{RawFile.{blob, records_of}, Rules.{HasText, HasBlob, HasGuidOrNone, IsWhole}}
 
 -- ---- items
 

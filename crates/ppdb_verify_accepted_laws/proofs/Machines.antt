@@ -1,17 +1,11 @@
 -- The state machines keep their rules.
-use Rattle.std.proofs.Common.{◌≡◌, ℕ, ◌<◌, inl, inr}
-use Rattle.std.specs.Prelude.{Some}
-use Rattle.std.proofs.lemmas.Bool.{cases_lt}
-use Rattle.ppdb_base.specs.declared.code.Code.{Code}
-use Rattle.ppdb_base.specs.First.{IsAccepted}
-use Rattle.ppdb_tables.specs.declared.rows.MachineRow.{MachineRow}
-use Rattle.ppdb_tables.specs.RawTables.{RawTables, count, row_at}
-use Rattle.ppdb_verify_rules.specs.Rows.{RowFaults, MachineFault}
-use Rattle.ppdb_verify_rules.specs.Rows.RowFaults.{in_machine}
-use Rattle.ppdb_verify_rules.specs.Rows.MachineFault.{no_move_next, out_of_order, no_kickoff, same_kickoff}
+use Rattle.std.{proofs.Common.{◌≡◌, ℕ, ◌<◌, inl, inr}, specs.Prelude.{Some}, proofs.lemmas.Bool.{cases_lt}}
+use Rattle.ppdb_base.specs.{declared.code.Code.{Code}, First.{IsAccepted}}
+use Rattle.ppdb_tables.specs.{declared.rows.MachineRow.{MachineRow}, RawTables.{RawTables, count, row_at}}
+use Rattle.ppdb_verify_rules.specs.{Rows.{RowFaults, MachineFault}, Rows.RowFaults.{in_machine}, Rows.MachineFault.{no_move_next, out_of_order, no_kickoff}}
+use Rattle.ppdb_verify_rules.specs.Rows.MachineFault.{same_kickoff}
 use Rattle.ppdb_values.specs.Rules.{KeepsMachines}
-use Rattle.ppdb_verify_accepted_laws.proofs.Items.{row_named}
-use Rattle.ppdb_verify_accepted_laws.proofs.Orders.{rises_by}
+use Rattle.ppdb_verify_accepted_laws.proofs.{Items.{row_named}, Orders.{rises_by}}
 
 module _ (raw : RawTables) (accepted : IsAccepted (RowFaults raw)) where
   no_fault : (row : ℕ) (x : MachineRow) → row_at raw.machines row ≡ Some x → {column byte : ℕ} {code : Code} → MachineFault raw row x column byte code → ⊥

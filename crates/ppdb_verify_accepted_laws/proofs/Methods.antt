@@ -1,19 +1,12 @@
 -- The debug information of methods keeps its rules.
-use Rattle.std.proofs.Common.{◌≡◌, ◌≢◌, ℕ, ◌⊎◌, List, [], ◌∷◌, length, refl, ◌∙◌, inl, inr}
-use Rattle.std.specs.Prelude.{Some}
-use Rattle.std.proofs.lemmas.Bool.{cases_eq}
-use Rattle.ppdb_base.specs.declared.code.Code.{Code}
-use Rattle.ppdb_base.specs.First.{IsAccepted}
+use Rattle.std.{proofs.Common.{◌≡◌, ◌≢◌, ℕ, ◌⊎◌, List, [], ◌∷◌, length, refl, ◌∙◌, inl, inr}, specs.Prelude.{Some}, proofs.lemmas.Bool.{cases_eq}}
+use Rattle.ppdb_base.specs.{declared.code.Code.{Code}, First.{IsAccepted}}
 use Rattle.ppdb_heaps.specs.Heaps.{blob_at}
-use Rattle.ppdb_tables.specs.declared.rows.MethodDebugRow.{MethodDebugRow}
-use Rattle.ppdb_tables.specs.RawTables.{RawTables, HasShape, count, row_at}
+use Rattle.ppdb_tables.specs.{declared.rows.MethodDebugRow.{MethodDebugRow}, RawTables.{RawTables, HasShape, count, row_at}}
 use Rattle.sequence_points.specs.Records.{sequence_points}
-use Rattle.ppdb_verify_rules.specs.Blobs.{IsNil}
-use Rattle.ppdb_verify_rules.specs.Rows.{RowFaults, MethodDebugFault}
-use Rattle.ppdb_verify_rules.specs.Rows.RowFaults.{in_method}
-use Rattle.ppdb_verify_rules.specs.Rows.MethodDebugFault.{no_document, no_points, invalid_points}
-use Rattle.ppdb_values.specs.RawFile.{blob, point_limits}
-use Rattle.ppdb_values.specs.Rules.{HasBlob, IsMethod, IsWhole, KeepsMethods}
+use Rattle.ppdb_verify_rules.specs.{Blobs.{IsNil}, Rows.{RowFaults, MethodDebugFault}, Rows.RowFaults.{in_method}, Rows.MethodDebugFault.{no_document, no_points}}
+use Rattle.ppdb_verify_rules.specs.Rows.MethodDebugFault.{invalid_points}
+use Rattle.ppdb_values.specs.{RawFile.{blob, point_limits}, Rules.{HasBlob, IsMethod, IsWhole, KeepsMethods}}
 use Rattle.ppdb_verify_accepted_laws.proofs.Items.{blob_there, row_named, whole}
 
 no_rows : {X : Type 0} (rows : List X) → length rows ≡ 0 → rows ≡ []

@@ -1,10 +1,7 @@
 -- Rows in the order of a number of theirs.
-use Rattle.std.proofs.Common.{◌≡◌, ℕ, zero, suc, ◌<◌, ◌≤◌, List, length, map, ap, ◌∙◌, arith, inl, inr, slice_index}
-use Rattle.std.specs.Prelude.{Some}
-use Rattle.std.specs.Option.{option_map}
-use Rattle.std.proofs.lemmas.Bool.{cases_eq}
-use Rattle.std.proofs.lemmas.List.{length-map}
-use Rattle.std.proofs.lemmas.Option.{get_or_from_slice_get, slice_get-map, slice_get_cases}
+use Rattle.std.{proofs.Common.{◌≡◌, ℕ, zero, suc, ◌<◌, ◌≤◌, List, length, map, ap, ◌∙◌, arith, inl, inr, slice_index}, specs.Prelude.{Some}}
+use Rattle.std.{specs.Option.{option_map}, proofs.lemmas.Bool.{cases_eq}, proofs.lemmas.List.{length-map}, proofs.lemmas.Option.{get_or_from_slice_get}}
+use Rattle.std.proofs.lemmas.Option.{slice_get-map, slice_get_cases}
 pub use Rattle.ppdb_tables.proofs.NumberedRows.{row_within}
 use Rattle.ppdb_tables.specs.RawTables.{row_at}
 use Rattle.ppdb_values.specs.Ordered.{EachPair, IsSorted, Rises}

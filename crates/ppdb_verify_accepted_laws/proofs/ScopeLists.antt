@@ -1,16 +1,10 @@
 -- The lists of the scopes are in order, and items of one scope differ where none of them may be equal.
-use Rattle.std.proofs.Common.{◌≡◌, ◌≢◌, ℕ, suc, ◌+◌, ◌-◌, ◌<◌, ◌≤◌, List, [], ◌∷◌, length, refl, sym, arith, inl, inr, true}
-use Rattle.std.specs.Prelude.{Option, Some, None, nat_le}
-use Rattle.std.specs.List.{enumerate_from, filter, last_or}
-use Rattle.std.specs.Option.{option_map}
-use Rattle.std.proofs.lemmas.Bool.{cases_eq, cases_lt}
+use Rattle.std.{proofs.Common.{◌≡◌, ◌≢◌, ℕ, suc, ◌+◌, ◌-◌, ◌<◌, ◌≤◌, List, [], ◌∷◌, length, refl, sym, arith, inl, inr, true}, specs.Prelude.{Option, Some, None}}
+use Rattle.std.{specs.Prelude.{nat_le}, specs.List.{enumerate_from, filter, last_or}, specs.Option.{option_map}, proofs.lemmas.Bool.{cases_eq, cases_lt}}
 use Rattle.std.proofs.lemmas.Bool.Decides.{nat_tests}
-use Rattle.ppdb_tables.specs.declared.rows.ScopeRow.{ScopeRow}
-use Rattle.ppdb_tables.specs.RawTables.{row_at}
+use Rattle.ppdb_tables.specs.{declared.rows.ScopeRow.{ScopeRow}, RawTables.{row_at}}
 use Rattle.ppdb_verify_rules.specs.Scopes.{IsListOut, ShareOwner}
-use Rattle.ppdb_values.specs.Rules.{DifferInScope, KeepsLists}
-use Rattle.ppdb_values.specs.Value.{owner_of}
-use Rattle.ppdb_values.proofs.Owners.{owner_is_last}
+use Rattle.ppdb_values.{specs.Rules.{DifferInScope, KeepsLists}, specs.Value.{owner_of}, proofs.Owners.{owner_is_last}}
 use Rattle.ppdb_verify_accepted_laws.proofs.Orders.{row_within, sorted_next}
 
 -- ---- lists in order

@@ -1,20 +1,11 @@
 -- The scopes keep their rules.
-use Rattle.std.proofs.Common.{◌≡◌, ℕ, ◌+◌, ◌<◌, ◌≤◌, sym, arith, inl, inr}
-use Rattle.std.specs.Prelude.{Some}
-use Rattle.std.proofs.lemmas.Bool.{cases_lt}
-use Rattle.ppdb_base.specs.declared.code.Code.{Code}
-use Rattle.ppdb_base.specs.First.{IsAccepted}
-use Rattle.ppdb_tables.specs.declared.rows.ScopeRow.{ScopeRow}
-use Rattle.ppdb_tables.specs.RawTables.{RawTables, count, row_at}
-use Rattle.ppdb_verify_rules.specs.Rows.{RowFaults, ScopeFault}
-use Rattle.ppdb_verify_rules.specs.Rows.RowFaults.{in_scope}
-use Rattle.ppdb_verify_rules.specs.Rows.ScopeFault.{no_method, out_of_order, no_import, crossing, no_range}
-use Rattle.ppdb_verify_rules.specs.Scopes.{AreCrossed, IsAbove}
-use Rattle.ppdb_values.specs.Ranges.{ComesAfter, IsInOrAfter}
-use Rattle.ppdb_values.specs.Rules.{IsScope, KeepsScopes}
-use Rattle.ppdb_values.specs.Value.{range_of}
-use Rattle.ppdb_verify_accepted_laws.proofs.Items.{row_named}
-use Rattle.ppdb_verify_accepted_laws.proofs.Orders.{sorted_by}
+use Rattle.std.{proofs.Common.{◌≡◌, ℕ, ◌+◌, ◌<◌, ◌≤◌, sym, arith, inl, inr}, specs.Prelude.{Some}, proofs.lemmas.Bool.{cases_lt}}
+use Rattle.ppdb_base.specs.{declared.code.Code.{Code}, First.{IsAccepted}}
+use Rattle.ppdb_tables.specs.{declared.rows.ScopeRow.{ScopeRow}, RawTables.{RawTables, count, row_at}}
+use Rattle.ppdb_verify_rules.specs.{Rows.{RowFaults, ScopeFault}, Rows.RowFaults.{in_scope}, Rows.ScopeFault.{no_method, out_of_order, no_import, crossing}}
+use Rattle.ppdb_verify_rules.specs.{Rows.ScopeFault.{no_range}, Scopes.{AreCrossed, IsAbove}}
+use Rattle.ppdb_values.specs.{Ranges.{ComesAfter, IsInOrAfter}, Rules.{IsScope, KeepsScopes}, Value.{range_of}}
+use Rattle.ppdb_verify_accepted_laws.proofs.{Items.{row_named}, Orders.{sorted_by}}
 
 not_before : (x y : ScopeRow) → ComesAfter (range_of x) (range_of y) → x.start ≤ y.start
 not_before x y after = elim after [

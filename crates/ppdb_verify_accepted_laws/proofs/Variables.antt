@@ -1,21 +1,11 @@
 -- The variables keep their rules.
-use Rattle.std.proofs.Common.{◌≡◌, ℕ, length, refl, sym, ap, ◌∙◌, subst}
-use Rattle.std.specs.Prelude.{Some}
-use Rattle.ppdb_base.specs.declared.code.Code.{Code}
-use Rattle.ppdb_base.specs.First.{IsAccepted}
-use Rattle.ppdb_tables.specs.declared.rows.ScopeRow.{ScopeRow}
-use Rattle.ppdb_tables.specs.declared.rows.VariableRow.{VariableRow}
-use Rattle.ppdb_tables.specs.RawTables.{RawTables, HasShape, row_at}
-use Rattle.ppdb_verify_rules.specs.Rows.{RowFaults, VariableFault}
-use Rattle.ppdb_verify_rules.specs.Rows.RowFaults.{in_variable}
-use Rattle.ppdb_verify_rules.specs.Rows.ScopeFault.{no_variables}
-use Rattle.ppdb_verify_rules.specs.Rows.VariableFault.{alone, same_slot, no_text, same_text}
-use Rattle.ppdb_verify_rules.specs.Scopes.{AreSameText, IsListOut}
-use Rattle.ppdb_values.specs.RawFile.{text}
-use Rattle.ppdb_values.specs.Rules.{HasText, KeepsLists, KeepsVariables}
-use Rattle.ppdb_verify_accepted_laws.proofs.Items.{text_there}
-use Rattle.ppdb_verify_accepted_laws.proofs.ScopeLists.{differ, lists_kept, none_alone}
-use Rattle.ppdb_verify_accepted_laws.proofs.Scopes.{no_fault as no_scope_fault}
+use Rattle.std.{proofs.Common.{◌≡◌, ℕ, length, refl, sym, ap, ◌∙◌, subst}, specs.Prelude.{Some}}
+use Rattle.ppdb_base.specs.{declared.code.Code.{Code}, First.{IsAccepted}}
+use Rattle.ppdb_tables.specs.{declared.rows.ScopeRow.{ScopeRow}, declared.rows.VariableRow.{VariableRow}, RawTables.{RawTables, HasShape, row_at}}
+use Rattle.ppdb_verify_rules.specs.{Rows.{RowFaults, VariableFault}, Rows.RowFaults.{in_variable}, Rows.ScopeFault.{no_variables}, Rows.VariableFault.{alone}}
+use Rattle.ppdb_verify_rules.specs.{Rows.VariableFault.{same_slot, no_text, same_text}, Scopes.{AreSameText, IsListOut}}
+use Rattle.ppdb_values.specs.{RawFile.{text}, Rules.{HasText, KeepsLists, KeepsVariables}}
+use Rattle.ppdb_verify_accepted_laws.proofs.{Items.{text_there}, ScopeLists.{differ, lists_kept, none_alone}, Scopes.{no_fault as no_scope_fault}}
 
 -- two indexes of one text
 pub are_same_text : (raw : RawTables) (a b : ℕ) → HasText raw a → HasText raw b → text raw a ≡ text raw b → AreSameText raw.texts a b

@@ -1,19 +1,13 @@
 -- The variables and constants of a file that keeps the rules are not at fault.
-use Rattle.std.proofs.Common.{◌≡◌, ℕ, ◌∙◌}
-use Rattle.std.specs.Prelude.{Some}
+use Rattle.std.{proofs.Common.{◌≡◌, ℕ, ◌∙◌}, specs.Prelude.{Some}}
 use Rattle.ppdb_base.specs.declared.code.Code.{Code}
-use Rattle.ppdb_tables.specs.declared.rows.VariableRow.{VariableRow}
-use Rattle.ppdb_tables.specs.declared.rows.ConstantRow.{ConstantRow}
-use Rattle.ppdb_tables.specs.RawTables.{RawTables, HasShape, row_at}
+use Rattle.ppdb_tables.specs.{declared.rows.VariableRow.{VariableRow}, declared.rows.ConstantRow.{ConstantRow}, RawTables.{RawTables, HasShape, row_at}}
 use Rattle.type_blobs.specs.Constants.{constants}
-use Rattle.ppdb_verify_rules.specs.Rows.{VariableFault, ConstantFault}
-use Rattle.ppdb_verify_rules.specs.Rows.VariableFault.{alone as variable_alone, same_slot, no_text as no_variable_text, same_text as same_variable}
-use Rattle.ppdb_verify_rules.specs.Rows.ConstantFault.{no_text as no_constant_text, alone as constant_alone, same_text as same_constant}
-use Rattle.ppdb_verify_rules.specs.Rows.ConstantFault.{no_signature, invalid_signature}
-use Rattle.ppdb_values.specs.RawFile.{text, type_limits}
-use Rattle.ppdb_values.specs.Rules.{IsConstant, KeepsConstants, KeepsVariables}
-use Rattle.ppdb_verify_kept_laws.proofs.ScopeLists.{no_item_alone, no_repeat, same_text}
-use Rattle.ppdb_verify_kept_laws.proofs.Whole.{no_fault_there}
+use Rattle.ppdb_verify_rules.specs.{Rows.{VariableFault, ConstantFault}, Rows.VariableFault.{alone as variable_alone, same_slot, no_text as no_variable_text}}
+use Rattle.ppdb_verify_rules.specs.Rows.{VariableFault.{same_text as same_variable}, ConstantFault.{no_text as no_constant_text, alone as constant_alone}}
+use Rattle.ppdb_verify_rules.specs.Rows.ConstantFault.{same_text as same_constant, no_signature, invalid_signature}
+use Rattle.ppdb_values.specs.{RawFile.{text, type_limits}, Rules.{IsConstant, KeepsConstants, KeepsVariables}}
+use Rattle.ppdb_verify_kept_laws.proofs.{ScopeLists.{no_item_alone, no_repeat, same_text}, Whole.{no_fault_there}}
 
 module _ (raw : RawTables) (shape : HasShape raw) (keeps : KeepsVariables raw) (row : ℕ) (x : VariableRow) (here : row_at raw.variables row ≡ Some x) where
   pub no_variable_fault : (column byte : ℕ) (code : Code) → VariableFault raw row x column byte code → ⊥

@@ -1,29 +1,15 @@
 -- The custom records of a file that keeps the rules are not at fault.
-use Rattle.std.proofs.Common.{◌≡◌, ℕ, ◌/◌, ◌%◌, ◌<◌, List, [], refl, ap, ◌∙◌, subst, arith, slice_get}
-use Rattle.std.specs.Prelude.{Option, Some, None, unwrap_or}
+use Rattle.std.{proofs.Common.{◌≡◌, ℕ, ◌/◌, ◌%◌, ◌<◌, List, [], refl, ap, ◌∙◌, subst, arith, slice_get}, specs.Prelude.{Option, Some, None, unwrap_or}}
 use Rattle.std.specs.Option.{option_map}
-use Rattle.ppdb_base.specs.declared.code.Code.{Code}
-use Rattle.ppdb_base.specs.declared.fault.BlobFault.{BlobFault}
-use Rattle.custom_info.specs.declared.kinds.Kind.{Kind}
-use Rattle.custom_info.specs.declared.kinds.Kind.TheVariants.{Async, Hoisted, TypeDocuments, Free, Unknown}
-use Rattle.custom_info.specs.AsyncStepping.{async_stepping}
-use Rattle.custom_info.specs.HoistedScopes.{hoisted_scopes}
-use Rattle.custom_info.specs.TypeDocuments.{type_documents}
-use Rattle.custom_info.specs.Kinds.{kind_of}
-use Rattle.ppdb_tables.specs.declared.parent.Parent.{Parent}
-use Rattle.ppdb_tables.specs.declared.rows.CustomRow.{CustomRow}
-use Rattle.ppdb_tables.specs.RawTables.{RawTables, count, row_at}
+use Rattle.ppdb_base.specs.declared.{code.Code.{Code}, fault.BlobFault.{BlobFault}}
+use Rattle.custom_info.specs.declared.kinds.{Kind.{Kind}, Kind.TheVariants.{Async, Hoisted, TypeDocuments, Free, Unknown}}
+use Rattle.custom_info.specs.{AsyncStepping.{async_stepping}, HoistedScopes.{hoisted_scopes}, TypeDocuments.{type_documents}, Kinds.{kind_of}}
+use Rattle.ppdb_tables.specs.{declared.parent.Parent.{Parent}, declared.rows.CustomRow.{CustomRow}, RawTables.{RawTables, count, row_at}}
 use Rattle.row_layout.specs.Columns.{parent_tables}
-use Rattle.ppdb_verify_rules.specs.Customs.{HasInvalidValue, HasNoParent, HasOtherParent, IsOfKind, ReadsValue, parent_table}
-use Rattle.ppdb_verify_rules.specs.Earlier.{HasEarlier}
-use Rattle.ppdb_verify_rules.specs.Rows.{CustomFault}
-use Rattle.ppdb_verify_rules.specs.Rows.CustomFault.{no_parent, no_tag, out_of_order, no_kind, other_parent, no_value, invalid_value}
-use Rattle.ppdb_values.specs.Customs.{kind_in, parent_of}
-use Rattle.ppdb_values.specs.RawFile.{blob}
-use Rattle.ppdb_values.specs.Rules.{HasRow, IsCustom, IsWholeOfKind, KeepsCustoms, StandsOn}
-use Rattle.ppdb_verify_kept_laws.proofs.Items.{parent_named, row_named, tag_there, there_itself}
-use Rattle.ppdb_verify_kept_laws.proofs.Orders.{up_to}
-use Rattle.ppdb_verify_kept_laws.proofs.Whole.{no_fault}
+use Rattle.ppdb_verify_rules.specs.{Customs.{HasInvalidValue, HasNoParent, HasOtherParent, IsOfKind, ReadsValue, parent_table}, Earlier.{HasEarlier}}
+use Rattle.ppdb_verify_rules.specs.{Rows.{CustomFault}, Rows.CustomFault.{no_parent, no_tag, out_of_order, no_kind, other_parent, no_value, invalid_value}}
+use Rattle.ppdb_values.specs.{Customs.{kind_in, parent_of}, RawFile.{blob}, Rules.{HasRow, IsCustom, IsWholeOfKind, KeepsCustoms, StandsOn}}
+use Rattle.ppdb_verify_kept_laws.proofs.{Items.{parent_named, row_named, tag_there, there_itself}, Orders.{up_to}, Whole.{no_fault}}
 
 -- ---- the table of the parent
 

@@ -1,24 +1,14 @@
 -- The documents of a file that keeps the rules are not at fault.
-use Rattle.std.proofs.Common.{◌≡◌, ℕ, List, [], subst, sym, ◌∙◌}
-use Rattle.std.specs.Prelude.{Some, None}
+use Rattle.std.{proofs.Common.{◌≡◌, ℕ, List, [], subst, sym, ◌∙◌}, specs.Prelude.{Some, None}}
 use Rattle.ppdb_base.specs.declared.code.Code.{Code}
-use Rattle.blob_grammar.specs.Reader.{read_from, read_for, character_len, unsigned_at, two_at, four_at}
-use Rattle.blob_grammar.specs.Reading.{Reading}
-use Rattle.blob_grammar.proofs.Readers.{read_from-reads}
+use Rattle.blob_grammar.{specs.Reader.{read_from, read_for, character_len, unsigned_at, two_at, four_at}, specs.Reading.{Reading}, proofs.Readers.{read_from-reads}}
 use Rattle.blob_grammar.proofs.Unique.{reading-unique}
 use Rattle.ppdb_heaps.specs.Names.{NamePart, names, name_of}
-use Rattle.ppdb_tables.specs.declared.rows.DocumentRow.{DocumentRow}
-use Rattle.ppdb_tables.specs.RawTables.{RawTables, row_at}
-use Rattle.ppdb_verify_rules.specs.Blobs.{IsNil}
-use Rattle.ppdb_verify_rules.specs.Earlier.{HasEarlier}
-use Rattle.ppdb_verify_rules.specs.Names.{AreSameName, SpellsName}
-use Rattle.ppdb_verify_rules.specs.Rows.{DocumentFault}
-use Rattle.ppdb_verify_rules.specs.Rows.DocumentFault.{no_name, nil_name, repeated, invalid_name, no_algorithm, no_hash, no_language}
-use Rattle.ppdb_values.specs.RawFile.{blob}
-use Rattle.ppdb_values.specs.Rules.{HasBlob, IsDocument, IsWhole, KeepsDocuments}
-use Rattle.ppdb_values.proofs.Readings.{name_is}
-use Rattle.ppdb_verify_kept_laws.proofs.Items.{none_or_there}
-use Rattle.ppdb_verify_kept_laws.proofs.Whole.{no_fault_there}
+use Rattle.ppdb_tables.specs.{declared.rows.DocumentRow.{DocumentRow}, RawTables.{RawTables, row_at}}
+use Rattle.ppdb_verify_rules.specs.{Blobs.{IsNil}, Earlier.{HasEarlier}, Names.{AreSameName, SpellsName}, Rows.{DocumentFault}, Rows.DocumentFault.{no_name}}
+use Rattle.ppdb_verify_rules.specs.Rows.DocumentFault.{nil_name, repeated, invalid_name, no_algorithm, no_hash, no_language}
+use Rattle.ppdb_values.{specs.RawFile.{blob}, specs.Rules.{HasBlob, IsDocument, IsWhole, KeepsDocuments}, proofs.Readings.{name_is}}
+use Rattle.ppdb_verify_kept_laws.proofs.{Items.{none_or_there}, Whole.{no_fault_there}}
 
 -- a name has a separator, and so is not empty
 some_name : (blobs : List ℕ) (parts : List NamePart) → Reading (names blobs) [] parts None → ⊥

@@ -1,17 +1,9 @@
 -- A file that keeps the rules has nothing bad in its rows: no row of a table is at fault.
-use Rattle.ppdb_base.specs.declared.code.Code.{Code}
-use Rattle.ppdb_base.specs.declared.fault.Place.{Place}
-use Rattle.ppdb_verify_rules.specs.Rows.{RowFaults}
-use Rattle.ppdb_verify_rules.specs.Rows.RowFaults.{in_document, in_method, in_scope, in_variable, in_constant, in_import, in_machine, in_custom}
-use Rattle.ppdb_values.specs.RawFile.{RawFile}
-use Rattle.ppdb_values.specs.Rules.{KeepsRules}
-use Rattle.ppdb_verify_kept_laws.proofs.Constants.{no_constant_fault, no_variable_fault}
-use Rattle.ppdb_verify_kept_laws.proofs.Customs.{no_custom_fault}
-use Rattle.ppdb_verify_kept_laws.proofs.Documents.{no_document_fault}
-use Rattle.ppdb_verify_kept_laws.proofs.Imports.{no_import_fault}
-use Rattle.ppdb_verify_kept_laws.proofs.Machines.{no_machine_fault}
-use Rattle.ppdb_verify_kept_laws.proofs.Methods.{no_method_fault}
-use Rattle.ppdb_verify_kept_laws.proofs.Scopes.{no_scope_fault}
+use Rattle.ppdb_base.specs.declared.{code.Code.{Code}, fault.Place.{Place}}
+use Rattle.ppdb_verify_rules.specs.{Rows.{RowFaults}, Rows.RowFaults.{in_document, in_method, in_scope, in_variable, in_constant, in_import, in_machine, in_custom}}
+use Rattle.ppdb_values.specs.{RawFile.{RawFile}, Rules.{KeepsRules}}
+use Rattle.ppdb_verify_kept_laws.proofs.{Constants.{no_constant_fault, no_variable_fault}, Customs.{no_custom_fault}, Documents.{no_document_fault}}
+use Rattle.ppdb_verify_kept_laws.proofs.{Imports.{no_import_fault}, Machines.{no_machine_fault}, Methods.{no_method_fault}, Scopes.{no_scope_fault}}
 
 pub none_invalid : (raw : RawFile) → KeepsRules raw → (code : Code) (at : Place) → RowFaults raw.tables code at → ⊥
 none_invalid raw keeps _ _ (in_document {row} {column} {byte} {code} {x} here fault) =

@@ -1,20 +1,13 @@
 -- The import scopes of a file that keeps the rules are not at fault.
-use Rattle.std.proofs.Common.{◌≡◌, ℕ, zero, suc, List, [], ◌∷◌, length, refl, ap, subst, arith}
-use Rattle.std.specs.Prelude.{Option, Some, None, unwrap_or}
+use Rattle.std.{proofs.Common.{◌≡◌, ℕ, zero, suc, List, [], ◌∷◌, length, refl, ap, subst, arith}, specs.Prelude.{Option, Some, None, unwrap_or}}
 use Rattle.std.specs.Option.{option_map, option_map_or}
 use Rattle.ppdb_base.specs.declared.code.Code.{Code}
-use Rattle.ppdb_tables.specs.declared.rows.ImportRow.{ImportRow}
-use Rattle.ppdb_tables.specs.RawTables.{RawTables, count, row_at}
-use Rattle.ppdb_tables.proofs.NumberedRows.{row_within}
+use Rattle.ppdb_tables.{specs.declared.rows.ImportRow.{ImportRow}, specs.RawTables.{RawTables, count, row_at}, proofs.NumberedRows.{row_within}}
 use Rattle.type_blobs.specs.Imports.{imports as import_grammar}
-use Rattle.ppdb_verify_rules.specs.Rows.{ImportFault}
-use Rattle.ppdb_verify_rules.specs.Rows.ImportFault.{no_parent, cycle, no_list, invalid_list}
+use Rattle.ppdb_verify_rules.specs.{Rows.{ImportFault}, Rows.ImportFault.{no_parent, cycle, no_list, invalid_list}}
 use Rattle.ppdb_heaps.specs.Heaps.{blob_at}
-use Rattle.ppdb_values.specs.Chains.{NeverEnds as GoesOn, ancestor_of, chain_for, parent_at}
-use Rattle.ppdb_values.specs.RawFile.{type_limits}
-use Rattle.ppdb_values.specs.Rules.{IsImport, KeepsImports}
-use Rattle.ppdb_verify_kept_laws.proofs.Items.{row_named}
-use Rattle.ppdb_verify_kept_laws.proofs.Whole.{no_fault_there}
+use Rattle.ppdb_values.specs.{Chains.{NeverEnds as GoesOn, ancestor_of, chain_for, parent_at}, RawFile.{type_limits}, Rules.{IsImport, KeepsImports}}
+use Rattle.ppdb_verify_kept_laws.proofs.{Items.{row_named}, Whole.{no_fault_there}}
 
 -- ---- a chain that never ends has as many links as one likes
 

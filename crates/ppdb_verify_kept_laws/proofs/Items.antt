@@ -1,17 +1,11 @@
 -- What is there is not missing: GUIDs, rows and the tables of coded parents.
-use Rattle.std.proofs.Common.{◌≡◌, ℕ, zero, suc, ◌<◌, ◌≤◌, ◌/◌, ◌%◌, List, ap, refl, arith, inl, inr, slice_get, false}
-use Rattle.std.specs.Prelude.{Option, Some, None, unwrap_or, is_some}
-use Rattle.std.specs.Option.{option_map}
-use Rattle.std.proofs.lemmas.Option.{slice_get_within}
+use Rattle.std.{proofs.Common.{◌≡◌, ℕ, zero, suc, ◌<◌, ◌≤◌, ◌/◌, ◌%◌, List, ap, refl, arith, inl, inr, slice_get, false}, specs.Prelude.{Option, Some, None}}
+use Rattle.std.{specs.Prelude.{unwrap_or, is_some}, specs.Option.{option_map}, proofs.lemmas.Option.{slice_get_within}}
 use Rattle.ppdb_heaps.specs.Heaps.{guid_at}
-use Rattle.ppdb_tables.specs.declared.parent.Parent.{Parent}
-use Rattle.ppdb_tables.specs.Parents.{parent_in}
-use Rattle.ppdb_tables.specs.RawTables.{RawTables}
+use Rattle.ppdb_tables.specs.{declared.parent.Parent.{Parent}, Parents.{parent_in}, RawTables.{RawTables}}
 use Rattle.row_layout.specs.Columns.{parent_tables}
-use Rattle.ppdb_verify_rules.specs.Blobs.{NamesNoGuid}
-use Rattle.ppdb_verify_rules.specs.Earlier.{NamesNoRow}
-use Rattle.ppdb_values.specs.Customs.{parent_of}
-use Rattle.ppdb_values.specs.Rules.{HasGuidOrNone}
+use Rattle.ppdb_verify_rules.specs.{Blobs.{NamesNoGuid}, Earlier.{NamesNoRow}}
+use Rattle.ppdb_values.specs.{Customs.{parent_of}, Rules.{HasGuidOrNone}}
 
 -- ---- GUIDs
 

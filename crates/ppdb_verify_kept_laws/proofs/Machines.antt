@@ -1,15 +1,10 @@
 -- The state machines of a file that keeps the rules are not at fault.
-use Rattle.std.proofs.Common.{◌≡◌, ℕ, ◌≤◌, arith}
-use Rattle.std.specs.Prelude.{Some}
+use Rattle.std.{proofs.Common.{◌≡◌, ℕ, ◌≤◌, arith}, specs.Prelude.{Some}}
 use Rattle.ppdb_base.specs.declared.code.Code.{Code}
-use Rattle.ppdb_tables.specs.declared.rows.MachineRow.{MachineRow}
-use Rattle.ppdb_tables.specs.RawTables.{RawTables, count, row_at}
-use Rattle.ppdb_verify_rules.specs.Earlier.{HasEarlier}
-use Rattle.ppdb_verify_rules.specs.Rows.{MachineFault}
-use Rattle.ppdb_verify_rules.specs.Rows.MachineFault.{no_move_next, out_of_order, no_kickoff, same_kickoff}
+use Rattle.ppdb_tables.specs.{declared.rows.MachineRow.{MachineRow}, RawTables.{RawTables, count, row_at}}
+use Rattle.ppdb_verify_rules.specs.{Earlier.{HasEarlier}, Rows.{MachineFault}, Rows.MachineFault.{no_move_next, out_of_order, no_kickoff, same_kickoff}}
 use Rattle.ppdb_values.specs.Rules.{KeepsMachines}
-use Rattle.ppdb_verify_kept_laws.proofs.Items.{row_named}
-use Rattle.ppdb_verify_kept_laws.proofs.Orders.{above}
+use Rattle.ppdb_verify_kept_laws.proofs.{Items.{row_named}, Orders.{above}}
 
 module _ (raw : RawTables) (keeps : KeepsMachines raw) (row : ℕ) (x : MachineRow) (here : row_at raw.machines row ≡ Some x) where
   in_order : HasEarlier (λ _ (e : MachineRow). x.move_next ≤ e.move_next) raw.machines row → ⊥

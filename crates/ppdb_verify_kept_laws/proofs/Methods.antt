@@ -1,18 +1,11 @@
 -- The debug information of methods of a file that keeps the rules is not at fault.
-use Rattle.std.proofs.Common.{◌≡◌, ℕ, ◌⊎◌, [], ap, ◌∙◌, arith, inl, inr}
-use Rattle.std.specs.Prelude.{Some}
-use Rattle.ppdb_base.specs.declared.code.Code.{Code}
-use Rattle.ppdb_base.specs.declared.fault.BlobFault.{BlobFault}
-use Rattle.ppdb_tables.specs.declared.rows.MethodDebugRow.{MethodDebugRow}
-use Rattle.ppdb_tables.specs.RawTables.{RawTables, count, row_at}
+use Rattle.std.{proofs.Common.{◌≡◌, ℕ, ◌⊎◌, [], ap, ◌∙◌, arith, inl, inr}, specs.Prelude.{Some}}
+use Rattle.ppdb_base.specs.declared.{code.Code.{Code}, fault.BlobFault.{BlobFault}}
+use Rattle.ppdb_tables.specs.{declared.rows.MethodDebugRow.{MethodDebugRow}, RawTables.{RawTables, count, row_at}}
 use Rattle.sequence_points.specs.Records.{sequence_points}
-use Rattle.ppdb_verify_rules.specs.Blobs.{HasFault, IsNil}
-use Rattle.ppdb_verify_rules.specs.Rows.{MethodDebugFault}
-use Rattle.ppdb_verify_rules.specs.Rows.MethodDebugFault.{no_document, no_points, invalid_points}
-use Rattle.ppdb_values.specs.RawFile.{blob, point_limits}
-use Rattle.ppdb_values.specs.Rules.{HasBlob, IsMethod, IsWhole, KeepsMethods}
-use Rattle.ppdb_verify_kept_laws.proofs.Items.{row_named}
-use Rattle.ppdb_verify_kept_laws.proofs.Whole.{no_fault_there}
+use Rattle.ppdb_verify_rules.specs.{Blobs.{HasFault, IsNil}, Rows.{MethodDebugFault}, Rows.MethodDebugFault.{no_document, no_points, invalid_points}}
+use Rattle.ppdb_values.specs.{RawFile.{blob, point_limits}, Rules.{HasBlob, IsMethod, IsWhole, KeepsMethods}}
+use Rattle.ppdb_verify_kept_laws.proofs.{Items.{row_named}, Whole.{no_fault_there}}
 
 -- points that are not nil are whole
 not_at_fault : (raw : RawTables) (x : MethodDebugRow) (fault : BlobFault) → HasBlob raw x.points

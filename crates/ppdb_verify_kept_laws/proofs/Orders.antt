@@ -1,9 +1,6 @@
 -- Two rows in the order of a number of theirs.
-use Rattle.std.proofs.Common.{◌≡◌, ℕ, zero, suc, ◌<◌, ◌≤◌, List, length, map, ap, ◌∙◌, arith, slice_index}
-use Rattle.std.specs.Prelude.{Some}
-use Rattle.std.specs.Option.{option_map}
-use Rattle.std.proofs.lemmas.List.{length-map}
-use Rattle.std.proofs.lemmas.Option.{get_or_from_slice_get, slice_get-map, slice_get_within}
+use Rattle.std.{proofs.Common.{◌≡◌, ℕ, zero, suc, ◌<◌, ◌≤◌, List, length, map, ap, ◌∙◌, arith, slice_index}, specs.Prelude.{Some}, specs.Option.{option_map}}
+use Rattle.std.proofs.lemmas.{List.{length-map}, Option.{get_or_from_slice_get, slice_get-map, slice_get_within}}
 use Rattle.ppdb_tables.specs.RawTables.{row_at}
 use Rattle.ppdb_values.specs.Ordered.{IsSorted, Rises}
 

@@ -1,13 +1,8 @@
 -- The lists of the scopes of a file that keeps the rules are in range, and the items of a scope differ.
-use Rattle.std.proofs.Common.{◌≡◌, ℕ, ◌-◌, ◌<◌, ◌≤◌, List, [], ◌∷◌, length, refl, sym, ◌∙◌, subst, arith, inl, inr}
-use Rattle.std.specs.Prelude.{Some}
-use Rattle.ppdb_tables.specs.declared.rows.ScopeRow.{ScopeRow}
-use Rattle.ppdb_tables.specs.RawTables.{RawTables, row_at}
-use Rattle.ppdb_tables.proofs.NumberedRows.{row_there, row_within}
+use Rattle.std.{proofs.Common.{◌≡◌, ℕ, ◌-◌, ◌<◌, ◌≤◌, List, [], ◌∷◌, length, refl, sym, ◌∙◌, subst, arith, inl, inr}, specs.Prelude.{Some}}
+use Rattle.ppdb_tables.{specs.declared.rows.ScopeRow.{ScopeRow}, specs.RawTables.{RawTables, row_at}, proofs.NumberedRows.{row_there, row_within}}
 use Rattle.ppdb_verify_rules.specs.Scopes.{AreSameText, IsListOut, ShareOwner}
-use Rattle.ppdb_values.specs.RawFile.{text}
-use Rattle.ppdb_values.specs.Rules.{DifferInScope, HasText, KeepsLists}
-use Rattle.ppdb_values.proofs.Owners.{owner_is_found}
+use Rattle.ppdb_values.{specs.RawFile.{text}, specs.Rules.{DifferInScope, HasText, KeepsLists}, proofs.Owners.{owner_is_found}}
 use Rattle.ppdb_verify_kept_laws.proofs.Orders.{up_to}
 
 -- ---- lists in range

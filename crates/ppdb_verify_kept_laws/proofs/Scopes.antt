@@ -1,19 +1,11 @@
 -- The scopes of a file that keeps the rules are not at fault.
-use Rattle.std.proofs.Common.{◌≡◌, ℕ, ◌+◌, ◌<◌, ◌≤◌, sym, subst, arith, inl, inr}
-use Rattle.std.specs.Prelude.{Some}
+use Rattle.std.{proofs.Common.{◌≡◌, ℕ, ◌+◌, ◌<◌, ◌≤◌, sym, subst, arith, inl, inr}, specs.Prelude.{Some}}
 use Rattle.ppdb_base.specs.declared.code.Code.{Code}
-use Rattle.ppdb_tables.specs.declared.rows.ScopeRow.{ScopeRow}
-use Rattle.ppdb_tables.specs.RawTables.{RawTables, HasShape, count, row_at}
-use Rattle.ppdb_verify_rules.specs.Earlier.{HasEarlier}
-use Rattle.ppdb_verify_rules.specs.Rows.{ScopeFault}
-use Rattle.ppdb_verify_rules.specs.Rows.ScopeFault.{no_method, out_of_order, no_import, no_variables, no_constants, crossing, no_range}
-use Rattle.ppdb_verify_rules.specs.Scopes.{AreCrossed, HasNoRange, IsAbove, IsListOut}
-use Rattle.ppdb_values.specs.Ranges.{ComesAfter, IsInOrAfter}
-use Rattle.ppdb_values.specs.Rules.{IsScope, KeepsConstants, KeepsScopes, KeepsVariables}
-use Rattle.ppdb_values.specs.Value.{range_of}
-use Rattle.ppdb_verify_kept_laws.proofs.Items.{row_named}
-use Rattle.ppdb_verify_kept_laws.proofs.Orders.{up_to}
-use Rattle.ppdb_verify_kept_laws.proofs.ScopeLists.{no_list_out}
+use Rattle.ppdb_tables.specs.{declared.rows.ScopeRow.{ScopeRow}, RawTables.{RawTables, HasShape, count, row_at}}
+use Rattle.ppdb_verify_rules.specs.{Earlier.{HasEarlier}, Rows.{ScopeFault}, Rows.ScopeFault.{no_method, out_of_order, no_import, no_variables, no_constants}}
+use Rattle.ppdb_verify_rules.specs.{Rows.ScopeFault.{crossing, no_range}, Scopes.{AreCrossed, HasNoRange, IsAbove, IsListOut}}
+use Rattle.ppdb_values.specs.{Ranges.{ComesAfter, IsInOrAfter}, Rules.{IsScope, KeepsConstants, KeepsScopes, KeepsVariables}, Value.{range_of}}
+use Rattle.ppdb_verify_kept_laws.proofs.{Items.{row_named}, Orders.{up_to}, ScopeLists.{no_list_out}}
 
 -- a scope that comes after another one of its method is not below it
 not_above : (x y : ScopeRow) → ComesAfter (range_of x) (range_of y)

@@ -1,14 +1,10 @@
 -- A blob that is whole has no fault.
-use Rattle.std.proofs.Common.{◌≡◌, ℕ, List, subst}
-use Rattle.std.specs.Prelude.{Some, None}
+use Rattle.std.{proofs.Common.{◌≡◌, ℕ, List, subst}, specs.Prelude.{Some, None}}
 use Rattle.ppdb_base.specs.declared.fault.BlobFault.{BlobFault}
-use Rattle.blob_grammar.specs.Grammar.{Grammar}
-use Rattle.blob_grammar.proofs.Unique.{reading-unique}
+use Rattle.blob_grammar.{specs.Grammar.{Grammar}, proofs.Unique.{reading-unique}, specs.Places.{HasEnd}}
 use Rattle.ppdb_tables.specs.RawTables.{RawTables}
-use Rattle.blob_grammar.specs.Places.{HasEnd}
 use Rattle.ppdb_verify_rules.specs.Blobs.{HasFault}
-use Rattle.ppdb_values.specs.RawFile.{blob, records_of}
-use Rattle.ppdb_values.specs.Rules.{HasBlob, IsWhole}
+use Rattle.ppdb_values.specs.{RawFile.{blob, records_of}, Rules.{HasBlob, IsWhole}}
 
 pub no_fault : {R : Type 0} (g : Grammar R) (content : List ℕ) (fault : BlobFault) → IsWhole g content → HasEnd g content (Some fault) → ⊥
 no_fault g content fault whole reads = let same = (reading-unique g content reads.0 (records_of g content) (Some fault) None reads.1 whole).1 in cc

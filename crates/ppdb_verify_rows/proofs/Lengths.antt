@@ -1,12 +1,10 @@
 -- A record has no more slots than its blob has bytes.
-use Rattle.std.proofs.Common.{◌≡◌, ℕ, ◌+◌, ◌≤◌, List, [], ◌∷◌, ◌++◌, length, ap, subst, arith, length-append}
-use Rattle.std.specs.Prelude.{Option, Some, None}
+use Rattle.std.{proofs.Common.{◌≡◌, ℕ, ◌+◌, ◌≤◌, List, [], ◌∷◌, ◌++◌, length, ap, subst, arith, length-append}, specs.Prelude.{Option, Some, None}}
 use Rattle.std.specs.List.{fold}
 use Rattle.ppdb_base.specs.declared.BlobFault.{BlobFault}
 use Rattle.blob_grammar.specs.Grammar.{Value, number, integer, octets, Form, word, Spells, Field, Grammar, Cut, closed, with_value, cut, bytes_of, EachFollows}
 use Rattle.blob_grammar.specs.Reading.{Reading}
-use Rattle.custom_info.specs.HoistedScopes.{hoisted_scopes}
-use Rattle.custom_info.specs.declared.slots.Slot.{Slot}
+use Rattle.custom_info.specs.{HoistedScopes.{hoisted_scopes}, declared.slots.Slot.{Slot}}
 
 closed_most : {R : Type 0} (o : Option R) (whole : List R) (begun : List Value) → length (closed o whole begun).whole ≤ length whole + 1
 closed_most None whole begun = omega arith

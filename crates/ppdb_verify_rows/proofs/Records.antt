@@ -1,20 +1,11 @@
 -- The records of custom debug information of a valid file are whole, by their kinds.
 use Rattle.std.proofs.Common.{◌≡◌, ap, subst, ◌∙◌}
-use Rattle.blob_grammar.specs.Reading.{Reading}
-use Rattle.blob_grammar.specs.Reader.{Left}
-use Rattle.custom_info.specs.declared.kinds.Kind.{Kind}
-use Rattle.custom_info.specs.declared.kinds.Kind.TheVariants.{Async as AsyncKind, Hoisted as HoistedKind}
-use Rattle.custom_info.specs.declared.slots.Slot.{Slot}
-use Rattle.custom_info.specs.AsyncStepping.{async_stepping, entries_of, Stepping}
-use Rattle.custom_info.specs.HoistedScopes.{hoisted_scopes}
-use Rattle.ppdb_tables.specs.declared.rows.CustomRow.{CustomRow}
-use Rattle.ppdb_tables.specs.RawTables.{RawTables, count}
-use Rattle.ppdb_values.specs.Customs.{custom_body}
-use Rattle.ppdb_values.specs.RawFile.{blob, records_of}
-use Rattle.ppdb_values.specs.Readings.{ValuesAreRead}
-use Rattle.ppdb_values.specs.Rules.{IsCustom, IsWholeOfKind}
-use Rattle.ppdb_verify_rows.specs.Customs.{IsOfKind, slots_in, SteppingIs}
-use Rattle.ppdb_verify_rows.proofs.Whole.{whole_left, left_of}
+use Rattle.blob_grammar.specs.{Reading.{Reading}, Reader.{Left}}
+use Rattle.custom_info.specs.declared.{kinds.Kind.{Kind}, kinds.Kind.TheVariants.{Async as AsyncKind, Hoisted as HoistedKind}, slots.Slot.{Slot}}
+use Rattle.custom_info.specs.{AsyncStepping.{async_stepping, entries_of, Stepping}, HoistedScopes.{hoisted_scopes}}
+use Rattle.ppdb_tables.specs.{declared.rows.CustomRow.{CustomRow}, RawTables.{RawTables, count}}
+use Rattle.ppdb_values.specs.{Customs.{custom_body}, RawFile.{blob, records_of}, Readings.{ValuesAreRead}, Rules.{IsCustom, IsWholeOfKind}}
+use Rattle.ppdb_verify_rows.{specs.Customs.{IsOfKind, slots_in, SteppingIs}, proofs.Whole.{whole_left, left_of}}
 
 pub whole_of_kind : (raw : RawTables) (row : CustomRow) (kind : Kind) → IsCustom raw row → IsOfKind raw row kind → IsWholeOfKind raw kind (blob raw row.value)
 whole_of_kind raw row kind keeps is = subst (λ (k : Kind). IsWholeOfKind raw k (blob raw row.value)) is keeps.value_whole

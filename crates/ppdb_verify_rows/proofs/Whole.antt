@@ -1,13 +1,8 @@
 -- What a cursor of a whole blob has left.
-use Rattle.std.proofs.Common.{◌≡◌, List, ap}
-use Rattle.std.specs.Prelude.{ℕ, Option, Some, None}
+use Rattle.std.{proofs.Common.{◌≡◌, List, ap}, specs.Prelude.{ℕ, Option, Some, None}}
 use Rattle.ppdb_base.specs.declared.BlobFault.{BlobFault}
-use Rattle.blob_grammar.specs.Grammar.{Grammar}
-use Rattle.blob_grammar.specs.Reading.{Reading}
-use Rattle.blob_grammar.specs.Reader.{Left}
-use Rattle.blob_grammar.proofs.Unique.{reading-unique}
-use Rattle.ppdb_values.specs.RawFile.{records_of}
-use Rattle.ppdb_values.specs.Rules.{IsWhole}
+use Rattle.blob_grammar.{specs.Grammar.{Grammar}, specs.Reading.{Reading}, specs.Reader.{Left}, proofs.Unique.{reading-unique}}
+use Rattle.ppdb_values.specs.{RawFile.{records_of}, Rules.{IsWhole}}
 
 -- a whole blob has the records of the plain reader, and no fault
 pub whole_left : {R : Type 0} (g : Grammar R) (content : List ℕ) (items : List R) (fault : Option BlobFault)

@@ -1,19 +1,11 @@
 -- The imports of a scope of a valid file are whole.
 use Rattle.std.proofs.Common.{◌≡◌, ℕ, List, subst}
-use Rattle.blob_grammar.specs.Reader.{Left}
-use Rattle.blob_grammar.specs.Reading.{Reading}
-use Rattle.ppdb_heaps.specs.Heaps.{blob_at}
-use Rattle.ppdb_heaps.specs.Views.{blobs_of}
-use Rattle.ppdb_heaps.specs.declared.blobs.Blobs.{Blobs}
-use Rattle.type_blobs.specs.declared.types.TypeLimits.{TypeLimits}
-use Rattle.type_blobs.specs.ImportReading.{heap_of as heap_in}
-use Rattle.type_blobs.specs.Imports.{imports, ImportItem}
-use Rattle.ppdb_tables.specs.declared.rows.ImportRow.{ImportRow}
-use Rattle.ppdb_tables.specs.RawTables.{RawTables}
-use Rattle.ppdb_values.specs.RawFile.{blob, records_of, type_limits}
-use Rattle.ppdb_values.specs.Rules.{IsImport}
-use Rattle.ppdb_verify_rows.specs.Imports.{imports_in}
-use Rattle.ppdb_verify_rows.proofs.Whole.{whole_left, left_of}
+use Rattle.blob_grammar.specs.{Reader.{Left}, Reading.{Reading}}
+use Rattle.ppdb_heaps.specs.{Heaps.{blob_at}, Views.{blobs_of}, declared.blobs.Blobs.{Blobs}}
+use Rattle.type_blobs.specs.{declared.types.TypeLimits.{TypeLimits}, ImportReading.{heap_of as heap_in}, Imports.{imports, ImportItem}}
+use Rattle.ppdb_tables.specs.{declared.rows.ImportRow.{ImportRow}, RawTables.{RawTables}}
+use Rattle.ppdb_values.specs.{RawFile.{blob, records_of, type_limits}, Rules.{IsImport}}
+use Rattle.ppdb_verify_rows.{specs.Imports.{imports_in}, proofs.Whole.{whole_left, left_of}}
 
 -- a cursor of the imports of a row has all of them left
 pub imports_begun : (raw : RawTables) (row : ImportRow) (content : List ℕ) (blobs : Blobs) (limits : TypeLimits) (left : Left ImportItem)

@@ -1,19 +1,10 @@
 -- The name of a document of a valid file is whole.
-use Rattle.std.proofs.Common.{◌≡◌, ℕ, ◌∷◌, List, [], ap, subst, ◌∙◌, sym}
-use Rattle.std.specs.Prelude.{Option, None}
-use Rattle.std.specs.List.{join_by}
+use Rattle.std.{proofs.Common.{◌≡◌, ℕ, ◌∷◌, List, [], ap, subst, ◌∙◌, sym}, specs.Prelude.{Option, None}, specs.List.{join_by}}
 use Rattle.ppdb_base.specs.declared.BlobFault.{BlobFault}
-use Rattle.ppdb_heaps.specs.Cursor.{NameLeft}
-use Rattle.ppdb_heaps.specs.Joining.{HasAppended}
-use Rattle.ppdb_heaps.specs.Names.{names, NameReading, IsName, separator, without_zero, contents_of}
-use Rattle.ppdb_tables.specs.declared.rows.DocumentRow.{DocumentRow}
-use Rattle.ppdb_tables.specs.RawTables.{RawTables}
-use Rattle.ppdb_values.specs.Documents.{document_of}
-use Rattle.ppdb_values.specs.RawFile.{blob}
-use Rattle.ppdb_values.specs.Rules.{IsDocument}
-use Rattle.ppdb_values.proofs.Readings.{name_is}
-use Rattle.ppdb_verify_rows.specs.Names.{IsNameOf}
-use Rattle.ppdb_verify_rows.proofs.Whole.{whole_left}
+use Rattle.ppdb_heaps.specs.{Cursor.{NameLeft}, Joining.{HasAppended}, Names.{names, NameReading, IsName, separator, without_zero, contents_of}}
+use Rattle.ppdb_tables.specs.{declared.rows.DocumentRow.{DocumentRow}, RawTables.{RawTables}}
+use Rattle.ppdb_values.{specs.Documents.{document_of}, specs.RawFile.{blob}, specs.Rules.{IsDocument}, proofs.Readings.{name_is}}
+use Rattle.ppdb_verify_rows.{specs.Names.{IsNameOf}, proofs.Whole.{whole_left}}
 
 -- a reading of the document's name
 abbrev NameOf : RawTables → DocumentRow → List ℕ → List (List ℕ) → Option BlobFault → Type 0

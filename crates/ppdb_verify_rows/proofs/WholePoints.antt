@@ -1,25 +1,13 @@
 -- The points of a method of a valid file are whole, and are those of the value.
-use Rattle.std.proofs.Common.{◌≡◌, ℕ, ◌<◌, List, [], ◌∷◌, ap, subst, ◌∙◌, arith, inl, inr}
-use Rattle.std.specs.Prelude.{Option, Some, None, All, length}
+use Rattle.std.{proofs.Common.{◌≡◌, ℕ, ◌<◌, List, [], ◌∷◌, ap, subst, ◌∙◌, arith, inl, inr}, specs.Prelude.{Option, Some, None, All, length}}
 use Rattle.std.specs.Option.{option_map}
 use Rattle.ppdb_base.specs.declared.BlobFault.{BlobFault}
-use Rattle.sequence_points.specs.declared.point.Point.{Point}
-use Rattle.sequence_points.specs.Places.{Shown}
-use Rattle.sequence_points.specs.Points.{PointsReading}
-use Rattle.sequence_points.specs.Records.{sequence_points}
-use Rattle.ppdb_tables.specs.declared.rows.MethodDebugRow.{MethodDebugRow}
-use Rattle.ppdb_tables.specs.RawTables.{RawTables, row_at}
-use Rattle.ppdb_values.specs.declared.file.MethodValue.{MethodValue}
-use Rattle.ppdb_values.specs.Documents.{method_with, points_in, signature_in}
-use Rattle.ppdb_values.specs.Parts.{method_at}
-use Rattle.ppdb_values.specs.RawFile.{RawFile, blob, point_limits}
-use Rattle.ppdb_values.specs.Rules.{IsMethod, IsWhole, HasRow}
-use Rattle.ppdb_values.specs.Rows.{method_in}
-use Rattle.ppdb_values.specs.Value.{value_of}
-use Rattle.ppdb_values.proofs.Readings.{points_are, signature_is}
-use Rattle.ppdb_values.proofs.Rows.{method_is_row}
-use Rattle.ppdb_verify_rows.specs.Points.{PointsAre}
-use Rattle.ppdb_verify_rows.proofs.Whole.{whole_left}
+use Rattle.sequence_points.specs.{declared.point.Point.{Point}, Places.{Shown}, Points.{PointsReading}, Records.{sequence_points}}
+use Rattle.ppdb_tables.specs.{declared.rows.MethodDebugRow.{MethodDebugRow}, RawTables.{RawTables, row_at}}
+use Rattle.ppdb_values.specs.{declared.file.MethodValue.{MethodValue}, Documents.{method_with, points_in, signature_in}, Parts.{method_at}, RawFile.{RawFile, blob}}
+use Rattle.ppdb_values.specs.{RawFile.{point_limits}, Rules.{IsMethod, IsWhole, HasRow}, Rows.{method_in}, Value.{value_of}}
+use Rattle.ppdb_values.proofs.{Readings.{points_are, signature_is}, Rows.{method_is_row}}
+use Rattle.ppdb_verify_rows.{specs.Points.{PointsAre}, proofs.Whole.{whole_left}}
 
 value_method : (raw : RawFile) (m : ℕ) (row : MethodDebugRow) → row_at raw.tables.methods m ≡ Some row
     → method_at (value_of raw) m ≡ method_with raw.tables m row.document (blob raw.tables row.points)

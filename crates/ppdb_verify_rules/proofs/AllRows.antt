@@ -1,21 +1,12 @@
 -- The rules of the rows stand in the tables 30 to 37.
 use Rattle.std.proofs.Common.{◌≡◌, ℕ, ◌+◌, ◌≤◌, ◌⊎◌, [], ◌∷◌, refl, sym, subst, inl, inr, arith}
-use Rattle.ppdb_base.specs.declared.code.Code.{Code}
-use Rattle.ppdb_base.specs.declared.fault.Place.{Place}
-use Rattle.ppdb_base.specs.Place.{ComesBefore, numbers}
-use Rattle.ppdb_base.specs.First.{IsAccepted}
+use Rattle.ppdb_base.specs.{declared.code.Code.{Code}, declared.fault.Place.{Place}, Place.{ComesBefore, numbers}, First.{IsAccepted}}
 use Rattle.ppdb_tables.specs.RawTables.{RawTables, HasShape, count}
-use Rattle.ppdb_verify_rules.specs.Judged.{ToTable, ToRow}
-use Rattle.ppdb_verify_rules.specs.Rows.{RowFaults}
-use Rattle.ppdb_verify_rules.specs.Rows.RowFaults.{in_document}
-use Rattle.ppdb_verify_rules.proofs.DocumentFaults.{past_table as past_documents}
-use Rattle.ppdb_verify_rules.proofs.MethodDebugFaults.{past_table as past_methods}
-use Rattle.ppdb_verify_rules.proofs.ScopeFaults.{past_table as past_scopes}
-use Rattle.ppdb_verify_rules.proofs.VariableFaults.{past_table as past_variables}
-use Rattle.ppdb_verify_rules.proofs.ConstantFaults.{past_table as past_constants}
-use Rattle.ppdb_verify_rules.proofs.ImportFaults.{past_table as past_imports}
-use Rattle.ppdb_verify_rules.proofs.MachineFaults.{past_table as past_machines}
-use Rattle.ppdb_verify_rules.proofs.CustomFaults.{past_table as past_customs}
+use Rattle.ppdb_verify_rules.specs.{Judged.{ToTable, ToRow}, Rows.{RowFaults}, Rows.RowFaults.{in_document}}
+use Rattle.ppdb_verify_rules.proofs.{DocumentFaults.{past_table as past_documents}, MethodDebugFaults.{past_table as past_methods}}
+use Rattle.ppdb_verify_rules.proofs.{ScopeFaults.{past_table as past_scopes}, VariableFaults.{past_table as past_variables}}
+use Rattle.ppdb_verify_rules.proofs.{ConstantFaults.{past_table as past_constants}, ImportFaults.{past_table as past_imports}}
+use Rattle.ppdb_verify_rules.proofs.{MachineFaults.{past_table as past_machines}, CustomFaults.{past_table as past_customs}}
 
 -- where a rule of the rows may be broken
 record IsRowPlace (at : Place) : Type 0 where

@@ -1,23 +1,12 @@
 -- A blob has one fault, or none.
 use Rattle.std.proofs.Common.{◌≡◌, ℕ, zero, suc, ◌<◌, ◌⊎◌, List, [], ◌∷◌, length, refl, Option, Some, None, sym, subst, ◌∙◌, ap, arith, inl, inr}
-use Rattle.ppdb_base.specs.declared.fault.BlobFault.{BlobFault}
-use Rattle.ppdb_base.specs.Place.{number_of}
-use Rattle.blob_grammar.specs.Grammar.{Grammar}
-use Rattle.blob_grammar.proofs.Unique.{reading-unique}
-use Rattle.ppdb_heaps.specs.Heaps.{blob_at, guid_at}
-use Rattle.ppdb_heaps.specs.Names.{names}
-use Rattle.ppdb_tables.specs.declared.rows.CustomRow.{CustomRow}
-use Rattle.ppdb_tables.specs.RawTables.{RawTables, count}
-use Rattle.custom_info.specs.declared.kinds.Kind.{Kind}
-use Rattle.custom_info.specs.declared.kinds.Kind.TheVariants.{Async, Hoisted, TypeDocuments, Free, Unknown}
-use Rattle.custom_info.specs.AsyncStepping.{async_stepping}
-use Rattle.custom_info.specs.HoistedScopes.{hoisted_scopes}
-use Rattle.custom_info.specs.TypeDocuments.{type_documents}
-use Rattle.custom_info.specs.Kinds.{kind_of}
-use Rattle.blob_grammar.specs.Places.{HasEnd}
-use Rattle.ppdb_verify_rules.specs.Blobs.{HasFault, IsNil, NamesNoGuid}
-use Rattle.ppdb_verify_rules.specs.Customs.{HasInvalidValue, IsOfKind, ReadsValue}
-use Rattle.ppdb_verify_rules.specs.Names.{SpellsName}
+use Rattle.ppdb_base.specs.{declared.fault.BlobFault.{BlobFault}, Place.{number_of}}
+use Rattle.blob_grammar.{specs.Grammar.{Grammar}, proofs.Unique.{reading-unique}, specs.Places.{HasEnd}}
+use Rattle.ppdb_heaps.specs.{Heaps.{blob_at, guid_at}, Names.{names}}
+use Rattle.ppdb_tables.specs.{declared.rows.CustomRow.{CustomRow}, RawTables.{RawTables, count}}
+use Rattle.custom_info.specs.declared.kinds.{Kind.{Kind}, Kind.TheVariants.{Async, Hoisted, TypeDocuments, Free, Unknown}}
+use Rattle.custom_info.specs.{AsyncStepping.{async_stepping}, HoistedScopes.{hoisted_scopes}, TypeDocuments.{type_documents}, Kinds.{kind_of}}
+use Rattle.ppdb_verify_rules.specs.{Blobs.{HasFault, IsNil, NamesNoGuid}, Customs.{HasInvalidValue, IsOfKind, ReadsValue}, Names.{SpellsName}}
 
 -- two readings of one content have one end
 pub one_reading : {R : Type 0} {g : Grammar R} {content : List ℕ} {a b : Option BlobFault} → HasEnd g content a → HasEnd g content b → a ≡ b

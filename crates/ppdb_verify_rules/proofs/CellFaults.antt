@@ -1,18 +1,10 @@
 -- How a cell, a row and a table are judged, for any table whose faults are those of its rows.
 use Rattle.std.proofs.Common.{◌≡◌, ℕ, suc, add-one, ◌+◌, ◌<◌, ◌⊎◌, inl, inr, List, [], ◌∷◌, length, Some, sym, subst, arith, Bool, true, false, IsTrue, ◌↔◌}
 use Rattle.std.proofs.lemmas.Bool.{cases_lt}
-use Rattle.ppdb_base.specs.declared.code.Code.{Code}
-use Rattle.ppdb_base.specs.declared.fault.BlobFault.{BlobFault}
-use Rattle.ppdb_base.specs.declared.fault.Place.{Place}
-use Rattle.ppdb_base.specs.declared.fault.Fault.{Fault}
-use Rattle.ppdb_base.specs.Place.{ComesBefore, numbers, number_of}
-use Rattle.ppdb_base.proofs.Judging.{next_column, next_row, next_table}
-use Rattle.ppdb_tables.specs.RawTables.{RawTables, row_at}
-use Rattle.ppdb_tables.proofs.NumberedRows.{row_within, same_row}
-use Rattle.ppdb_verify_rules.specs.Blobs.{in_blob}
-use Rattle.ppdb_verify_rules.specs.Earlier.{HasEarlier}
-use Rattle.ppdb_verify_rules.specs.Rows.{RowFaults}
-use Rattle.ppdb_verify_rules.specs.Judged.{ToTable, ToRow, ToCell, IsFirstOf}
+use Rattle.ppdb_base.specs.declared.{code.Code.{Code}, fault.BlobFault.{BlobFault}, fault.Place.{Place}, fault.Fault.{Fault}}
+use Rattle.ppdb_base.{specs.Place.{ComesBefore, numbers, number_of}, proofs.Judging.{next_column, next_row, next_table}}
+use Rattle.ppdb_tables.{specs.RawTables.{RawTables, row_at}, proofs.NumberedRows.{row_within, same_row}}
+use Rattle.ppdb_verify_rules.specs.{Blobs.{in_blob}, Earlier.{HasEarlier}, Rows.{RowFaults}, Judged.{ToTable, ToRow, ToCell, IsFirstOf}}
 
 -- what a test that failed stands for does not hold
 pub refuted : {P : Type 0} (b : Bool) → (IsTrue b ↔ P) → b ≡ false → P → ⊥

@@ -1,23 +1,13 @@
 -- The faults of Constant.
 use Rattle.std.proofs.Common.{◌≡◌, ℕ, suc, ◌+◌, ◌<◌, ◌⊎◌, length, Some, None, arith}
-use Rattle.ppdb_base.specs.declared.code.Code.{Code}
-use Rattle.ppdb_base.specs.declared.code.Code.TheVariants.{StringIndex, BlobIndex, ListRange, NameRepeated}
-use Rattle.ppdb_base.specs.declared.fault.BlobFault.{BlobFault}
-use Rattle.ppdb_base.specs.declared.fault.Place.{Place}
-use Rattle.ppdb_base.specs.declared.fault.Fault.{Fault}
-use Rattle.ppdb_base.specs.Place.{number_of}
+use Rattle.ppdb_base.specs.declared.{code.Code.{Code}, code.Code.TheVariants.{StringIndex, BlobIndex, ListRange, NameRepeated}, fault.BlobFault.{BlobFault}}
+use Rattle.ppdb_base.specs.{declared.fault.Place.{Place}, declared.fault.Fault.{Fault}, Place.{number_of}}
 use Rattle.ppdb_heaps.specs.Heaps.{text_at, blob_at}
-use Rattle.ppdb_tables.specs.declared.rows.ConstantRow.{ConstantRow}
-use Rattle.ppdb_tables.specs.RawTables.{RawTables, row_at, count}
+use Rattle.ppdb_tables.specs.{declared.rows.ConstantRow.{ConstantRow}, RawTables.{RawTables, row_at, count}}
 use Rattle.type_blobs.specs.Constants.{constants}
-use Rattle.ppdb_verify_rules.specs.Blobs.{HasFault, in_blob, type_limits}
-use Rattle.ppdb_verify_rules.specs.Earlier.{HasEarlier}
-use Rattle.ppdb_verify_rules.specs.Judged.{ToTable, ToRow, ToCell, IsFirstOf}
-use Rattle.ppdb_verify_rules.specs.Rows.{RowFaults, ConstantFault}
-use Rattle.ppdb_verify_rules.specs.Rows.RowFaults.{in_constant}
-use Rattle.ppdb_verify_rules.specs.Rows.ConstantFault.{no_text, alone, same_text, no_signature, invalid_signature}
-use Rattle.ppdb_verify_rules.specs.Scopes.{AreSameText, ShareOwner}
-use Rattle.ppdb_verify_rules.proofs.BlobFaults.{one_fault, not_there}
+use Rattle.ppdb_verify_rules.specs.{Blobs.{HasFault, in_blob, type_limits}, Earlier.{HasEarlier}, Judged.{ToTable, ToRow, ToCell, IsFirstOf}, Rows.{RowFaults}}
+use Rattle.ppdb_verify_rules.specs.{Rows.{ConstantFault}, Rows.RowFaults.{in_constant}, Rows.ConstantFault.{no_text, alone, same_text, no_signature}}
+use Rattle.ppdb_verify_rules.{specs.Rows.ConstantFault.{invalid_signature}, specs.Scopes.{AreSameText, ShareOwner}, proofs.BlobFaults.{one_fault, not_there}}
 use Rattle.ppdb_verify_rules.proofs.CellFaults as cells
 
 inside : (raw : RawTables) (code : Code) (at : Place) → RowFaults raw code at → at.table ≡ 0x34

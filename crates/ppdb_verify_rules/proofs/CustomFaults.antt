@@ -1,22 +1,12 @@
 -- The faults of Custom.
 use Rattle.std.proofs.Common.{◌≡◌, ℕ, suc, ◌+◌, ◌<◌, ◌⊎◌, ◌%◌, length, Some, None, arith}
-use Rattle.ppdb_base.specs.declared.code.Code.{Code}
-use Rattle.ppdb_base.specs.declared.code.Code.TheVariants.{BlobIndex, GuidIndex, RowIndex, CodedTag, CustomOrder, KindParent}
-use Rattle.ppdb_base.specs.declared.fault.BlobFault.{BlobFault}
-use Rattle.ppdb_base.specs.declared.fault.Place.{Place}
-use Rattle.ppdb_base.specs.declared.fault.Fault.{Fault}
-use Rattle.ppdb_base.specs.Place.{number_of}
+use Rattle.ppdb_base.specs.declared.code.{Code.{Code}, Code.TheVariants.{BlobIndex, GuidIndex, RowIndex, CodedTag, CustomOrder, KindParent}}
+use Rattle.ppdb_base.specs.{declared.fault.BlobFault.{BlobFault}, declared.fault.Place.{Place}, declared.fault.Fault.{Fault}, Place.{number_of}}
 use Rattle.ppdb_heaps.specs.Heaps.{blob_at}
-use Rattle.ppdb_tables.specs.declared.rows.CustomRow.{CustomRow}
-use Rattle.ppdb_tables.specs.RawTables.{RawTables, row_at}
-use Rattle.ppdb_verify_rules.specs.Blobs.{NamesNoGuid, in_blob}
-use Rattle.ppdb_verify_rules.specs.Earlier.{HasEarlier}
-use Rattle.ppdb_verify_rules.specs.Judged.{ToTable, ToRow, ToCell, IsFirstOf}
-use Rattle.ppdb_verify_rules.specs.Rows.{RowFaults, CustomFault}
-use Rattle.ppdb_verify_rules.specs.Rows.RowFaults.{in_custom}
-use Rattle.ppdb_verify_rules.specs.Rows.CustomFault.{no_parent, no_tag, out_of_order, no_kind, other_parent, no_value, invalid_value}
-use Rattle.ppdb_verify_rules.specs.Customs.{HasInvalidValue, HasNoParent, HasOtherParent}
-use Rattle.ppdb_verify_rules.proofs.BlobFaults.{one_invalid_value, value_not_there}
+use Rattle.ppdb_tables.specs.{declared.rows.CustomRow.{CustomRow}, RawTables.{RawTables, row_at}}
+use Rattle.ppdb_verify_rules.specs.{Blobs.{NamesNoGuid, in_blob}, Earlier.{HasEarlier}, Judged.{ToTable, ToRow, ToCell, IsFirstOf}, Rows.{RowFaults, CustomFault}}
+use Rattle.ppdb_verify_rules.specs.Rows.{RowFaults.{in_custom}, CustomFault.{no_parent, no_tag, out_of_order, no_kind, other_parent, no_value, invalid_value}}
+use Rattle.ppdb_verify_rules.{specs.Customs.{HasInvalidValue, HasNoParent, HasOtherParent}, proofs.BlobFaults.{one_invalid_value, value_not_there}}
 use Rattle.ppdb_verify_rules.proofs.CellFaults as cells
 
 inside : (raw : RawTables) (code : Code) (at : Place) → RowFaults raw code at → at.table ≡ 0x37

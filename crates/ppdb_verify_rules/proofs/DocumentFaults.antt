@@ -1,23 +1,13 @@
 -- The faults of Document.
 use Rattle.std.proofs.Common.{◌≡◌, ℕ, suc, ◌+◌, ◌<◌, ◌⊎◌, length, Some, None, arith}
-use Rattle.ppdb_base.specs.declared.code.Code.{Code}
-use Rattle.ppdb_base.specs.declared.code.Code.TheVariants.{BlobIndex, GuidIndex, NameNil, DocumentRepeated}
-use Rattle.ppdb_base.specs.declared.fault.BlobFault.{BlobFault}
-use Rattle.ppdb_base.specs.declared.fault.Place.{Place}
-use Rattle.ppdb_base.specs.declared.fault.Fault.{Fault}
-use Rattle.ppdb_base.specs.Place.{number_of}
-use Rattle.ppdb_heaps.specs.Heaps.{blob_at}
-use Rattle.ppdb_heaps.specs.Names.{names}
-use Rattle.ppdb_tables.specs.declared.rows.DocumentRow.{DocumentRow}
-use Rattle.ppdb_tables.specs.RawTables.{RawTables, row_at}
-use Rattle.ppdb_verify_rules.specs.Blobs.{HasFault, IsNil, NamesNoGuid, in_blob}
-use Rattle.ppdb_verify_rules.specs.Earlier.{HasEarlier}
-use Rattle.ppdb_verify_rules.specs.Judged.{ToTable, ToRow, ToCell, IsFirstOf}
-use Rattle.ppdb_verify_rules.specs.Names.{AreSameName}
-use Rattle.ppdb_verify_rules.specs.Rows.{RowFaults, DocumentFault}
-use Rattle.ppdb_verify_rules.specs.Rows.RowFaults.{in_document}
-use Rattle.ppdb_verify_rules.specs.Rows.DocumentFault.{no_name, nil_name, repeated, invalid_name, no_algorithm, no_hash, no_language}
-use Rattle.ppdb_verify_rules.proofs.BlobFaults.{one_fault, not_there, name_whole}
+use Rattle.ppdb_base.specs.declared.{code.Code.{Code}, code.Code.TheVariants.{BlobIndex, GuidIndex, NameNil, DocumentRepeated}, fault.BlobFault.{BlobFault}}
+use Rattle.ppdb_base.specs.{declared.fault.Place.{Place}, declared.fault.Fault.{Fault}, Place.{number_of}}
+use Rattle.ppdb_heaps.specs.{Heaps.{blob_at}, Names.{names}}
+use Rattle.ppdb_tables.specs.{declared.rows.DocumentRow.{DocumentRow}, RawTables.{RawTables, row_at}}
+use Rattle.ppdb_verify_rules.specs.{Blobs.{HasFault, IsNil, NamesNoGuid, in_blob}, Earlier.{HasEarlier}, Judged.{ToTable, ToRow, ToCell, IsFirstOf}}
+use Rattle.ppdb_verify_rules.specs.{Names.{AreSameName}, Rows.{RowFaults, DocumentFault}, Rows.RowFaults.{in_document}, Rows.DocumentFault.{no_name, nil_name}}
+use Rattle.ppdb_verify_rules.{specs.Rows.DocumentFault.{repeated, invalid_name, no_algorithm, no_hash, no_language}, proofs.BlobFaults.{one_fault, not_there}}
+use Rattle.ppdb_verify_rules.proofs.BlobFaults.{name_whole}
 use Rattle.ppdb_verify_rules.proofs.CellFaults as cells
 
 inside : (raw : RawTables) (code : Code) (at : Place) → RowFaults raw code at → at.table ≡ 0x30

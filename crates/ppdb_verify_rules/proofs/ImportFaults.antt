@@ -1,23 +1,12 @@
 -- The faults of Import.
 use Rattle.std.proofs.Common.{◌≡◌, ℕ, suc, ◌+◌, ◌<◌, ◌⊎◌, length, Some, None, arith}
-use Rattle.ppdb_base.specs.declared.code.Code.{Code}
-use Rattle.ppdb_base.specs.declared.code.Code.TheVariants.{BlobIndex, RowIndex, ImportCycle}
-use Rattle.ppdb_base.specs.declared.fault.BlobFault.{BlobFault}
-use Rattle.ppdb_base.specs.declared.fault.Place.{Place}
-use Rattle.ppdb_base.specs.declared.fault.Fault.{Fault}
-use Rattle.ppdb_base.specs.Place.{number_of}
+use Rattle.ppdb_base.specs.declared.{code.Code.{Code}, code.Code.TheVariants.{BlobIndex, RowIndex, ImportCycle}, fault.BlobFault.{BlobFault}, fault.Place.{Place}}
+use Rattle.ppdb_base.specs.{declared.fault.Fault.{Fault}, Place.{number_of}}
 use Rattle.ppdb_heaps.specs.Heaps.{blob_at}
-use Rattle.ppdb_tables.specs.declared.rows.ImportRow.{ImportRow}
-use Rattle.ppdb_tables.specs.RawTables.{RawTables, row_at, count}
+use Rattle.ppdb_tables.specs.{declared.rows.ImportRow.{ImportRow}, RawTables.{RawTables, row_at, count}, Chains.{NeverEnds}}
 use Rattle.type_blobs.specs.Imports.{imports}
-use Rattle.ppdb_verify_rules.specs.Blobs.{HasFault, in_blob, type_limits}
-use Rattle.ppdb_tables.specs.Chains.{NeverEnds}
-use Rattle.ppdb_verify_rules.specs.Chains.{parent_in}
-use Rattle.ppdb_verify_rules.specs.Earlier.{NamesNoRow}
-use Rattle.ppdb_verify_rules.specs.Judged.{ToTable, ToRow, ToCell, IsFirstOf}
-use Rattle.ppdb_verify_rules.specs.Rows.{RowFaults, ImportFault}
-use Rattle.ppdb_verify_rules.specs.Rows.RowFaults.{in_import}
-use Rattle.ppdb_verify_rules.specs.Rows.ImportFault.{no_parent, cycle, no_list, invalid_list}
+use Rattle.ppdb_verify_rules.specs.{Blobs.{HasFault, in_blob, type_limits}, Chains.{parent_in}, Earlier.{NamesNoRow}, Judged.{ToTable, ToRow, ToCell, IsFirstOf}}
+use Rattle.ppdb_verify_rules.specs.{Rows.{RowFaults, ImportFault}, Rows.RowFaults.{in_import}, Rows.ImportFault.{no_parent, cycle, no_list, invalid_list}}
 use Rattle.ppdb_verify_rules.proofs.BlobFaults.{one_fault, not_there}
 use Rattle.ppdb_verify_rules.proofs.CellFaults as cells
 

@@ -1,28 +1,15 @@
 -- Which scope owns an item, and what it has seen of its items.
-use Rattle.std.proofs.Common.{◌≡◌, ℕ, ◌+◌, ◌-◌, ◌<◌, ◌≤◌, ◌⊎◌, List, [], length, Some, None, refl, sym, subst, ◌∙◌, arith, inl, inr}
-use Rattle.std.proofs.Common.{zero, suc, ap, slice_index, ◌≢◌}
+use Rattle.std.proofs.Common.{◌≡◌, ℕ, ◌+◌, ◌-◌, ◌<◌, ◌≤◌, ◌⊎◌, List, [], length, Some, None, refl, sym, subst, ◌∙◌, arith, inl, inr, zero, suc, ap, slice_index, ◌≢◌}
 use Rattle.std.proofs.lemmas.Bool.{cases_lt, cases_eq}
-use Rattle.ppdb_base.specs.declared.code.Code.TheVariants.{ListRange}
-use Rattle.ppdb_base.specs.Place.{cell}
+use Rattle.ppdb_base.specs.{declared.code.Code.TheVariants.{ListRange}, Place.{cell}}
 use Rattle.ppdb_heaps.specs.Heaps.{text_at}
-use Rattle.ppdb_tables.specs.declared.rows.ScopeRow.{ScopeRow}
-use Rattle.ppdb_tables.specs.declared.rows.ConstantRow.{ConstantRow}
-use Rattle.ppdb_tables.specs.declared.rows.VariableRow.{VariableRow}
-use Rattle.ppdb_tables.specs.RawTables.{RawTables, row_at, count}
-use Rattle.ppdb_verify_rules.specs.declared.lists.ScopeList.{ScopeList}
-use Rattle.ppdb_verify_rules.specs.declared.lists.ScopeList.TheVariants.{Variables, Constants}
-use Rattle.ppdb_verify_rules.specs.Earlier.{HasEarlier}
-use Rattle.ppdb_verify_rules.specs.Judged.{ToCell, ToTable}
-use Rattle.ppdb_verify_rules.specs.Lists.{list_of}
-use Rattle.ppdb_verify_rules.specs.Rows.RowFaults.{in_scope, in_variable, in_constant}
-use Rattle.ppdb_verify_rules.specs.Rows.ScopeFault.{no_variables, no_constants}
-use Rattle.ppdb_verify_rules.specs.Rows.VariableFault.{alone as variables_alone}
-use Rattle.ppdb_verify_rules.specs.Rows.ConstantFault.{alone as constants_alone}
-use Rattle.ppdb_verify_rules.specs.Scopes.{AreSameText, Owns, ShareOwner}
-use Rattle.ppdb_verify_rules.specs.Seen.{AreSlots, AreTexts, HasText, HasNoTexts, HasEarlierOf, HaveLists, OwnsBefore}
-use Rattle.ppdb_verify_rules.specs.declared.seen.Texts.{Texts}
-use Rattle.ppdb_tables.proofs.NumberedRows.{row_there, row_within, same_row}
-use Rattle.ppdb_verify_rules.proofs.CellFaults.{earlier_here, earlier_next, earlier_on, none_earlier}
+use Rattle.ppdb_tables.specs.declared.rows.{ScopeRow.{ScopeRow}, ConstantRow.{ConstantRow}, VariableRow.{VariableRow}}
+use Rattle.ppdb_tables.{specs.RawTables.{RawTables, row_at, count}, proofs.NumberedRows.{row_there, row_within, same_row}}
+use Rattle.ppdb_verify_rules.specs.{declared.lists.ScopeList.{ScopeList}, declared.lists.ScopeList.TheVariants.{Variables, Constants}, Earlier.{HasEarlier}}
+use Rattle.ppdb_verify_rules.specs.{Judged.{ToCell, ToTable}, Lists.{list_of}, Rows.RowFaults.{in_scope, in_variable, in_constant}, Rows.ScopeFault.{no_variables}}
+use Rattle.ppdb_verify_rules.specs.Rows.{ScopeFault.{no_constants}, VariableFault.{alone as variables_alone}, ConstantFault.{alone as constants_alone}}
+use Rattle.ppdb_verify_rules.specs.{Scopes.{AreSameText, Owns, ShareOwner}, Seen.{AreSlots, AreTexts, HasText, HasNoTexts, HasEarlierOf, HaveLists, OwnsBefore}}
+use Rattle.ppdb_verify_rules.{specs.declared.seen.Texts.{Texts}, proofs.CellFaults.{earlier_here, earlier_next, earlier_on, none_earlier}}
 use Rattle.ppdb_verify_rules.proofs.SeenSets.{has_no_text}
 
 -- past LocalScope, no list is out of range

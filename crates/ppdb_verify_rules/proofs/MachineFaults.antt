@@ -1,18 +1,10 @@
 -- The faults of Machine.
 use Rattle.std.proofs.Common.{◌≡◌, ℕ, suc, ◌+◌, ◌<◌, ◌≤◌, length, Some, arith}
-use Rattle.ppdb_base.specs.declared.code.Code.{Code}
-use Rattle.ppdb_base.specs.declared.code.Code.TheVariants.{RowIndex, MachineOrder, KickoffRepeated}
-use Rattle.ppdb_base.specs.declared.fault.Place.{Place}
-use Rattle.ppdb_base.specs.declared.fault.Fault.{Fault}
+use Rattle.ppdb_base.specs.declared.{code.Code.{Code}, code.Code.TheVariants.{RowIndex, MachineOrder, KickoffRepeated}, fault.Place.{Place}, fault.Fault.{Fault}}
 use Rattle.ppdb_base.specs.Place.{number_of}
-use Rattle.ppdb_tables.specs.declared.rows.MachineRow.{MachineRow}
-use Rattle.ppdb_tables.specs.RawTables.{RawTables, row_at, count}
-use Rattle.ppdb_verify_rules.specs.Blobs.{in_blob}
-use Rattle.ppdb_verify_rules.specs.Earlier.{HasEarlier, NamesNoRow}
-use Rattle.ppdb_verify_rules.specs.Judged.{ToTable, ToRow, ToCell, IsFirstOf}
-use Rattle.ppdb_verify_rules.specs.Rows.{RowFaults, MachineFault}
-use Rattle.ppdb_verify_rules.specs.Rows.RowFaults.{in_machine}
-use Rattle.ppdb_verify_rules.specs.Rows.MachineFault.{no_move_next, out_of_order, no_kickoff, same_kickoff}
+use Rattle.ppdb_tables.specs.{declared.rows.MachineRow.{MachineRow}, RawTables.{RawTables, row_at, count}}
+use Rattle.ppdb_verify_rules.specs.{Blobs.{in_blob}, Earlier.{HasEarlier, NamesNoRow}, Judged.{ToTable, ToRow, ToCell, IsFirstOf}, Rows.{RowFaults, MachineFault}}
+use Rattle.ppdb_verify_rules.specs.Rows.{RowFaults.{in_machine}, MachineFault.{no_move_next, out_of_order, no_kickoff, same_kickoff}}
 use Rattle.ppdb_verify_rules.proofs.CellFaults as cells
 
 inside : (raw : RawTables) (code : Code) (at : Place) → RowFaults raw code at → at.table ≡ 0x36

@@ -1,21 +1,12 @@
 -- The faults of MethodDebug.
 use Rattle.std.proofs.Common.{◌≡◌, ℕ, suc, ◌+◌, ◌<◌, ◌⊎◌, length, Some, None, arith}
-use Rattle.ppdb_base.specs.declared.code.Code.{Code}
-use Rattle.ppdb_base.specs.declared.code.Code.TheVariants.{BlobIndex, RowIndex}
-use Rattle.ppdb_base.specs.declared.fault.BlobFault.{BlobFault}
-use Rattle.ppdb_base.specs.declared.fault.Place.{Place}
-use Rattle.ppdb_base.specs.declared.fault.Fault.{Fault}
-use Rattle.ppdb_base.specs.Place.{number_of}
+use Rattle.ppdb_base.specs.declared.{code.Code.{Code}, code.Code.TheVariants.{BlobIndex, RowIndex}, fault.BlobFault.{BlobFault}, fault.Place.{Place}}
+use Rattle.ppdb_base.specs.{declared.fault.Fault.{Fault}, Place.{number_of}}
 use Rattle.ppdb_heaps.specs.Heaps.{blob_at}
-use Rattle.ppdb_tables.specs.declared.rows.MethodDebugRow.{MethodDebugRow}
-use Rattle.ppdb_tables.specs.RawTables.{RawTables, row_at, count}
+use Rattle.ppdb_tables.specs.{declared.rows.MethodDebugRow.{MethodDebugRow}, RawTables.{RawTables, row_at, count}}
 use Rattle.sequence_points.specs.Records.{sequence_points}
-use Rattle.ppdb_verify_rules.specs.Blobs.{HasFault, IsNil, in_blob, point_limits}
-use Rattle.ppdb_verify_rules.specs.Earlier.{NamesNoRow}
-use Rattle.ppdb_verify_rules.specs.Judged.{ToTable, ToRow, ToCell, IsFirstOf}
-use Rattle.ppdb_verify_rules.specs.Rows.{RowFaults, MethodDebugFault}
-use Rattle.ppdb_verify_rules.specs.Rows.RowFaults.{in_method}
-use Rattle.ppdb_verify_rules.specs.Rows.MethodDebugFault.{no_document, no_points, invalid_points}
+use Rattle.ppdb_verify_rules.specs.{Blobs.{HasFault, IsNil, in_blob, point_limits}, Earlier.{NamesNoRow}, Judged.{ToTable, ToRow, ToCell, IsFirstOf}}
+use Rattle.ppdb_verify_rules.specs.{Rows.{RowFaults, MethodDebugFault}, Rows.RowFaults.{in_method}, Rows.MethodDebugFault.{no_document, no_points, invalid_points}}
 use Rattle.ppdb_verify_rules.proofs.BlobFaults.{one_fault, not_there}
 use Rattle.ppdb_verify_rules.proofs.CellFaults as cells
 

@@ -1,12 +1,9 @@
 -- How the parts of a name are joined, a part at a time.
-use Rattle.std.proofs.Common.{◌≡◌, ℕ, List, [], ◌∷◌, ◌++◌, Option, Some, None, Ok, refl, sym, ap, subst, ◌∙◌, append_assoc, append-nil}
-use Rattle.std.specs.List.{flat_map, join_by}
+use Rattle.std.{proofs.Common.{◌≡◌, ℕ, List, [], ◌∷◌, ◌++◌, Option, Some, None, Ok, refl, sym, ap, subst, ◌∙◌, append_assoc, append-nil}, specs.List.{flat_map}}
+use Rattle.std.specs.List.{join_by}
 use Rattle.ppdb_base.specs.declared.fault.BlobFault.{BlobFault}
-use Rattle.blob_grammar.specs.Reading.{Reading}
-use Rattle.blob_grammar.specs.Reader.{Left, answer_from, answer, rest_of, tail}
-use Rattle.ppdb_heaps.specs.Names.{separator, names, without_zero, IsName, NameReading}
-use Rattle.ppdb_heaps.specs.Joining.{HasAppended}
-use Rattle.ppdb_heaps.proofs.Joins.{Joining}
+use Rattle.blob_grammar.specs.{Reading.{Reading}, Reader.{Left, answer_from, answer, rest_of, tail}}
+use Rattle.ppdb_heaps.{specs.Names.{separator, names, without_zero, IsName, NameReading}, specs.Joining.{HasAppended}, proofs.Joins.{Joining}}
 
 abbrev after_separator : List ℕ → List (List ℕ) → List ℕ
 after_separator sep contents = flat_map (λ content. sep ++ content) contents

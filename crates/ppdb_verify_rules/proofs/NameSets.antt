@@ -1,24 +1,13 @@
 -- Names of documents, and sets of them.
 use Rattle.std.proofs.Common.{◌≡◌, ℕ, ◌+◌, ◌<◌, ◌≤◌, ◌⊎◌, List, [], length, Some, None, refl, sym, subst, ap, ◌∙◌, arith, inl, inr, Bool, true, false, cond}
-use Rattle.std.specs.Ordering.{nat_cmp, is_eq}
-use Rattle.std.specs.Cmp.Lexicographic.{slice_cmp}
-use Rattle.std.specs.BTreeSet.{BTreeSet, contains, Updates}
-use Rattle.std.specs.declared.vec.Vec.{Vec}
+use Rattle.std.specs.{Ordering.{nat_cmp, is_eq}, Cmp.Lexicographic.{slice_cmp}, BTreeSet.{BTreeSet, contains, Updates}, declared.vec.Vec.{Vec}}
 use Rattle.std.specs.declared.alloc.Global.{Global}
-use Rattle.blob_grammar.specs.Reading.{Reading}
-use Rattle.blob_grammar.proofs.Unique.{reading-unique}
+use Rattle.blob_grammar.{specs.Reading.{Reading}, proofs.Unique.{reading-unique}}
 use Rattle.ppdb_heaps.specs.Names.{joined, names}
-use Rattle.ppdb_tables.specs.declared.rows.DocumentRow.{DocumentRow}
-use Rattle.ppdb_tables.specs.RawTables.{RawTables, row_at}
-use Rattle.ppdb_verify_rules.specs.Blobs.{IsNil}
-use Rattle.ppdb_verify_rules.specs.Earlier.{HasEarlier}
-use Rattle.ppdb_verify_rules.specs.Judged.{ToCell}
-use Rattle.ppdb_verify_rules.specs.Names.{AreSameName, SpellsName}
-use Rattle.ppdb_verify_rules.specs.SeenNames.{AreNames, HasBytes, HasEarlierName}
-use Rattle.ppdb_verify_rules.proofs.BlobFaults.{name_whole, value_there}
-use Rattle.ppdb_verify_rules.proofs.CellFaults.{earlier_here, earlier_next, earlier_on, none_earlier}
-use Rattle.ppdb_verify_rules.proofs.DocumentFaults.{next_0}
-use Rattle.ppdb_verify_rules.proofs.TextSets.{both, same_bytes}
+use Rattle.ppdb_tables.specs.{declared.rows.DocumentRow.{DocumentRow}, RawTables.{RawTables, row_at}}
+use Rattle.ppdb_verify_rules.specs.{Blobs.{IsNil}, Earlier.{HasEarlier}, Judged.{ToCell}, Names.{AreSameName, SpellsName}, SeenNames.{AreNames, HasBytes}}
+use Rattle.ppdb_verify_rules.{specs.SeenNames.{HasEarlierName}, proofs.BlobFaults.{name_whole, value_there}, proofs.CellFaults.{earlier_here, earlier_next}}
+use Rattle.ppdb_verify_rules.proofs.{CellFaults.{earlier_on, none_earlier}, DocumentFaults.{next_0}, TextSets.{both, same_bytes}}
 
 module _ (s n : BTreeSet (Vec ℕ Global)) (name v : Vec ℕ Global)
     (updates : Updates (λ (a : Vec ℕ Global) (b : Vec ℕ Global). slice_cmp nat_cmp a.items b.items) s n name true) where

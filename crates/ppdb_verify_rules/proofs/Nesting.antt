@@ -1,23 +1,11 @@
 -- The opened scopes decide whether a scope crosses an earlier one of its method.
-use Rattle.std.proofs.Common.{◌≡◌, ℕ, ◌+◌, ◌-◌, ◌<◌, ◌≤◌, List, [], ◌∷◌, ◌++◌, length, slice_get, take, get_or, Some, refl, subst, arith}
-use Rattle.std.proofs.Common.{inl, inr, length-append, IsTrue, ◌↔◌, nat_lt}
-use Rattle.std.proofs.lemmas.List.{get_or-take, length-take}
-use Rattle.std.proofs.lemmas.Bool.{cases_lt}
-use Rattle.std.proofs.lemmas.Bool.Decides.{nat_tests}
-use Rattle.std.proofs.lemmas.Option.{slice_get_within, get_or_from_slice_get}
-use Rattle.std.proofs.Math.ListN.{get_or-append}
-use Rattle.std.proofs.Math.Seq.{get_or-append_seam}
-use Rattle.ppdb_base.specs.declared.code.Code.TheVariants.{ScopeOrder, ScopeCrossing, ScopeRange}
-use Rattle.ppdb_base.specs.Place.{cell}
-use Rattle.ppdb_tables.specs.declared.rows.ScopeRow.{ScopeRow}
-use Rattle.ppdb_tables.specs.RawTables.{RawTables, row_at}
-use Rattle.ppdb_verify_rules.specs.Earlier.{HasEarlier}
-use Rattle.ppdb_verify_rules.specs.Judged.{ToCell}
-use Rattle.ppdb_verify_rules.specs.Open.{AreOpen, EndsThere}
-use Rattle.ppdb_verify_rules.specs.Rows.RowFaults.{in_scope}
-use Rattle.ppdb_verify_rules.specs.Rows.ScopeFault.{out_of_order, crossing as scope_crossing, no_range}
-use Rattle.ppdb_verify_rules.specs.Scopes.{AreCrossed, Covers, IsAbove, scope_end}
-use Rattle.ppdb_tables.proofs.NumberedRows.{same_row}
+use Rattle.std.proofs.Common.{◌≡◌, ℕ, ◌+◌, ◌-◌, ◌<◌, ◌≤◌, List, [], ◌∷◌, ◌++◌, length, slice_get, take, get_or, Some, refl, subst, arith, inl, inr, length-append}
+use Rattle.std.proofs.{Common.{IsTrue, ◌↔◌, nat_lt}, lemmas.List.{get_or-take, length-take}, lemmas.Bool.{cases_lt}, lemmas.Bool.Decides.{nat_tests}}
+use Rattle.std.proofs.{lemmas.Option.{slice_get_within, get_or_from_slice_get}, Math.ListN.{get_or-append}, Math.Seq.{get_or-append_seam}}
+use Rattle.ppdb_base.specs.{declared.code.Code.TheVariants.{ScopeOrder, ScopeCrossing, ScopeRange}, Place.{cell}}
+use Rattle.ppdb_tables.{specs.declared.rows.ScopeRow.{ScopeRow}, specs.RawTables.{RawTables, row_at}, proofs.NumberedRows.{same_row}}
+use Rattle.ppdb_verify_rules.specs.{Earlier.{HasEarlier}, Judged.{ToCell}, Open.{AreOpen, EndsThere}, Rows.RowFaults.{in_scope}, Rows.ScopeFault.{out_of_order}}
+use Rattle.ppdb_verify_rules.specs.{Rows.ScopeFault.{crossing as scope_crossing, no_range}, Scopes.{AreCrossed, Covers, IsAbove, scope_end}}
 use Rattle.ppdb_verify_rules.proofs.Order.{scopes_in_order}
 
 abbrev CrossesEarlier : List ScopeRow → ℕ → ScopeRow → Type 0

@@ -1,20 +1,11 @@
 -- Rows that are in order up to a place: the row before decides whether some earlier row is greater.
-use Rattle.std.proofs.Common.{◌≡◌, ℕ, ◌-◌, ◌<◌, ◌≤◌, List, Some, refl, subst, arith, inl, inr}
-use Rattle.std.proofs.lemmas.Bool.{cases_lt}
-use Rattle.ppdb_base.specs.declared.code.Code.TheVariants.{ScopeOrder, MachineOrder, CustomOrder}
-use Rattle.ppdb_base.specs.Place.{cell}
-use Rattle.ppdb_tables.specs.declared.rows.ScopeRow.{ScopeRow}
-use Rattle.ppdb_tables.specs.declared.rows.MachineRow.{MachineRow}
-use Rattle.ppdb_tables.specs.declared.rows.CustomRow.{CustomRow}
-use Rattle.ppdb_tables.specs.RawTables.{RawTables, row_at}
-use Rattle.ppdb_verify_rules.specs.Earlier.{HasEarlier}
-use Rattle.ppdb_verify_rules.specs.Judged.{ToCell}
-use Rattle.ppdb_verify_rules.specs.Rows.RowFaults.{in_scope, in_machine, in_custom}
-use Rattle.ppdb_verify_rules.specs.Rows.ScopeFault.{out_of_order as scope_order}
-use Rattle.ppdb_verify_rules.specs.Rows.MachineFault.{out_of_order as machine_order}
-use Rattle.ppdb_verify_rules.specs.Rows.CustomFault.{out_of_order as custom_order}
-use Rattle.ppdb_verify_rules.specs.Scopes.{IsAbove}
-use Rattle.ppdb_tables.proofs.NumberedRows.{same_row}
+use Rattle.std.proofs.{Common.{◌≡◌, ℕ, ◌-◌, ◌<◌, ◌≤◌, List, Some, refl, subst, arith, inl, inr}, lemmas.Bool.{cases_lt}}
+use Rattle.ppdb_base.specs.{declared.code.Code.TheVariants.{ScopeOrder, MachineOrder, CustomOrder}, Place.{cell}}
+use Rattle.ppdb_tables.specs.{declared.rows.ScopeRow.{ScopeRow}, declared.rows.MachineRow.{MachineRow}, declared.rows.CustomRow.{CustomRow}, RawTables.{RawTables}}
+use Rattle.ppdb_tables.{specs.RawTables.{row_at}, proofs.NumberedRows.{same_row}}
+use Rattle.ppdb_verify_rules.specs.{Earlier.{HasEarlier}, Judged.{ToCell}, Rows.RowFaults.{in_scope, in_machine, in_custom}}
+use Rattle.ppdb_verify_rules.specs.Rows.{ScopeFault.{out_of_order as scope_order}, MachineFault.{out_of_order as machine_order}}
+use Rattle.ppdb_verify_rules.specs.{Rows.CustomFault.{out_of_order as custom_order}, Scopes.{IsAbove}}
 
 -- the row before forbids a row that some earlier one forbids, where earlier rows forbid none of one another
 pub row_before : {X : Type 0} (Forbids : X → X → Type 0) (rows : List X) (row : ℕ) (x before : X) → row_at rows (row - 1) ≡ Some before

@@ -1,14 +1,10 @@
 -- The tables of coded parents have small numbers.
 use Rattle.std.proofs.Common.{◌≡◌, ℕ, zero, suc, ◌<◌, ◌%◌, ◌/◌, List, [], ◌∷◌, Option, Some, None, slice_get, length, refl, sym, ap, ◌∙◌, subst, arith}
-use Rattle.std.proofs.lemmas.Option.{slice_get_within}
-use Rattle.std.specs.Option.{option_map}
+use Rattle.std.{proofs.lemmas.Option.{slice_get_within}, specs.Option.{option_map}}
 use Rattle.row_layout.specs.Columns.{parent_tables}
 use Rattle.custom_info.specs.declared.kinds.Kind.{Kind}
-use Rattle.ppdb_tables.specs.declared.rows.CustomRow.{CustomRow}
-use Rattle.ppdb_verify_rules.specs.Customs.{HasOtherParent, IsOfKind, parent_table}
-use Rattle.ppdb_verify_rules.proofs.BlobFaults.{one_kind}
-use Rattle.ppdb_tables.specs.declared.parent.Parent.{Parent}
-use Rattle.ppdb_tables.specs.Parents.{parent_in}
+use Rattle.ppdb_tables.specs.{declared.rows.CustomRow.{CustomRow}, declared.parent.Parent.{Parent}, Parents.{parent_in}}
+use Rattle.ppdb_verify_rules.{specs.Customs.{HasOtherParent, IsOfKind, parent_table}, proofs.BlobFaults.{one_kind}}
 
 AllSmall : List ℕ → Type 0
 AllSmall [] = Unit {0}

@@ -1,22 +1,12 @@
 -- The faults of LocalScope.
 use Rattle.std.proofs.Common.{◌≡◌, ℕ, suc, ◌+◌, ◌<◌, length, Some, arith}
-use Rattle.ppdb_base.specs.declared.code.Code.{Code}
-use Rattle.ppdb_base.specs.declared.code.Code.TheVariants.{RowIndex, ScopeOrder, ScopeRange, ScopeCrossing, ListRange}
-use Rattle.ppdb_base.specs.declared.fault.Place.{Place}
-use Rattle.ppdb_base.specs.declared.fault.Fault.{Fault}
-use Rattle.ppdb_base.specs.Place.{number_of}
-use Rattle.ppdb_tables.specs.declared.rows.ScopeRow.{ScopeRow}
-use Rattle.ppdb_tables.specs.RawTables.{RawTables, row_at, count}
-use Rattle.ppdb_verify_rules.specs.Blobs.{in_blob}
-use Rattle.ppdb_verify_rules.specs.Earlier.{HasEarlier, NamesNoRow}
-use Rattle.ppdb_verify_rules.specs.Judged.{ToTable, ToRow, ToCell, IsFirstOf}
-use Rattle.ppdb_verify_rules.specs.declared.lists.ScopeList.{ScopeList}
-use Rattle.ppdb_verify_rules.specs.declared.lists.ScopeList.TheVariants.{Variables, Constants}
-use Rattle.ppdb_verify_rules.specs.Lists.{list_of, table_of, column_of}
-use Rattle.ppdb_verify_rules.specs.Rows.{RowFaults, ScopeFault}
-use Rattle.ppdb_verify_rules.specs.Rows.RowFaults.{in_scope}
-use Rattle.ppdb_verify_rules.specs.Rows.ScopeFault.{no_method, out_of_order, no_import, no_variables, no_constants, crossing, no_range}
-use Rattle.ppdb_verify_rules.specs.Scopes.{AreCrossed, HasNoRange, IsAbove, IsListOut}
+use Rattle.ppdb_base.specs.declared.{code.Code.{Code}, code.Code.TheVariants.{RowIndex, ScopeOrder, ScopeRange, ScopeCrossing, ListRange}, fault.Place.{Place}}
+use Rattle.ppdb_base.specs.{declared.fault.Fault.{Fault}, Place.{number_of}}
+use Rattle.ppdb_tables.specs.{declared.rows.ScopeRow.{ScopeRow}, RawTables.{RawTables, row_at, count}}
+use Rattle.ppdb_verify_rules.specs.{Blobs.{in_blob}, Earlier.{HasEarlier, NamesNoRow}, Judged.{ToTable, ToRow, ToCell, IsFirstOf}}
+use Rattle.ppdb_verify_rules.specs.{declared.lists.ScopeList.{ScopeList}, declared.lists.ScopeList.TheVariants.{Variables, Constants}, Lists.{list_of, table_of}}
+use Rattle.ppdb_verify_rules.specs.{Lists.{column_of}, Rows.{RowFaults, ScopeFault}, Rows.RowFaults.{in_scope}, Rows.ScopeFault.{no_method, out_of_order, no_import}}
+use Rattle.ppdb_verify_rules.specs.{Rows.ScopeFault.{no_variables, no_constants, crossing, no_range}, Scopes.{AreCrossed, HasNoRange, IsAbove, IsListOut}}
 use Rattle.ppdb_verify_rules.proofs.CellFaults as cells
 
 inside : (raw : RawTables) (code : Code) (at : Place) → RowFaults raw code at → at.table ≡ 0x32

@@ -1,11 +1,7 @@
 -- Nothing is seen before the first row.
-use Rattle.std.proofs.Common.{◌≡◌, ℕ, ◌/◌, ◌%◌, List, [], slice_index, arith, inl, inr}
-use Rattle.std.specs.Int.{bit_at}
-use Rattle.std.proofs.lemmas.Nat.Bits.{bit_at-zero}
+use Rattle.std.{proofs.Common.{◌≡◌, ℕ, ◌/◌, ◌%◌, List, [], slice_index, arith, inl, inr}, specs.Int.{bit_at}, proofs.lemmas.Nat.Bits.{bit_at-zero}}
 use Rattle.ppdb_tables.specs.declared.rows.MachineRow.{MachineRow}
-use Rattle.ppdb_verify_rules.specs.Seen.{AreKickoffs, Has, HasText, HasNoTexts}
-use Rattle.ppdb_verify_rules.specs.declared.seen.Texts.{Texts}
-use Rattle.ppdb_verify_rules.proofs.CellFaults.{none_earlier}
+use Rattle.ppdb_verify_rules.{specs.Seen.{AreKickoffs, Has, HasText, HasNoTexts}, specs.declared.seen.Texts.{Texts}, proofs.CellFaults.{none_earlier}}
 
 -- no words have no bits
 pub has_none : (words : List ℕ) (n : ℕ) → words ≡ [] → Has words n → ⊥

@@ -1,14 +1,7 @@
 -- Sets of lent texts: a key is known by its bytes, and any bytes stand after some reference.
-use Rattle.std.proofs.Common.{◌≡◌, ℕ, ◌⊎◌, List, [], ◌∷◌, ◌++◌, ◌||◌, refl, sym, ◌∙◌, inl, inr, Bool, true, false, cond, IsTrue}
-use Rattle.std.specs.Ordering.{nat_cmp, is_eq}
-use Rattle.std.specs.Cmp.Lexicographic.{slice_cmp}
-use Rattle.std.specs.BTreeSet.{BTreeSet, contains, Updates}
-use Rattle.std.specs.Borrow.{Bor}
-use Rattle.std.specs.List.{list_any}
-use Rattle.std.specs.Str.{bytes_eq}
-use Rattle.std.proofs.lemmas.Map.Text.{is_eq-slice_cmp}
-use Rattle.std.proofs.lemmas.Slice.Eq.{bytes_eq-Decides}
-use Rattle.std.proofs.lemmas.List.Folds.{list_any-append}
+use Rattle.std.{proofs.Common.{◌≡◌, ℕ, ◌⊎◌, List, [], ◌∷◌, ◌++◌, ◌||◌, refl, sym, ◌∙◌, inl, inr, Bool, true, false, cond, IsTrue}, specs.Ordering.{nat_cmp, is_eq}}
+use Rattle.std.specs.{Cmp.Lexicographic.{slice_cmp}, BTreeSet.{BTreeSet, contains, Updates}, Borrow.{Bor}, List.{list_any}, Str.{bytes_eq}}
+use Rattle.std.proofs.lemmas.{Map.Text.{is_eq-slice_cmp}, Slice.Eq.{bytes_eq-Decides}, List.Folds.{list_any-append}}
 
 -- equal bytes compare as equal, and no others do
 pub same_bytes : (xs ys : List ℕ) → is_eq (slice_cmp nat_cmp xs ys) ≡ true → xs ≡ ys

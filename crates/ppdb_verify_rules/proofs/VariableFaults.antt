@@ -1,20 +1,11 @@
 -- The faults of Variable.
 use Rattle.std.proofs.Common.{◌≡◌, ℕ, suc, ◌+◌, ◌<◌, length, Some, None, arith}
-use Rattle.ppdb_base.specs.declared.code.Code.{Code}
-use Rattle.ppdb_base.specs.declared.code.Code.TheVariants.{StringIndex, ListRange, SlotRepeated, NameRepeated}
-use Rattle.ppdb_base.specs.declared.fault.Place.{Place}
-use Rattle.ppdb_base.specs.declared.fault.Fault.{Fault}
-use Rattle.ppdb_base.specs.Place.{number_of}
+use Rattle.ppdb_base.specs.declared.{code.Code.{Code}, code.Code.TheVariants.{StringIndex, ListRange, SlotRepeated, NameRepeated}, fault.Place.{Place}}
+use Rattle.ppdb_base.specs.{declared.fault.Fault.{Fault}, Place.{number_of}}
 use Rattle.ppdb_heaps.specs.Heaps.{text_at}
-use Rattle.ppdb_tables.specs.declared.rows.VariableRow.{VariableRow}
-use Rattle.ppdb_tables.specs.RawTables.{RawTables, row_at, count}
-use Rattle.ppdb_verify_rules.specs.Blobs.{in_blob}
-use Rattle.ppdb_verify_rules.specs.Earlier.{HasEarlier}
-use Rattle.ppdb_verify_rules.specs.Judged.{ToTable, ToRow, ToCell, IsFirstOf}
-use Rattle.ppdb_verify_rules.specs.Rows.{RowFaults, VariableFault}
-use Rattle.ppdb_verify_rules.specs.Rows.RowFaults.{in_variable}
-use Rattle.ppdb_verify_rules.specs.Rows.VariableFault.{alone, same_slot, no_text, same_text}
-use Rattle.ppdb_verify_rules.specs.Scopes.{AreSameText, ShareOwner}
+use Rattle.ppdb_tables.specs.{declared.rows.VariableRow.{VariableRow}, RawTables.{RawTables, row_at, count}}
+use Rattle.ppdb_verify_rules.specs.{Blobs.{in_blob}, Earlier.{HasEarlier}, Judged.{ToTable, ToRow, ToCell, IsFirstOf}, Rows.{RowFaults, VariableFault}}
+use Rattle.ppdb_verify_rules.specs.{Rows.RowFaults.{in_variable}, Rows.VariableFault.{alone, same_slot, no_text, same_text}, Scopes.{AreSameText, ShareOwner}}
 use Rattle.ppdb_verify_rules.proofs.CellFaults as cells
 
 inside : (raw : RawTables) (code : Code) (at : Place) → RowFaults raw code at → at.table ≡ 0x33

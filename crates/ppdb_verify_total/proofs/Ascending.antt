@@ -1,14 +1,10 @@
 -- The blob indexes inside a blob stand in the order of their bytes.
-use Rattle.std.proofs.Common.{ℕ, ◌+◌, ◌≤◌, List, [], ◌∷◌, ◌++◌, length, Option, Some, None, Bool, true, false, arith, if◌then◌else◌}
-use Rattle.std.specs.List.{flat_map}
-use Rattle.blob_grammar.specs.declared.places.PlacedIndex.{PlacedIndex}
-use Rattle.blob_grammar.specs.Grammar.{Value, number, integer, octets, Field, Cut, with_value}
-use Rattle.blob_grammar.specs.Places.{placed_from}
+use Rattle.std.{proofs.Common.{ℕ, ◌+◌, ◌≤◌, List, [], ◌∷◌, ◌++◌, length, Option, Some, None, Bool, true, false, arith, if◌then◌else◌}, specs.List.{flat_map}}
+use Rattle.blob_grammar.specs.{declared.places.PlacedIndex.{PlacedIndex}, Grammar.{Value, number, integer, octets, Field, Cut, with_value}, Places.{placed_from}}
 use Rattle.blob_grammar.specs.Reader.{prefix_of}
 use Rattle.ppdb_heaps.specs.Names.{NamePart, names, part_index, name_indexes}
-use Rattle.type_blobs.specs.declared.types.TypeLimits.{TypeLimits}
-use Rattle.type_blobs.specs.declared.import_part.ImportPart.{ImportPart}
-use Rattle.type_blobs.specs.Imports.{ImportItem, imports, next_part, field_of, import_field, names_text, text_index, import_indexes}
+use Rattle.type_blobs.specs.{declared.types.TypeLimits.{TypeLimits}, declared.import_part.ImportPart.{ImportPart}, Imports.{ImportItem, imports, next_part}}
+use Rattle.type_blobs.specs.Imports.{field_of, import_field, names_text, text_index, import_indexes}
 
 -- each index stands after those before it, from a byte on
 abbrev pub Ascends : ℕ → List PlacedIndex → Type 0

@@ -1,22 +1,14 @@
 -- The references stand in the rows of the tables 30 to 37.
-use Rattle.std.proofs.Common.{◌≡◌, ℕ, zero, suc, ◌+◌, ◌<◌, ◌≤◌, List, [], ◌∷◌, length, Some, None, slice_get, refl, subst, arith}
-use Rattle.std.specs.List.{flat_map, enumerate_from}
-use Rattle.ppdb_base.specs.declared.code.Code.{Code}
-use Rattle.ppdb_base.specs.declared.fault.Place.{Place}
+use Rattle.std.{proofs.Common.{◌≡◌, ℕ, zero, suc, ◌+◌, ◌<◌, ◌≤◌, List, [], ◌∷◌, length, Some, None, slice_get, refl, subst, arith}, specs.List.{flat_map}}
+use Rattle.std.specs.List.{enumerate_from}
+use Rattle.ppdb_base.specs.declared.{code.Code.{Code}, fault.Place.{Place}}
 use Rattle.blob_grammar.specs.declared.places.PlacedIndex.{PlacedIndex}
 use Rattle.ppdb_heaps.specs.Heaps.{blob_at}
-use Rattle.ppdb_tables.specs.declared.rows.DocumentRow.{DocumentRow}
-use Rattle.ppdb_tables.specs.declared.rows.MethodDebugRow.{MethodDebugRow}
-use Rattle.ppdb_tables.specs.declared.rows.VariableRow.{VariableRow}
-use Rattle.ppdb_tables.specs.declared.rows.ConstantRow.{ConstantRow}
-use Rattle.ppdb_tables.specs.declared.rows.ImportRow.{ImportRow}
-use Rattle.ppdb_tables.specs.declared.rows.CustomRow.{CustomRow}
-use Rattle.ppdb_tables.specs.RawTables.{RawTables, HasShape, count}
-use Rattle.ppdb_verify_total.specs.HeapUses.{HeapUse, text_in, blob_in, named_inside, in_name, in_imports, of_document, of_method}
-use Rattle.ppdb_verify_total.specs.HeapUses.{of_variable, of_constant, of_import, of_custom, heap_uses}
-use Rattle.ppdb_verify_total.specs.Spans.{SpanFaults}
-use Rattle.ppdb_verify_total.specs.Spans.SpanFaults.{span_total}
-use Rattle.ppdb_verify_total.proofs.Rising.{Each, each-append}
+use Rattle.ppdb_tables.specs.declared.rows.{DocumentRow.{DocumentRow}, MethodDebugRow.{MethodDebugRow}, VariableRow.{VariableRow}, ConstantRow.{ConstantRow}}
+use Rattle.ppdb_tables.specs.{declared.rows.ImportRow.{ImportRow}, declared.rows.CustomRow.{CustomRow}, RawTables.{RawTables, HasShape, count}}
+use Rattle.ppdb_verify_total.specs.HeapUses.{HeapUse, text_in, blob_in, named_inside, in_name, in_imports, of_document, of_method, of_variable, of_constant}
+use Rattle.ppdb_verify_total.{specs.HeapUses.{of_import, of_custom, heap_uses}, specs.Spans.{SpanFaults}, specs.Spans.SpanFaults.{span_total}, proofs.Rising.{Each}}
+use Rattle.ppdb_verify_total.proofs.Rising.{each-append}
 
 -- where a reference may stand
 pub record IsSpanPlace (raw : RawTables) (at : Place) : Type 0 where

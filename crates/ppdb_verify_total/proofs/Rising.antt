@@ -1,22 +1,15 @@
 -- The references stand in the order of their places.
 use Rattle.std.proofs.Common.{◌≡◌, ℕ, zero, suc, add-one, ◌≤◌, inl, inr, List, [], ◌∷◌, ◌++◌, Option, Some, None, slice_get, refl, subst, arith}
 use Rattle.std.specs.List.{flat_map, enumerate_from}
-use Rattle.ppdb_base.specs.declared.code.Code.TheVariants.{SpanTotal}
-use Rattle.ppdb_base.specs.Place.{ComesBefore, numbers}
-use Rattle.ppdb_base.proofs.Judging.{comes_before_trans}
+use Rattle.ppdb_base.{specs.declared.code.Code.TheVariants.{SpanTotal}, specs.Place.{ComesBefore, numbers}, proofs.Judging.{comes_before_trans}}
 use Rattle.blob_grammar.specs.declared.places.PlacedIndex.{PlacedIndex}
-use Rattle.ppdb_heaps.specs.Heaps.{blob_at}
-use Rattle.ppdb_heaps.specs.Names.{name_indexes}
-use Rattle.ppdb_tables.specs.declared.rows.ConstantRow.{ConstantRow}
-use Rattle.ppdb_tables.specs.declared.rows.DocumentRow.{DocumentRow}
-use Rattle.ppdb_tables.specs.declared.rows.ImportRow.{ImportRow}
+use Rattle.ppdb_heaps.specs.{Heaps.{blob_at}, Names.{name_indexes}}
+use Rattle.ppdb_tables.specs.declared.rows.{ConstantRow.{ConstantRow}, DocumentRow.{DocumentRow}, ImportRow.{ImportRow}}
 use Rattle.ppdb_tables.specs.RawTables.{RawTables}
 use Rattle.type_blobs.specs.Imports.{import_indexes}
-use Rattle.ppdb_verify_total.proofs.Ascending.{Ascends, names_ascend, imports_ascend}
+use Rattle.ppdb_verify_total.{proofs.Ascending.{Ascends, names_ascend, imports_ascend}, specs.HeapUses.{HeapUse, blob_in, text_in, named_inside, in_name}}
+use Rattle.ppdb_verify_total.{specs.HeapUses.{in_imports, of_document, of_method, of_variable, of_constant, of_import, of_custom, heap_uses}, proofs.Sums.{Rises}}
 use Rattle.ppdb_verify_rules.specs.Blobs.{type_limits}
-use Rattle.ppdb_verify_total.specs.HeapUses.{HeapUse, blob_in, text_in, named_inside, in_name, in_imports, of_document, of_method}
-use Rattle.ppdb_verify_total.specs.HeapUses.{of_variable, of_constant, of_import, of_custom, heap_uses}
-use Rattle.ppdb_verify_total.proofs.Sums.{Rises}
 
 abbrev key : HeapUse → List ℕ
 key r = numbers SpanTotal r.at

@@ -1,8 +1,6 @@
 -- The lists that the rows of a table answer, one after the other.
 use Rattle.std.proofs.Common.{◌≡◌, ℕ, zero, suc, ◌+◌, ◌-◌, ◌<◌, ◌≤◌, List, [], ◌∷◌, ◌++◌, length, map, drop, slice_get, Some, refl, sym, ap, ◌∙◌, arith}
-use Rattle.std.proofs.lemmas.List.{length-map}
-use Rattle.std.proofs.lemmas.List.FromFn.{length-enumerate_from}
-use Rattle.std.specs.List.{flat_map, enumerate_from}
+use Rattle.std.{proofs.lemmas.List.{length-map}, proofs.lemmas.List.FromFn.{length-enumerate_from}, specs.List.{flat_map, enumerate_from}}
 use Rattle.ppdb_tables.specs.RawTables.{numbered, row_at}
 
 -- what the rows from one on answer

@@ -1,21 +1,11 @@
 -- The running sum finds the first reference that passes the limit.
-use Rattle.std.proofs.Common.{◌≡◌, ℕ, zero, suc, ◌+◌, ◌<◌, ◌≤◌, inl, inr, List, [], ◌∷◌, ◌++◌, take, slice_get, Some, None, Result, Ok}
-use Rattle.std.proofs.Common.{Err, refl, sym, ap, subst, ◌∙◌, arith, Bool, true, false, nat_lt, cond}
-use Rattle.std.specs.Prelude.{sum_by}
-use Rattle.std.proofs.lemmas.Bool.{cases_lt}
-use Rattle.std.proofs.lemmas.List.Sums.{sum_by-cons}
-use Rattle.std.proofs.lemmas.Bool.Decides.{nat_tests}
-use Rattle.ppdb_base.specs.declared.limits.TheConstants.{MAX_SPAN}
-use Rattle.ppdb_base.specs.declared.code.Code.TheVariants.{SpanTotal}
-use Rattle.ppdb_base.specs.declared.code.Code.{Code}
-use Rattle.ppdb_base.specs.declared.fault.Fault.{Fault}
-use Rattle.ppdb_base.specs.declared.fault.Place.{Place}
-use Rattle.ppdb_base.specs.Place.{ComesBefore, numbers}
-use Rattle.ppdb_base.specs.First.{IsAccepted, IsFirst}
+use Rattle.std.proofs.Common.{◌≡◌, ℕ, zero, suc, ◌+◌, ◌<◌, ◌≤◌, inl, inr, List, [], ◌∷◌, ◌++◌, take, slice_get, Some, None, Result, Ok, Err, refl, sym, ap, subst}
+use Rattle.std.{proofs.Common.{◌∙◌, arith, Bool, true, false, nat_lt, cond}, specs.Prelude.{sum_by}, proofs.lemmas.Bool.{cases_lt}}
+use Rattle.std.proofs.lemmas.{List.Sums.{sum_by-cons}, Bool.Decides.{nat_tests}}
+use Rattle.ppdb_base.specs.declared.{limits.TheConstants.{MAX_SPAN}, code.Code.TheVariants.{SpanTotal}, code.Code.{Code}, fault.Fault.{Fault}, fault.Place.{Place}}
+use Rattle.ppdb_base.specs.{Place.{ComesBefore, numbers}, First.{IsAccepted, IsFirst}}
 use Rattle.ppdb_tables.specs.RawTables.{RawTables}
-use Rattle.ppdb_verify_total.specs.HeapUses.{HeapUse, heap_uses}
-use Rattle.ppdb_verify_total.specs.Spans.{SpanFaults, spanned}
-use Rattle.ppdb_verify_total.specs.Spans.SpanFaults.{span_total}
+use Rattle.ppdb_verify_total.specs.{HeapUses.{HeapUse, heap_uses}, Spans.{SpanFaults, spanned}, Spans.SpanFaults.{span_total}}
 
 abbrev total_of : List HeapUse → ℕ
 total_of rs = sum_by (λ (x : HeapUse). x.len) rs

@@ -1,16 +1,10 @@
 -- A walk over what is named inside a blob, whose items are added one after the other.
-use Rattle.std.proofs.Common.{◌≡◌, ℕ, List, [], ◌∷◌, ◌++◌, Option, Some, None, Ok, Err, refl, ap, ◌∙◌}
-use Rattle.std.specs.List.{flat_map}
-use Rattle.std.proofs.lemmas.List.{map-append}
-use Rattle.ppdb_base.specs.declared.fault.Fault.{Fault}
-use Rattle.ppdb_base.specs.declared.fault.BlobFault.{BlobFault}
-use Rattle.blob_grammar.specs.declared.places.PlacedIndex.{PlacedIndex}
-use Rattle.blob_grammar.specs.Reader.{Left, answer_from, answer, tail}
+use Rattle.std.{proofs.Common.{◌≡◌, ℕ, List, [], ◌∷◌, ◌++◌, Option, Some, None, Ok, Err, refl, ap, ◌∙◌}, specs.List.{flat_map}, proofs.lemmas.List.{map-append}}
+use Rattle.ppdb_base.specs.declared.fault.{Fault.{Fault}, BlobFault.{BlobFault}}
+use Rattle.blob_grammar.specs.{declared.places.PlacedIndex.{PlacedIndex}, Reader.{Left, answer_from, answer, tail}}
 use Rattle.ppdb_heaps.specs.Heaps.{blob_at}
 use Rattle.ppdb_verify_rules.specs.Blobs.{in_blob}
-use Rattle.ppdb_verify_total.specs.HeapUses.{HeapUse, named_inside, len_of}
-use Rattle.ppdb_verify_total.specs.Spans.{spanned}
-use Rattle.ppdb_verify_total.proofs.Sums.{sum-none, sum-few, sum-past}
+use Rattle.ppdb_verify_total.{specs.HeapUses.{HeapUse, named_inside, len_of}, specs.Spans.{spanned}, proofs.Sums.{sum-none, sum-few, sum-past}}
 
 next_items : {X : Type 0} (items : List X) (fault : Option BlobFault) (x : X) → Ok (Some x) ≡ answer_from items fault → items ≡ x ∷ tail items
 next_items (y ∷ items) fault x e = let s : x ≡ y = cc in cc

@@ -1,11 +1,8 @@
 -- A file has good rows exactly where it keeps the rules.
 use Rattle.std.proofs.Common.{◌≡◌, ◌≢◌, ◌⊎◌, List, [], length, inl, inr, sym, ap, ◌∙◌}
-use Rattle.ppdb_tables.specs.declared.rows.MethodDebugRow.{MethodDebugRow}
-use Rattle.ppdb_tables.specs.RawTables.{RawTables, count}
-use Rattle.ppdb_verify_accepted_laws.specs.Accepted.{HasGoodRows}
-use Rattle.ppdb_verify_accepted_laws.proofs.Files.{rules_kept}
-use Rattle.ppdb_values.specs.RawFile.{RawFile}
-use Rattle.ppdb_values.specs.Rules.{KeepsRules}
+use Rattle.ppdb_tables.specs.{declared.rows.MethodDebugRow.{MethodDebugRow}, RawTables.{RawTables, count}}
+use Rattle.ppdb_verify_accepted_laws.{specs.Accepted.{HasGoodRows}, proofs.Files.{rules_kept}}
+use Rattle.ppdb_values.specs.{RawFile.{RawFile}, Rules.{KeepsRules}}
 use Rattle.ppdb_verify_kept_laws.proofs.Files.{none_invalid}
 use Rattle.ppdb_verify_valid_laws.specs.GoodRows.{GoodRowsAreKeptRules}
 

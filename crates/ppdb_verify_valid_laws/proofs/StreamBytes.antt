@@ -1,18 +1,12 @@
 -- The bytes of the streams of a file are bytes of the file, and what is read from two of them has two bytes.
 use Rattle.std.proofs.Common.{◌≡◌, ℕ, ◌*◌, ◌<◌, ◌≤◌, ◌^◌, List, [], ◌∷◌, length, map, take, drop, sum, sym, subst, arith, inl, inr, slice_index}
-use Rattle.std.specs.Prelude.{All, Option, Some, None, MatchOption}
-use Rattle.std.specs.List.{range_with_len}
-use Rattle.std.specs.Option.{option_map_or}
-use Rattle.std.proofs.lemmas.Bool.{cases_lt}
-use Rattle.std.proofs.lemmas.List.{get_or_past, length-drop, length-take}
-use Rattle.std.proofs.lemmas.List.Elements.{All-cons, All-drop, All-get_or, All-nil, All-take}
+use Rattle.std.{specs.Prelude.{All, Option, Some, None, MatchOption}, specs.List.{range_with_len}, specs.Option.{option_map_or}, proofs.lemmas.Bool.{cases_lt}}
+use Rattle.std.proofs.lemmas.{List.{get_or_past, length-drop, length-take}, List.Elements.{All-cons, All-drop, All-get_or, All-nil, All-take}}
 use Rattle.byteorder.specs.Endian.{little_number}
-use Rattle.metadata_root.specs.declared.kind.StreamKind.{StreamKind}
-use Rattle.metadata_root.specs.Streams.{AreStreamsOf, IsListed, IsStream, Stream, Streams, bytes_of, offset_in, size_in, stream_of}
-use Rattle.row_layout.specs.declared.column.Sizes.{Sizes}
-use Rattle.row_layout.specs.Rows.{cell_place}
-use Rattle.ppdb_tables.specs.Layouts.{row_in, variable_columns, variable_row, widths_of}
-use Rattle.ppdb_tables.specs.Tables.{rows_at, table_place}
+use Rattle.metadata_root.specs.{declared.kind.StreamKind.{StreamKind}, Streams.{AreStreamsOf, IsListed, IsStream, Stream, Streams, bytes_of, offset_in, size_in}}
+use Rattle.metadata_root.specs.Streams.{stream_of}
+use Rattle.row_layout.specs.{declared.column.Sizes.{Sizes}, Rows.{cell_place}}
+use Rattle.ppdb_tables.specs.{Layouts.{row_in, variable_columns, variable_row, widths_of}, Tables.{rows_at, table_place}}
 use Rattle.ppdb_values.specs.Types.{IsNarrowRow}
 
 abbrev pub IsByte : ℕ → Type 0

@@ -1,29 +1,17 @@
 -- A valid file keeps the rules of its format, and its value is sound and has its types.
 use Rattle.std.proofs.Common.{◌≡◌, ℕ, ◌+◌, ◌*◌, ◌<◌, ◌≤◌, Bool, true, false, List, [], ◌∷◌, length, refl, sym, ap, subst, ◌∙◌, arith, inl, inr, slice_index}
-use Rattle.std.specs.Prelude.{All, if◌then◌else◌, nat_lt}
-use Rattle.std.proofs.lemmas.Bool.{cases_lt}
-use Rattle.std.proofs.lemmas.List.{get_or_past, length-take}
+use Rattle.std.{specs.Prelude.{All, if◌then◌else◌, nat_lt}, proofs.lemmas.Bool.{cases_lt}, proofs.lemmas.List.{get_or_past, length-take}}
 use Rattle.std.proofs.lemmas.List.FromFn.{get_or-map-range_with_len, length-map-range_with_len}
-use Rattle.ppdb_base.specs.declared.code.Code.TheVariants.{PdbRows, PdbShort, TableRows, TablesShort}
-use Rattle.ppdb_base.specs.First.{IsAccepted}
-use Rattle.ppdb_base.specs.Place.{at_byte}
-use Rattle.metadata_root.specs.declared.kind.StreamKind.TheVariants.{Blobs, Guids, Pdb, Strings, Tables}
-use Rattle.metadata_root.specs.Streams.{AreStreamsOf, ContainerFaults, Streams, bytes_of}
-use Rattle.ppdb_tables.specs.Counts.{counts_below, count_place}
-use Rattle.ppdb_tables.specs.declared.head.PdbHead.{PdbHead}
-use Rattle.ppdb_tables.specs.Head.{PdbFaults, PdbFieldFaults, IsHeadOf, pdb_fields, pdb_rows, referenced, head_in}
-use Rattle.ppdb_tables.specs.Head.PdbFieldFaults.{rows as many_pdb_rows, short as short_pdb}
-use Rattle.ppdb_tables.specs.RawTables.{HasShape, count}
+use Rattle.ppdb_base.specs.{declared.code.Code.TheVariants.{PdbRows, PdbShort, TableRows, TablesShort}, First.{IsAccepted}, Place.{at_byte}}
+use Rattle.metadata_root.specs.{declared.kind.StreamKind.TheVariants.{Blobs, Guids, Pdb, Strings, Tables}, Streams.{AreStreamsOf, ContainerFaults, Streams}}
+use Rattle.metadata_root.specs.Streams.{bytes_of}
+use Rattle.ppdb_tables.specs.{Counts.{counts_below, count_place}, declared.head.PdbHead.{PdbHead}, Head.{PdbFaults, PdbFieldFaults, IsHeadOf, pdb_fields, pdb_rows}}
+use Rattle.ppdb_tables.specs.{Head.{referenced, head_in}, Head.PdbFieldFaults.{rows as many_pdb_rows, short as short_pdb}, RawTables.{HasShape, count}}
 use Rattle.ppdb_tables.specs.Tables.{TableFieldFaults, TablesFaults, count_in, sizes_in, table_fields, table_rows, valid}
-use Rattle.ppdb_tables.specs.Tables.TableFieldFaults.{rows as many_table_rows, short as short_tables}
-use Rattle.ppdb_tables.proofs.RowCounts.{counts_mono, has_count, sum-fields}
+use Rattle.ppdb_tables.{specs.Tables.TableFieldFaults.{rows as many_table_rows, short as short_tables}, proofs.RowCounts.{counts_mono, has_count, sum-fields}}
 use Rattle.ppdb_verify_accepted_laws.proofs.Files.{rules_kept}
-use Rattle.ppdb_values.specs.RawFile.{RawFile, raw_in}
-use Rattle.ppdb_values.specs.Rules.{KeepsRules}
-use Rattle.ppdb_values.specs.Types.{IsNarrowRow}
-use Rattle.ppdb_verify.specs.Files.{ContentFaults, FileFaults, RowsFaults, IsRawOf}
-use Rattle.ppdb_verify.proofs.Counted.{methods_fit}
-use Rattle.ppdb_verify.proofs.Fitting.{fields_fit}
+use Rattle.ppdb_values.specs.{RawFile.{RawFile, raw_in}, Rules.{KeepsRules}, Types.{IsNarrowRow}}
+use Rattle.ppdb_verify.{specs.Files.{ContentFaults, FileFaults, RowsFaults, IsRawOf}, proofs.Counted.{methods_fit}, proofs.Fitting.{fields_fit}}
 use Rattle.ppdb_verify.proofs.Headed.{entry_within}
 use Rattle.ppdb_verify_valid_laws.proofs.StreamBytes.{IsByte, narrow_rows, stream_bytes, stream_short}
 

@@ -1,13 +1,10 @@
 -- Cells that are written are the cells that are read.
-use Rattle.std.proofs.Common.{◌≡◌, ℕ, zero, suc, ◌+◌, ◌<◌, ◌≤◌, ◌^◌, List, [], ◌∷◌, ◌++◌, take, drop, length, sum, inl, inr, get_or, All}
-use Rattle.std.proofs.Common.{refl, ap, ◌∙◌, sym, subst, append_assoc, length-append, add-one, arith}
-use Rattle.std.proofs.lemmas.List.{take_more, drop_at, drop-drop, length-take-le, append-nil, take-append-le}
-use Rattle.std.proofs.Math.Seq.{take-append-add}
-use Rattle.std.proofs.lemmas.List.Elements.{AllZip-get_or}
+use Rattle.std.proofs.Common.{◌≡◌, ℕ, zero, suc, ◌+◌, ◌<◌, ◌≤◌, ◌^◌, List, [], ◌∷◌, ◌++◌, take, drop, length, sum, inl, inr, get_or, All, refl, ap, ◌∙◌, sym, subst}
+use Rattle.std.proofs.{Common.{append_assoc, length-append, add-one, arith}, lemmas.List.{take_more, drop_at, drop-drop, length-take-le, append-nil, take-append-le}}
+use Rattle.std.proofs.{Math.Seq.{take-append-add}, lemmas.List.Elements.{AllZip-get_or}}
 use Rattle.ppdb_base.proofs.Fields.{sum_append, sum_cons}
-use Rattle.byteorder.specs.Endian.{little_number, little_bytes}
-use Rattle.byteorder.proofs.Bytes.{take-bytes_low_first}
-use Rattle.byteorder.specs.Numbers.{little_number-reads_back, length-bytes_low_first}
+use Rattle.byteorder.{specs.Endian.{little_number, little_bytes}, proofs.Bytes.{take-bytes_low_first}, specs.Numbers.{little_number-reads_back}}
+use Rattle.byteorder.specs.Numbers.{length-bytes_low_first}
 use Rattle.row_layout.specs.Rows.{Fit, row_bytes, cell_in, cell_place, places_from, IsWidth}
 
 -- one more cell

@@ -1,16 +1,10 @@
 -- The points before a point, one more at a time.
 use Rattle.std.proofs.Common.{◌≡◌, ℕ, ◌+◌, ◌<◌, List, [], ◌∷◌, ◌++◌, length, take, drop, get_or, Option, Some, None, refl, sym, ap, ◌∙◌, append-nil, arith}
-use Rattle.std.specs.List.{filter_map, cons_option}
-use Rattle.std.specs.Option.{option_map, option_to_list}
-use Rattle.std.proofs.lemmas.List.{take_more, drop_more, length-take}
+use Rattle.std.{specs.List.{filter_map, cons_option}, specs.Option.{option_map, option_to_list}, proofs.lemmas.List.{take_more, drop_more, length-take}}
 use Rattle.std.proofs.lemmas.List.Elements.{filter_map-append}
-use Rattle.sequence_points.specs.declared.point.Point.{Point}
-use Rattle.sequence_points.specs.declared.point.Span.{Span}
-use Rattle.sequence_points.specs.declared.point.Span.TheVariants.{Hidden, Lines}
-use Rattle.sequence_points.specs.declared.place.Start.{Start}
-use Rattle.sequence_points.specs.declared.step.LineStep.{LineStep}
-use Rattle.sequence_points.specs.Places.{start_after}
-use Rattle.sequence_points.specs.Written.{last_of, start_of_span, last_start, large_step, large_steps, numbered, first_of}
+use Rattle.sequence_points.specs.declared.{point.Point.{Point}, point.Span.{Span}, point.Span.TheVariants.{Hidden, Lines}, place.Start.{Start}}
+use Rattle.sequence_points.specs.{declared.step.LineStep.{LineStep}, Places.{start_after}, Written.{last_of, start_of_span, last_start, large_step, large_steps}}
+use Rattle.sequence_points.specs.Written.{numbered, first_of}
 
 pub last_of-push : {X : Type 0} (xs : List X) (x : X) → last_of (xs ++ x ∷ []) ≡ Some x
 last_of-push [] x = refl

@@ -1,21 +1,12 @@
 -- Points that can be written may follow one another.
-use Rattle.std.proofs.Common.{◌≡◌, ℕ, suc, ◌+◌, ◌<◌, ◌≤◌, List, [], ◌∷◌, ◌++◌, length, take, drop, get_or, append_assoc, Option, Some}
-use Rattle.std.proofs.Common.{None, refl, sym, ap, subst, ◌∙◌, arith}
-use Rattle.std.specs.Prelude.{All, AllPairs, ℤ}
-use Rattle.std.specs.Option.{option_map, option_to_list}
-use Rattle.std.proofs.lemmas.List.{take_more, drop_more}
+use Rattle.std.proofs.Common.{◌≡◌, ℕ, suc, ◌+◌, ◌<◌, ◌≤◌, List, [], ◌∷◌, ◌++◌, length, take, drop, get_or, append_assoc, Option, Some, None, refl, sym, ap, subst}
+use Rattle.std.{proofs.Common.{◌∙◌, arith}, specs.Prelude.{All, AllPairs, ℤ}, specs.Option.{option_map, option_to_list}, proofs.lemmas.List.{take_more, drop_more}}
 use Rattle.std.proofs.lemmas.List.Elements.{All-head, All-tail}
-use Rattle.sequence_points.specs.declared.point.Point.{Point}
-use Rattle.sequence_points.specs.declared.point.Span.{Span}
-use Rattle.sequence_points.specs.declared.point.Span.TheVariants.{Hidden, Lines}
-use Rattle.sequence_points.specs.declared.place.Start.{Start}
-use Rattle.sequence_points.specs.declared.step.LineStep.{LineStep}
-use Rattle.sequence_points.specs.Places.{start_after}
-use Rattle.sequence_points.specs.Written.{IsSpan, last_of, last_start, large_step, large_steps, numbered, first_of, bytes_after, points_bytes}
+use Rattle.sequence_points.specs.declared.{point.Point.{Point}, point.Span.{Span}, point.Span.TheVariants.{Hidden, Lines}, place.Start.{Start}}
+use Rattle.sequence_points.specs.{declared.step.LineStep.{LineStep}, Places.{start_after}, Written.{IsSpan, last_of, last_start, large_step, large_steps, numbered}}
+use Rattle.sequence_points.specs.{Written.{first_of, bytes_after, points_bytes}, Ranges.{IsOffset, IsDocument}, Following.{IsStart, IsBehind, MayFollow}}
+use Rattle.sequence_points.{specs.Following.{EachMayFollow}, proofs.Before.{last_of-push, last_start-push}}
 use Rattle.ppdb_base.specs.Written.{BeginsWith}
-use Rattle.sequence_points.specs.Ranges.{IsOffset, IsDocument}
-use Rattle.sequence_points.specs.Following.{IsStart, IsBehind, MayFollow, EachMayFollow}
-use Rattle.sequence_points.proofs.Before.{last_of-push, last_start-push}
 
 pub no_first : {X : Type 0} (xs : List X) → first_of xs ≡ None → xs ≡ []
 no_first [] e = refl

@@ -1,25 +1,13 @@
 -- The header of a sequence points blob.
-use Rattle.std.proofs.Common.{◌≡◌, ℕ, zero, suc, ◌+◌, ◌<◌, ◌≤◌, true, false, List, [], ◌∷◌, drop, Some, None, Ok, Err, refl, sym, ap}
-use Rattle.std.proofs.Common.{subst, ◌∙◌, arith, zero-add}
+use Rattle.std.proofs.Common.{◌≡◌, ℕ, zero, suc, ◌+◌, ◌<◌, ◌≤◌, true, false, List, [], ◌∷◌, drop, Some, None, Ok, Err, refl, sym, ap, subst, ◌∙◌, arith, zero-add}
 use Rattle.std.specs.Prelude.{nat_le}
-use Rattle.blob_grammar.specs.Reader.{unsigned_at}
-use Rattle.ppdb_base.specs.declared.Code.TheVariants.{ValueRange}
-use Rattle.ppdb_base.specs.declared.BlobFault.{BlobFault}
-use Rattle.blob_grammar.specs.Grammar.{number, unsigned}
-use Rattle.blob_grammar.specs.Reading.{Reading}
-use Rattle.blob_grammar.specs.Reader.{Left, push, placed, is_empty}
-use Rattle.blob_grammar.proofs.Placed.{unsigned_there, unsigned_not_there}
-use Rattle.blob_grammar.proofs.Readers.{read_from-reads}
-use Rattle.blob_grammar.proofs.Steps.{nothing_left, left_at, left-field, left-out, left-none, read_from-alike}
-use Rattle.blob_grammar.specs.Allowed.{is_row, is_number}
-use Rattle.sequence_points.specs.declared.point.PointLimits.{PointLimits}
-use Rattle.sequence_points.specs.declared.point.Point.{Point}
-use Rattle.sequence_points.specs.declared.place.Place.{Place}
-use Rattle.sequence_points.specs.Records.{Entry, header, sequence_points}
-use Rattle.sequence_points.specs.Points.{PointsReading}
-use Rattle.sequence_points.specs.Places.{entries_of, last_entries, as_points, points_at, points_left, after_signature}
-use Rattle.sequence_points.proofs.Sums.{SameSums, alike}
-use Rattle.sequence_points.proofs.Places.{and-false, points-alike}
+use Rattle.blob_grammar.specs.{Reader.{unsigned_at, Left, push, placed, is_empty}, Grammar.{number, unsigned}, Reading.{Reading}}
+use Rattle.blob_grammar.proofs.{Placed.{unsigned_there, unsigned_not_there}, Readers.{read_from-reads}, Steps.{nothing_left, left_at, left-field, left-out}}
+use Rattle.blob_grammar.{proofs.Steps.{left-none, read_from-alike}, specs.Allowed.{is_row, is_number}}
+use Rattle.ppdb_base.specs.declared.{Code.TheVariants.{ValueRange}, BlobFault.{BlobFault}}
+use Rattle.sequence_points.specs.{declared.point.PointLimits.{PointLimits}, declared.point.Point.{Point}, declared.place.Place.{Place}, Records.{Entry, header}}
+use Rattle.sequence_points.specs.{Records.{sequence_points}, Points.{PointsReading}, Places.{entries_of, last_entries, as_points, points_at, points_left}}
+use Rattle.sequence_points.{specs.Places.{after_signature}, proofs.Sums.{SameSums, alike}, proofs.Places.{and-false, points-alike}}
 
 -- where the Document column is not 0
 pub given_document : (column : ℕ) (limits : PointLimits) (blob : List ℕ) (at signature : ℕ) → (column ≡ 0 → ⊥)

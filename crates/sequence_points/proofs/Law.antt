@@ -1,32 +1,17 @@
 -- What is written is read again: each point's bytes are fields that the grammar allows, and they make the point.
-use Rattle.std.proofs.Common.{◌≡◌, ℕ, zero, suc, ◌+◌, ◌-◌, ◌<◌, ◌≤◌, Bool, true, false, ◌&&◌, List, [], ◌∷◌, ◌++◌, Option, Some, None, ℤ}
-use Rattle.std.proofs.Common.{pos, negsuc, ◌+ℤ◌, refl, sym, ap, subst, ◌∙◌, append_assoc, arith, inl, inr}
-use Rattle.std.specs.Prelude.{All, is_some, ◌-ℤ◌, ◌⊎◌, ◌==◌, if◌then◌else◌, nat_lt, unsigned_abs, neg_ℤ, ◌≤ℤ◌, ◌<ℤ◌}
-use Rattle.std.proofs.lemmas.Int.{ints}
+use Rattle.std.proofs.Common.{◌≡◌, ℕ, zero, suc, ◌+◌, ◌-◌, ◌<◌, ◌≤◌, Bool, true, false, ◌&&◌, List, [], ◌∷◌, ◌++◌, Option, Some, None, ℤ, pos, negsuc, ◌+ℤ◌, refl}
+use Rattle.std.{proofs.Common.{sym, ap, subst, ◌∙◌, append_assoc, arith, inl, inr}, specs.Prelude.{All, is_some, ◌-ℤ◌, ◌⊎◌, ◌==◌, if◌then◌else◌, nat_lt}}
+use Rattle.std.{specs.Prelude.{unsigned_abs, neg_ℤ, ◌≤ℤ◌, ◌<ℤ◌}, proofs.lemmas.Int.{ints}, proofs.lemmas.List.Elements.{All-head, All-tail}}
 use Rattle.cli_ints.specs.Shortest.{short_unsigned, short_signed}
-use Rattle.blob_grammar.specs.Grammar.{Value, number, Form, unsigned, signed, Spells, Field, bytes_of}
-use Rattle.blob_grammar.specs.Allowed.{is_row, is_number}
-use Rattle.sequence_points.specs.declared.point.Point.{Point}
-use Rattle.sequence_points.specs.declared.point.PointLimits.{PointLimits}
-use Rattle.sequence_points.specs.declared.point.Span.{Span}
-use Rattle.sequence_points.specs.declared.point.Span.TheVariants.{Hidden, Lines}
-use Rattle.sequence_points.specs.declared.place.Start.{Start}
-use Rattle.sequence_points.specs.Records.{Entry, hidden, visible, in_document, sums, int_of, columns_form, start_form, document_record}
-use Rattle.sequence_points.specs.Records.{point_form, point_allows, point_of_fields, form, sequence_points}
-use Rattle.sequence_points.specs.Ranges.{is_line, is_column}
-use Rattle.sequence_points.specs.Points.{document_after, points_after}
-use Rattle.sequence_points.specs.Places.{start_after}
-use Rattle.sequence_points.specs.Written.{IsSpan, last_of, last_start, points_bytes, columns_bytes, start_bytes, span_bytes}
-use Rattle.sequence_points.specs.Written.{bytes_after, if_large, large_step}
-use Rattle.sequence_points.specs.Ranges.{IsLine}
-use Rattle.sequence_points.specs.Following.{IsStart, IsBehind, MayFollow, EachMayFollow}
-use Rattle.sequence_points.proofs.Sums.{IsStarted, form_is, allows_is, record_is}
-use Rattle.sequence_points.proofs.Offsets.{second_is, not_hidden, lt-true}
-use Rattle.std.proofs.lemmas.List.Elements.{All-head, All-tail}
-use Rattle.sequence_points.proofs.Before.{last_of-push, last_start-push}
-use Rattle.sequence_points.proofs.Stands.{Stands, last_offset, line_of, column_of, stands_document, stands_hidden, stands_visible}
-use Rattle.sequence_points.proofs.Spelled.{Spelled, unsigned_spells, spelled_signed}
-use Rattle.sequence_points.proofs.Makes.{Makes, nothing_made, field_more, field_last}
+use Rattle.blob_grammar.specs.{Grammar.{Value, number, Form, unsigned, signed, Spells, Field, bytes_of}, Allowed.{is_row, is_number}}
+use Rattle.sequence_points.specs.declared.point.{Point.{Point}, PointLimits.{PointLimits}, Span.{Span}, Span.TheVariants.{Hidden, Lines}}
+use Rattle.sequence_points.specs.{declared.place.Start.{Start}, Records.{Entry, hidden, visible, in_document, sums, int_of, columns_form, start_form}}
+use Rattle.sequence_points.specs.{Records.{document_record, point_form, point_allows, point_of_fields, form, sequence_points}, Ranges.{is_line, is_column, IsLine}}
+use Rattle.sequence_points.specs.{Points.{document_after, points_after}, Places.{start_after}, Written.{IsSpan, last_of, last_start, points_bytes, columns_bytes}}
+use Rattle.sequence_points.specs.{Written.{start_bytes, span_bytes, bytes_after, if_large, large_step}, Following.{IsStart, IsBehind, MayFollow, EachMayFollow}}
+use Rattle.sequence_points.proofs.{Sums.{IsStarted, form_is, allows_is, record_is}, Offsets.{second_is, not_hidden, lt-true}, Before.{last_of-push, last_start-push}}
+use Rattle.sequence_points.proofs.{Stands.{Stands, last_offset, line_of, column_of, stands_document, stands_hidden, stands_visible}, Spelled.{Spelled}}
+use Rattle.sequence_points.proofs.{Spelled.{unsigned_spells, spelled_signed}, Makes.{Makes, nothing_made, field_more, field_last}}
 
 -- After some records these bytes are fields that make these points.
 pub record Continued (column : ℕ) (limits : PointLimits) (es : List Entry) (bytes : List ℕ) (points : List Point) : Type 0 where

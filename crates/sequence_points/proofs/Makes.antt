@@ -1,8 +1,7 @@
 -- Fields that make records, one after the other.
 use Rattle.std.proofs.Common.{◌≡◌, ℕ, true, List, [], ◌∷◌, ◌++◌, Some, None, sym, ap, subst, ◌∙◌, append_assoc, append-nil}
-use Rattle.blob_grammar.specs.Grammar.{Value, Form, Spells, Field, Grammar, Cut, closed, cut, bytes_of}
-use Rattle.blob_grammar.specs.Reading.{Reading}
-use Rattle.blob_grammar.proofs.Written.{cut_from, FollowFrom, fields_read}
+use Rattle.blob_grammar.{specs.Grammar.{Value, Form, Spells, Field, Grammar, Cut, closed, cut, bytes_of}, specs.Reading.{Reading}, proofs.Written.{cut_from}}
+use Rattle.blob_grammar.proofs.Written.{FollowFrom, fields_read}
 
 abbrev at_place : {R : Type 0} → List R → List Value → Cut R
 at_place whole begun = record { whole = whole; begun = begun }

@@ -1,14 +1,9 @@
 -- Points that have moved rise.
-use Rattle.std.proofs.Common.{◌≡◌, ℕ, ◌<◌, ◌≤◌, ◌≢◌, Bool, true, false, List, [], ◌∷◌, refl, subst, sym, arith}
-use Rattle.std.specs.Prelude.{cond, All}
-use Rattle.std.proofs.lemmas.Bool.{cases_Bool}
-use Rattle.std.proofs.Common.{inl, inr}
-use Rattle.std.proofs.lemmas.List.Elements.{All-nil, All-cons, All-head, All-tail}
-use Rattle.std.proofs.lemmas.List.Kept.{AllPairs-cons}
-use Rattle.ppdb_base.specs.Offsets.{Offsets, every, gone, lined, Rise, Kept, KeepsBetween, moved, is_kept_between, old_size}
-use Rattle.ppdb_base.proofs.Moved.{moved_kept, moved_never_falls, moved_passes, is_kept}
-use Rattle.sequence_points.specs.declared.point.Point.{Point}
-use Rattle.sequence_points.specs.MovedPoints.{first_offset, moved_points, PointsRise, MovedPointsRise, MovedPointsWorked}
+use Rattle.std.{proofs.Common.{◌≡◌, ℕ, ◌<◌, ◌≤◌, ◌≢◌, Bool, true, false, List, [], ◌∷◌, refl, subst, sym, arith, inl, inr}, specs.Prelude.{cond, All}}
+use Rattle.std.proofs.lemmas.{Bool.{cases_Bool}, List.Elements.{All-nil, All-cons, All-head, All-tail}, List.Kept.{AllPairs-cons}}
+use Rattle.ppdb_base.{specs.Offsets.{Offsets, every, gone, lined, Rise, Kept, KeepsBetween, moved, is_kept_between, old_size}, proofs.Moved.{moved_kept}}
+use Rattle.ppdb_base.proofs.Moved.{moved_never_falls, moved_passes, is_kept}
+use Rattle.sequence_points.specs.{declared.point.Point.{Point}, MovedPoints.{first_offset, moved_points, PointsRise, MovedPointsRise, MovedPointsWorked}}
 use Rattle.sequence_points.proofs.Follows.{pairs-head, pairs-tail}
 
 abbrev Within : Offsets → List Point → Type 0

@@ -1,33 +1,16 @@
 -- Document records, and the fields Offset, Lines and Columns of a point.
-use Rattle.std.proofs.Common.{◌≡◌, ℕ, zero, suc, ◌+◌, ◌<◌, ◌≤◌, Bool, true, false, ◌&&◌, List, [], ◌∷◌, ◌++◌, length, drop, Option}
-use Rattle.std.proofs.Common.{Some, None, Result, Ok, Err, ℤ, pos, refl, sym, ap, subst, ◌∙◌, arith}
-use Rattle.std.specs.Prelude.{if◌then◌else◌, not, ◌==◌, nat_lt, neg_ℤ, ◌≤ℤ◌, ◌⊎◌}
-use Rattle.std.proofs.Common.{inl, inr}
-use Rattle.std.specs.Int.{w64, cast_signed, cast_unsigned}
-use Rattle.std.specs.Int.RustNames.{FitsSigned}
-use Rattle.std.proofs.lemmas.Int.{ints, to_z-of_z}
-use Rattle.blob_grammar.specs.Reader.{unsigned_at}
-use Rattle.ppdb_base.specs.declared.Code.TheVariants.{ValueRange}
-use Rattle.ppdb_base.specs.declared.Code.{Code}
-use Rattle.ppdb_base.specs.declared.BlobFault.{BlobFault}
+use Rattle.std.proofs.Common.{◌≡◌, ℕ, zero, suc, ◌+◌, ◌<◌, ◌≤◌, Bool, true, false, ◌&&◌, List, [], ◌∷◌, ◌++◌, length, drop, Option, Some, None, Result, Ok, Err, ℤ}
+use Rattle.std.{proofs.Common.{pos, refl, sym, ap, subst, ◌∙◌, arith, inl, inr}, specs.Prelude.{if◌then◌else◌, not, ◌==◌, nat_lt, neg_ℤ, ◌≤ℤ◌, ◌⊎◌}, specs.Int.{w64}}
+use Rattle.std.{specs.Int.{cast_signed, cast_unsigned}, specs.Int.RustNames.{FitsSigned}, proofs.lemmas.Int.{ints, to_z-of_z}}
+use Rattle.blob_grammar.specs.{Reader.{unsigned_at, push, placed, field_at, as_value, is_empty}, Grammar.{Value, number, integer, octets, unsigned, signed}}
+use Rattle.blob_grammar.{proofs.Steps.{left-none, left-end, not_empty}, proofs.Placed.{unsigned_there, unsigned_not_there}, specs.Allowed.{is_row, is_number}}
+use Rattle.ppdb_base.specs.declared.{Code.TheVariants.{ValueRange}, Code.{Code}, BlobFault.{BlobFault}}
 use Rattle.cli_ints.specs.declared.IntFault.{IntFault}
-use Rattle.blob_grammar.specs.Grammar.{Value, number, integer, octets, unsigned, signed}
-use Rattle.blob_grammar.specs.Reader.{push, placed, field_at, as_value, is_empty}
-use Rattle.blob_grammar.proofs.Steps.{left-none, left-end, not_empty}
-use Rattle.blob_grammar.proofs.Placed.{unsigned_there, unsigned_not_there}
-use Rattle.blob_grammar.specs.Allowed.{is_row, is_number}
-use Rattle.sequence_points.specs.declared.point.PointLimits.{PointLimits}
-use Rattle.sequence_points.specs.declared.point.Span.TheVariants.{Hidden}
-use Rattle.sequence_points.specs.declared.place.Place.{Place}
-use Rattle.sequence_points.specs.declared.place.Last.{Last}
-use Rattle.sequence_points.specs.declared.place.Start.{Start}
-use Rattle.sequence_points.specs.Records.{header, hidden, in_document, with_entry}
-use Rattle.sequence_points.specs.Records.{int_of, Sums, sums, columns_form, second_allows, sequence_points, document_record, hidden_point}
-use Rattle.sequence_points.specs.Points.{document_after}
-use Rattle.sequence_points.specs.Places.{entries_of, last_entries, point_entry, start_of, points_at, points_left, no_points, int_placed}
-use Rattle.sequence_points.specs.Places.{place_after, in_document_at, as_points}
-use Rattle.sequence_points.proofs.Sums.{SameSums, sums-push, document-push, same_five}
-use Rattle.sequence_points.proofs.Places.{with_point, at-field, at-record, at-out, at-none, document-at, and-false}
+use Rattle.sequence_points.specs.declared.{point.PointLimits.{PointLimits}, point.Span.TheVariants.{Hidden}, place.Place.{Place}, place.Last.{Last}}
+use Rattle.sequence_points.specs.{declared.place.Start.{Start}, Records.{header, hidden, in_document, with_entry, int_of, Sums, sums, columns_form, second_allows}}
+use Rattle.sequence_points.specs.{Records.{sequence_points, document_record, hidden_point}, Points.{document_after}, Places.{entries_of, last_entries, point_entry}}
+use Rattle.sequence_points.{specs.Places.{start_of, points_at, points_left, no_points, int_placed, place_after, in_document_at, as_points}, proofs.Sums.{SameSums}}
+use Rattle.sequence_points.proofs.{Sums.{sums-push, document-push, same_five}, Places.{with_point, at-field, at-record, at-out, at-none, document-at, and-false}}
 use Rattle.sequence_points.proofs.Visible.{int_there, int_not_there}
 
 pub lt-true : (a b : ℕ) → a < b → nat_lt a b ≡ true

@@ -1,22 +1,13 @@
 -- What is left of the points, a field at a time.
-use Rattle.std.proofs.Common.{◌≡◌, ℕ, ◌+◌, Bool, true, false, ◌&&◌, List, [], ◌∷◌, ◌++◌, drop, Option, Some, None, Ok, Err, ℤ, pos}
-use Rattle.std.proofs.Common.{◌+ℤ◌, refl, sym, ap, ◌∙◌, arith}
-use Rattle.std.specs.Option.{option_to_list}
-use Rattle.std.proofs.lemmas.Int.{ints}
-use Rattle.ppdb_base.specs.declared.Code.{Code}
-use Rattle.ppdb_base.specs.declared.Code.TheVariants.{ValueRange}
-use Rattle.blob_grammar.specs.Grammar.{Value, Form}
-use Rattle.blob_grammar.specs.Reader.{Left, push, field_at, is_empty, close_and, read_from}
-use Rattle.blob_grammar.proofs.Steps.{left_at, left-field, left-out, left-none, read_from-alike}
-use Rattle.sequence_points.specs.declared.point.PointLimits.{PointLimits}
-use Rattle.sequence_points.specs.declared.point.Point.{Point}
-use Rattle.sequence_points.specs.declared.place.Place.{Place}
-use Rattle.sequence_points.specs.declared.place.Last.{Last}
-use Rattle.sequence_points.specs.declared.place.Start.{Start}
-use Rattle.sequence_points.specs.Records.{Entry, header, visible, Sums, sums, point_form, point_allows, point_of_fields, sequence_points}
-use Rattle.sequence_points.specs.Points.{point_by, point_of, points_after, document_after}
-use Rattle.sequence_points.specs.Places.{entries_of, last_entries, as_points, points_at, points_left, no_points, place_after}
-use Rattle.sequence_points.proofs.Sums.{SameSums, alike, sums-push, document-push, same-push, same_five}
+use Rattle.std.proofs.Common.{◌≡◌, ℕ, ◌+◌, Bool, true, false, ◌&&◌, List, [], ◌∷◌, ◌++◌, drop, Option, Some, None, Ok, Err, ℤ, pos, ◌+ℤ◌, refl, sym, ap, ◌∙◌, arith}
+use Rattle.std.{specs.Option.{option_to_list}, proofs.lemmas.Int.{ints}}
+use Rattle.ppdb_base.specs.declared.{Code.{Code}, Code.TheVariants.{ValueRange}}
+use Rattle.blob_grammar.{specs.Grammar.{Value, Form}, specs.Reader.{Left, push, field_at, is_empty, close_and, read_from}, proofs.Steps.{left_at, left-field}}
+use Rattle.blob_grammar.proofs.Steps.{left-out, left-none, read_from-alike}
+use Rattle.sequence_points.specs.declared.{point.PointLimits.{PointLimits}, point.Point.{Point}, place.Place.{Place}, place.Last.{Last}, place.Start.{Start}}
+use Rattle.sequence_points.specs.{Records.{Entry, header, visible, Sums, sums, point_form, point_allows, point_of_fields, sequence_points}, Points.{point_by}}
+use Rattle.sequence_points.specs.{Points.{point_of, points_after, document_after}, Places.{entries_of, last_entries, as_points, points_at, points_left, no_points}}
+use Rattle.sequence_points.{specs.Places.{place_after}, proofs.Sums.{SameSums, alike, sums-push, document-push, same-push, same_five}}
 
 -- ---- points after records with the same sums
 

@@ -1,20 +1,12 @@
 -- The points that a blob is read as can be written.
-use Rattle.std.proofs.Common.{◌≡◌, ℕ, zero, suc, ◌+◌, ◌<◌, ◌≤◌, Bool, true, false, List, [], ◌∷◌, Option, Some, None, pos, ◌+ℤ◌}
-use Rattle.std.proofs.Common.{refl, sym, ap, subst, ◌∙◌, arith}
-use Rattle.std.specs.Prelude.{All, nat_le, ◌<ℤ◌, if◌then◌else◌}
-use Rattle.std.proofs.lemmas.Int.{ints}
-use Rattle.std.proofs.lemmas.Bool.{and_parts, ltb-true, leb-true}
-use Rattle.blob_grammar.specs.Grammar.{Value, number, integer, octets, Form, unsigned, Spells, Field, Cut, with_value, closed, cut, IsAllowed}
-use Rattle.blob_grammar.specs.Allowed.{is_row, is_number}
-use Rattle.sequence_points.specs.declared.point.Point.{Point}
-use Rattle.sequence_points.specs.declared.point.PointLimits.{PointLimits}
-use Rattle.sequence_points.specs.Records.{Entry, Sums, sums, int_of, second_allows, document_record, hidden_point, columns_form, may_stop, sequence_points}
-use Rattle.sequence_points.specs.Ranges.{is_line, is_column}
-use Rattle.sequence_points.specs.Points.{PointsReading}
-use Rattle.sequence_points.specs.Written.{AreInRange, CanBeWritten}
-use Rattle.sequence_points.proofs.Offsets.{not_hidden}
-use Rattle.blob_grammar.proofs.ReadRecords.{of_reading}
-use Rattle.sequence_points.proofs.WellRead.{IsThere, Well, well_header, well_document, well_hidden, well_visible, span_read}
+use Rattle.std.proofs.Common.{◌≡◌, ℕ, zero, suc, ◌+◌, ◌<◌, ◌≤◌, Bool, true, false, List, [], ◌∷◌, Option, Some, None, pos, ◌+ℤ◌, refl, sym, ap, subst, ◌∙◌, arith}
+use Rattle.std.{specs.Prelude.{All, nat_le, ◌<ℤ◌, if◌then◌else◌}, proofs.lemmas.Int.{ints}, proofs.lemmas.Bool.{and_parts, ltb-true, leb-true}}
+use Rattle.blob_grammar.specs.{Grammar.{Value, number, integer, octets, Form, unsigned, Spells, Field, Cut, with_value, closed, cut, IsAllowed}, Allowed.{is_row}}
+use Rattle.blob_grammar.{specs.Allowed.{is_number}, proofs.ReadRecords.{of_reading}}
+use Rattle.sequence_points.specs.{declared.point.Point.{Point}, declared.point.PointLimits.{PointLimits}, Records.{Entry, Sums, sums, int_of, second_allows}}
+use Rattle.sequence_points.specs.{Records.{document_record, hidden_point, columns_form, may_stop, sequence_points}, Ranges.{is_line, is_column}}
+use Rattle.sequence_points.{specs.Points.{PointsReading}, specs.Written.{AreInRange, CanBeWritten}, proofs.Offsets.{not_hidden}, proofs.WellRead.{IsThere, Well}}
+use Rattle.sequence_points.proofs.WellRead.{well_header, well_document, well_hidden, well_visible, span_read}
 
 -- ---- what holds while the fields are read
 

@@ -1,22 +1,13 @@
 -- The blob of some points is whole and has the points.
 use Rattle.std.proofs.Common.{◌≡◌, ◌≢◌, ℕ, zero, suc, ◌<◌, ◌≤◌, Bool, true, false, List, [], ◌∷◌, ◌++◌, None, refl, sym, ap, subst, ◌∙◌, append_assoc, arith}
-use Rattle.std.specs.Prelude.{All, nat_le, ◌==◌, if◌then◌else◌}
-use Rattle.std.specs.List.{fold, list_all}
-use Rattle.std.proofs.lemmas.List.Elements.{All-head}
+use Rattle.std.{specs.Prelude.{All, nat_le, ◌==◌, if◌then◌else◌}, specs.List.{fold, list_all}, proofs.lemmas.List.Elements.{All-head}}
 use Rattle.cli_ints.specs.Shortest.{short_unsigned}
-use Rattle.blob_grammar.specs.Grammar.{number, unsigned}
-use Rattle.blob_grammar.specs.Reading.{Reading}
-use Rattle.sequence_points.specs.declared.point.Point.{Point}
-use Rattle.sequence_points.specs.declared.point.PointLimits.{PointLimits}
-use Rattle.sequence_points.specs.Records.{Entry, header, hidden, visible, in_document, Sums, with_entry, sums, sequence_points}
-use Rattle.sequence_points.specs.Points.{PointsReading, points_after, common_document}
-use Rattle.sequence_points.specs.Written.{CanBeWritten, large_steps, initial_document, points_bytes, points_blob}
-use Rattle.sequence_points.specs.Ranges.{IsDocument}
-use Rattle.sequence_points.proofs.Follows.{each_follows}
-use Rattle.sequence_points.proofs.Spelled.{unsigned_spells}
-use Rattle.sequence_points.proofs.Makes.{field_more, field_last, made_read}
-use Rattle.sequence_points.proofs.Stands.{stands_header}
-use Rattle.sequence_points.proofs.Law.{Continued, row-true, write_points}
+use Rattle.blob_grammar.specs.{Grammar.{number, unsigned}, Reading.{Reading}}
+use Rattle.sequence_points.specs.{declared.point.Point.{Point}, declared.point.PointLimits.{PointLimits}, Records.{Entry, header, hidden, visible, in_document}}
+use Rattle.sequence_points.specs.{Records.{Sums, with_entry, sums, sequence_points}, Points.{PointsReading, points_after, common_document}, Written.{CanBeWritten}}
+use Rattle.sequence_points.{specs.Written.{large_steps, initial_document, points_bytes, points_blob}, specs.Ranges.{IsDocument}, proofs.Follows.{each_follows}}
+use Rattle.sequence_points.proofs.{Spelled.{unsigned_spells}, Makes.{field_more, field_last, made_read}, Stands.{stands_header}, Law.{Continued, row-true}}
+use Rattle.sequence_points.proofs.Law.{write_points}
 
 le-true : (a b : ℕ) → a ≤ b → nat_le a b ≡ true
 le-true a b h = grind arith

@@ -1,10 +1,7 @@
 -- The common document of some points.
-use Rattle.std.proofs.Common.{◌≡◌, ℕ, Bool, true, false, ◌&&◌, List, [], ◌∷◌, refl, sym, ap, subst, ◌∙◌, arith, inl, inr}
-use Rattle.std.specs.Prelude.{All, ◌==◌, if◌then◌else◌}
-use Rattle.std.specs.List.{list_all}
-use Rattle.std.proofs.lemmas.List.Elements.{All-nil, All-cons, All-head, All-tail}
-use Rattle.sequence_points.specs.declared.point.Point.{Point}
-use Rattle.sequence_points.specs.Points.{IsSingleDocument, common_document}
+use Rattle.std.{proofs.Common.{◌≡◌, ℕ, Bool, true, false, ◌&&◌, List, [], ◌∷◌, refl, sym, ap, subst, ◌∙◌, arith, inl, inr}, specs.Prelude.{All, ◌==◌, if◌then◌else◌}}
+use Rattle.std.{specs.List.{list_all}, proofs.lemmas.List.Elements.{All-nil, All-cons, All-head, All-tail}}
+use Rattle.sequence_points.specs.{declared.point.Point.{Point}, Points.{IsSingleDocument, common_document}}
 
 abbrev in_one : ℕ → List Point → Bool
 in_one row points = list_all (λ (q : Point). q.document == row) points

@@ -1,8 +1,6 @@
 -- Numbers in their shortest form are fields.
-use Rattle.std.proofs.Common.{◌≡◌, ℕ, ◌<◌, List, ℤ, pos, refl}
-use Rattle.std.specs.Prelude.{neg_ℤ, ◌≤ℤ◌, ◌<ℤ◌}
-use Rattle.cli_ints.specs.Shortest.{short_unsigned, short_signed}
-use Rattle.cli_ints.proofs.Shortest.{short_unsigned-shortest, short_signed-shortest}
+use Rattle.std.{proofs.Common.{◌≡◌, ℕ, ◌<◌, List, ℤ, pos, refl}, specs.Prelude.{neg_ℤ, ◌≤ℤ◌, ◌<ℤ◌}}
+use Rattle.cli_ints.{specs.Shortest.{short_unsigned, short_signed}, proofs.Shortest.{short_unsigned-shortest, short_signed-shortest}}
 use Rattle.blob_grammar.specs.Grammar.{Value, number, integer, Form, unsigned, signed, Spells}
 use Rattle.sequence_points.specs.Records.{int_of}
 

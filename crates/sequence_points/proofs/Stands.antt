@@ -1,12 +1,8 @@
 -- What records say of the points that they make: their sums are the last point's offset, and the start of the last one that is not hidden.
-use Rattle.std.proofs.Common.{◌≡◌, ℕ, ◌+◌, List, [], ◌∷◌, ◌++◌, Option, Some, None, ℤ, pos, ◌+ℤ◌, refl, ap, ◌∙◌, arith}
-use Rattle.std.specs.Prelude.{is_some}
-use Rattle.sequence_points.specs.declared.point.Point.{Point}
-use Rattle.sequence_points.specs.declared.place.Start.{Start}
-use Rattle.sequence_points.specs.Records.{Entry, header, hidden, visible, in_document, Sums, sums}
-use Rattle.sequence_points.specs.Points.{document_after}
+use Rattle.std.{proofs.Common.{◌≡◌, ℕ, ◌+◌, List, [], ◌∷◌, ◌++◌, Option, Some, None, ℤ, pos, ◌+ℤ◌, refl, ap, ◌∙◌, arith}, specs.Prelude.{is_some}}
 use Rattle.std.specs.Option.{option_map_or}
-use Rattle.sequence_points.proofs.Sums.{IsStarted, sums-push, document-push, started-push}
+use Rattle.sequence_points.specs.{declared.point.Point.{Point}, declared.place.Start.{Start}, Records.{Entry, header, hidden, visible, in_document, Sums, sums}}
+use Rattle.sequence_points.{specs.Points.{document_after}, proofs.Sums.{IsStarted, sums-push, document-push, started-push}}
 
 -- the offset of the last point
 abbrev pub last_offset : Option Point → ℕ

@@ -1,13 +1,9 @@
 -- What is left after some records depends on their sums alone.
-use Rattle.std.proofs.Common.{◌≡◌, ℕ, Bool, List, [], ◌∷◌, ◌++◌, ℤ, Option, Some, None, refl, sym, ap, ◌∙◌}
-use Rattle.std.specs.{Prelude.unwrap_or, List.{flat_map, fold, last_or}}
-use Rattle.std.proofs.lemmas.Grind.{flat_map-append}
-use Rattle.blob_grammar.specs.Grammar.{Value}
-use Rattle.blob_grammar.proofs.Steps.{Alike}
-use Rattle.sequence_points.specs.declared.point.PointLimits.{PointLimits}
-use Rattle.sequence_points.specs.Records.{Entry, Sums, with_entry, sums}
-use Rattle.sequence_points.specs.Records.{point_form, point_allows, point_of_fields, form, allows, record_of, may_stop, sequence_points}
-use Rattle.sequence_points.specs.Points.{named_document, document_after}
+use Rattle.std.{proofs.Common.{◌≡◌, ℕ, Bool, List, [], ◌∷◌, ◌++◌, ℤ, Option, Some, None, refl, sym, ap, ◌∙◌}, specs.Prelude.{unwrap_or}, specs.List.{flat_map, fold}}
+use Rattle.std.{specs.List.{last_or}, proofs.lemmas.Grind.{flat_map-append}}
+use Rattle.blob_grammar.{specs.Grammar.{Value}, proofs.Steps.{Alike}}
+use Rattle.sequence_points.specs.{declared.point.PointLimits.{PointLimits}, Records.{Entry, Sums, with_entry, sums, point_form, point_allows, point_of_fields, form}}
+use Rattle.sequence_points.specs.{Records.{allows, record_of, may_stop, sequence_points}, Points.{named_document, document_after}}
 
 -- records were read
 abbrev pub IsStarted : List Entry → Type 0

@@ -1,22 +1,12 @@
 -- The fields StartLine and StartColumn of a point.
 use Rattle.std.proofs.Common.{◌≡◌, ℕ, ◌+◌, Bool, ◌&&◌, List, [], ◌∷◌, drop, Some, None, Result, Ok, Err, ℤ, pos, ◌+ℤ◌, refl, sym, ap, subst, ◌∙◌, arith}
-use Rattle.std.specs.Prelude.{if◌then◌else◌, unsigned_abs}
-use Rattle.std.specs.Prelude.{neg_ℤ, ◌≤ℤ◌}
-use Rattle.std.proofs.lemmas.Int.{ints, to_z-of_z}
-use Rattle.std.specs.Int.{w64, cast_signed, cast_unsigned}
-use Rattle.ppdb_base.specs.declared.Code.{Code}
-use Rattle.ppdb_base.specs.declared.Code.TheVariants.{ValueRange}
-use Rattle.ppdb_base.specs.declared.BlobFault.{BlobFault}
-use Rattle.blob_grammar.specs.Grammar.{Value, number, Form, unsigned, signed}
-use Rattle.blob_grammar.specs.Reader.{push, field_at}
-use Rattle.sequence_points.specs.declared.point.PointLimits.{PointLimits}
-use Rattle.sequence_points.specs.declared.point.Span.TheVariants.{Lines}
-use Rattle.sequence_points.specs.declared.place.Place.{Place}
-use Rattle.sequence_points.specs.Records.{visible, int_of, Sums, sums, start_form}
-use Rattle.sequence_points.specs.Ranges.{is_line, is_column}
-use Rattle.sequence_points.specs.Points.{document_after}
-use Rattle.sequence_points.specs.Places.{entries_of, points_at, points_left, no_points, int_placed, RangeIs, place_after}
-use Rattle.sequence_points.proofs.Places.{with_point, at-field, at-record, at-out, at-none, document-at, same-visible}
+use Rattle.std.{specs.Prelude.{if◌then◌else◌, unsigned_abs, neg_ℤ, ◌≤ℤ◌}, proofs.lemmas.Int.{ints, to_z-of_z}, specs.Int.{w64, cast_signed, cast_unsigned}}
+use Rattle.ppdb_base.specs.declared.{Code.{Code}, Code.TheVariants.{ValueRange}, BlobFault.{BlobFault}}
+use Rattle.blob_grammar.specs.{Grammar.{Value, number, Form, unsigned, signed}, Reader.{push, field_at}}
+use Rattle.sequence_points.specs.{declared.point.PointLimits.{PointLimits}, declared.point.Span.TheVariants.{Lines}, declared.place.Place.{Place}, Records.{visible}}
+use Rattle.sequence_points.specs.{Records.{int_of, Sums, sums, start_form}, Ranges.{is_line, is_column}, Points.{document_after}, Places.{entries_of, points_at}}
+use Rattle.sequence_points.{specs.Places.{points_left, no_points, int_placed, RangeIs, place_after}, proofs.Places.{with_point, at-field, at-record, at-out}}
+use Rattle.sequence_points.proofs.Places.{at-none, document-at, same-visible}
 
 -- ---- a number that was read as an integer
 

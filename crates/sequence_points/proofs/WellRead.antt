@@ -1,21 +1,12 @@
 -- What holds of the records that were read, and of the points that they make; one more record keeps it.
-use Rattle.std.proofs.Common.{◌≡◌, ◌≢◌, ℕ, zero, suc, ◌+◌, ◌<◌, ◌≤◌, Bool, true, false, List, [], ◌∷◌, ◌++◌, Some, ℤ, pos, negsuc, ◌+ℤ◌}
-use Rattle.std.proofs.Common.{refl, sym, ap, subst, ◌∙◌, append_assoc, append-nil, arith, inl, inr}
-use Rattle.std.specs.Prelude.{All, AllPairs, unsigned_abs, ◌<ℤ◌, nat_lt, not, ◌==◌}
-use Rattle.std.specs.Option.{option_to_list}
-use Rattle.std.proofs.lemmas.Int.{ints}
-use Rattle.std.proofs.lemmas.Bool.{and_parts, ltb-true}
-use Rattle.std.proofs.lemmas.List.Elements.{All-nil, All-push}
+use Rattle.std.proofs.Common.{◌≡◌, ◌≢◌, ℕ, zero, suc, ◌+◌, ◌<◌, ◌≤◌, Bool, true, false, List, [], ◌∷◌, ◌++◌, Some, ℤ, pos, negsuc, ◌+ℤ◌, refl, sym, ap, subst, ◌∙◌}
+use Rattle.std.{proofs.Common.{append_assoc, append-nil, arith, inl, inr}, specs.Prelude.{All, AllPairs, unsigned_abs, ◌<ℤ◌, nat_lt, not, ◌==◌}}
+use Rattle.std.{specs.Option.{option_to_list}, proofs.lemmas.Int.{ints}, proofs.lemmas.Bool.{and_parts, ltb-true}, proofs.lemmas.List.Elements.{All-nil, All-push}}
 use Rattle.std.proofs.lemmas.List.Kept.{AllPairs-cons}
-use Rattle.sequence_points.specs.declared.point.Point.{Point}
-use Rattle.sequence_points.specs.declared.point.PointLimits.{PointLimits}
-use Rattle.sequence_points.specs.declared.point.Span.TheVariants.{Hidden, Lines}
-use Rattle.sequence_points.specs.Records.{Entry, header, hidden, visible, in_document, Sums, sums}
-use Rattle.sequence_points.specs.Ranges.{is_line, is_column}
-use Rattle.sequence_points.specs.Points.{document_after, point_of, points_after, signature_of}
-use Rattle.sequence_points.specs.Written.{IsSpan}
-use Rattle.sequence_points.specs.Ranges.{IsOffset, IsLine, IsColumn}
-use Rattle.sequence_points.proofs.Sums.{IsStarted, sums-push, document-push, started-push}
+use Rattle.sequence_points.specs.declared.point.{Point.{Point}, PointLimits.{PointLimits}, Span.TheVariants.{Hidden, Lines}}
+use Rattle.sequence_points.specs.{Records.{Entry, header, hidden, visible, in_document, Sums, sums}, Ranges.{is_line, is_column, IsOffset, IsLine, IsColumn}}
+use Rattle.sequence_points.{specs.Points.{document_after, point_of, points_after, signature_of}, specs.Written.{IsSpan}, proofs.Sums.{IsStarted, sums-push}}
+use Rattle.sequence_points.proofs.Sums.{document-push, started-push}
 
 abbrev pub IsThere : PointLimits → ℕ → Type 0
 IsThere limits row = (1 ≤ row) × (row ≤ limits.documents)

@@ -1,12 +1,8 @@
 -- Points of a table can be written.
-use Rattle.std.proofs.Common.{◌≡◌, ℕ, ◌<◌, List, [], ◌∷◌, refl, arith, inl, inr}
-use Rattle.std.specs.Prelude.{All, AllPairs}
-use Rattle.std.proofs.lemmas.List.Elements.{All-nil, All-cons}
+use Rattle.std.{proofs.Common.{◌≡◌, ℕ, ◌<◌, List, [], ◌∷◌, refl, arith, inl, inr}, specs.Prelude.{All, AllPairs}, proofs.lemmas.List.Elements.{All-nil, All-cons}}
 use Rattle.std.proofs.lemmas.List.Kept.{AllPairs-cons}
-use Rattle.sequence_points.specs.declared.point.Point.{Point}
-use Rattle.sequence_points.specs.declared.point.Span.TheVariants.{Hidden, Lines}
-use Rattle.sequence_points.specs.Written.{IsSpan, CanBeWritten}
-use Rattle.sequence_points.specs.Ranges.{IsOffset, IsDocument}
+use Rattle.sequence_points.specs.{declared.point.Point.{Point}, declared.point.Span.TheVariants.{Hidden, Lines}, Written.{IsSpan, CanBeWritten}, Ranges.{IsOffset}}
+use Rattle.sequence_points.specs.Ranges.{IsDocument}
 
 pub record AreRanged (points : List Point) : Type 0 where
   pub rise : AllPairs (λ p q. p.offset < q.offset) points

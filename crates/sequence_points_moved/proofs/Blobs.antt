@@ -1,13 +1,9 @@
 -- The header and the points make the blob.
-use Rattle.std.proofs.Common.{◌≡◌, ◌≢◌, ℕ, zero, suc, Bool, true, false, List, [], ◌∷◌, ◌++◌, refl, sym, ap, subst, ◌∙◌, append_assoc}
-use Rattle.std.proofs.Common.{append-nil, Some}
+use Rattle.std.proofs.Common.{◌≡◌, ◌≢◌, ℕ, zero, suc, Bool, true, false, List, [], ◌∷◌, ◌++◌, refl, sym, ap, subst, ◌∙◌, append_assoc, append-nil, Some}
 use Rattle.std.specs.Prelude.{cond}
 use Rattle.cli_ints.specs.Shortest.{short_unsigned}
-use Rattle.sequence_points.specs.declared.point.Point.{Point}
-use Rattle.sequence_points.specs.Points.{common_document}
-use Rattle.sequence_points.specs.Written.{initial_document, header_bytes, points_bytes}
-use Rattle.sequence_points_moved.specs.Writing.{IsWalked, IsBlobIn, header_in}
-use Rattle.sequence_points_moved.proofs.Documents.{common_first}
+use Rattle.sequence_points.specs.{declared.point.Point.{Point}, Points.{common_document}, Written.{initial_document, header_bytes, points_bytes}}
+use Rattle.sequence_points_moved.{specs.Writing.{IsWalked, IsBlobIn, header_in}, proofs.Documents.{common_first}}
 
 no_initial : (n : ℕ) (points : List Point) → (n ≡ 0 → ⊥) → initial_document n points ≡ []
 no_initial zero points some = absurd (some refl)

@@ -1,10 +1,6 @@
 -- The common document of points of which the first is known.
-use Rattle.std.proofs.Common.{◌≡◌, Bool, true, false, List, ◌∷◌, refl, ap}
-use Rattle.std.specs.Prelude.{All, ◌==◌, if◌then◌else◌}
-use Rattle.std.specs.List.{list_all}
-use Rattle.sequence_points.specs.declared.point.Point.{Point}
-use Rattle.sequence_points.specs.Points.{common_document}
-use Rattle.sequence_points.proofs.Single.{all-in_one, in_one-all}
+use Rattle.std.{proofs.Common.{◌≡◌, Bool, true, false, List, ◌∷◌, refl, ap}, specs.Prelude.{All, ◌==◌, if◌then◌else◌}, specs.List.{list_all}}
+use Rattle.sequence_points.{specs.declared.point.Point.{Point}, specs.Points.{common_document}, proofs.Single.{all-in_one, in_one-all}}
 
 pub common_one : (first : Point) (ps : List Point) → All (λ q. q.document ≡ first.document) (first ∷ ps) → common_document (first ∷ ps) ≡ first.document
 common_one first ps h = ap (λ b. if b then first.document else 0) (all-in_one first.document (first ∷ ps) h)

@@ -1,10 +1,7 @@
 -- Bytes and steps of points that come after others, and what holds of lists that are cut.
-use Rattle.std.proofs.Common.{◌≡◌, ◌+◌, List, [], ◌∷◌, ◌++◌, length, sym, ap, ◌∙◌, append_assoc, append-nil}
-use Rattle.std.specs.Prelude.{All}
-use Rattle.std.specs.Option.{option_map, option_to_list}
-use Rattle.std.proofs.lemmas.List.Elements.{All-head, All-tail}
-use Rattle.sequence_points.specs.declared.point.Point.{Point}
-use Rattle.sequence_points.specs.Written.{last_of, last_start, large_step, large_steps, numbered, bytes_after, points_bytes}
+use Rattle.std.{proofs.Common.{◌≡◌, ◌+◌, List, [], ◌∷◌, ◌++◌, length, sym, ap, ◌∙◌, append_assoc, append-nil}, specs.Prelude.{All}, specs.Option.{option_map}}
+use Rattle.std.{specs.Option.{option_to_list}, proofs.lemmas.List.Elements.{All-head, All-tail}}
+use Rattle.sequence_points.specs.{declared.point.Point.{Point}, Written.{last_of, last_start, large_step, large_steps, numbered, bytes_after, points_bytes}}
 
 pub steps-append : (before xs ys : List Point) → large_steps before (xs ++ ys) ≡ large_steps before xs ++ large_steps (before ++ xs) ys
 steps-append before [] ys = ap (λ b. large_steps b ys) (sym (append-nil before))

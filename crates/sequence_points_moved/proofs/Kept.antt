@@ -1,10 +1,8 @@
 -- Up to the greatest number, what is kept is what is kept up to the old size.
 use Rattle.std.proofs.Common.{◌≡◌, ℕ, ◌<◌, ◌≤◌, Bool, true, false, List, [], ◌∷◌, refl, sym, arith}
-use Rattle.ppdb_base.specs.Offsets.{Offsets, every, gone, lined, Rise, Kept as Moved, kept_runs, is_kept_between, old_size}
-use Rattle.ppdb_base.proofs.Moved.{kept_is, keeps_between, kept_below}
-use Rattle.ppdb_base.proofs.Between.{BetweenIs}
-use Rattle.sequence_points.specs.declared.point.Point.{Point}
-use Rattle.sequence_points.specs.MovedPoints.{first_offset}
+use Rattle.ppdb_base.{specs.Offsets.{Offsets, every, gone, lined, Rise, Kept as Moved, kept_runs, is_kept_between, old_size}, proofs.Moved.{kept_is, keeps_between}}
+use Rattle.ppdb_base.proofs.{Moved.{kept_below}, Between.{BetweenIs}}
+use Rattle.sequence_points.specs.{declared.point.Point.{Point}, MovedPoints.{first_offset}}
 
 -- two tests over one start agree where what lies below one end lies below the other
 agree : (o : Offsets) → Rise o → (from a b : ℕ) → ((x y : ℕ) → Moved o x y → (x < a) → (x < b)) → ((x y : ℕ) → Moved o x y → (x < b) → (x < a))

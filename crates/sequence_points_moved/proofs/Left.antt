@@ -1,10 +1,7 @@
 -- The points that are left, after the first of them.
-use Rattle.std.proofs.Common.{◌≡◌, ℕ, ◌<◌, ◌≤◌, List, [], ◌∷◌, subst, arith}
-use Rattle.std.proofs.lemmas.List.Elements.{All-head, All-tail}
+use Rattle.std.proofs.{Common.{◌≡◌, ℕ, ◌<◌, ◌≤◌, List, [], ◌∷◌, subst, arith}, lemmas.List.Elements.{All-head, All-tail}}
 use Rattle.ppdb_base.specs.Offsets.{Offsets, old_size}
-use Rattle.sequence_points.specs.declared.point.Point.{Point}
-use Rattle.sequence_points.specs.MovedPoints.{first_offset}
-use Rattle.sequence_points.proofs.Follows.{pairs-head, pairs-tail}
+use Rattle.sequence_points.{specs.declared.point.Point.{Point}, specs.MovedPoints.{first_offset}, proofs.Follows.{pairs-head, pairs-tail}}
 use Rattle.sequence_points_moved.specs.Writing.{CanMove, CanAllMove}
 
 -- the first can be moved

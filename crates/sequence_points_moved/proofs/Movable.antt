@@ -1,21 +1,13 @@
 -- Points that have moved can be written.
-use Rattle.std.proofs.Common.{◌≡◌, ℕ, ◌<◌, ◌≤◌, ◌-◌, Bool, true, false, List, [], ◌∷◌, length, map, sym, subst, ◌∙◌, arith}
-use Rattle.std.specs.Prelude.{cond, All, AllPairs, get_or}
-use Rattle.std.proofs.lemmas.List.Elements.{All-nil, All-cons, All-head, All-tail, All-map, All-get_or}
+use Rattle.std.{proofs.Common.{◌≡◌, ℕ, ◌<◌, ◌≤◌, ◌-◌, Bool, true, false, List, [], ◌∷◌, length, map, sym, subst, ◌∙◌, arith}, specs.Prelude.{cond, All, AllPairs}}
+use Rattle.std.{specs.Prelude.{get_or}, proofs.lemmas.List.Elements.{All-nil, All-cons, All-head, All-tail, All-map, All-get_or}}
 use Rattle.std.proofs.lemmas.List.Kept.{AllPairs-cons}
 use Rattle.ppdb_base.specs.Offsets.{Offsets, Rise, moved, is_kept_between, old_size}
-use Rattle.sequence_points.specs.declared.point.Point.{Point}
-use Rattle.sequence_points.specs.declared.point.PointLimits.{PointLimits}
-use Rattle.sequence_points.specs.MovedPoints.{first_offset, moved_points}
-use Rattle.sequence_points.specs.Ranges.{IsOffset, IsDocument}
-use Rattle.sequence_points.specs.Written.{AreInRange, CanBeWritten, IsSpan}
-use Rattle.sequence_points.proofs.Follows.{pairs-head, pairs-tail}
-use Rattle.sequence_points.proofs.MovedPoints.{moved-rise}
-use Rattle.sequence_points.proofs.ReadPoints.{points_in_range}
-use Rattle.sequence_points_moved.specs.MovedBlob.{in_new_document, moved_in}
-use Rattle.sequence_points_moved.specs.Conditions.{ReadsAs, IsWhole, EachPoint, HasImage}
-use Rattle.sequence_points_moved.specs.Writing.{CanMove, CanAllMove, IsWritable}
-use Rattle.sequence_points_moved.proofs.Stays.{at_image, image_small}
+use Rattle.sequence_points.specs.{declared.point.Point.{Point}, declared.point.PointLimits.{PointLimits}, MovedPoints.{first_offset, moved_points}}
+use Rattle.sequence_points.{specs.Ranges.{IsOffset, IsDocument}, specs.Written.{AreInRange, CanBeWritten, IsSpan}, proofs.Follows.{pairs-head, pairs-tail}}
+use Rattle.sequence_points.proofs.{MovedPoints.{moved-rise}, ReadPoints.{points_in_range}}
+use Rattle.sequence_points_moved.specs.{MovedBlob.{in_new_document, moved_in}, Conditions.{ReadsAs, IsWhole, EachPoint, HasImage}, Writing.{CanMove, CanAllMove}}
+use Rattle.sequence_points_moved.{specs.Writing.{IsWritable}, proofs.Stays.{at_image, image_small}}
 
 -- points that can be written where there is one
 pub writable_head : (all : List Point) (p : Point) (ps : List Point) → all ≡ p ∷ ps → IsWritable all → CanBeWritten 0 (p ∷ ps)

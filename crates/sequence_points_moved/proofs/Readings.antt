@@ -1,12 +1,9 @@
 -- A blob reads as one list of points.
 use Rattle.std.proofs.Common.{◌≡◌, ℕ, List, [], Option, Some, None, sym, ap, ◌∙◌}
 use Rattle.ppdb_base.specs.declared.BlobFault.{BlobFault}
-use Rattle.blob_grammar.specs.Reading.{Reading}
-use Rattle.blob_grammar.proofs.Unique.{read-once}
-use Rattle.sequence_points.specs.declared.point.Point.{Point}
-use Rattle.sequence_points.specs.declared.point.PointLimits.{PointLimits}
-use Rattle.sequence_points.specs.Points.{PointsReading, points_after}
-use Rattle.sequence_points.specs.Records.{Entry, sequence_points}
+use Rattle.blob_grammar.{specs.Reading.{Reading}, proofs.Unique.{read-once}}
+use Rattle.sequence_points.specs.{declared.point.Point.{Point}, declared.point.PointLimits.{PointLimits}, Points.{PointsReading, points_after}, Records.{Entry}}
+use Rattle.sequence_points.specs.Records.{sequence_points}
 use Rattle.sequence_points_moved.specs.Conditions.{IsWhole}
 
 pub same_points : (column : ℕ) (limits : PointLimits) (blob : List ℕ) (s t : ℕ) (ps qs : List Point) (a b : Option BlobFault)

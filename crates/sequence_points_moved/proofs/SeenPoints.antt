@@ -1,6 +1,5 @@
 -- A walk that looks at each point.
-use Rattle.std.proofs.Common.{◌≡◌, List, [], ◌∷◌, ◌++◌, Option, Some, None, Ok, refl, sym, subst, ◌∙◌, append_assoc, append-nil}
-use Rattle.std.specs.Prelude.{All}
+use Rattle.std.{proofs.Common.{◌≡◌, List, [], ◌∷◌, ◌++◌, Option, Some, None, Ok, refl, sym, subst, ◌∙◌, append_assoc, append-nil}, specs.Prelude.{All}}
 use Rattle.std.proofs.lemmas.List.Elements.{All-push}
 use Rattle.ppdb_base.specs.declared.BlobFault.{BlobFault}
 use Rattle.blob_grammar.specs.Reader.{Left, answer, answer_from, rest_of, tail}

@@ -1,14 +1,8 @@
 -- The next point stays or goes.
-use Rattle.std.proofs.Common.{◌≡◌, ℕ, ◌<◌, ◌≤◌, Bool, true, false, List, ◌∷◌, Option, Some, None, refl, sym, ap, ◌∙◌, arith}
-use Rattle.std.specs.Prelude.{cond, map}
-use Rattle.ppdb_base.specs.Offsets.{Offsets, Rise, moved, is_kept_between, old_size}
-use Rattle.ppdb_base.proofs.Moved.{moved_is}
-use Rattle.sequence_points.specs.declared.point.Point.{Point}
-use Rattle.sequence_points.specs.MovedPoints.{first_offset, moved_points}
-use Rattle.sequence_points_moved.specs.MovedBlob.{in_new_document, moved_in}
-use Rattle.sequence_points_moved.specs.Conditions.{HasImage}
-use Rattle.sequence_points_moved.specs.Writing.{image_until}
-use Rattle.sequence_points_moved.proofs.Kept.{to_the_next}
+use Rattle.std.{proofs.Common.{◌≡◌, ℕ, ◌<◌, ◌≤◌, Bool, true, false, List, ◌∷◌, Option, Some, None, refl, sym, ap, ◌∙◌, arith}, specs.Prelude.{cond, map}}
+use Rattle.ppdb_base.{specs.Offsets.{Offsets, Rise, moved, is_kept_between, old_size}, proofs.Moved.{moved_is}}
+use Rattle.sequence_points.specs.{declared.point.Point.{Point}, MovedPoints.{first_offset, moved_points}}
+use Rattle.sequence_points_moved.{specs.MovedBlob.{in_new_document, moved_in}, specs.Conditions.{HasImage}, specs.Writing.{image_until}, proofs.Kept.{to_the_next}}
 
 -- the point at its image and in its new document
 abbrev pub at_image : Offsets → List ℕ → Point → Point

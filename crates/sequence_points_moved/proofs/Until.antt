@@ -1,9 +1,8 @@
 -- Where a point moves that holds up to some offset.
-use Rattle.std.proofs.Common.{◌≡◌, ℕ, ◌<◌, Bool, true, false, List, [], ◌∷◌, ◌++◌, Option, Some, None, sym, ap, ◌∙◌, arith, inl, inr}
-use Rattle.std.specs.Prelude.{IsTrue, ◌↔◌, IfSome, IfNone, cond}
-use Rattle.ppdb_base.specs.declared.offsets.Run.{Run}
-use Rattle.ppdb_base.specs.Offsets.{Offsets, every, gone, lined, Rise, Kept as Moved, Stops, Moves, IsNextImage, KeepsBetween, moved, old_size}
-use Rattle.ppdb_base.proofs.Moved.{kept_test, kept_stops, keeps_between, moved_is, moved_kept}
+use Rattle.std.{proofs.Common.{◌≡◌, ℕ, ◌<◌, Bool, true, false, List, [], ◌∷◌, ◌++◌, Option, Some, None, sym, ap, ◌∙◌, arith, inl, inr}, specs.Prelude.{IsTrue, ◌↔◌}}
+use Rattle.std.specs.Prelude.{IfSome, IfNone, cond}
+use Rattle.ppdb_base.specs.{declared.offsets.Run.{Run}, Offsets.{Offsets, every, gone, lined, Rise, Kept as Moved, Stops, Moves, IsNextImage, KeepsBetween, moved}}
+use Rattle.ppdb_base.{specs.Offsets.{old_size}, proofs.Moved.{kept_test, kept_stops, keeps_between, moved_is, moved_kept}}
 use Rattle.sequence_points_moved.specs.Writing.{image_until}
 
 run_or_end : (runs : List Run) (old new x y : ℕ) → Moves (runs ++ record { old = old; new = new; length = 1 } ∷ []) x y → x < old → Moves runs x y

@@ -1,28 +1,14 @@
 -- A walk over points that are written one after another.
-use Rattle.std.proofs.Common.{◌≡◌, ℕ, ◌+◌, ◌<◌, Bool, true, false, List, [], ◌∷◌, ◌++◌, length, sym, ap, subst, ◌∙◌, append_assoc, append-nil, arith}
-use Rattle.std.proofs.Common.{Option, Some, None}
-use Rattle.std.specs.Prelude.{All, AllPairs}
-use Rattle.std.specs.Option.{option_map, option_to_list}
-use Rattle.std.proofs.lemmas.List.{length-append}
+use Rattle.std.proofs.Common.{◌≡◌, ℕ, ◌+◌, ◌<◌, Bool, true, false, List, [], ◌∷◌, ◌++◌, length, sym, ap, subst, ◌∙◌, append_assoc, append-nil, arith, Option, Some}
+use Rattle.std.{proofs.Common.{None}, specs.Prelude.{All, AllPairs}, specs.Option.{option_map, option_to_list}, proofs.lemmas.List.{length-append}}
 use Rattle.std.proofs.lemmas.List.Elements.{All-head, All-tail, All-push}
-use Rattle.sequence_points.specs.declared.point.Point.{Point}
-use Rattle.sequence_points.specs.declared.point.Span.{Span}
-use Rattle.sequence_points.specs.declared.point.Span.TheVariants.{Hidden, Lines}
-use Rattle.sequence_points.specs.declared.place.Start.{Start}
-use Rattle.sequence_points.specs.declared.writer.PointError.{PointError}
-use Rattle.sequence_points.specs.declared.writer.PointError.TheVariants.{Step, Memory}
-use Rattle.sequence_points.specs.Places.{start_after}
-use Rattle.sequence_points.specs.Points.{common_document}
-use Rattle.sequence_points.specs.Ranges.{IsOffset, IsDocument}
-use Rattle.sequence_points.specs.Following.{IsStart, IsBehind}
-use Rattle.sequence_points.specs.Written.{CanBeWritten, IsSpan, last_of, last_start, large_step, large_steps, numbered, first_of, bytes_after, points_bytes}
-use Rattle.sequence_points.proofs.Before.{last_of-push, last_start-push}
-use Rattle.sequence_points.proofs.Follows.{pairs-head, pairs-tail, few_points}
-use Rattle.sequence_points_moved.specs.declared.writer.Written.{Written}
-use Rattle.sequence_points_moved.specs.MovedBlob.{IsFirstStep}
-use Rattle.sequence_points_moved.specs.Writing.{HasWritten, MayCome, IsStepOf, IsWalked}
-use Rattle.sequence_points_moved.proofs.Joins.{steps-append, bytes-append, at_cut}
-use Rattle.sequence_points_moved.proofs.Documents.{common_one, common_several}
+use Rattle.sequence_points.specs.declared.{point.Point.{Point}, point.Span.{Span}, point.Span.TheVariants.{Hidden, Lines}, place.Start.{Start}}
+use Rattle.sequence_points.specs.{declared.writer.PointError.{PointError}, declared.writer.PointError.TheVariants.{Step, Memory}, Places.{start_after}}
+use Rattle.sequence_points.specs.{Points.{common_document}, Ranges.{IsOffset, IsDocument}, Following.{IsStart, IsBehind}, Written.{CanBeWritten, IsSpan, last_of}}
+use Rattle.sequence_points.{specs.Written.{last_start, large_step, large_steps, numbered, first_of, bytes_after, points_bytes}, proofs.Before.{last_of-push}}
+use Rattle.sequence_points.proofs.{Before.{last_start-push}, Follows.{pairs-head, pairs-tail, few_points}}
+use Rattle.sequence_points_moved.specs.{declared.writer.Written.{Written}, MovedBlob.{IsFirstStep}, Writing.{HasWritten, MayCome, IsStepOf, IsWalked}}
+use Rattle.sequence_points_moved.proofs.{Joins.{steps-append, bytes-append, at_cut}, Documents.{common_one, common_several}}
 
 -- Some of the points are written, and these are left.
 pub record Progress (in_one : Bool) (first : Point) (all left : List Point) (w : Written) (old into : List ℕ) : Type 0 where

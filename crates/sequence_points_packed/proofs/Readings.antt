@@ -1,13 +1,8 @@
 -- A blob reads as one list of points, which is what it is seen as.
 use Rattle.std.proofs.Common.{◌≡◌, ℕ, List, [], Option, Some, None, sym, ap, ◌∙◌}
 use Rattle.ppdb_base.specs.declared.BlobFault.{BlobFault}
-use Rattle.blob_grammar.specs.Reading.{Reading}
-use Rattle.blob_grammar.specs.Reader.{Left, read_from}
-use Rattle.blob_grammar.proofs.Readers.{read_from-reads}
-use Rattle.blob_grammar.proofs.Unique.{reading-unique}
-use Rattle.sequence_points.specs.declared.point.Point.{Point}
-use Rattle.sequence_points.specs.Points.{PointsReading, points_after}
-use Rattle.sequence_points.specs.Records.{Entry, sequence_points}
+use Rattle.blob_grammar.{specs.Reading.{Reading}, specs.Reader.{Left, read_from}, proofs.Readers.{read_from-reads}, proofs.Unique.{reading-unique}}
+use Rattle.sequence_points.specs.{declared.point.Point.{Point}, Points.{PointsReading, points_after}, Records.{Entry, sequence_points}}
 use Rattle.sequence_points_packed.specs.Packed.{packed_limits, points_in, IsPacked}
 
 pub points_are : (column signature : ℕ) (blob : List ℕ) (points : List Point) (fault : Option BlobFault)

@@ -1,16 +1,10 @@
 -- The canonical blob of points reads whole, as these points.
-use Rattle.std.proofs.Common.{◌≡◌, ℕ, ◌<◌, ◌≤◌, Bool, true, false, List, [], ◌∷◌, ◌++◌, sym, ap, subst, arith, None}
-use Rattle.std.specs.Prelude.{◌^◌, All, length, ◌==◌, if◌then◌else◌}
-use Rattle.std.specs.List.{list_all}
-use Rattle.std.proofs.lemmas.List.Elements.{All-head}
+use Rattle.std.{proofs.Common.{◌≡◌, ℕ, ◌<◌, ◌≤◌, Bool, true, false, List, [], ◌∷◌, ◌++◌, sym, ap, subst, arith, None}, specs.Prelude.{◌^◌, All, length, ◌==◌}}
+use Rattle.std.{specs.Prelude.{if◌then◌else◌}, specs.List.{list_all}, proofs.lemmas.List.Elements.{All-head}}
 use Rattle.cli_ints.specs.Shortest.{short_unsigned}
-use Rattle.sequence_points.specs.declared.point.Point.{Point}
-use Rattle.sequence_points.specs.Points.{PointsReading, common_document}
-use Rattle.sequence_points.specs.Written.{CanBeWritten, large_steps, points_blob, initial_document, points_bytes}
-use Rattle.sequence_points.proofs.Follows.{few_points}
-use Rattle.sequence_points.proofs.Reread.{written_points}
-use Rattle.sequence_points_packed.specs.Packed.{packed_limits, points_in, IsPacked}
-use Rattle.sequence_points_packed.proofs.Readings.{points_are}
+use Rattle.sequence_points.specs.{declared.point.Point.{Point}, Points.{PointsReading, common_document}, Written.{CanBeWritten, large_steps, points_blob}}
+use Rattle.sequence_points.{specs.Written.{initial_document, points_bytes}, proofs.Follows.{few_points}, proofs.Reread.{written_points}}
+use Rattle.sequence_points_packed.{specs.Packed.{packed_limits, points_in, IsPacked}, proofs.Readings.{points_are}}
 
 either_small : (b : Bool) (row : ℕ) → row ≤ 0x1fffffff → (if b then row else 0) ≤ 0x1fffffff
 either_small true row small = small

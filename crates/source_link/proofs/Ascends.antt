@@ -1,26 +1,15 @@
 -- The keys of an object that was read ascend, each once, and so those of its pairs differ.
-use Rattle.std.proofs.Common.{◌≡◌, ℕ, zero, suc, ◌∙◌, Bool, true, false, cond, List, [], ◌∷◌}
-use Rattle.std.proofs.Common.{map, refl, sym, ap, subst, arith, Option, Some, None, Ok}
-use Rattle.std.specs.Prelude.{Contains, ◌&&◌, codes, ok_or}
-use Rattle.ppdb_base.specs.declared.link_error.LinkError.TheVariants.{Shape}
-use Rattle.std.specs.Cmp.Lexicographic.{slice_cmp}
-use Rattle.std.specs.List.{AllByRecursion}
-use Rattle.std.specs.List.Sorted.{IsPermutation, IsStrictlySortedBy}
-use Rattle.std.specs.Option.{option_map, option_and_then}
-use Rattle.std.specs.Ordering.{nat_cmp, match_ordering, ordering_reverse}
-use Rattle.std.specs.Str.{is_utf8}
-use Rattle.std.specs.declared.cmp.Ordering.{Ordering}
-use Rattle.std.specs.declared.cmp.Ordering.TheVariants.{Less, Equal, Greater}
-use Rattle.std.proofs.lemmas.Cmp.{tied_itself, nat_list_cmp_total}
+use Rattle.std.proofs.Common.{◌≡◌, ℕ, zero, suc, ◌∙◌, Bool, true, false, cond, List, [], ◌∷◌, map, refl, sym, ap, subst, arith, Option, Some, None, Ok}
+use Rattle.std.specs.{Prelude.{Contains, ◌&&◌, codes, ok_or}, Cmp.Lexicographic.{slice_cmp}, List.{AllByRecursion}, List.Sorted.{IsPermutation, IsStrictlySortedBy}}
+use Rattle.std.specs.{Option.{option_map, option_and_then}, Ordering.{nat_cmp, match_ordering, ordering_reverse}, Str.{is_utf8}, declared.cmp.Ordering.{Ordering}}
+use Rattle.std.{specs.declared.cmp.Ordering.TheVariants.{Less, Equal, Greater}, proofs.lemmas.Cmp.{tied_itself, nat_list_cmp_total}}
 use Rattle.std.proofs.lemmas.List.Sorted.{Contains-permutation, IsPermutation-sym}
+use Rattle.ppdb_base.specs.declared.link_error.LinkError.TheVariants.{Shape}
 use Rattle.json.specs.Json as json
 use Rattle.json.specs.Lex.{tokens}
-use Rattle.serde_json.specs.Data.{Data, null, boolean, number, string, array, object, Items, no_items, item, Members, no_members, member, put}
-use Rattle.serde_json.specs.Find.{get_member, as_str}
-use Rattle.serde_json.specs.Read.{read, of_json, of_items, of_members, number_of, max_depth}
-use Rattle.source_link.specs.declared.pair.Pair.{Pair}
-use Rattle.source_link.specs.Pairs.{is_key, fits_key, pair_of}
-use Rattle.source_link.specs.Record.{pairs_in, documents_in, pairs_of, judged, links_of}
+use Rattle.serde_json.specs.{Data.{Data, null, boolean, number, string, array, object, Items, no_items, item, Members, no_members, member, put}, Find.{get_member}}
+use Rattle.serde_json.specs.{Find.{as_str}, Read.{read, of_json, of_items, of_members, number_of, max_depth}}
+use Rattle.source_link.specs.{declared.pair.Pair.{Pair}, Pairs.{is_key, fits_key, pair_of}, Record.{pairs_in, documents_in, pairs_of, judged, links_of}}
 use Rattle.source_link.specs.Laws.{KeysDiffer}
 
 some_of : {A B : Type 0} (f : A → Option B) (o : Option A) (b : B) → option_and_then f o ≡ Some b → (a : A) × (o ≡ Some a) × (f a ≡ Some b)

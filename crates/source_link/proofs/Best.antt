@@ -1,20 +1,11 @@
 -- The pair that is chosen is the best of those that match.
 use Rattle.std.proofs.Common.{◌≡◌, ℕ, ◌<◌, ◌∙◌, ap, Bool, true, false, cond, List, [], ◌∷◌, Some, None, refl, sym, subst, arith, zero, suc, length}
-use Rattle.std.specs.Prelude.{Contains}
-use Rattle.std.specs.List.{filter, find, list_all, slice_index_or}
-use Rattle.std.specs.Ordering.{is_le, is_gt, is_eq, ordering_then, ordering_reverse, nat_cmp, bool_cmp}
-use Rattle.std.specs.Cmp.{IsTotalOrder, bool_cmp_total}
-use Rattle.std.specs.Cmp.Lexicographic.{slice_cmp}
-use Rattle.std.specs.declared.cmp.Ordering.{Ordering}
-use Rattle.std.specs.declared.cmp.Ordering.TheVariants.{Less, Equal, Greater}
-use Rattle.std.proofs.lemmas.Cmp.{tied_itself, upto, then_total, on_total, back_total, nat_cmp_total, nat_list_cmp_total}
-use Rattle.std.proofs.lemmas.Map.Text.{is_eq-slice_cmp}
-use Rattle.std.proofs.lemmas.Slice.Eq.{bytes_eq-Decides}
-use Rattle.std.proofs.lemmas.List.Sums.{AllPass-from_list_all, list_all-from_AllPass}
-use Rattle.source_link.specs.declared.pair.Pair.{Pair}
-use Rattle.source_link.specs.Address.{matches, key_cmp, comes_first}
-use Rattle.source_link.specs.Pairs.{is_pattern, fixed_part}
-use Rattle.source_link.specs.Laws.{ChoiceIsBest}
+use Rattle.std.specs.{Prelude.{Contains}, List.{filter, find, list_all, slice_index_or}, Ordering.{is_le, is_gt, is_eq, ordering_then, ordering_reverse, nat_cmp}}
+use Rattle.std.specs.{Ordering.{bool_cmp}, Cmp.{IsTotalOrder, bool_cmp_total}, Cmp.Lexicographic.{slice_cmp}, declared.cmp.Ordering.{Ordering}}
+use Rattle.std.{specs.declared.cmp.Ordering.TheVariants.{Less, Equal, Greater}, proofs.lemmas.Cmp.{tied_itself, upto, then_total, on_total, back_total}}
+use Rattle.std.proofs.lemmas.{Cmp.{nat_cmp_total, nat_list_cmp_total}, Map.Text.{is_eq-slice_cmp}, Slice.Eq.{bytes_eq-Decides}, List.Sums.{AllPass-from_list_all}}
+use Rattle.std.proofs.lemmas.List.Sums.{list_all-from_AllPass}
+use Rattle.source_link.specs.{declared.pair.Pair.{Pair}, Address.{matches, key_cmp, comes_first}, Pairs.{is_pattern, fixed_part}, Laws.{ChoiceIsBest}}
 
 further : {A : Type 0} (x y : A) (xs : List A) → Contains xs x → Contains (y ∷ xs) x
 further x y xs (k, less, is) = (suc k, omega (arith, less), is)

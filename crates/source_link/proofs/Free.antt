@@ -1,14 +1,8 @@
 -- A name has one address, however the pairs stand.
-use Rattle.std.proofs.Common.{◌≡◌, ℕ, ◌∙◌, List, refl, sym, ap, Option, Some, None, true}
-use Rattle.std.specs.Prelude.{Contains}
-use Rattle.std.specs.List.Sorted.{IsPermutation}
-use Rattle.std.specs.Option.{option_map}
-use Rattle.std.proofs.lemmas.List.Sorted.{Contains-permutation, IsPermutation-sym}
-use Rattle.source_link.specs.declared.pair.Pair.{Pair}
-use Rattle.source_link.specs.Address.{matches, chosen, filled, address_of}
-use Rattle.source_link.specs.Laws.{IsBest, KeysDiffer, OrderIsFree}
-use Rattle.source_link.proofs.Ascends.{links_ascend, ascending_differ, moved_differ}
-use Rattle.source_link.proofs.Best.{choice_is_best}
+use Rattle.std.{proofs.Common.{◌≡◌, ℕ, ◌∙◌, List, refl, sym, ap, Option, Some, None, true}, specs.Prelude.{Contains}, specs.List.Sorted.{IsPermutation}}
+use Rattle.std.{specs.Option.{option_map}, proofs.lemmas.List.Sorted.{Contains-permutation, IsPermutation-sym}}
+use Rattle.source_link.specs.{declared.pair.Pair.{Pair}, Address.{matches, chosen, filled, address_of}, Laws.{IsBest, KeysDiffer, OrderIsFree}}
+use Rattle.source_link.proofs.{Ascends.{links_ascend, ascending_differ, moved_differ}, Best.{choice_is_best}}
 
 best_moved : (name : List ℕ) (pairs links : List Pair) (pair : Pair) → IsPermutation pairs links → IsBest name pairs pair → IsBest name links pair
 best_moved name pairs links pair moved best = record {

@@ -1,11 +1,6 @@
 -- What a search keeps: the part of the pairs that begins with what was read of the name, and the best of the patterns that have ended before.
-use Rattle.std.proofs.Common.{◌≡◌, ℕ, ◌<◌, List, length, take, true, Bor}
-use Rattle.std.specs.Prelude.{Contains, Option, MatchOption}
-use Rattle.std.specs.Ordering.{is_le}
-use Rattle.source_link.specs.declared.pair.Pair.{Pair}
-use Rattle.source_link.specs.Address.{matches, key_cmp}
-use Rattle.source_link.specs.Pairs.{fixed_part}
-use Rattle.source_link.specs.Search.{AreInOrder, BeginsWith}
+use Rattle.std.{proofs.Common.{◌≡◌, ℕ, ◌<◌, List, length, take, true, Bor}, specs.Prelude.{Contains, Option, MatchOption}, specs.Ordering.{is_le}}
+use Rattle.source_link.specs.{declared.pair.Pair.{Pair}, Address.{matches, key_cmp}, Pairs.{fixed_part}, Search.{AreInOrder, BeginsWith}}
 
 -- the pair matches and its fixed part is shorter
 pub record Ended (name : List ℕ) (at : ℕ) (pairs : List Pair) (pair : Pair) : Type 0 where

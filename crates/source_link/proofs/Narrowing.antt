@@ -1,23 +1,13 @@
 -- How a search narrows: a name that matches, and the keys that begin as it does.
-use Rattle.std.proofs.Common.{◌≡◌, ℕ, ◌+◌, ◌-◌, ◌<◌, ◌≤◌, ◌∙◌, Bool, true, false, cond, List, []}
-use Rattle.std.proofs.Common.{◌∷◌, ◌++◌, length, take, get_or, refl, sym, ap, subst, arith, Option, Some, None, ltb, ltb-true}
-use Rattle.std.specs.Prelude.{nat_eq}
-use Rattle.std.specs.Char.{to_ascii_lowercase}
-use Rattle.std.specs.Cmp.Lexicographic.{slice_cmp}
-use Rattle.std.specs.List.{slice_get, starts_with}
-use Rattle.std.specs.Ordering.{is_le, ordering_then, nat_cmp, bool_cmp}
-use Rattle.std.specs.Str.{bytes_eq}
-use Rattle.std.specs.declared.cmp.Ordering.TheVariants.{Less, Equal}
-use Rattle.std.proofs.lemmas.Bool.{ltb-false}
-use Rattle.std.proofs.lemmas.Bool.Decides.{nat_tests}
-use Rattle.std.proofs.lemmas.Cmp.{tied_itself, nat_cmp_total, nat_list_cmp_total}
-use Rattle.std.proofs.lemmas.List.{length-map, length-take, take_all, take-take, take-map, take_more, get_or-map, get_or-take}
-use Rattle.std.proofs.lemmas.Option.{slice_get_past, slice_get_within, get_or_from_slice_get, slice_get-get_or}
+use Rattle.std.proofs.Common.{◌≡◌, ℕ, ◌+◌, ◌-◌, ◌<◌, ◌≤◌, ◌∙◌, Bool, true, false, cond, List, [], ◌∷◌, ◌++◌, length, take, get_or, refl, sym, ap, subst, arith}
+use Rattle.std.{proofs.Common.{Option, Some, None, ltb, ltb-true}, specs.Prelude.{nat_eq}, specs.Char.{to_ascii_lowercase}, specs.Cmp.Lexicographic.{slice_cmp}}
+use Rattle.std.specs.{List.{slice_get, starts_with}, Ordering.{is_le, ordering_then, nat_cmp, bool_cmp}, Str.{bytes_eq}, declared.cmp.Ordering.TheVariants.{Less}}
+use Rattle.std.{specs.declared.cmp.Ordering.TheVariants.{Equal}, proofs.lemmas.Bool.{ltb-false}, proofs.lemmas.Bool.Decides.{nat_tests}}
+use Rattle.std.proofs.lemmas.{Cmp.{tied_itself, nat_cmp_total, nat_list_cmp_total}, List.{length-map, length-take, take_all, take-take, take-map, take_more}}
+use Rattle.std.proofs.lemmas.{List.{get_or-map, get_or-take}, Option.{slice_get_past, slice_get_within, get_or_from_slice_get, slice_get-get_or}}
 use Rattle.std.proofs.lemmas.Slice.Eq.{bytes_eq-Decides}
-use Rattle.source_link.specs.declared.pair.Pair.{Pair}
-use Rattle.source_link.specs.Address.{lower, matches, key_cmp}
-use Rattle.source_link.specs.Pairs.{is_pattern, fixed_part}
-use Rattle.source_link.specs.Search.{place_cmp, rank_of, rank_at, BeginsWith}
+use Rattle.source_link.specs.{declared.pair.Pair.{Pair}, Address.{lower, matches, key_cmp}, Pairs.{is_pattern, fixed_part}, Search.{place_cmp, rank_of, rank_at}}
+use Rattle.source_link.specs.Search.{BeginsWith}
 
 -- ---- lengths
 

@@ -1,24 +1,11 @@
 -- The members of an object that was read, and what a record says by them.
-use Rattle.std.proofs.Common.{◌≡◌, ℕ, ◌∙◌, Bool, true, false, cond, List, refl, sym}
-use Rattle.std.proofs.Common.{ap, Option, Some, None, Result, Ok, Err, String, Global, BTreeMap, string_bytes}
-use Rattle.std.specs.Prelude.{IsUtf8, IfOk, codes, ok_or}
-use Rattle.std.specs.BTreeMap.{is_at}
-use Rattle.std.specs.Cmp.Lexicographic.{slice_cmp}
-use Rattle.std.specs.Map.{lookup}
-use Rattle.std.specs.Option.{option_map, option_and_then}
-use Rattle.std.specs.Ordering.{nat_cmp}
-use Rattle.std.specs.Str.{is_utf8}
-use Rattle.std.proofs.lemmas.Str.{is_utf8-from_IsUtf8, IsUtf8-from_is_utf8}
-use Rattle.serde_json.specs.Data.{Data}
-use Rattle.serde_json.specs.Find.{as_object, get_member}
-use Rattle.serde_json.specs.Read.{read}
-use Rattle.serde_json.specs.View.{view, members_view}
-use Rattle.serde_json.specs.declared.value.Value.{Value}
+use Rattle.std.proofs.Common.{◌≡◌, ℕ, ◌∙◌, Bool, true, false, cond, List, refl, sym, ap, Option, Some, None, Result, Ok, Err, String, Global, BTreeMap, string_bytes}
+use Rattle.std.specs.{Prelude.{IsUtf8, IfOk, codes, ok_or}, BTreeMap.{is_at}, Cmp.Lexicographic.{slice_cmp}, Map.{lookup}, Option.{option_map, option_and_then}}
+use Rattle.std.{specs.Ordering.{nat_cmp}, specs.Str.{is_utf8}, proofs.lemmas.Str.{is_utf8-from_IsUtf8, IsUtf8-from_is_utf8}}
+use Rattle.serde_json.specs.{Data.{Data}, Find.{as_object, get_member}, Read.{read}, View.{view, members_view}, declared.value.Value.{Value}}
 use Rattle.serde_json.proofs.Views.{view-lookup}
-use Rattle.ppdb_base.specs.declared.link_error.LinkError.{LinkError}
-use Rattle.ppdb_base.specs.declared.link_error.LinkError.TheVariants.{NotJson, Shape}
-use Rattle.source_link.specs.declared.pair.Pair.{Pair}
-use Rattle.source_link.specs.Record.{pairs_in, documents_in, pairs_of, judged, links_of}
+use Rattle.ppdb_base.specs.declared.link_error.{LinkError.{LinkError}, LinkError.TheVariants.{NotJson, Shape}}
+use Rattle.source_link.specs.{declared.pair.Pair.{Pair}, Record.{pairs_in, documents_in, pairs_of, judged, links_of}}
 
 -- what an object says is said by its member `documents`
 pub documents_said : (value : Value) (members : BTreeMap (String Global) Value) (found : Option Value)

@@ -1,28 +1,13 @@
 -- Pairs in order: a search among those that share a prefix, by how they go on.
-use Rattle.std.proofs.Common.{◌≡◌, ℕ, zero, suc, ◌+◌, ◌-◌, ◌<◌, ◌≤◌, ◌∙◌, Bool, true, false, cond, List, [], ◌∷◌, length}
-use Rattle.std.proofs.Common.{take, drop, get_or, refl, sym, ap, subst, arith, Option, Some, None, Bor, ltb, ltb-true, length-drop, length-take}
-use Rattle.std.specs.Prelude.{Contains}
-use Rattle.std.specs.Char.{to_ascii_lowercase}
-use Rattle.std.specs.Cmp.{IsTotalOrder, bool_cmp_total}
-use Rattle.std.specs.Cmp.Lexicographic.{slice_cmp}
-use Rattle.std.specs.List.{slice_get, AllWithin}
-use Rattle.std.specs.List.Sorted.{IsNonDecreasingBy}
-use Rattle.std.specs.Option.{option_map}
-use Rattle.std.specs.Ordering.{is_le, is_lt, ordering_then, ordering_reverse, nat_cmp, bool_cmp}
-use Rattle.std.specs.Slice.{IsGetResult}
-use Rattle.std.specs.declared.cmp.Ordering.{Ordering}
-use Rattle.std.specs.declared.cmp.Ordering.TheVariants.{Less, Equal, Greater}
-use Rattle.std.proofs.lemmas.Cmp.{then_total, on_total, nat_list_cmp_total, nat_cmp_total, tied_itself}
-use Rattle.std.proofs.lemmas.List.Sorted.{ranks_by, sorted_far}
-use Rattle.std.proofs.lemmas.List.Elements.{Contains-get_or}
-use Rattle.std.proofs.lemmas.List.{length-map, get_or_default, get_or-take, get_or-drop}
-use Rattle.std.proofs.lemmas.Option.{slice_get-map}
-use Rattle.std.proofs.lemmas.Bool.{ltb-false}
-use Rattle.std.proofs.lemmas.Bool.Decides.{nat_tests}
-use Rattle.source_link.specs.declared.pair.Pair.{Pair}
-use Rattle.source_link.specs.Address.{lower}
-use Rattle.source_link.specs.Pairs.{is_pattern, fixed_part}
-use Rattle.source_link.specs.Search.{place_cmp, AreInOrder, rank_of, rank_at, BeginsWith}
+use Rattle.std.proofs.Common.{◌≡◌, ℕ, zero, suc, ◌+◌, ◌-◌, ◌<◌, ◌≤◌, ◌∙◌, Bool, true, false, cond, List, [], ◌∷◌, length, take, drop, get_or, refl, sym, ap, subst}
+use Rattle.std.{proofs.Common.{arith, Option, Some, None, Bor, ltb, ltb-true, length-drop, length-take}, specs.Prelude.{Contains}, specs.Char.{to_ascii_lowercase}}
+use Rattle.std.specs.{Cmp.{IsTotalOrder, bool_cmp_total}, Cmp.Lexicographic.{slice_cmp}, List.{slice_get, AllWithin}, List.Sorted.{IsNonDecreasingBy}}
+use Rattle.std.specs.{Option.{option_map}, Ordering.{is_le, is_lt, ordering_then, ordering_reverse, nat_cmp, bool_cmp}, Slice.{IsGetResult}}
+use Rattle.std.{specs.declared.cmp.Ordering.{Ordering}, specs.declared.cmp.Ordering.TheVariants.{Less, Equal, Greater}, proofs.lemmas.Cmp.{then_total, on_total}}
+use Rattle.std.proofs.lemmas.{Cmp.{nat_list_cmp_total, nat_cmp_total, tied_itself}, List.Sorted.{ranks_by, sorted_far}, List.Elements.{Contains-get_or}}
+use Rattle.std.proofs.lemmas.{List.{length-map, get_or_default, get_or-take, get_or-drop}, Option.{slice_get-map}, Bool.{ltb-false}, Bool.Decides.{nat_tests}}
+use Rattle.source_link.specs.{declared.pair.Pair.{Pair}, Address.{lower}, Pairs.{is_pattern, fixed_part}, Search.{place_cmp, AreInOrder, rank_of, rank_at}}
+use Rattle.source_link.specs.Search.{BeginsWith}
 
 pub place_total : IsTotalOrder place_cmp
 place_total = then_total (on_total (λ key. lower (fixed_part key)) nat_list_cmp_total) (then_total (on_total is_pattern bool_cmp_total) nat_list_cmp_total)

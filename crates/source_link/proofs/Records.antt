@@ -1,28 +1,13 @@
 -- The first Source Link record among the custom records of the module.
-use Rattle.std.proofs.Common.{◌≡◌, ℕ, ◌+◌, ◌-◌, ◌<◌, ◌≤◌, ◌∙◌, Bool, true, false, cond, List, [], ◌∷◌}
-use Rattle.std.proofs.Common.{map, refl, sym, ap, subst, arith, Option, Some, None, zero, suc}
-use Rattle.std.specs.Prelude.{◌&&◌, Contains, slice_get}
-use Rattle.std.specs.List.{filter, find, enumerate_from}
-use Rattle.std.specs.Option.{option_map}
-use Rattle.std.specs.Str.{bytes_eq}
-use Rattle.std.proofs.lemmas.Bool.Decides.{nat_tests}
-use Rattle.std.proofs.lemmas.Slice.Eq.{bytes_eq-Decides}
+use Rattle.std.proofs.Common.{◌≡◌, ℕ, ◌+◌, ◌-◌, ◌<◌, ◌≤◌, ◌∙◌, Bool, true, false, cond, List, [], ◌∷◌, map, refl, sym, ap, subst, arith, Option, Some, None, zero}
+use Rattle.std.{proofs.Common.{suc}, specs.Prelude.{◌&&◌, Contains, slice_get}, specs.List.{filter, find, enumerate_from}, specs.Option.{option_map}}
+use Rattle.std.{specs.Str.{bytes_eq}, proofs.lemmas.Bool.Decides.{nat_tests}, proofs.lemmas.Slice.Eq.{bytes_eq-Decides}}
 use Rattle.custom_info.specs.Kinds.{source_link, kind_of}
-use Rattle.ppdb_tables.specs.declared.parent.Parent.{Parent}
-use Rattle.ppdb_tables.specs.declared.rows.CustomRow.{CustomRow}
-use Rattle.ppdb_tables.specs.RawTables.{RawTables, numbered, count, row_at}
-use Rattle.ppdb_values.specs.declared.custom.CustomValue.{CustomValue}
-use Rattle.ppdb_values.specs.Customs.{custom_of, custom_body, kind_in, parent_of}
-use Rattle.ppdb_values.specs.Parts.{bytes_in, is_at, is_link}
-use Rattle.ppdb_values.specs.RawFile.{RawFile, blob}
-use Rattle.ppdb_values.specs.Rules.{KeepsCustoms}
-use Rattle.ppdb_values.specs.Value.{value_of}
-use Rattle.ppdb_queries.specs.declared.run.Run.{Run}
-use Rattle.ppdb_queries.specs.Runs.{customs_at, rows_in}
-use Rattle.ppdb_queries.proofs.Views.{run_step}
-use Rattle.source_link.specs.FileLinks.{link_record}
-use Rattle.source_link.specs.RecordRows.{link_between}
-use Rattle.source_link.proofs.Best.{found}
+use Rattle.ppdb_tables.specs.{declared.parent.Parent.{Parent}, declared.rows.CustomRow.{CustomRow}, RawTables.{RawTables, numbered, count, row_at}}
+use Rattle.ppdb_values.specs.{declared.custom.CustomValue.{CustomValue}, Customs.{custom_of, custom_body, kind_in, parent_of}, Parts.{bytes_in, is_at, is_link}}
+use Rattle.ppdb_values.specs.{RawFile.{RawFile, blob}, Rules.{KeepsCustoms}, Value.{value_of}}
+use Rattle.ppdb_queries.{specs.declared.run.Run.{Run}, specs.Runs.{customs_at, rows_in}, proofs.Views.{run_step}}
+use Rattle.source_link.{specs.FileLinks.{link_record}, specs.RecordRows.{link_between}, proofs.Best.{found}}
 
 find_mapped : {A B C : Type 0} (f : A → B) (g : B → C) (p : B → Bool) (xs : List A)
     → option_map g (find p (map f xs)) ≡ option_map (λ x. g (f x)) (find (λ x. p (f x)) xs)

@@ -1,22 +1,11 @@
 -- The steps and the end of a search.
-use Rattle.std.proofs.Common.{◌≡◌, ℕ, ◌+◌, ◌<◌, ◌≤◌, ◌∙◌, Bool, true, false, cond, List, length}
-use Rattle.std.proofs.Common.{take, get_or, refl, sym, ap, subst, arith, Option, Some, None, Bor, ltb, ltb-true}
-use Rattle.std.specs.Prelude.{Contains, MatchOption, ◌≢◌}
-use Rattle.std.specs.Char.{to_ascii_lowercase}
-use Rattle.std.specs.List.Sorted.{IsNonDecreasingBy}
-use Rattle.std.specs.Option.{option_or}
-use Rattle.std.specs.Ordering.{is_le}
-use Rattle.std.proofs.lemmas.Bool.{ltb-false}
-use Rattle.std.proofs.lemmas.List.{take_all, take-map}
-use Rattle.source_link.specs.declared.pair.Pair.{Pair}
-use Rattle.source_link.specs.Address.{lower, matches, key_cmp}
-use Rattle.source_link.specs.Laws.{IsBest}
-use Rattle.source_link.specs.Pairs.{is_pattern, fixed_part}
-use Rattle.source_link.specs.Search.{place_cmp, AreInOrder, rank_at, BeginsWith}
-use Rattle.source_link.proofs.Narrowed.{Ended, Narrowed}
-use Rattle.source_link.proofs.Narrowing.{taken, low_long, matched_prefix, pattern_matches, name_matches, begins_of, whole_begins}
-use Rattle.source_link.proofs.Narrowing.{rank_small, rank_past, rank_one, begins_more, begins_back, longer_first, place_first}
-use Rattle.source_link.proofs.Places.{ranks_rise}
+use Rattle.std.proofs.Common.{◌≡◌, ℕ, ◌+◌, ◌<◌, ◌≤◌, ◌∙◌, Bool, true, false, cond, List, length, take, get_or, refl, sym, ap, subst, arith, Option, Some, None, Bor}
+use Rattle.std.{proofs.Common.{ltb, ltb-true}, specs.Prelude.{Contains, MatchOption, ◌≢◌}, specs.Char.{to_ascii_lowercase}, specs.List.Sorted.{IsNonDecreasingBy}}
+use Rattle.std.{specs.Option.{option_or}, specs.Ordering.{is_le}, proofs.lemmas.Bool.{ltb-false}, proofs.lemmas.List.{take_all, take-map}}
+use Rattle.source_link.specs.{declared.pair.Pair.{Pair}, Address.{lower, matches, key_cmp}, Laws.{IsBest}, Pairs.{is_pattern, fixed_part}, Search.{place_cmp}}
+use Rattle.source_link.{specs.Search.{AreInOrder, rank_at, BeginsWith}, proofs.Narrowed.{Ended, Narrowed}, proofs.Narrowing.{taken, low_long, matched_prefix}}
+use Rattle.source_link.proofs.Narrowing.{pattern_matches, name_matches, begins_of, whole_begins, rank_small, rank_past, rank_one, begins_more, begins_back}
+use Rattle.source_link.proofs.{Narrowing.{longer_first, place_first}, Places.{ranks_rise}}
 
 pub rising : (pairs : List Pair) (name : List ℕ) (at : ℕ) (part : List Pair) (found : Option (Bor Pair)) → Narrowed pairs name at part found
     → at ≤ length name → IsNonDecreasingBy (rank_at at) part

@@ -1,18 +1,10 @@
 -- Two texts compared from a place on, and an address cut at its first star.
-use Rattle.std.proofs.Common.{◌≡◌, ℕ, zero, suc, ◌+◌, ◌<◌, ◌≤◌, Bool, true, false, cond, List, [], ◌∷◌, ◌++◌}
-use Rattle.std.proofs.Common.{length, take, drop, get_or, refl, ap, arith, Option, Some, None, Bor, append_assoc, ltb, add-one}
-use Rattle.std.specs.Prelude.{nat_eq, position, Result, Ok, Err, OnOk}
-use Rattle.std.specs.Cmp.Lexicographic.{slice_cmp}
-use Rattle.std.specs.Ordering.{nat_cmp}
-use Rattle.std.specs.Slice.{IsGetResult}
-use Rattle.std.specs.declared.cmp.Ordering.TheVariants.{Less, Greater}
-use Rattle.std.proofs.lemmas.List.{drop_more, drop_all}
-use Rattle.std.proofs.lemmas.Bool.{ltb-false}
-use Rattle.std.proofs.lemmas.List.Sums.{fails_before_first}
-use Rattle.std.specs.List.{position_or_len}
+use Rattle.std.proofs.Common.{◌≡◌, ℕ, zero, suc, ◌+◌, ◌<◌, ◌≤◌, Bool, true, false, cond, List, [], ◌∷◌, ◌++◌, length, take, drop, get_or, refl, ap, arith, Option}
+use Rattle.std.{proofs.Common.{Some, None, Bor, append_assoc, ltb, add-one}, specs.Prelude.{nat_eq, position, Result, Ok, Err, OnOk}}
+use Rattle.std.specs.{Cmp.Lexicographic.{slice_cmp}, Ordering.{nat_cmp}, Slice.{IsGetResult}, declared.cmp.Ordering.TheVariants.{Less, Greater}}
+use Rattle.std.{proofs.lemmas.List.{drop_more, drop_all}, proofs.lemmas.Bool.{ltb-false}, proofs.lemmas.List.Sums.{fails_before_first}, specs.List.{position_or_len}}
 use Rattle.std.proofs.lemmas.List.Quantifiers.{position-Some}
-use Rattle.source_link.specs.Pairs.{star}
-use Rattle.source_link.specs.Address.{lower, with_rest}
+use Rattle.source_link.specs.{Pairs.{star}, Address.{lower, with_rest}}
 
 pub past_end : (xs : List ℕ) (i : ℕ) (r : Option (Bor ℕ)) → IsGetResult xs i i r → r ≡ None → length xs ≤ i
 past_end xs i None h e = h.3

@@ -1,11 +1,8 @@
 -- An input that is added is one more.
-use Rattle.std.proofs.Common.{ℕ, ◌≡◌, ◌+◌, List, [], ◌∷◌, ◌++◌, length, sym, ◌∙◌, ap, arith}
+use Rattle.std.{proofs.Common.{ℕ, ◌≡◌, ◌+◌, List, [], ◌∷◌, ◌++◌, length, sym, ◌∙◌, ap, arith}, specs.Prelude.{Option, None, Result, Ok, Err, OnOk}}
 use Rattle.ppdb_base.specs.declared.merge_error.MergeError.{MergeError}
-use Rattle.std.specs.Prelude.{Option, None, Result, Ok, Err, OnOk}
 use Rattle.ppdb_maps.specs.Map.{Map}
-use Rattle.ppdb_merge.specs.declared.trace.Trace.{Trace}
-use Rattle.ppdb_merge.specs.Merged.{is_first, trace_of, unless}
-use Rattle.ppdb_merge.specs.Refusals.{added, refusal_of}
+use Rattle.ppdb_merge.specs.{declared.trace.Trace.{Trace}, Merged.{is_first, trace_of, unless}, Refusals.{added, refusal_of}}
 use Rattle.ppdb_values.specs.RawFile.{RawFile}
 
 one_longer : (traces : List Trace) (t : Trace) → length (traces ++ t ∷ []) ≡ length traces + 1

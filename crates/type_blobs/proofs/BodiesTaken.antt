@@ -1,28 +1,16 @@
 -- What is left of a constant after the code of its body.
-use Rattle.std.proofs.Common.{◌≡◌, ℕ, ◌+◌, ◌-◌, ◌<◌, ◌≤◌, Bool, true, false, ◌&&◌, List, [], ◌∷◌, length, get_or, take, drop, Some, None}
-use Rattle.std.proofs.Common.{Result, Ok, Err, refl, sym, ap, ◌∙◌, arith}
-use Rattle.std.specs.Prelude.{is_some, ◌==◌}
-use Rattle.std.proofs.lemmas.List.{length-drop, take_all}
-use Rattle.std.proofs.Math.Seq.{drop-cons}
-use Rattle.ppdb_base.specs.declared.BlobFault.{BlobFault}
-use Rattle.ppdb_base.specs.declared.Code.TheVariants.{BlobEnd, ValueRange}
-use Rattle.blob_grammar.specs.Grammar.{Value, number, octets, unsigned, byte, fixed, rest}
-use Rattle.blob_grammar.specs.Reader.{field_at, unsigned_at, is_empty, IsThere, IsMissing}
+use Rattle.std.proofs.Common.{◌≡◌, ℕ, ◌+◌, ◌-◌, ◌<◌, ◌≤◌, Bool, true, false, ◌&&◌, List, [], ◌∷◌, length, get_or, take, drop, Some, None, Result, Ok, Err, refl, sym}
+use Rattle.std.{proofs.Common.{ap, ◌∙◌, arith}, specs.Prelude.{is_some, ◌==◌}, proofs.lemmas.List.{length-drop, take_all}, proofs.Math.Seq.{drop-cons}}
+use Rattle.ppdb_base.specs.declared.{BlobFault.{BlobFault}, Code.TheVariants.{BlobEnd, ValueRange}}
+use Rattle.blob_grammar.specs.{Grammar.{Value, number, octets, unsigned, byte, fixed, rest}, Reader.{field_at, unsigned_at, is_empty, IsThere, IsMissing}}
 use Rattle.blob_grammar.proofs.Steps.{not_empty}
-use Rattle.type_blobs.specs.declared.types.TypeLimits.{TypeLimits}
-use Rattle.type_blobs.specs.declared.types.TypeToken.{TypeToken}
-use Rattle.type_blobs.specs.declared.types.Modifier.{Modifier}
-use Rattle.type_blobs.specs.declared.constant.Constant.{Constant}
-use Rattle.type_blobs.specs.Types.{is_type, token_of}
-use Rattle.type_blobs.specs.Numbers.{number_at}
-use Rattle.type_blobs.specs.Constants.{ConstantBody, primitive, enumerated, general, object, constants, modifier_of, body_of}
-use Rattle.type_blobs.specs.Constants.{is_modifier, is_code, is_enumerable, is_general, is_text, size_of, after_two}
-use Rattle.type_blobs.specs.ConstantReading.{Rest, begins_modifier, finished, left_of, constant_left, modifier_answer, body_answer}
-use Rattle.type_blobs.specs.ConstantReading.{fault_end, whole_end, shown_body, BodyIs}
-use Rattle.type_blobs.proofs.NextStep.{Found, found, step-field, step-out, step-none, step-end, step-end_none, step-over, step-number, step-no_number}
-use Rattle.type_blobs.proofs.Codes.{OfGeneral, of_general, OfPrimitive, of_primitive}
-use Rattle.type_blobs.proofs.ConstantRests.{rest as rest_behind, rest_goes, rest_invalid, rest_stop}
-use Rattle.type_blobs.proofs.ModifiersTaken.{Byte_at, code_taken, a_modifier, no_type}
+use Rattle.type_blobs.specs.declared.{types.TypeLimits.{TypeLimits}, types.TypeToken.{TypeToken}, types.Modifier.{Modifier}, constant.Constant.{Constant}}
+use Rattle.type_blobs.specs.{Types.{is_type, token_of}, Numbers.{number_at}, Constants.{ConstantBody, primitive, enumerated, general, object, constants}}
+use Rattle.type_blobs.specs.{Constants.{modifier_of, body_of, is_modifier, is_code, is_enumerable, is_general, is_text, size_of, after_two}, ConstantReading.{Rest}}
+use Rattle.type_blobs.specs.ConstantReading.{begins_modifier, finished, left_of, constant_left, modifier_answer, body_answer, fault_end, whole_end, shown_body}
+use Rattle.type_blobs.{specs.ConstantReading.{BodyIs}, proofs.NextStep.{Found, found, step-field, step-out, step-none, step-end, step-end_none, step-over}}
+use Rattle.type_blobs.proofs.{NextStep.{step-number, step-no_number}, Codes.{OfGeneral, of_general, OfPrimitive, of_primitive}, ConstantRests.{rest as rest_behind}}
+use Rattle.type_blobs.proofs.{ConstantRests.{rest_goes, rest_invalid, rest_stop}, ModifiersTaken.{Byte_at, code_taken, a_modifier, no_type}}
 
 -- the bytes from a place on, as a slice has them
 pub slice-from : (blob : List ℕ) (at : ℕ) → take (length blob - at) (drop at blob) ≡ drop at blob

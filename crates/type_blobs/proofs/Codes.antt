@@ -2,8 +2,7 @@
 use Rattle.std.proofs.Common.{◌≡◌, ℕ, ◌<◌, ◌≤◌, Bool, true, false, ◌&&◌, ◌||◌, Some, None, [], ◌∷◌, refl, sym, subst, zero, suc, arith, ◌⊎◌, inl, inr}
 use Rattle.std.specs.Prelude.{◌==◌, nat_le}
 use Rattle.blob_grammar.specs.Grammar.{number, unsigned, fixed, rest}
-use Rattle.type_blobs.specs.Constants.{is_modifier, is_primitive, is_enumerable, is_general, is_string, is_object, is_code, size_of}
-use Rattle.type_blobs.specs.Constants.{after_code, after_two, body_of}
+use Rattle.type_blobs.specs.Constants.{is_modifier, is_primitive, is_enumerable, is_general, is_string, is_object, is_code, size_of, after_code, after_two, body_of}
 
 either : (a b : Bool) → (a || b) ≡ true → (a ≡ true) ⊎ (b ≡ true)
 either true b e = inl refl

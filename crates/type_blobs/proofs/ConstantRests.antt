@@ -1,16 +1,10 @@
 -- What is left of a constant, a step at a time.
-use Rattle.std.proofs.Common.{◌≡◌, ℕ, zero, suc, ◌+◌, List, [], ◌∷◌, ◌++◌, drop, take, Option, Some, None, refl, sym, ap, ◌∙◌}
-use Rattle.std.specs.List.{fold}
+use Rattle.std.{proofs.Common.{◌≡◌, ℕ, zero, suc, ◌+◌, List, [], ◌∷◌, ◌++◌, drop, take, Option, Some, None, refl, sym, ap, ◌∙◌}, specs.List.{fold}}
 use Rattle.ppdb_base.specs.declared.Code.{Code}
-use Rattle.blob_grammar.specs.Grammar.{Value, Field, Cut, closed, with_value}
-use Rattle.blob_grammar.specs.Reader.{Step, field, stop, invalid, step, fields_for, fields_from, begun_from}
-use Rattle.blob_grammar.proofs.PrefixFields.{take_field, fields_for-step}
-use Rattle.blob_grammar.proofs.Steps.{Alike, read_from-alike}
-use Rattle.type_blobs.specs.declared.types.TypeLimits.{TypeLimits}
-use Rattle.type_blobs.specs.declared.types.Modifier.{Modifier}
-use Rattle.type_blobs.specs.Constants.{constants, modifier_of}
-use Rattle.type_blobs.specs.ConstantReading.{Rest, rest_at, finished}
-use Rattle.type_blobs.proofs.Rests.{push_rest, closed_rest, rest-step}
+use Rattle.blob_grammar.specs.{Grammar.{Value, Field, Cut, closed, with_value}, Reader.{Step, field, stop, invalid, step, fields_for, fields_from, begun_from}}
+use Rattle.blob_grammar.proofs.{PrefixFields.{take_field, fields_for-step}, Steps.{Alike, read_from-alike}}
+use Rattle.type_blobs.specs.{declared.types.TypeLimits.{TypeLimits}, declared.types.Modifier.{Modifier}, Constants.{constants, modifier_of}, ConstantReading.{Rest}}
+use Rattle.type_blobs.{specs.ConstantReading.{rest_at, finished}, proofs.Rests.{push_rest, closed_rest, rest-step}}
 
 Any : List Modifier → List Modifier → Type 0
 Any a b = Unit {0}

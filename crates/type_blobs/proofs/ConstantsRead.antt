@@ -1,15 +1,10 @@
 -- What a cursor of a constant has left at the start is what the blob holds.
-use Rattle.std.proofs.Common.{◌≡◌, ℕ, Bool, true, false, List, [], Option, Some, None, refl, sym, ap, subst}
-use Rattle.std.specs.Prelude.{is_some}
+use Rattle.std.{proofs.Common.{◌≡◌, ℕ, Bool, true, false, List, [], Option, Some, None, refl, sym, ap, subst}, specs.Prelude.{is_some}}
 use Rattle.ppdb_base.specs.declared.BlobFault.{BlobFault}
-use Rattle.blob_grammar.specs.Grammar.{Value, Field, cut}
-use Rattle.blob_grammar.specs.Reading.{Ends}
-use Rattle.blob_grammar.specs.Reader.{read_from, prefix_of, begun_from}
-use Rattle.blob_grammar.proofs.Readers.{read_from-reads}
-use Rattle.type_blobs.specs.declared.types.TypeLimits.{TypeLimits}
-use Rattle.type_blobs.specs.Constants.{ConstantBody, constants, body_of}
-use Rattle.type_blobs.specs.ConstantReading.{fault_of, begins_modifier, EndIs, ConstantReading, whole_end, fault_end, end_of, constant_left}
+use Rattle.blob_grammar.{specs.Grammar.{Value, Field, cut}, specs.Reading.{Ends}, specs.Reader.{read_from, prefix_of, begun_from}, proofs.Readers.{read_from-reads}}
 use Rattle.blob_grammar.proofs.PrefixFields.{longest-prefix_of}
+use Rattle.type_blobs.specs.{declared.types.TypeLimits.{TypeLimits}, Constants.{ConstantBody, constants, body_of}, ConstantReading.{fault_of, begins_modifier}}
+use Rattle.type_blobs.specs.ConstantReading.{EndIs, ConstantReading, whole_end, fault_end, end_of, constant_left}
 
 pub fault_is : (begun : List Value) (fault : Option BlobFault) → fault_of (end_of begun fault) ≡ fault
 fault_is begun None = whole (body_of begun)

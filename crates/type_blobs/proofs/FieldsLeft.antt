@@ -1,27 +1,15 @@
 -- A walk over the fields of imports, a field at a time.
-use Rattle.std.proofs.Common.{◌≡◌, ℕ, zero, suc, ◌+◌, ◌<◌, ◌≤◌, Bool, true, false, ◌&&◌, List, [], ◌∷◌, ◌++◌, length, drop, Option, Some}
-use Rattle.std.proofs.Common.{None, Ok, Err, refl, sym, ap, ◌∙◌, arith, length-append, if◌then◌else◌, inl, inr, ◌⊎◌}
-use Rattle.std.specs.Option.{option_map}
-use Rattle.std.specs.Prelude.{◌≢◌, ◌==◌}
-use Rattle.std.proofs.lemmas.Bool.{ne_eqb}
-use Rattle.std.proofs.lemmas.List.{drop_all, drop-drop}
-use Rattle.ppdb_base.specs.declared.BlobFault.{BlobFault}
-use Rattle.ppdb_base.specs.declared.Code.TheVariants.{BlobEnd}
-use Rattle.blob_grammar.specs.Grammar.{Value, number, unsigned, Cut, closed, with_value}
-use Rattle.blob_grammar.specs.Places.{HasFields, HasEnd}
-use Rattle.blob_grammar.specs.Reader.{Left, push, is_empty, unsigned_at, fields_left}
-use Rattle.blob_grammar.proofs.Steps.{nothing_left, not_empty}
-use Rattle.blob_grammar.proofs.Walks.{AlikeAt, after_step, fields_left-step, fields_left-alike, walk-end, walk-fields, walk-end_is}
-use Rattle.type_blobs.specs.declared.types.TypeLimits.{TypeLimits}
-use Rattle.type_blobs.specs.declared.import_part.ImportPart.{ImportPart}
-use Rattle.type_blobs.specs.declared.import_part.ImportField.{ImportField}
-use Rattle.type_blobs.specs.declared.import_fields.ImportPlace.{ImportPlace}
-use Rattle.blob_grammar.specs.Allowed.{is_between}
-use Rattle.type_blobs.specs.Imports.{ImportItem, imports, import_of, item_of, items_by_kind, of_kind, parts_of, numbers_of, next_part}
-use Rattle.type_blobs.specs.Imports.{next_allows, part_allows, import_field, field_of}
-use Rattle.type_blobs.specs.Numbers.{number_at}
-use Rattle.type_blobs.specs.ImportReading.{zeros, begun_of, SameShape, import_fields_left}
-use Rattle.type_blobs.proofs.NextStep.{found, step-number, step-no_number}
+use Rattle.std.proofs.Common.{◌≡◌, ℕ, zero, suc, ◌+◌, ◌<◌, ◌≤◌, Bool, true, false, ◌&&◌, List, [], ◌∷◌, ◌++◌, length, drop, Option, Some, None, Ok, Err, refl, sym}
+use Rattle.std.{proofs.Common.{ap, ◌∙◌, arith, length-append, if◌then◌else◌, inl, inr, ◌⊎◌}, specs.Option.{option_map}, specs.Prelude.{◌≢◌, ◌==◌}}
+use Rattle.std.proofs.lemmas.{Bool.{ne_eqb}, List.{drop_all, drop-drop}}
+use Rattle.ppdb_base.specs.declared.{BlobFault.{BlobFault}, Code.TheVariants.{BlobEnd}}
+use Rattle.blob_grammar.specs.{Grammar.{Value, number, unsigned, Cut, closed, with_value}, Places.{HasFields, HasEnd}, Reader.{Left, push, is_empty, unsigned_at}}
+use Rattle.blob_grammar.{specs.Reader.{fields_left}, proofs.Steps.{nothing_left, not_empty}, proofs.Walks.{AlikeAt, after_step, fields_left-step, fields_left-alike}}
+use Rattle.blob_grammar.{proofs.Walks.{walk-end, walk-fields, walk-end_is}, specs.Allowed.{is_between}}
+use Rattle.type_blobs.specs.declared.{types.TypeLimits.{TypeLimits}, import_part.ImportPart.{ImportPart}, import_part.ImportField.{ImportField}}
+use Rattle.type_blobs.specs.{declared.import_fields.ImportPlace.{ImportPlace}, Imports.{ImportItem, imports, import_of, item_of, items_by_kind, of_kind, parts_of}}
+use Rattle.type_blobs.specs.{Imports.{numbers_of, next_part, next_allows, part_allows, import_field, field_of}, Numbers.{number_at}, ImportReading.{zeros, begun_of}}
+use Rattle.type_blobs.{specs.ImportReading.{SameShape, import_fields_left}, proofs.NextStep.{found, step-number, step-no_number}}
 
 -- ---- what has begun, but for its numbers
 

@@ -1,12 +1,9 @@
 -- What the reading of one number says of what is left of a blob.
-use Rattle.std.proofs.Common.{◌≡◌, ℕ, ◌+◌, Bool, false, List, [], ◌∷◌, ◌++◌, drop, Option, Some, None, Err, sym, ap, ◌∙◌, ◌&&◌}
-use Rattle.std.proofs.lemmas.List.{drop-drop}
+use Rattle.std.proofs.{Common.{◌≡◌, ℕ, ◌+◌, Bool, false, List, [], ◌∷◌, ◌++◌, drop, Option, Some, None, Err, sym, ap, ◌∙◌, ◌&&◌}, lemmas.List.{drop-drop}}
 use Rattle.ppdb_base.specs.declared.BlobFault.{BlobFault}
-use Rattle.blob_grammar.specs.Grammar.{Value, number, unsigned, Grammar}
-use Rattle.blob_grammar.specs.Reader.{push, close_and, is_empty, take_step, read_from}
+use Rattle.blob_grammar.specs.{Grammar.{Value, number, unsigned, Grammar}, Reader.{push, close_and, is_empty, take_step, read_from}}
 use Rattle.blob_grammar.proofs.Steps.{nothing_left, left_at, read_from-step}
-use Rattle.type_blobs.specs.Numbers.{number_at}
-use Rattle.type_blobs.proofs.NextStep.{Found, step-number, step-no_number}
+use Rattle.type_blobs.{specs.Numbers.{number_at}, proofs.NextStep.{Found, step-number, step-no_number}}
 
 module _ {R : Type 0} (g : Grammar R) (whole : List R) (begun : List Value) (blob : List ℕ) (at : ℕ) where
   closes : (value : Value) (len : ℕ) (o : Option R)

@@ -1,12 +1,8 @@
 -- The fields of imports, as a function of the blob.
-use Rattle.std.proofs.Common.{◌≡◌, ℕ, List, Option, sym, ap}
-use Rattle.std.specs.Prelude.{◌↔◌}
-use Rattle.std.specs.List.{flat_map}
-use Rattle.blob_grammar.specs.Places.{HasFields}
-use Rattle.blob_grammar.proofs.PrefixFields.{are-fields, fields-are}
-use Rattle.type_blobs.specs.declared.types.TypeLimits.{TypeLimits}
-use Rattle.type_blobs.specs.declared.import_part.ImportField.{ImportField}
-use Rattle.type_blobs.specs.Imports.{imports, import_field, import_fields, import_indexes, text_index}
+use Rattle.std.{proofs.Common.{◌≡◌, ℕ, List, Option, sym, ap}, specs.Prelude.{◌↔◌}, specs.List.{flat_map}}
+use Rattle.blob_grammar.{specs.Places.{HasFields}, proofs.PrefixFields.{are-fields, fields-are}}
+use Rattle.type_blobs.specs.{declared.types.TypeLimits.{TypeLimits}, declared.import_part.ImportField.{ImportField}, Imports.{imports, import_field, import_fields}}
+use Rattle.type_blobs.specs.Imports.{import_indexes, text_index}
 
 module _ (limits : TypeLimits) (heap : ℕ → Option (List ℕ)) (blob : List ℕ) (fields : List ImportField) where
   pub import_fields-are : (fields ≡ import_fields limits heap blob) ↔ HasFields (imports limits heap) import_field blob fields

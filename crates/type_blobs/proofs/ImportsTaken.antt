@@ -1,27 +1,15 @@
 -- What a cursor of imports has left, a field at a time.
-use Rattle.std.proofs.Common.{◌≡◌, ℕ, zero, suc, ◌+◌, ◌<◌, ◌≤◌, Bool, true, false, ◌&&◌, List, [], ◌∷◌, ◌++◌, length, drop, Option, Some}
-use Rattle.std.proofs.Common.{None, Ok, Err, refl, sym, ap, ◌∙◌, arith}
-use Rattle.std.specs.Prelude.{is_some, nat_le}
-use Rattle.ppdb_base.specs.declared.BlobFault.{BlobFault}
-use Rattle.ppdb_base.specs.declared.Code.TheVariants.{ValueRange}
-use Rattle.blob_grammar.specs.Grammar.{Value, number, unsigned}
-use Rattle.blob_grammar.specs.Reading.{Reading}
-use Rattle.blob_grammar.specs.Reader.{Left, placed, unsigned_at, push, close_and, is_empty}
-use Rattle.blob_grammar.proofs.Placed.{unsigned_there, unsigned_not_there}
-use Rattle.blob_grammar.proofs.Readers.{read_from-reads}
-use Rattle.blob_grammar.proofs.Steps.{Alike, read_from-alike, nothing_left, left_at, left-field, left-out, left-none, left-end, not_empty}
-use Rattle.type_blobs.specs.declared.types.TypeToken.{TypeToken}
-use Rattle.type_blobs.specs.declared.types.TypeLimits.{TypeLimits}
-use Rattle.blob_grammar.specs.Allowed.{is_row}
-use Rattle.type_blobs.specs.Types.{is_type, token_of}
-use Rattle.type_blobs.specs.Numbers.{number_at}
-use Rattle.type_blobs.specs.Imports.{next_part, part_allows, text_of, import_of, imports, ImportItem, namespace, assembly_namespace}
-use Rattle.type_blobs.specs.Imports.{target, xml, alias, assembly_alias, namespace_alias, assembly_namespace_alias, target_alias}
-use Rattle.type_blobs.specs.declared.import_part.ImportPart.{ImportPart}
-use Rattle.type_blobs.specs.declared.import_part.ImportPart.TheVariants.{Alias, Assembly, Namespace, Target}
-use Rattle.type_blobs.specs.ImportReading.{imports_left, fields_left, text_at, assembly_at, target_at}
-use Rattle.type_blobs.proofs.NextStep.{Found, found}
-use Rattle.type_blobs.proofs.FieldsTaken.{takes, refuses}
+use Rattle.std.proofs.Common.{◌≡◌, ℕ, zero, suc, ◌+◌, ◌<◌, ◌≤◌, Bool, true, false, ◌&&◌, List, [], ◌∷◌, ◌++◌, length, drop, Option, Some, None, Ok, Err, refl, sym}
+use Rattle.std.{proofs.Common.{ap, ◌∙◌, arith}, specs.Prelude.{is_some, nat_le}}
+use Rattle.ppdb_base.specs.declared.{BlobFault.{BlobFault}, Code.TheVariants.{ValueRange}}
+use Rattle.blob_grammar.specs.{Grammar.{Value, number, unsigned}, Reading.{Reading}, Reader.{Left, placed, unsigned_at, push, close_and, is_empty}}
+use Rattle.blob_grammar.proofs.{Placed.{unsigned_there, unsigned_not_there}, Readers.{read_from-reads}, Steps.{Alike, read_from-alike, nothing_left, left_at}}
+use Rattle.blob_grammar.{proofs.Steps.{left-field, left-out, left-none, left-end, not_empty}, specs.Allowed.{is_row}}
+use Rattle.type_blobs.specs.{declared.types.TypeToken.{TypeToken}, declared.types.TypeLimits.{TypeLimits}, Types.{is_type, token_of}, Numbers.{number_at}}
+use Rattle.type_blobs.specs.Imports.{next_part, part_allows, text_of, import_of, imports, ImportItem, namespace, assembly_namespace, target, xml, alias}
+use Rattle.type_blobs.specs.{Imports.{assembly_alias, namespace_alias, assembly_namespace_alias, target_alias}, declared.import_part.ImportPart.{ImportPart}}
+use Rattle.type_blobs.specs.{declared.import_part.ImportPart.TheVariants.{Alias, Assembly, Namespace, Target}, ImportReading.{imports_left, fields_left, text_at}}
+use Rattle.type_blobs.{specs.ImportReading.{assembly_at, target_at}, proofs.NextStep.{Found, found}, proofs.FieldsTaken.{takes, refuses}}
 
 Any : List ImportItem → List ImportItem → Type 0
 Any a b = Unit {0}

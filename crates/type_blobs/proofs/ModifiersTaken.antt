@@ -1,24 +1,13 @@
 -- What a cursor of a constant has left where a modifier comes, and where none does.
-use Rattle.std.proofs.Common.{◌≡◌, ℕ, ◌+◌, ◌≤◌, Bool, true, false, ◌&&◌, List, [], ◌∷◌, length, drop, Option, Some, None, Result, Ok}
-use Rattle.std.proofs.Common.{Err, refl, sym, ap, subst, ◌∙◌, inl, inr}
-use Rattle.std.specs.Prelude.{◌==◌, is_some}
-use Rattle.std.proofs.lemmas.List.{drop_all}
-use Rattle.ppdb_base.specs.declared.BlobFault.{BlobFault}
-use Rattle.ppdb_base.specs.declared.Code.TheVariants.{BlobEnd, ValueRange}
-use Rattle.blob_grammar.specs.Grammar.{Value, number, integer, octets, unsigned, byte}
-use Rattle.blob_grammar.specs.Reader.{field_at, is_empty, Step, field, stop, invalid, stop_or, step}
-use Rattle.type_blobs.specs.declared.types.TypeLimits.{TypeLimits}
-use Rattle.type_blobs.specs.declared.types.TypeToken.{TypeToken}
-use Rattle.type_blobs.specs.declared.types.Modifier.{Modifier}
-use Rattle.type_blobs.specs.Types.{is_type, token_of}
-use Rattle.type_blobs.specs.Numbers.{number_at}
-use Rattle.type_blobs.specs.Constants.{constants, modifier_of, body_of, is_modifier, is_code, after_code}
-use Rattle.type_blobs.specs.ConstantReading.{Rest, ConstantLeft, ConstantEnd, invalid_modifier, begins_modifier, modifier_fault, finished}
-use Rattle.type_blobs.specs.ConstantReading.{end_of, left_of, constant_left, with_modifier}
-use Rattle.type_blobs.proofs.NextStep.{found, step-field, step-out, step-none, step-number, step-no_number}
-use Rattle.type_blobs.proofs.Rests.{push_rest}
-use Rattle.type_blobs.proofs.Codes.{modifier_is}
-use Rattle.type_blobs.proofs.ConstantRests.{rest, Steps, rest_goes, rest_closes, rest_invalid, rest_stop}
+use Rattle.std.proofs.Common.{◌≡◌, ℕ, ◌+◌, ◌≤◌, Bool, true, false, ◌&&◌, List, [], ◌∷◌, length, drop, Option, Some, None, Result, Ok, Err, refl, sym, ap, subst, ◌∙◌}
+use Rattle.std.{proofs.Common.{inl, inr}, specs.Prelude.{◌==◌, is_some}, proofs.lemmas.List.{drop_all}}
+use Rattle.ppdb_base.specs.declared.{BlobFault.{BlobFault}, Code.TheVariants.{BlobEnd, ValueRange}}
+use Rattle.blob_grammar.specs.{Grammar.{Value, number, integer, octets, unsigned, byte}, Reader.{field_at, is_empty, Step, field, stop, invalid, stop_or, step}}
+use Rattle.type_blobs.specs.{declared.types.TypeLimits.{TypeLimits}, declared.types.TypeToken.{TypeToken}, declared.types.Modifier.{Modifier}, Types.{is_type}}
+use Rattle.type_blobs.specs.{Types.{token_of}, Numbers.{number_at}, Constants.{constants, modifier_of, body_of, is_modifier, is_code, after_code}}
+use Rattle.type_blobs.specs.ConstantReading.{Rest, ConstantLeft, ConstantEnd, invalid_modifier, begins_modifier, modifier_fault, finished, end_of, left_of}
+use Rattle.type_blobs.{specs.ConstantReading.{constant_left, with_modifier}, proofs.NextStep.{found, step-field, step-out, step-none, step-number, step-no_number}}
+use Rattle.type_blobs.proofs.{Rests.{push_rest}, Codes.{modifier_is}, ConstantRests.{rest, Steps, rest_goes, rest_closes, rest_invalid, rest_stop}}
 
 module _ (limits : TypeLimits) (blob : List ℕ) where
   abbrev Type_at : ℕ → Result (TypeToken × ℕ) BlobFault → Type 0

@@ -1,12 +1,9 @@
 -- What the plain reader's next step is, by what stands at a place of a blob.
 use Rattle.std.proofs.Common.{◌≡◌, ℕ, ◌+◌, ◌<◌, Bool, true, false, ◌&&◌, List, [], ◌∷◌, length, drop, Some, None, Result, Ok, Err, refl, sym, ap, ◌∙◌, arith}
 use Rattle.std.proofs.lemmas.List.{drop_all, length-drop}
-use Rattle.ppdb_base.specs.declared.Code.{Code}
-use Rattle.ppdb_base.specs.declared.Code.TheVariants.{BlobEnd, ValueRange}
-use Rattle.ppdb_base.specs.declared.BlobFault.{BlobFault}
-use Rattle.blob_grammar.specs.Grammar.{Value, number, Form, unsigned, Grammar}
-use Rattle.blob_grammar.specs.Reader.{placed, unsigned_at, field_at, is_empty, field, stop, invalid, stop_or, if_allowed, step_at, step_in, step}
-use Rattle.blob_grammar.proofs.Placed.{unsigned_there, unsigned_not_there}
+use Rattle.ppdb_base.specs.declared.{Code.{Code}, Code.TheVariants.{BlobEnd, ValueRange}, BlobFault.{BlobFault}}
+use Rattle.blob_grammar.specs.{Grammar.{Value, number, Form, unsigned, Grammar}, Reader.{placed, unsigned_at, field_at, is_empty, field, stop, invalid, stop_or}}
+use Rattle.blob_grammar.{specs.Reader.{if_allowed, step_at, step_in, step}, proofs.Placed.{unsigned_there, unsigned_not_there}}
 use Rattle.type_blobs.specs.Numbers.{in_range, number_after, number_at}
 
 -- A number stands there, and is in range.

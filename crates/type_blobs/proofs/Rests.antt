@@ -1,12 +1,8 @@
 -- What is left of a blob and what has begun where it ends, a step of the plain reader at a time.
-use Rattle.std.proofs.Common.{◌≡◌, ℕ, ◌+◌, List, [], ◌∷◌, ◌++◌, drop, Option, Some, None, refl, ap, ◌∙◌}
-use Rattle.std.specs.List.{fold}
-use Rattle.std.proofs.lemmas.List.{drop-drop}
-use Rattle.blob_grammar.specs.Grammar.{Value, Grammar, Cut, closed, with_value}
-use Rattle.blob_grammar.specs.Reader.{Left, Step, field, stop, invalid, step, push, close_and, take_step, read_from, fields_from, begun_from}
-use Rattle.blob_grammar.proofs.Steps.{read_from-step}
+use Rattle.std.{proofs.Common.{◌≡◌, ℕ, ◌+◌, List, [], ◌∷◌, ◌++◌, drop, Option, Some, None, refl, ap, ◌∙◌}, specs.List.{fold}, proofs.lemmas.List.{drop-drop}}
+use Rattle.blob_grammar.specs.{Grammar.{Value, Grammar, Cut, closed, with_value}, Reader.{Left, Step, field, stop, invalid, step, push, close_and, take_step}}
+use Rattle.blob_grammar.{specs.Reader.{read_from, fields_from, begun_from}, proofs.Steps.{read_from-step}, proofs.PrefixFields.{place, take_field, fields_from-step}}
 use Rattle.type_blobs.specs.ConstantReading.{Rest, rest_at}
-use Rattle.blob_grammar.proofs.PrefixFields.{place, take_field, fields_from-step}
 
 abbrev pub push_rest : {R : Type 0} → R → Rest R → Rest R
 push_rest r found = record { left = push r found.left; begun = found.begun }

@@ -1,24 +1,17 @@
 -- What constant_into writes is read again.
 use Rattle.std.proofs.Common.{◌≡◌, ℕ, Bool, true, false, List, [], ◌∷◌, ◌++◌, length, Some, None, refl, sym, ap, subst, ◌∙◌, arith, append-nil}
-use Rattle.std.specs.Prelude.{All, is_some, if◌then◌else◌}
-use Rattle.std.specs.List.{flat_map}
-use Rattle.std.proofs.lemmas.List.Elements.{All-head, All-tail}
+use Rattle.std.{specs.Prelude.{All, is_some, if◌then◌else◌}, specs.List.{flat_map}, proofs.lemmas.List.Elements.{All-head, All-tail}}
 use Rattle.std.proofs.lemmas.Grind.{flat_map-append}
 use Rattle.cli_ints.specs.Shortest.{short_unsigned}
-use Rattle.blob_grammar.specs.Grammar.{Value, number, octets, unsigned, byte, fixed, rest, Field, Cut, bytes_of, IsAllowed, cut}
-use Rattle.blob_grammar.specs.Reader.{cut_from}
-use Rattle.blob_grammar.proofs.Written.{FollowFrom, follow-append, cut_from-append, Writes, EachMayAdd, fields_after, all_follow}
-use Rattle.blob_grammar.proofs.Written.{number_field, number_allowed, fields_longest}
-use Rattle.type_blobs.specs.declared.types.TypeLimits.{TypeLimits}
-use Rattle.type_blobs.specs.declared.types.TypeToken.{TypeToken}
-use Rattle.type_blobs.specs.declared.types.Modifier.{Modifier}
-use Rattle.type_blobs.specs.Types.{number_of, IsToken, IsThere}
-use Rattle.type_blobs.specs.Constants.{ConstantBody, primitive, enumerated, general, object, is_enumerable, is_general, is_string}
-use Rattle.type_blobs.specs.Constants.{is_text, is_code, size_of, body_of, modifier_of, after_two, constants}
-use Rattle.type_blobs.specs.ConstantReading.{ConstantLeft, body, ConstantReading}
-use Rattle.type_blobs.specs.Spelling.{modifier_spelling, body_spelling, constant_spelling, IsPrimitive, IsBody, IsBodyThere}
-use Rattle.type_blobs.proofs.Codes.{OfGeneral, of_general, OfPrimitive, of_primitive, primitive_range, enumerable_range, eq-is}
-use Rattle.type_blobs.proofs.WrittenNumbers.{number_small, token-back, type_is}
+use Rattle.blob_grammar.specs.{Grammar.{Value, number, octets, unsigned, byte, fixed, rest, Field, Cut, bytes_of, IsAllowed, cut}, Reader.{cut_from}}
+use Rattle.blob_grammar.proofs.Written.{FollowFrom, follow-append, cut_from-append, Writes, EachMayAdd, fields_after, all_follow, number_field, number_allowed}
+use Rattle.blob_grammar.proofs.Written.{fields_longest}
+use Rattle.type_blobs.specs.{declared.types.TypeLimits.{TypeLimits}, declared.types.TypeToken.{TypeToken}, declared.types.Modifier.{Modifier}, Types.{number_of}}
+use Rattle.type_blobs.specs.{Types.{IsToken, IsThere}, Constants.{ConstantBody, primitive, enumerated, general, object, is_enumerable, is_general, is_string}}
+use Rattle.type_blobs.specs.{Constants.{is_text, is_code, size_of, body_of, modifier_of, after_two, constants}, ConstantReading.{ConstantLeft, body}}
+use Rattle.type_blobs.specs.{ConstantReading.{ConstantReading}, Spelling.{modifier_spelling, body_spelling, constant_spelling, IsPrimitive, IsBody, IsBodyThere}}
+use Rattle.type_blobs.proofs.{Codes.{OfGeneral, of_general, OfPrimitive, of_primitive, primitive_range, enumerable_range, eq-is}, WrittenNumbers.{number_small}}
+use Rattle.type_blobs.proofs.WrittenNumbers.{token-back, type_is}
 
 abbrev code_field : ℕ → Field
 code_field code = record { bytes = code ∷ []; value = number code }

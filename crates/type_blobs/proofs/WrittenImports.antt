@@ -1,26 +1,16 @@
 -- What import_into writes is read again.
-use Rattle.std.proofs.Common.{◌≡◌, ℕ, zero, suc, ◌+◌, ◌^◌, ◌<◌, ◌≤◌, true, List, [], ◌∷◌, ◌++◌, length, Option, Some, None, refl, sym}
-use Rattle.std.proofs.Common.{ap, subst, ◌∙◌, arith, append_assoc, append-nil}
-use Rattle.std.specs.Prelude.{All, map, is_some, IsSome, nat_le, ◌&&◌}
-use Rattle.std.specs.List.{flat_map}
-use Rattle.std.proofs.lemmas.List.Elements.{All-head, All-tail}
-use Rattle.std.proofs.lemmas.Grind.{flat_map-append}
+use Rattle.std.proofs.Common.{◌≡◌, ℕ, zero, suc, ◌+◌, ◌^◌, ◌<◌, ◌≤◌, true, List, [], ◌∷◌, ◌++◌, length, Option, Some, None, refl, sym, ap, subst, ◌∙◌, arith}
+use Rattle.std.{proofs.Common.{append_assoc, append-nil}, specs.Prelude.{All, map, is_some, IsSome, nat_le, ◌&&◌}, specs.List.{flat_map}}
+use Rattle.std.proofs.lemmas.{List.Elements.{All-head, All-tail}, Grind.{flat_map-append}}
 use Rattle.cli_ints.specs.Shortest.{short_unsigned}
-use Rattle.blob_grammar.specs.Grammar.{number, Field, Cut, bytes_of, IsAllowed, cut}
-use Rattle.blob_grammar.specs.Reading.{Reading}
-use Rattle.blob_grammar.specs.Reader.{cut_from}
-use Rattle.blob_grammar.proofs.Written.{FollowFrom, follow-append, cut_from-append, fields_read, written_fields, placed_from-append}
-use Rattle.blob_grammar.proofs.Written.{number_field, number_allowed}
-use Rattle.type_blobs.specs.declared.types.TypeLimits.{TypeLimits}
-use Rattle.type_blobs.specs.declared.import_writer.ImportNumbers.{ImportNumbers}
-use Rattle.type_blobs.specs.Imports.{import_field, import_fields, import_indexes, text_index, parts_of, part_allows, next_part, next_allows, ImportItem, item_of, imports}
-use Rattle.type_blobs.specs.declared.import_part.ImportPart.{ImportPart}
-use Rattle.type_blobs.specs.declared.import_part.ImportField.{ImportField}
-use Rattle.blob_grammar.specs.Places.{placed_from}
-use Rattle.blob_grammar.proofs.PrefixFields.{fields-are}
-use Rattle.type_blobs.specs.declared.import_part.ImportPart.TheVariants.{Kind, Alias, Assembly, Namespace, Target}
-use Rattle.type_blobs.specs.Spelling.{part_number, import_spelling, IsImport, IsPartThere, import_item, StandFor, parts_at, fields_at}
-use Rattle.type_blobs.proofs.WrittenNumbers.{number_small, row_is, type_is}
+use Rattle.blob_grammar.{specs.Grammar.{number, Field, Cut, bytes_of, IsAllowed, cut}, specs.Reading.{Reading}, specs.Reader.{cut_from}, proofs.Written.{FollowFrom}}
+use Rattle.blob_grammar.proofs.Written.{follow-append, cut_from-append, fields_read, written_fields, placed_from-append, number_field, number_allowed}
+use Rattle.blob_grammar.{specs.Places.{placed_from}, proofs.PrefixFields.{fields-are}}
+use Rattle.type_blobs.specs.{declared.types.TypeLimits.{TypeLimits}, declared.import_writer.ImportNumbers.{ImportNumbers}, Imports.{import_field, import_fields}}
+use Rattle.type_blobs.specs.Imports.{import_indexes, text_index, parts_of, part_allows, next_part, next_allows, ImportItem, item_of, imports}
+use Rattle.type_blobs.specs.declared.import_part.{ImportPart.{ImportPart}, ImportField.{ImportField}, ImportPart.TheVariants.{Kind, Alias, Assembly, Namespace}}
+use Rattle.type_blobs.specs.{declared.import_part.ImportPart.TheVariants.{Target}, Spelling.{part_number, import_spelling, IsImport, IsPartThere, import_item}}
+use Rattle.type_blobs.{specs.Spelling.{StandFor, parts_at, fields_at}, proofs.WrittenNumbers.{number_small, row_is, type_is}}
 
 -- the fields of an import, and those of several
 abbrev part_fields : ImportNumbers → List ImportPart → List Field

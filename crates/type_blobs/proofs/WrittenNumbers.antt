@@ -1,9 +1,8 @@
 -- Numbers that are written, and the types that they name.
 use Rattle.std.proofs.Common.{◌≡◌, ℕ, ◌+◌, ◌*◌, ◌/◌, ◌%◌, ◌^◌, ◌<◌, ◌≤◌, true, refl, ap, ◌∙◌, arith, ◌⊎◌, inl, inr}
-use Rattle.type_blobs.specs.declared.types.TypeToken.{TypeToken}
-use Rattle.type_blobs.specs.declared.types.TypeLimits.{TypeLimits}
+use Rattle.type_blobs.specs.{declared.types.TypeToken.{TypeToken}, declared.types.TypeLimits.{TypeLimits}, Types.{table_of, tag_of, rows_of, is_type, token_of}}
+use Rattle.type_blobs.specs.Types.{number_of, IsToken, IsThere}
 use Rattle.blob_grammar.specs.Allowed.{is_row}
-use Rattle.type_blobs.specs.Types.{table_of, tag_of, rows_of, is_type, token_of, number_of, IsToken, IsThere}
 
 -- ---- the number of a type
 

@@ -1,17 +1,9 @@
 -- The rows in imports, a field at a time.
-use Rattle.std.proofs.Common.{◌≡◌, ℕ, zero, suc, ◌+◌, List, [], ◌∷◌, ◌++◌, length, slice_get, Option, Some, None, refl, ap, ◌∙◌}
-use Rattle.std.specs.List.{flat_map}
-use Rattle.blob_grammar.specs.Grammar.{Value, number, integer, octets, Field, Cut, closed, with_value}
-use Rattle.blob_grammar.specs.Places.{PlacedField, placed_from}
-use Rattle.blob_grammar.specs.Reader.{prefix_of}
-use Rattle.type_blobs.specs.declared.import_part.ImportField.{ImportField}
-use Rattle.type_blobs.specs.declared.import_part.ImportPart.{ImportPart}
-use Rattle.type_blobs.specs.declared.import_part.ImportPart.TheVariants.{Kind}
-use Rattle.type_blobs.specs.declared.types.TypeLimits.{TypeLimits}
-use Rattle.type_blobs.specs.Imports.{ImportItem, imports, import_of, parts_of, field_of, import_field, import_fields}
-use Rattle.type_blobs_rows.specs.declared.row.PlacedRow.{PlacedRow}
-use Rattle.type_blobs_rows.specs.Left.{kind_by, imported_left}
-use Rattle.type_blobs_rows.specs.Rows.{row_of, row_behind, import_row, import_rows}
+use Rattle.std.{proofs.Common.{◌≡◌, ℕ, zero, suc, ◌+◌, List, [], ◌∷◌, ◌++◌, length, slice_get, Option, Some, None, refl, ap, ◌∙◌}, specs.List.{flat_map}}
+use Rattle.blob_grammar.specs.{Grammar.{Value, number, integer, octets, Field, Cut, closed, with_value}, Places.{PlacedField, placed_from}, Reader.{prefix_of}}
+use Rattle.type_blobs.specs.declared.import_part.{ImportField.{ImportField}, ImportPart.{ImportPart}, ImportPart.TheVariants.{Kind}}
+use Rattle.type_blobs.specs.{declared.types.TypeLimits.{TypeLimits}, Imports.{ImportItem, imports, import_of, parts_of, field_of, import_field, import_fields}}
+use Rattle.type_blobs_rows.specs.{declared.row.PlacedRow.{PlacedRow}, Left.{kind_by, imported_left}, Rows.{row_of, row_behind, import_row, import_rows}}
 
 -- ---- the kind of the import that has begun
 

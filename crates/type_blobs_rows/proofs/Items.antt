@@ -1,12 +1,9 @@
 -- A walk over the fields of a blob, a field at a time: the items that are left, whatever the end.
 use Rattle.std.proofs.Common.{◌≡◌, ℕ, ◌+◌, Bool, true, false, ◌&&◌, List, [], ◌∷◌, ◌++◌, drop, Option, Some, None, Result, Ok, Err, refl, sym, ap, ◌∙◌}
 use Rattle.std.proofs.lemmas.List.{drop-drop}
-use Rattle.ppdb_base.specs.declared.Code.{Code}
-use Rattle.ppdb_base.specs.declared.Code.TheVariants.{BlobEnd}
-use Rattle.blob_grammar.specs.Grammar.{Value, number, Form, Grammar, Cut, with_value}
-use Rattle.blob_grammar.specs.Places.{PlacedField}
-use Rattle.blob_grammar.specs.Reader.{Left, field_at, as_value, code_of, is_empty, Step, stop_or, step_at, step_in, fields_left}
-use Rattle.blob_grammar.proofs.Walks.{told, after_step, fields_left-step, walk-field, walk-out}
+use Rattle.ppdb_base.specs.declared.{Code.{Code}, Code.TheVariants.{BlobEnd}}
+use Rattle.blob_grammar.specs.{Grammar.{Value, number, Form, Grammar, Cut, with_value}, Places.{PlacedField}, Reader.{Left, field_at, as_value, code_of, is_empty}}
+use Rattle.blob_grammar.{specs.Reader.{Step, stop_or, step_at, step_in, fields_left}, proofs.Walks.{told, after_step, fields_left-step, walk-field, walk-out}}
 use Rattle.cli_ints.specs.declared.IntFault.{IntFault}
 use Rattle.type_blobs_rows.specs.Found.{Has}
 

@@ -1,22 +1,12 @@
 -- The methods in async stepping information, a step at a time.
-use Rattle.std.proofs.Common.{◌≡◌, ℕ, ◌≤◌, List, [], ◌∷◌, ◌++◌, length, drop, Option, Some, None, refl, sym, ap, ◌∙◌, arith}
-use Rattle.std.specs.Prelude.{IfSome, unwrap_or}
+use Rattle.std.{proofs.Common.{◌≡◌, ℕ, ◌≤◌, List, [], ◌∷◌, ◌++◌, length, drop, Option, Some, None, refl, sym, ap, ◌∙◌, arith}, specs.Prelude.{IfSome, unwrap_or}}
 use Rattle.std.proofs.lemmas.List.{drop_all}
 use Rattle.ppdb_base.specs.declared.Code.TheVariants.{BlobEnd}
-use Rattle.blob_grammar.specs.Allowed.{is_row}
-use Rattle.blob_grammar.specs.Grammar.{Value, number, word, unsigned, Cut}
-use Rattle.blob_grammar.specs.Reader.{Left, field_at, unsigned_at, word_at}
-use Rattle.blob_grammar.proofs.PrefixFields.{fields-are}
-use Rattle.blob_grammar.proofs.Steps.{Alike}
-use Rattle.blob_grammar.proofs.Walks.{SameBegun, alike-begun, fields_left-alike, walk-fields}
-use Rattle.custom_info.specs.Fields.{is_offset}
-use Rattle.custom_info.specs.AsyncStepping.{async_stepping, Entry, catch_handler, await_step, is_stored, handler_of}
-use Rattle.type_blobs_rows.specs.declared.row.PlacedRow.{PlacedRow}
-use Rattle.type_blobs_rows.specs.Rows.{method_at, resume_method, resume_methods}
-use Rattle.type_blobs_rows.specs.Left.{methods_left}
-use Rattle.type_blobs_rows.specs.Found.{Has, OffsetIs, MethodIs, NextRowIs}
-use Rattle.type_blobs_rows.specs.Handlers.{HandlerIs}
-use Rattle.type_blobs_rows.proofs.Items.{items_at, items-none, items-no_number, items-number}
+use Rattle.blob_grammar.specs.{Allowed.{is_row}, Grammar.{Value, number, word, unsigned, Cut}, Reader.{Left, field_at, unsigned_at, word_at}}
+use Rattle.blob_grammar.proofs.{PrefixFields.{fields-are}, Steps.{Alike}, Walks.{SameBegun, alike-begun, fields_left-alike, walk-fields}}
+use Rattle.custom_info.specs.{Fields.{is_offset}, AsyncStepping.{async_stepping, Entry, catch_handler, await_step, is_stored, handler_of}}
+use Rattle.type_blobs_rows.specs.{declared.row.PlacedRow.{PlacedRow}, Rows.{method_at, resume_method, resume_methods}, Left.{methods_left}, Found.{Has, OffsetIs}}
+use Rattle.type_blobs_rows.{specs.Found.{MethodIs, NextRowIs}, specs.Handlers.{HandlerIs}, proofs.Items.{items_at, items-none, items-no_number, items-number}}
 
 -- both begin with the handler
 Begun : List Entry → List Entry → Type 0

@@ -1,30 +1,16 @@
 -- The types in the signature of a constant, a modifier or a body at a time.
-use Rattle.std.proofs.Common.{◌≡◌, ℕ, ◌+◌, ◌<◌, ◌≤◌, Bool, true, false, List, [], ◌∷◌, length, take, drop, zero, suc, Option, Some, None, Ok, Err, refl, sym}
-use Rattle.std.proofs.Common.{ap, subst, ◌∙◌, arith, ◌⊎◌, inl, inr}
-use Rattle.std.specs.Prelude.{nat_lt, IfSome, ◌==◌}
-use Rattle.std.proofs.lemmas.Bool.{cases_lt}
-use Rattle.std.proofs.lemmas.Bool.Decides.{nat_tests}
-use Rattle.std.proofs.lemmas.List.{drop_all, length-drop}
-use Rattle.ppdb_base.specs.declared.Code.{Code}
-use Rattle.ppdb_base.specs.declared.Code.TheVariants.{BlobEnd}
-use Rattle.blob_grammar.specs.Grammar.{Value, number, octets, Form, byte, rest, unsigned, fixed, Cut, with_value}
-use Rattle.blob_grammar.specs.Reader.{Left, field_at, unsigned_at}
-use Rattle.blob_grammar.proofs.Steps.{Alike}
-use Rattle.blob_grammar.proofs.Walks.{SameBegun, alike-begun, fields_left-alike, walk-fields}
-use Rattle.blob_grammar.proofs.PrefixFields.{fields-are}
-use Rattle.type_blobs.specs.declared.types.TypeLimits.{TypeLimits}
-use Rattle.type_blobs.specs.declared.types.Modifier.{Modifier}
-use Rattle.type_blobs.specs.Types.{is_type, token_of}
-use Rattle.type_blobs.specs.Constants.{constants, form, allows, is_modifier, is_code, is_enumerable, is_general, is_primitive, is_string, size_of, after_code}
+use Rattle.std.proofs.Common.{◌≡◌, ℕ, ◌+◌, ◌<◌, ◌≤◌, Bool, true, false, List, [], ◌∷◌, length, take, drop, zero, suc, Option, Some, None, Ok, Err, refl, sym, ap}
+use Rattle.std.{proofs.Common.{subst, ◌∙◌, arith, ◌⊎◌, inl, inr}, specs.Prelude.{nat_lt, IfSome, ◌==◌}, proofs.lemmas.Bool.{cases_lt}}
+use Rattle.std.proofs.lemmas.{Bool.Decides.{nat_tests}, List.{drop_all, length-drop}}
+use Rattle.ppdb_base.specs.declared.{Code.{Code}, Code.TheVariants.{BlobEnd}}
+use Rattle.blob_grammar.specs.{Grammar.{Value, number, octets, Form, byte, rest, unsigned, fixed, Cut, with_value}, Reader.{Left, field_at, unsigned_at}}
+use Rattle.blob_grammar.proofs.{Steps.{Alike}, Walks.{SameBegun, alike-begun, fields_left-alike, walk-fields}, PrefixFields.{fields-are}}
+use Rattle.type_blobs.specs.{declared.types.TypeLimits.{TypeLimits}, declared.types.Modifier.{Modifier}, Types.{is_type, token_of}, Constants.{constants, form}}
+use Rattle.type_blobs.specs.Constants.{allows, is_modifier, is_code, is_enumerable, is_general, is_primitive, is_string, size_of, after_code}
 use Rattle.type_blobs.proofs.Codes.{of_general, of_primitive, OfGeneral, OfPrimitive, enumerable_range, primitive_range}
-use Rattle.type_blobs_rows.specs.declared.row.PlacedRow.{PlacedRow}
-use Rattle.type_blobs_rows.specs.declared.row.Role.{Role}
-use Rattle.type_blobs_rows.specs.declared.row.Role.TheVariants.{Modifier as ModifierRole}
-use Rattle.type_blobs_rows.specs.Rows.{type_at, type_role, constant_type, constant_types}
-use Rattle.type_blobs_rows.specs.Left.{types_left}
-use Rattle.type_blobs_rows.specs.Skips.{skip_of, body_role}
-use Rattle.type_blobs_rows.specs.Found.{Has, TypeIs, NextRowIs}
-use Rattle.type_blobs_rows.proofs.Items.{items_at, items-over, items-none, items-out, items-field, items-no_number, items-number}
+use Rattle.type_blobs_rows.specs.declared.row.{PlacedRow.{PlacedRow}, Role.{Role}, Role.TheVariants.{Modifier as ModifierRole}}
+use Rattle.type_blobs_rows.specs.{Rows.{type_at, type_role, constant_type, constant_types}, Left.{types_left}, Skips.{skip_of, body_role}, Found.{Has, TypeIs}}
+use Rattle.type_blobs_rows.{specs.Found.{NextRowIs}, proofs.Items.{items_at, items-over, items-none, items-out, items-field, items-no_number, items-number}}
 
 Any : List Modifier → List Modifier → Type 0
 Any a b = Unit {0}

@@ -1,7 +1,5 @@
-use Rattle.std.proofs.Common.{◌≡◌, ◌-◌, ◌<◌, ◌≤◌, length, take, drop, arith, ◌∙◌, ap}
-use Rattle.std.proofs.lemmas.List.{take_rest, length-drop, length-take-le}
-use Rattle.blob_grammar.specs.Reader.{character_len}
-use Rattle.blob_grammar.proofs.Characters.{character_len-within, character-there}
+use Rattle.std.proofs.{Common.{◌≡◌, ◌-◌, ◌<◌, ◌≤◌, length, take, drop, arith, ◌∙◌, ap}, lemmas.List.{take_rest, length-drop, length-take-le}}
+use Rattle.blob_grammar.{specs.Reader.{character_len}, proofs.Characters.{character_len-within, character-there}}
 use Rattle.blob_grammar.proofs.character.character_field.Goals as goal
 
 pub slice_bounds-result-end : goal.slice_bounds-result-end

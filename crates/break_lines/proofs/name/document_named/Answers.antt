@@ -1,5 +1,4 @@
-use Rattle.std.proofs.Common.{◌≡◌, ◌∙◌, ap, sym, arith, true, false}
-use Rattle.std.specs.Str.{bytes_eq}
+use Rattle.std.{proofs.Common.{◌≡◌, ◌∙◌, ap, sym, arith, true, false}, specs.Str.{bytes_eq}}
 use Rattle.ppdb_values.specs.Documents.{document_of}
 use Rattle.ppdb_verify.specs.Views.{raw_file}
 use Rattle.break_lines.proofs.Documents.{named_here, named_nowhere, others_more}

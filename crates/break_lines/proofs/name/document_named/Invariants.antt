@@ -1,8 +1,5 @@
-use Rattle.std.proofs.Common.{◌≡◌, ◌+◌, ◌≤◌, ◌<◌, ℕ, false}
-use Rattle.std.specs.Prelude.{slice_index_or}
-use Rattle.std.specs.Str.{bytes_eq}
-use Rattle.ppdb_values.specs.declared.file.DocumentValue.{DocumentValue}
-use Rattle.ppdb_values.specs.Value.{value_of}
+use Rattle.std.{proofs.Common.{◌≡◌, ◌+◌, ◌≤◌, ◌<◌, ℕ, false}, specs.Prelude.{slice_index_or}, specs.Str.{bytes_eq}}
+use Rattle.ppdb_values.specs.{declared.file.DocumentValue.{DocumentValue}, Value.{value_of}}
 use Rattle.ppdb_verify.specs.Views.{raw_file}
 use Rattle.break_lines.proofs.name.document_named.Given as goal
 

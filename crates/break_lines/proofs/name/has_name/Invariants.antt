@@ -1,5 +1,4 @@
-use Rattle.std.proofs.Common.{◌≡◌, None, length}
-use Rattle.std.specs.Str.{bytes_eq}
+use Rattle.std.{proofs.Common.{◌≡◌, None, length}, specs.Str.{bytes_eq}}
 use Rattle.break_lines.specs.Laws.{joined, parts_after}
 use Rattle.break_lines.proofs.name.has_name.Given as goal
 

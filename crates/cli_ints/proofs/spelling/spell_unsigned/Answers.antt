@@ -1,5 +1,4 @@
-use Rattle.std.proofs.Common.{arith}
-use Rattle.std.proofs.lemmas.Grind.{common_steps}
+use Rattle.std.proofs.{Common.{arith}, lemmas.Grind.{common_steps}}
 use Rattle.cli_ints.proofs.Shortest.{is-short_unsigned}
 use Rattle.cli_ints.proofs.spelling.spell_unsigned.Goals as goal
 

@@ -1,7 +1,5 @@
 use Rattle.blob_grammar.proofs.Unique.{read-once}
-use Rattle.custom_info.specs.AsyncStepping.{async_stepping}
-use Rattle.custom_info.specs.HoistedScopes.{hoisted_scopes}
-use Rattle.custom_info.specs.TypeDocuments.{type_documents}
+use Rattle.custom_info.specs.{AsyncStepping.{async_stepping}, HoistedScopes.{hoisted_scopes}, TypeDocuments.{type_documents}}
 use Rattle.custom_info.proofs.laws.customs_are_read_once.Goals as goal
 
 pub returns-clause-steps : goal.returns-clause-steps

@@ -1,5 +1,4 @@
-use Rattle.std.proofs.Common.{sym, arith}
-use Rattle.std.proofs.lemmas.Result.{err_from_is_err_and}
+use Rattle.std.proofs.{Common.{sym, arith}, lemmas.Result.{err_from_is_err_and}}
 use Rattle.custom_info.proofs.RowsLeft.{at_end, no_row, a_row}
 use Rattle.custom_info.proofs.rows.row_at.Goals as goal
 

@@ -1,8 +1,6 @@
-use Rattle.std.proofs.Common.{◌+◌, sym, ap, ◌∙◌, arith}
-use Rattle.std.proofs.lemmas.Result.{err_from_is_err_and}
+use Rattle.std.proofs.{Common.{◌+◌, sym, ap, ◌∙◌, arith}, lemmas.Result.{err_from_is_err_and}}
 use Rattle.blob_grammar.specs.Reader.{push}
-use Rattle.custom_info.specs.HoistedScopes.{slots_left}
-use Rattle.custom_info.proofs.SlotsLeft.{at_end, no_start, no_length, a_slot}
+use Rattle.custom_info.{specs.HoistedScopes.{slots_left}, proofs.SlotsLeft.{at_end, no_start, no_length, a_slot}}
 use Rattle.custom_info.proofs.slots.slot_at.Goals as goal
 
 pub returns-then-at-blob : goal.returns-then-at-blob

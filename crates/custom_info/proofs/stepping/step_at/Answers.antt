@@ -1,5 +1,4 @@
-use Rattle.std.proofs.Common.{sym, arith}
-use Rattle.std.proofs.lemmas.Result.{err_from_is_err_and}
+use Rattle.std.proofs.{Common.{sym, arith}, lemmas.Result.{err_from_is_err_and}}
 use Rattle.custom_info.proofs.StepsLeft.{at_end, no_pause, no_resume, no_method, a_step}
 use Rattle.custom_info.proofs.stepping.step_at.Goals as goal
 

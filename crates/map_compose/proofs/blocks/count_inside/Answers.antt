@@ -1,7 +1,5 @@
 use Rattle.std.proofs.Common.{arith, ◌-◌, length, drop}
-use Rattle.map_compose.specs.Lengths.{Inside}
-use Rattle.map_compose.proofs.Prefixes.{all_drop}
-use Rattle.map_compose.proofs.Insides.{each_at, inside_ends, all_take, piece_runs, past_kept, counted_joins}
+use Rattle.map_compose.{specs.Lengths.{Inside}, proofs.Prefixes.{all_drop}, proofs.Insides.{each_at, inside_ends, all_take, piece_runs, past_kept, counted_joins}}
 use Rattle.map_compose.proofs.Sums.{same_long, sums_ordered, sums_between}
 use Rattle.map_compose.proofs.blocks.count_inside.Goals as goal
 

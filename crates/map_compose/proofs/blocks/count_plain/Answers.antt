@@ -1,8 +1,6 @@
 use Rattle.std.proofs.Common.{arith}
-use Rattle.map_compose.specs.Lengths.{Inside}
-use Rattle.map_compose.proofs.Insides.{all_take, piece_runs, kept_inside, plain_counted}
-use Rattle.map_compose.proofs.Putting.{ok_then}
-use Rattle.map_compose.proofs.Sums.{same_long, sums_ordered, sums_before}
+use Rattle.map_compose.{specs.Lengths.{Inside}, proofs.Insides.{all_take, piece_runs, kept_inside, plain_counted}, proofs.Putting.{ok_then}, proofs.Sums.{same_long}}
+use Rattle.map_compose.proofs.Sums.{sums_ordered, sums_before}
 use Rattle.map_compose.proofs.blocks.count_plain.Goals as goal
 
 pub bounds-sums-last : goal.bounds-sums-last

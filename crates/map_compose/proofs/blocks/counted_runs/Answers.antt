@@ -1,8 +1,5 @@
 use Rattle.std.proofs.Common.{arith}
-use Rattle.map_compose.proofs.Gathering.{few_runs}
-use Rattle.map_compose.proofs.Digits.{few_old}
-use Rattle.map_compose.proofs.Insides.{inside_small}
-use Rattle.map_compose.proofs.Sums.{few_new, lines_length}
+use Rattle.map_compose.proofs.{Gathering.{few_runs}, Digits.{few_old}, Insides.{inside_small}, Sums.{few_new, lines_length}}
 use Rattle.map_compose.proofs.blocks.counted_runs.Goals as goal
 
 pub returns : goal.returns

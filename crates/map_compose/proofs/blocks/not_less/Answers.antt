@@ -1,5 +1,4 @@
-use Rattle.std.proofs.Common.{rules, ◌+◌, nat_lt}
-use Rattle.std.proofs.lemmas.List.Sorted.{IsPartitionPoint-from_clause, IsPartitionedBy-ltb}
+use Rattle.std.proofs.{Common.{rules, ◌+◌, nat_lt}, lemmas.List.Sorted.{IsPartitionPoint-from_clause, IsPartitionedBy-ltb}}
 use Rattle.ppdb_base.specs.declared.offsets.Run.{Run}
 use Rattle.map_compose.proofs.Insides.{olds_rise, count_less}
 use Rattle.map_compose.proofs.blocks.not_less.Goals as goal

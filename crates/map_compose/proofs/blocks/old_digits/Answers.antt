@@ -1,8 +1,5 @@
-use Rattle.std.proofs.Common.{arith, refl, sym, ap, ◌∙◌, ◌≡◌, ◌^◌, ◌*◌, add-one}
-use Rattle.std.proofs.Math.Nat.{pow-le-pow_right, pow-suc}
-use Rattle.map_compose.proofs.Gathering.{few_runs}
-use Rattle.map_compose.specs.Lengths.{not_less}
-use Rattle.map_compose.proofs.Digits.{capped, capped_one, capped_next, capped_all, capped_few, few_less}
+use Rattle.std.proofs.{Common.{arith, refl, sym, ap, ◌∙◌, ◌≡◌, ◌^◌, ◌*◌, add-one}, Math.Nat.{pow-le-pow_right, pow-suc}}
+use Rattle.map_compose.{proofs.Gathering.{few_runs}, specs.Lengths.{not_less}, proofs.Digits.{capped, capped_one, capped_next, capped_all, capped_few, few_less}}
 use Rattle.map_compose.proofs.Insides.{inside_small}
 use Rattle.map_compose.proofs.blocks.old_digits.Goals as goal
 

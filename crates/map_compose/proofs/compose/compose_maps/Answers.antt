@@ -1,9 +1,7 @@
 use Rattle.std.proofs.Common.{arith, sym, ap, subst, ◌∙◌, ◌≡◌, ◌≤◌, length}
 use Rattle.ppdb_maps_text.specs.MapTexts.{map_text}
 use Rattle.ppdb_maps.specs.Text.{IsMapOf}
-use Rattle.map_compose.specs.Composed.{composed}
-use Rattle.map_compose.specs.Composition.{IsTextOfBoth}
-use Rattle.map_compose.proofs.Readable.{composed_is_readable, text_of_both}
+use Rattle.map_compose.{specs.Composed.{composed}, specs.Composition.{IsTextOfBoth}, proofs.Readable.{composed_is_readable, text_of_both}}
 use Rattle.map_compose.proofs.compose.compose_maps.Goals as goal
 
 pub returns-then-bytes-clause-refused : goal.returns-then-bytes-clause-refused

@@ -1,5 +1,4 @@
-use Rattle.map_compose.specs.Composed.{composed}
-use Rattle.map_compose.proofs.Counting.{counts_all, version_few}
+use Rattle.map_compose.{specs.Composed.{composed}, proofs.Counting.{counts_all, version_few}}
 use Rattle.map_compose.proofs.compose.counted_map.Goals as goal
 
 pub put_head-requires : goal.put_head-requires

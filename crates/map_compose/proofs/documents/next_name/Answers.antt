@@ -1,7 +1,5 @@
-use Rattle.std.proofs.Common.{ap, sym, ◌∙◌}
-use Rattle.std.specs.Prelude.{option_copied}
-use Rattle.map_compose.specs.Composed.{named}
-use Rattle.map_compose.proofs.Names.{left_none, left_own, left_other, left_less, left_more, left_same}
+use Rattle.std.{proofs.Common.{ap, sym, ◌∙◌}, specs.Prelude.{option_copied}}
+use Rattle.map_compose.{specs.Composed.{named}, proofs.Names.{left_none, left_own, left_other, left_less, left_more, left_same}}
 use Rattle.map_compose.proofs.documents.next_name.Goals as goal
 
 pub returns-in-None-None : goal.returns-in-None-None

@@ -1,9 +1,6 @@
 use Rattle.std.proofs.Common.{ap, [], ◌∷◌}
 use Rattle.ppdb_maps.specs.declared.line.Line.TheVariants.{Document}
-use Rattle.map_compose.specs.Composed.{document_entry}
-use Rattle.map_compose.specs.Parts.{names_left}
-use Rattle.map_compose.proofs.NameLengths.{left_short}
-use Rattle.map_compose.proofs.Putting.{names_say, some_next, says_one}
+use Rattle.map_compose.{specs.Composed.{document_entry}, specs.Parts.{names_left}, proofs.NameLengths.{left_short}, proofs.Putting.{names_say, some_next, says_one}}
 use Rattle.map_compose.proofs.documents.put_documents.Goals as goal
 
 pub put_name-requires-clause-short : goal.put_name-requires-clause-short

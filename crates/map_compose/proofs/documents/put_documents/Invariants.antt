@@ -1,8 +1,5 @@
 use Rattle.std.proofs.Common.{length}
-use Rattle.map_compose.specs.Parts.{names_left}
-use Rattle.map_compose.specs.Says.{documents_say}
-use Rattle.map_compose.specs.Spelled.{AreLengthsOf}
-use Rattle.map_compose.proofs.Putting.{PutSome, names_say}
+use Rattle.map_compose.{specs.Parts.{names_left}, specs.Says.{documents_say}, specs.Spelled.{AreLengthsOf}, proofs.Putting.{PutSome, names_say}}
 use Rattle.map_compose.proofs.documents.put_documents.Given as goal
 
 abbrev pub invariant-names : goal.invariant-names

@@ -1,11 +1,7 @@
 use Rattle.std.proofs.Common.{ap, sym, subst, ◌∙◌}
-use Rattle.ppdb_maps.specs.declared.line.Line.TheVariants.{Document}
-use Rattle.ppdb_maps.specs.Map.{moved_name}
+use Rattle.ppdb_maps.specs.{declared.line.Line.TheVariants.{Document}, Map.{moved_name}}
 use Rattle.ppdb_maps_text.specs.MapTexts.{ended, line_text}
-use Rattle.map_compose.specs.Composed.{document_entry}
-use Rattle.map_compose.specs.Fits.{IsShort}
-use Rattle.map_compose.specs.Spelled.{spelled_length}
-use Rattle.map_compose.proofs.NameLengths.{line_counted, moved_short}
+use Rattle.map_compose.{specs.Composed.{document_entry}, specs.Fits.{IsShort}, specs.Spelled.{spelled_length}, proofs.NameLengths.{line_counted, moved_short}}
 use Rattle.map_compose.proofs.documents.put_name.Goals as goal
 
 pub of_moved-new-requires-clause-short : goal.of_moved-new-requires-clause-short

@@ -1,5 +1,4 @@
-use Rattle.std.proofs.Common.{length, take, ◌≤◌, ◌-◌}
-use Rattle.std.specs.List.{AllByRecursion}
+use Rattle.std.{proofs.Common.{length, take, ◌≤◌, ◌-◌}, specs.List.{AllByRecursion}}
 use Rattle.map_compose.specs.Fits.{IsShortLine}
 use Rattle.map_compose.proofs.fits.names_fit.Given as goal
 

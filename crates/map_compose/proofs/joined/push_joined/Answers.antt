@@ -1,7 +1,6 @@
 use Rattle.std.proofs.Common.{arith, sym, length, ◌<◌}
 use Rattle.ppdb_maps.specs.Says.{offsets_of, lined_runs}
-use Rattle.map_compose.proofs.Gathering.{run_short, few_runs, gathers_none, gathers_next, gathers_all}
-use Rattle.map_compose.proofs.Putting.{within, ok_then}
+use Rattle.map_compose.proofs.{Gathering.{run_short, few_runs, gathers_none, gathers_next, gathers_all}, Putting.{within, ok_then}}
 use Rattle.map_compose.proofs.joined.push_joined.Goals as goal
 
 pub runs-init : goal.runs-init

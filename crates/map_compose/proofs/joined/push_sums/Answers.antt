@@ -1,7 +1,5 @@
 use Rattle.std.proofs.Common.{arith, refl, ap, ◌∙◌}
-use Rattle.map_compose.specs.Lengths.{sums_from}
-use Rattle.map_compose.proofs.Sums.{sums_next, digits_next}
-use Rattle.map_compose.proofs.Putting.{take_over}
+use Rattle.map_compose.{specs.Lengths.{sums_from}, proofs.Sums.{sums_next, digits_next}, proofs.Putting.{take_over}}
 use Rattle.map_compose.proofs.joined.push_sums.Goals as goal
 
 pub runs-init : goal.runs-init

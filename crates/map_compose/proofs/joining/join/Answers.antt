@@ -1,7 +1,5 @@
 use Rattle.std.proofs.Common.{sym, ap, ◌≡◌, ◌∙◌, false, subst, Some, None}
-use Rattle.map_compose.specs.Runs.{goes_on}
-use Rattle.map_compose.specs.Joining.{JoinsOne}
-use Rattle.map_compose.proofs.JoinedRuns.{both, joins_first, joins_on, joins_apart, ends_on}
+use Rattle.map_compose.{specs.Runs.{goes_on}, specs.Joining.{JoinsOne}, proofs.JoinedRuns.{both, joins_first, joins_on, joins_apart, ends_on}}
 use Rattle.map_compose.proofs.joining.join.Goals as goal
 
 pub returns-in-None-clause-joins : goal.returns-in-None-clause-joins

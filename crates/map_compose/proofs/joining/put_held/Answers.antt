@@ -1,8 +1,6 @@
-use Rattle.std.proofs.Common.{map, sym, subst}
-use Rattle.std.specs.Prelude.{option_to_list}
+use Rattle.std.{proofs.Common.{map, sym, subst}, specs.Prelude.{option_to_list}}
 use Rattle.ppdb_maps.specs.declared.line.Line.TheVariants.{Kept}
-use Rattle.map_compose.specs.Says.{PutsLines}
-use Rattle.map_compose.proofs.Putting.{says_none, says_one, ok_then}
+use Rattle.map_compose.{specs.Says.{PutsLines}, proofs.Putting.{says_none, says_one, ok_then}}
 use Rattle.map_compose.proofs.joining.put_held.Goals as goal
 
 pub returns-in-None : goal.returns-in-None

@@ -1,9 +1,6 @@
-use Rattle.std.proofs.Common.{arith, ap, length, sym, ◌∙◌}
-use Rattle.std.specs.List.{list_any}
+use Rattle.std.{proofs.Common.{arith, ap, length, sym, ◌∙◌}, specs.List.{list_any}}
 use Rattle.ppdb_maps_text.specs.MapTexts.{olds_of}
-use Rattle.map_compose.specs.Composed.{composed_image}
-use Rattle.map_compose.specs.Leaving.{leaves}
-use Rattle.map_compose.proofs.Crossing.{sources_are, any_next, any_this}
+use Rattle.map_compose.{specs.Composed.{composed_image}, specs.Leaving.{leaves}, proofs.Crossing.{sources_are, any_next, any_this}}
 use Rattle.map_compose.proofs.leaving.rows_leave.Goals as goal
 
 pub rows-init : goal.rows-init

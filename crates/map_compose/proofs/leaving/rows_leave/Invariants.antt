@@ -1,8 +1,5 @@
-use Rattle.std.proofs.Common.{◌≡◌, length}
-use Rattle.std.specs.List.{list_any}
-use Rattle.map_compose.specs.Composed.{composed_image}
-use Rattle.map_compose.specs.Leaving.{leaves, rows_leave}
-use Rattle.map_compose.specs.Parts.{olds_left}
+use Rattle.std.{proofs.Common.{◌≡◌, length}, specs.List.{list_any}}
+use Rattle.map_compose.specs.{Composed.{composed_image}, Leaving.{leaves, rows_leave}, Parts.{olds_left}}
 use Rattle.map_compose.proofs.leaving.rows_leave.Given as goal
 
 abbrev pub invariant-rows : goal.invariant-rows

@@ -1,5 +1,4 @@
-use Rattle.std.proofs.Common.{ap, sym, ◌∙◌}
-use Rattle.std.specs.Option.{option_or}
+use Rattle.std.{proofs.Common.{ap, sym, ◌∙◌}, specs.Option.{option_or}}
 use Rattle.ppdb_maps.specs.Map.{count_of}
 use Rattle.map_compose.proofs.Crossing.{none_counted}
 use Rattle.map_compose.proofs.leaving.table_leaves.Goals as goal

@@ -1,7 +1,5 @@
-use Rattle.std.proofs.Common.{arith, sym, subst, ◌≡◌, ◌∙◌, false}
-use Rattle.std.specs.List.{list_any, range_with_len}
-use Rattle.map_compose.specs.Leaving.{rows_leave}
-use Rattle.map_compose.proofs.Crossing.{range_none, range_some}
+use Rattle.std.{proofs.Common.{arith, sym, subst, ◌≡◌, ◌∙◌, false}, specs.List.{list_any, range_with_len}}
+use Rattle.map_compose.{specs.Leaving.{rows_leave}, proofs.Crossing.{range_none, range_some}}
 use Rattle.map_compose.proofs.leaving.tables_leave.Goals as goal
 
 pub tables-preserved : goal.tables-preserved

@@ -1,5 +1,4 @@
-use Rattle.std.proofs.Common.{◌≡◌, false}
-use Rattle.std.specs.List.{list_any, range_with_len}
+use Rattle.std.{proofs.Common.{◌≡◌, false}, specs.List.{list_any, range_with_len}}
 use Rattle.map_compose.specs.Leaving.{rows_leave}
 use Rattle.map_compose.proofs.leaving.tables_leave.Given as goal
 

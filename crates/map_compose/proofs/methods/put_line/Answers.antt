@@ -1,16 +1,8 @@
-use Rattle.std.proofs.Common.{sym, ap, subst, ◌∙◌, ◌≡◌, ◌∷◌, map, Some}
-use Rattle.std.specs.Option.{option_map, option_copied}
-use Rattle.ppdb_maps.specs.declared.line.Line.TheVariants.{Method, Kept}
-use Rattle.ppdb_maps.specs.Map.{method_line, offsets_in}
-use Rattle.ppdb_maps.specs.Says.{lined_runs, sizes_of, offsets_of}
-use Rattle.map_compose.specs.Composition.{sizes_then}
-use Rattle.map_compose.specs.Joining.{AreRuns, runs_of, runs_after, lent}
-use Rattle.map_compose.proofs.Following.{follows_image}
-use Rattle.map_compose.specs.Laws.{Apart}
-use Rattle.map_compose.specs.Lengths.{SumsOf}
-use Rattle.map_compose.proofs.Lined.{others_run, others_apart, line_is}
-use Rattle.map_compose.proofs.Places.{long, offset_runs}
-use Rattle.map_compose.proofs.Putting.{ok_then, says_first, says_same}
+use Rattle.std.{proofs.Common.{sym, ap, subst, ◌∙◌, ◌≡◌, ◌∷◌, map, Some}, specs.Option.{option_map, option_copied}}
+use Rattle.ppdb_maps.specs.{declared.line.Line.TheVariants.{Method, Kept}, Map.{method_line, offsets_in}, Says.{lined_runs, sizes_of, offsets_of}}
+use Rattle.map_compose.{specs.Composition.{sizes_then}, specs.Joining.{AreRuns, runs_of, runs_after, lent}, proofs.Following.{follows_image}, specs.Laws.{Apart}}
+use Rattle.map_compose.{specs.Lengths.{SumsOf}, proofs.Lined.{others_run, others_apart, line_is}, proofs.Places.{long, offset_runs}, proofs.Putting.{ok_then}}
+use Rattle.map_compose.proofs.Putting.{says_first, says_same}
 use Rattle.map_compose.proofs.methods.put_line.Goals as goal
 
 pub put_runs-requires-clause-line : goal.put_runs-requires-clause-line

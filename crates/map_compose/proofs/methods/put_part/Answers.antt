@@ -1,7 +1,5 @@
-use Rattle.std.proofs.Common.{arith, ap, length}
-use Rattle.std.specs.List.{flat_map}
-use Rattle.map_compose.specs.Parts.{part_says, all_numbers}
-use Rattle.map_compose.proofs.Putting.{some_none, some_next, some_all}
+use Rattle.std.{proofs.Common.{arith, ap, length}, specs.List.{flat_map}}
+use Rattle.map_compose.{specs.Parts.{part_says, all_numbers}, proofs.Putting.{some_none, some_next, some_all}}
 use Rattle.map_compose.proofs.methods.put_part.Goals as goal
 
 pub methods-init : goal.methods-init

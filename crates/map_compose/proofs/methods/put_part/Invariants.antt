@@ -1,8 +1,5 @@
-use Rattle.std.proofs.Common.{length}
-use Rattle.std.specs.List.{flat_map}
-use Rattle.map_compose.specs.Gathered.{IsGatheredOf}
-use Rattle.map_compose.specs.Parts.{part_says, all_numbers, numbers_left}
-use Rattle.map_compose.proofs.Putting.{PutSome}
+use Rattle.std.{proofs.Common.{length}, specs.List.{flat_map}}
+use Rattle.map_compose.{specs.Gathered.{IsGatheredOf}, specs.Parts.{part_says, all_numbers, numbers_left}, proofs.Putting.{PutSome}}
 use Rattle.map_compose.proofs.methods.put_part.Given as goal
 
 abbrev pub invariant-methods : goal.invariant-methods

@@ -1,7 +1,5 @@
 use Rattle.std.proofs.Common.{arith, sym, ap, subst, drop, Some, ◌≡◌, ◌∙◌, ◌+◌, ◌-◌, ◌/◌}
-use Rattle.map_compose.specs.Composed.{named}
-use Rattle.map_compose.proofs.NameLengths.{Beyond, name_there, below_middle, beyond_middle, no_line}
-use Rattle.map_compose.proofs.Names.{same_name}
+use Rattle.map_compose.{specs.Composed.{named}, proofs.NameLengths.{Beyond, name_there, below_middle, beyond_middle, no_line}, proofs.Names.{same_name}}
 use Rattle.map_compose.proofs.name_lengths.line_of.Goals as goal
 
 pub halves-preserved-in-Less : goal.halves-preserved-in-Less

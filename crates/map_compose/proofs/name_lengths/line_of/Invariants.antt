@@ -1,6 +1,5 @@
 use Rattle.std.proofs.Common.{◌≤◌, ◌-◌, take, drop, length}
-use Rattle.map_compose.specs.Composed.{named}
-use Rattle.map_compose.proofs.NameLengths.{Below, Beyond}
+use Rattle.map_compose.{specs.Composed.{named}, proofs.NameLengths.{Below, Beyond}}
 use Rattle.map_compose.proofs.name_lengths.line_of.Given as goal
 
 abbrev pub invariant-halves : goal.invariant-halves

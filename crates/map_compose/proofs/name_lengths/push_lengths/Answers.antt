@@ -1,6 +1,5 @@
 use Rattle.std.proofs.Common.{arith, sym, ap, length, ◌<◌, ◌∙◌}
-use Rattle.map_compose.proofs.NameLengths.{line_inside, lengths_of, lengths_next, no_line_past}
-use Rattle.map_compose.proofs.Putting.{take_past}
+use Rattle.map_compose.proofs.{NameLengths.{line_inside, lengths_of, lengths_next, no_line_past}, Putting.{take_past}}
 use Rattle.map_compose.proofs.name_lengths.push_lengths.Goals as goal
 
 pub lines-preserved : goal.lines-preserved

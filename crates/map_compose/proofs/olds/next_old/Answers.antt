@@ -1,9 +1,6 @@
-use Rattle.std.proofs.Common.{ap, sym, ◌∙◌, map}
-use Rattle.std.specs.Prelude.{is_some}
-use Rattle.ppdb_maps.specs.declared.entries.RowLine.{RowLine}
-use Rattle.ppdb_maps.specs.declared.entries.CrossLine.{CrossLine}
-use Rattle.ppdb_maps.specs.declared.entries.GoneLine.{GoneLine}
-use Rattle.ppdb_maps.specs.Map.{rows_of, crossed_of, gone_of}
+use Rattle.std.{proofs.Common.{ap, sym, ◌∙◌, map}, specs.Prelude.{is_some}}
+use Rattle.ppdb_maps.specs.{declared.entries.RowLine.{RowLine}, declared.entries.CrossLine.{CrossLine}, declared.entries.GoneLine.{GoneLine}, Map.{rows_of}}
+use Rattle.ppdb_maps.specs.Map.{crossed_of, gone_of}
 use Rattle.map_compose.proofs.Thrice.{left_passed, left_ended, rows_rise, crossed_rise, gone_rise, rows_few, crossed_few, gone_few}
 use Rattle.map_compose.proofs.olds.next_old.Goals as goal
 

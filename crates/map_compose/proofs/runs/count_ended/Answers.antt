@@ -1,6 +1,4 @@
-use Rattle.std.proofs.Common.{rules, arith, leb, leb-true}
-use Rattle.std.proofs.lemmas.Bool.{leb-false}
-use Rattle.std.proofs.lemmas.List.Sorted.{IsPartitionPoint-from_clause, IsPartitionedBy-leb}
+use Rattle.std.proofs.{Common.{rules, arith, leb, leb-true}, lemmas.Bool.{leb-false}, lemmas.List.Sorted.{IsPartitionPoint-from_clause, IsPartitionedBy-leb}}
 use Rattle.ppdb_base.specs.Offsets.{end_of}
 use Rattle.ppdb_maps.proofs.Searching.{ends_rise}
 use Rattle.map_compose.proofs.runs.count_ended.Goals as goal

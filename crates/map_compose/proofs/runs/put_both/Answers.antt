@@ -1,8 +1,6 @@
 use Rattle.std.proofs.Common.{arith, sym, length, ◌<◌}
 use Rattle.ppdb_maps.specs.Says.{offsets_of, lined_runs}
-use Rattle.map_compose.specs.Runs.{met}
-use Rattle.map_compose.proofs.Gathering.{run_short, few_runs, met_next, met_past}
-use Rattle.map_compose.proofs.JoinedRuns.{joins_none, joins_all}
+use Rattle.map_compose.{specs.Runs.{met}, proofs.Gathering.{run_short, few_runs, met_next, met_past}, proofs.JoinedRuns.{joins_none, joins_all}}
 use Rattle.map_compose.proofs.Putting.{within, ok_then}
 use Rattle.map_compose.proofs.runs.put_both.Goals as goal
 

@@ -1,7 +1,6 @@
 use Rattle.std.proofs.Common.{take, length, ◌≤◌, ◌-◌, None}
 use Rattle.ppdb_maps.specs.Says.{offsets_of, lined_runs}
-use Rattle.map_compose.specs.Runs.{met}
-use Rattle.map_compose.specs.Joining.{Joins}
+use Rattle.map_compose.specs.{Runs.{met}, Joining.{Joins}}
 use Rattle.map_compose.proofs.runs.put_both.Given as goal
 
 abbrev pub invariant-runs : goal.invariant-runs

@@ -1,8 +1,6 @@
 use Rattle.std.proofs.Common.{arith, sym, length, ◌<◌}
 use Rattle.ppdb_maps.specs.Says.{offsets_of, lined_runs}
-use Rattle.map_compose.proofs.Gathering.{run_short, few_runs, joins_next, joins_past}
-use Rattle.map_compose.proofs.JoinedRuns.{joins_none, joins_all}
-use Rattle.map_compose.proofs.Putting.{within, ok_then}
+use Rattle.map_compose.proofs.{Gathering.{run_short, few_runs, joins_next, joins_past}, JoinedRuns.{joins_none, joins_all}, Putting.{within, ok_then}}
 use Rattle.map_compose.proofs.runs.put_longest.Goals as goal
 
 pub runs-init : goal.runs-init

@@ -1,11 +1,6 @@
-use Rattle.std.proofs.Common.{arith, sym, subst, length, take, drop, ◌-◌}
-use Rattle.std.specs.Option.{option_copied}
-use Rattle.map_compose.specs.Lengths.{AreSums, SumsOf}
-use Rattle.map_compose.proofs.Prefixes.{begins_there, short_rest, rise_rest}
-use Rattle.map_compose.proofs.Insides.{piece_apart, ends_after}
-use Rattle.map_compose.proofs.JoinedRuns.{joins_same}
-use Rattle.map_compose.proofs.Putting.{ok_then}
-use Rattle.map_compose.proofs.Sums.{sums_range, same_long}
+use Rattle.std.{proofs.Common.{arith, sym, subst, length, take, drop, ◌-◌}, specs.Option.{option_copied}}
+use Rattle.map_compose.{specs.Lengths.{AreSums, SumsOf}, proofs.Prefixes.{begins_there, short_rest, rise_rest}, proofs.Insides.{piece_apart, ends_after}}
+use Rattle.map_compose.proofs.{JoinedRuns.{joins_same}, Putting.{ok_then}, Sums.{sums_range, same_long}}
 use Rattle.map_compose.proofs.runs.put_met.Goals as goal
 
 pub put_prefix-requires : goal.put_prefix-requires

@@ -1,8 +1,5 @@
-use Rattle.std.proofs.Common.{arith, ap}
-use Rattle.std.specs.List.{filter_map}
-use Rattle.map_compose.specs.Runs.{meet}
-use Rattle.map_compose.proofs.Prefixes.{stops_here, one_more, short_at}
-use Rattle.map_compose.proofs.JoinedRuns.{joins_none, joins_then, joins_same}
+use Rattle.std.{proofs.Common.{arith, ap}, specs.List.{filter_map}}
+use Rattle.map_compose.{specs.Runs.{meet}, proofs.Prefixes.{stops_here, one_more, short_at}, proofs.JoinedRuns.{joins_none, joins_then, joins_same}}
 use Rattle.map_compose.proofs.Putting.{take_over}
 use Rattle.map_compose.proofs.runs.put_prefix.Goals as goal
 

@@ -1,7 +1,5 @@
-use Rattle.std.proofs.Common.{take}
-use Rattle.std.specs.List.{filter_map}
-use Rattle.map_compose.specs.Runs.{meet}
-use Rattle.map_compose.specs.Joining.{Joins}
+use Rattle.std.{proofs.Common.{take}, specs.List.{filter_map}}
+use Rattle.map_compose.specs.{Runs.{meet}, Joining.{Joins}}
 use Rattle.map_compose.proofs.runs.put_prefix.Given as goal
 
 abbrev pub invariant-others : goal.invariant-others

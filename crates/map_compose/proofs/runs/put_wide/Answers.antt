@@ -1,8 +1,5 @@
-use Rattle.std.proofs.Common.{arith, drop, ◌-◌}
-use Rattle.std.proofs.lemmas.List.{length-take-le, length-drop}
-use Rattle.map_compose.proofs.Prefixes.{short_at, short_rest, rise_rest}
-use Rattle.map_compose.proofs.Insides.{piece_runs, piece_apart, all_inside, past_kept, wide_joins}
-use Rattle.map_compose.proofs.Putting.{ok_then}
+use Rattle.std.proofs.{Common.{arith, drop, ◌-◌}, lemmas.List.{length-take-le, length-drop}}
+use Rattle.map_compose.proofs.{Prefixes.{short_at, short_rest, rise_rest}, Insides.{piece_runs, piece_apart, all_inside, past_kept, wide_joins}, Putting.{ok_then}}
 use Rattle.map_compose.proofs.Sums.{sums_range, same_long}
 use Rattle.map_compose.proofs.runs.put_wide.Goals as goal
 

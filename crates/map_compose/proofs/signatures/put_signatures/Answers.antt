@@ -1,7 +1,5 @@
 use Rattle.std.proofs.Common.{sym, subst, ◌∙◌}
-use Rattle.map_compose.specs.Says.{PutsLines}
-use Rattle.map_compose.proofs.Putting.{says_none}
-use Rattle.map_compose.proofs.Signed.{three_signed}
+use Rattle.map_compose.{specs.Says.{PutsLines}, proofs.Putting.{says_none}, proofs.Signed.{three_signed}}
 use Rattle.map_compose.proofs.signatures.put_signatures.Goals as goal
 
 pub returns-then-version-eq3-clause-puts : goal.returns-then-version-eq3-clause-puts

@@ -1,8 +1,6 @@
-use Rattle.std.proofs.Common.{sym, ap, ◌∙◌}
-use Rattle.std.specs.Prelude.{is_some}
-use Rattle.map_compose.specs.declared.part.Part.TheVariants.{Signatures}
-use Rattle.map_compose.specs.Parts.{all_numbers}
-use Rattle.map_compose.proofs.Signed.{signed_lines, none_signed, some_signed, none_made, empty_list}
+use Rattle.std.{proofs.Common.{sym, ap, ◌∙◌}, specs.Prelude.{is_some}}
+use Rattle.map_compose.{specs.declared.part.Part.TheVariants.{Signatures}, specs.Parts.{all_numbers}, proofs.Signed.{signed_lines, none_signed, some_signed}}
+use Rattle.map_compose.proofs.Signed.{none_made, empty_list}
 use Rattle.map_compose.proofs.signatures.signed_by_both.Goals as goal
 
 pub returns-then-is_none-2 : goal.returns-then-is_none-2

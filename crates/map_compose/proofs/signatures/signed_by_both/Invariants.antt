@@ -1,7 +1,5 @@
 use Rattle.std.proofs.Common.{◌≡◌, length}
-use Rattle.map_compose.specs.declared.part.Part.TheVariants.{Signatures}
-use Rattle.map_compose.specs.Parts.{all_numbers, numbers_left}
-use Rattle.map_compose.proofs.Signed.{signed_lines}
+use Rattle.map_compose.{specs.declared.part.Part.TheVariants.{Signatures}, specs.Parts.{all_numbers, numbers_left}, proofs.Signed.{signed_lines}}
 use Rattle.map_compose.proofs.signatures.signed_by_both.Given as goal
 
 abbrev pub invariant-methods : goal.invariant-methods

@@ -1,9 +1,6 @@
-use Rattle.std.proofs.Common.{arith, sym, length, ◌<◌}
-use Rattle.std.proofs.lemmas.List.{length-map}
+use Rattle.std.proofs.{Common.{arith, sym, length, ◌<◌}, lemmas.List.{length-map}}
 use Rattle.ppdb_maps.specs.Map.{MethodLine}
-use Rattle.map_compose.specs.declared.part.Part.TheVariants.{Methods}
-use Rattle.map_compose.proofs.Differing.{line_inside, none_next, none_all, first_is}
-use Rattle.map_compose.proofs.Merging.{few_own}
+use Rattle.map_compose.{specs.declared.part.Part.TheVariants.{Methods}, proofs.Differing.{line_inside, none_next, none_all, first_is}, proofs.Merging.{few_own}}
 use Rattle.map_compose.proofs.sizes.first_differing.Goals as goal
 
 pub methods-init : goal.methods-init

@@ -1,8 +1,6 @@
-use Rattle.std.proofs.Common.{arith, refl, sym, ap, length, ◌<◌}
-use Rattle.std.specs.Fmt.{decimal}
+use Rattle.std.{proofs.Common.{arith, refl, sym, ap, length, ◌<◌}, specs.Fmt.{decimal}}
 use Rattle.ppdb_maps.specs.Map.{slots_of}
-use Rattle.map_compose.proofs.Bounds.{few_slots_of}
-use Rattle.map_compose.proofs.SlotLines.{slot_inside, digits_next, block_is}
+use Rattle.map_compose.proofs.{Bounds.{few_slots_of}, SlotLines.{slot_inside, digits_next, block_is}}
 use Rattle.map_compose.proofs.slot_blocks.block_of.Goals as goal
 
 pub slots-init : goal.slots-init

@@ -1,8 +1,5 @@
 use Rattle.std.proofs.Common.{arith, sym, ap, ◌∙◌, ◌<◌, length, map}
-use Rattle.map_compose.specs.declared.part.Part.TheVariants.{Slots}
-use Rattle.map_compose.specs.Slots.{block_of}
-use Rattle.map_compose.proofs.Merging.{few_own}
-use Rattle.map_compose.proofs.Putting.{within, take_past}
+use Rattle.map_compose.{specs.declared.part.Part.TheVariants.{Slots}, specs.Slots.{block_of}, proofs.Merging.{few_own}, proofs.Putting.{within, take_past}}
 use Rattle.map_compose.proofs.SlotLines.{blocks_next}
 use Rattle.map_compose.proofs.slot_blocks.push_blocks.Goals as goal
 

@@ -1,8 +1,6 @@
 use Rattle.std.proofs.Common.{sym, ap, length, ◌∙◌}
 use Rattle.ppdb_maps.specs.Map.{slots_of}
-use Rattle.map_compose.specs.Says.{lines_text, slot_images}
-use Rattle.map_compose.proofs.Insides.{lines_counted}
-use Rattle.map_compose.proofs.SlotLines.{taken, images_taken}
+use Rattle.map_compose.{specs.Says.{lines_text, slot_images}, proofs.Insides.{lines_counted}, proofs.SlotLines.{taken, images_taken}}
 use Rattle.map_compose.proofs.slots.put_block.Goals as goal
 
 pub bytes-requires : goal.bytes-requires

@@ -1,7 +1,6 @@
 use Rattle.std.proofs.Common.{subst}
 use Rattle.ppdb_maps.specs.declared.line.Line.TheVariants.{Slot}
-use Rattle.map_compose.specs.Says.{PutsLines, slot_image_says}
-use Rattle.map_compose.proofs.Putting.{says_none, says_one, ok_then}
+use Rattle.map_compose.{specs.Says.{PutsLines, slot_image_says}, proofs.Putting.{says_none, says_one, ok_then}}
 use Rattle.map_compose.proofs.slots.put_image.Goals as goal
 
 pub returns-in-None : goal.returns-in-None

@@ -1,10 +1,6 @@
 use Rattle.std.proofs.Common.{arith, sym, subst, length, ◌<◌, ◌≤◌}
-use Rattle.map_compose.specs.Composed.{slot_sources}
-use Rattle.map_compose.specs.Says.{PutsLines, slot_image_says}
-use Rattle.map_compose.proofs.Following.{slot_follows}
-use Rattle.map_compose.proofs.Bounds.{few_slots}
-use Rattle.map_compose.proofs.Making.{slot_within, slots_next, slots_done}
-use Rattle.map_compose.proofs.Putting.{says_none}
+use Rattle.map_compose.{specs.Composed.{slot_sources}, specs.Says.{PutsLines, slot_image_says}, proofs.Following.{slot_follows}, proofs.Bounds.{few_slots}}
+use Rattle.map_compose.proofs.{Making.{slot_within, slots_next, slots_done}, Putting.{says_none}}
 use Rattle.map_compose.proofs.slots.put_images.Goals as goal
 
 pub slots-init : goal.slots-init

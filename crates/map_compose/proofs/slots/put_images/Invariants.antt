@@ -1,7 +1,5 @@
-use Rattle.std.proofs.Common.{map, take, length, ◌≤◌, ◌-◌}
-use Rattle.std.specs.List.{filter_map}
-use Rattle.map_compose.specs.Composed.{slot_entry, slot_sources}
-use Rattle.map_compose.specs.Says.{PutsLines}
+use Rattle.std.{proofs.Common.{map, take, length, ◌≤◌, ◌-◌}, specs.List.{filter_map}}
+use Rattle.map_compose.specs.{Composed.{slot_entry, slot_sources}, Says.{PutsLines}}
 use Rattle.map_compose.proofs.slots.put_images.Given as goal
 use Rattle.ppdb_maps_text.proofs.Parts.{slot_says}
 

@@ -1,5 +1,4 @@
-use Rattle.std.proofs.Common.{◌≡◌, ◌≤◌, ◌*◌, take, length}
-use Rattle.std.specs.List.{flat_map}
+use Rattle.std.{proofs.Common.{◌≡◌, ◌≤◌, ◌*◌, take, length}, specs.List.{flat_map}}
 use Rattle.ppdb_base.specs.Escaped.{escaped_byte}
 use Rattle.map_compose.proofs.spelled.spelled_length.Given as goal
 

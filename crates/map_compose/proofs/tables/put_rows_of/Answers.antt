@@ -1,9 +1,7 @@
 use Rattle.std.proofs.Common.{arith, ap, length, sym, subst, ◌∙◌}
 use Rattle.ppdb_maps_text.specs.MapTexts.{olds_of, image_says}
-use Rattle.map_compose.specs.Composed.{composed_image}
-use Rattle.map_compose.specs.Says.{images_say, rows_say, PutsLines}
-use Rattle.map_compose.proofs.Crossing.{sources_are}
-use Rattle.map_compose.proofs.Putting.{PutSome, some_none, some_next, some_all}
+use Rattle.map_compose.{specs.Composed.{composed_image}, specs.Says.{images_say, rows_say, PutsLines}, proofs.Crossing.{sources_are}, proofs.Putting.{PutSome}}
+use Rattle.map_compose.proofs.Putting.{some_none, some_next, some_all}
 use Rattle.map_compose.proofs.tables.put_rows_of.Goals as goal
 
 pub rows-init : goal.rows-init

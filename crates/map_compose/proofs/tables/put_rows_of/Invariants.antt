@@ -1,7 +1,5 @@
 use Rattle.std.proofs.Common.{length}
-use Rattle.map_compose.specs.Parts.{olds_left}
-use Rattle.map_compose.specs.Says.{images_say, rows_say}
-use Rattle.map_compose.proofs.Putting.{PutSome}
+use Rattle.map_compose.{specs.Parts.{olds_left}, specs.Says.{images_say, rows_say}, proofs.Putting.{PutSome}}
 use Rattle.map_compose.proofs.tables.put_rows_of.Given as goal
 
 abbrev pub invariant-rows : goal.invariant-rows

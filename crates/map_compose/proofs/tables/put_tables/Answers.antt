@@ -1,7 +1,5 @@
-use Rattle.std.proofs.Common.{arith, ◌≡◌, subst}
-use Rattle.std.specs.List.{flat_map, range_with_len}
-use Rattle.map_compose.specs.Says.{PutsLines, table_says}
-use Rattle.map_compose.proofs.Putting.{says_none, flat_range}
+use Rattle.std.{proofs.Common.{arith, ◌≡◌, subst}, specs.List.{flat_map, range_with_len}}
+use Rattle.map_compose.{specs.Says.{PutsLines, table_says}, proofs.Putting.{says_none, flat_range}}
 use Rattle.map_compose.proofs.tables.put_tables.Goals as goal
 
 pub tables-init : goal.tables-init

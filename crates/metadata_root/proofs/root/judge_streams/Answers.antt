@@ -1,7 +1,5 @@
 use Rattle.std.proofs.Common.{inl, inr}
-use Rattle.metadata_root.proofs.Listings.{none_from}
-use Rattle.metadata_root.proofs.FirstOfRoot.{found_at}
-use Rattle.metadata_root.proofs.FirstOfPrefix.{missing_is_first, outside_is_first, streams_accepted, all_inside}
+use Rattle.metadata_root.proofs.{Listings.{none_from}, FirstOfRoot.{found_at}, FirstOfPrefix.{missing_is_first, outside_is_first, streams_accepted, all_inside}}
 use Rattle.metadata_root.proofs.root.judge_streams.Goals as goal
 use Rattle.metadata_root.proofs.root.judge_streams.Goals.{then-is_none-via-then-is_none, then-is_none-via-else-is_none+then-is_none-2}
 

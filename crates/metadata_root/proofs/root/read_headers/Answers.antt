@@ -1,8 +1,5 @@
-use Rattle.std.proofs.Common.{◌≡◌, ◌≤◌, length, sym, subst, ◌∙◌, arith, add-one}
-use Rattle.std.proofs.lemmas.Result.{err_from_is_err_and}
-use Rattle.metadata_root.specs.Root.{header_place, stream_count}
-use Rattle.metadata_root.specs.Reading.{IsHeaderFault, ReadsHeader}
-use Rattle.metadata_root.proofs.Order.{next_place}
+use Rattle.std.proofs.{Common.{◌≡◌, ◌≤◌, length, sym, subst, ◌∙◌, arith, add-one}, lemmas.Result.{err_from_is_err_and}}
+use Rattle.metadata_root.{specs.Root.{header_place, stream_count}, specs.Reading.{IsHeaderFault, ReadsHeader}, proofs.Order.{next_place}}
 use Rattle.metadata_root.proofs.FirstOfRoot.{AreGoodTo, header_is_first, good_step, listing_step, root_accepted}
 use Rattle.metadata_root.proofs.root.read_headers.Goals as goal
 

@@ -1,7 +1,5 @@
 use Rattle.std.proofs.Common.{◌≡◌, ◌≤◌, length}
-use Rattle.metadata_root.specs.Root.{header_place}
-use Rattle.metadata_root.specs.Reading.{IsListing}
-use Rattle.metadata_root.proofs.FirstOfRoot.{AreGoodTo}
+use Rattle.metadata_root.{specs.Root.{header_place}, specs.Reading.{IsListing}, proofs.FirstOfRoot.{AreGoodTo}}
 use Rattle.metadata_root.proofs.root.read_headers.Given as goal
 
 abbrev pub invariant-loop : goal.invariant-loop

@@ -1,9 +1,6 @@
-use Rattle.std.proofs.Common.{◌≡◌, ◌+◌, [], ◌∷◌, refl, ap, ◌∙◌, arith}
-use Rattle.std.proofs.lemmas.Bool.{iff_false}
-use Rattle.std.proofs.lemmas.Result.{err_from_is_err_and}
-use Rattle.metadata_root.specs.Fields.{number_at}
-use Rattle.metadata_root.specs.Root.{version_len}
-use Rattle.metadata_root.proofs.FirstOfPrefix.{windows_is_first, not_metadata_is_first, prefix_is_first, begins_len, first_header}
+use Rattle.std.proofs.{Common.{◌≡◌, ◌+◌, [], ◌∷◌, refl, ap, ◌∙◌, arith}, lemmas.Bool.{iff_false}, lemmas.Result.{err_from_is_err_and}}
+use Rattle.metadata_root.{specs.Fields.{number_at}, specs.Root.{version_len}, proofs.FirstOfPrefix.{windows_is_first, not_metadata_is_first, prefix_is_first}}
+use Rattle.metadata_root.proofs.FirstOfPrefix.{begins_len, first_header}
 use Rattle.metadata_root.proofs.root.read_prefix.Goals as goal
 
 pub returns-then-begins_with-clause-first : goal.returns-then-begins_with-clause-first

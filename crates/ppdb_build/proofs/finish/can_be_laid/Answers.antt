@@ -1,9 +1,7 @@
 use Rattle.std.proofs.Common.{◌≡◌, ℕ, List, length, sym, ap, subst, ◌∙◌, arith}
 use Rattle.ppdb_build_canon.specs.Canonical.{counts}
-use Rattle.ppdb_build_bytes.specs.Drafts.{file_from, CanBeLaid}
-use Rattle.ppdb_build_bytes.proofs.Laid.{draft_length, draft_file, draft_fit}
-use Rattle.ppdb_build.proofs.Counted.{draft_guids}
-use Rattle.ppdb_build.proofs.Finished.{counts_are}
+use Rattle.ppdb_build_bytes.{specs.Drafts.{file_from, CanBeLaid}, proofs.Laid.{draft_length, draft_file, draft_fit}}
+use Rattle.ppdb_build.proofs.{Counted.{draft_guids}, Finished.{counts_are}}
 use Rattle.ppdb_build.proofs.finish.can_be_laid.Goals as goal
 
 pub returns-clause-laid : goal.returns-clause-laid

@@ -1,5 +1,4 @@
-use Rattle.std.proofs.Common.{subst, ap, ◌∙◌}
-use Rattle.std.specs.Prelude.{All}
+use Rattle.std.{proofs.Common.{subst, ap, ◌∙◌}, specs.Prelude.{All}}
 use Rattle.ppdb_values.specs.Types.{IsNarrowRow}
 use Rattle.ppdb_build.proofs.Guids.{has_types}
 use Rattle.ppdb_build.proofs.joined_head.joined_has_types.Goals as goal

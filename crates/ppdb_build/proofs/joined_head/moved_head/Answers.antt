@@ -1,10 +1,8 @@
-use Rattle.std.proofs.Common.{ℕ, ◌<◌, ap, ◌∙◌}
-use Rattle.std.specs.Prelude.{slice_index, take}
+use Rattle.std.{proofs.Common.{ℕ, ◌<◌, ap, ◌∙◌}, specs.Prelude.{slice_index, take}}
 use Rattle.ppdb_tables.specs.declared.head.PdbHead.{PdbHead}
 use Rattle.ppdb_maps.specs.Map.{moved_row}
 use Rattle.ppdb_verify.specs.Views.{raw_file}
-use Rattle.ppdb_build.proofs.Heads.{counts_same_prefix}
-use Rattle.ppdb_build.proofs.Told.{same_prefix}
+use Rattle.ppdb_build.proofs.{Heads.{counts_same_prefix}, Told.{same_prefix}}
 use Rattle.ppdb_build.proofs.joined_head.moved_head.Goals as goal
 
 pub returns : goal.returns

@@ -1,6 +1,4 @@
-use Rattle.std.proofs.Common.{◌≡◌, ◌-◌, List, length, sym, ap, ◌∙◌, arith, slice_get}
-use Rattle.std.specs.Prelude.{Some}
-use Rattle.std.proofs.lemmas.Option.{slice_get_within}
+use Rattle.std.{proofs.Common.{◌≡◌, ◌-◌, List, length, sym, ap, ◌∙◌, arith, slice_get}, specs.Prelude.{Some}, proofs.lemmas.Option.{slice_get_within}}
 use Rattle.ppdb_tables.specs.declared.rows.ScopeRow.{ScopeRow}
 use Rattle.ppdb_build.proofs.LastLists.{limit_told, none_last, none_told}
 use Rattle.ppdb_build.proofs.lists.list_limit.Goals as goal

@@ -1,6 +1,4 @@
-use Rattle.std.proofs.Common.{◌≡◌, ◌+◌, ◌++◌, List, [], ◌∷◌, take, fold, sym, ap, ◌∙◌, arith}
-use Rattle.std.specs.List.{filter_map}
-use Rattle.std.proofs.lemmas.List.{take_all, take_more}
+use Rattle.std.{proofs.Common.{◌≡◌, ◌+◌, ◌++◌, List, [], ◌∷◌, take, fold, sym, ap, ◌∙◌, arith}, specs.List.{filter_map}, proofs.lemmas.List.{take_all, take_more}}
 use Rattle.std.proofs.lemmas.List.Sums.{fold_push}
 use Rattle.sequence_points.specs.Written.{first_of}
 use Rattle.ppdb_build_canon.specs.Limits.{large_step_of}

@@ -1,5 +1,4 @@
-use Rattle.std.proofs.Common.{◌≡◌, [], take, fold}
-use Rattle.std.specs.List.{filter_map}
+use Rattle.std.{proofs.Common.{◌≡◌, [], take, fold}, specs.List.{filter_map}}
 use Rattle.ppdb_build_canon.specs.Limits.{large_step_of}
 use Rattle.ppdb_build_draft.specs.Draft.{with_method}
 use Rattle.ppdb_build.proofs.parts.add_methods.Given as goal

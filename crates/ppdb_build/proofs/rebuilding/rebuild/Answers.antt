@@ -1,14 +1,11 @@
 use Rattle.std.proofs.Common.{◌≡◌, ℕ, List, subst, None}
-use Rattle.ppdb_build_canon.specs.Canon.{canon, chosen_id, with_id}
-use Rattle.ppdb_build_canon.specs.Limits.{first_limit}
+use Rattle.ppdb_build_canon.specs.{Canon.{canon, chosen_id, with_id}, Limits.{first_limit}}
 use Rattle.ppdb_build_written_laws.specs.Written.{IsSameAgain, Says}
-use Rattle.ppdb_values.specs.RawFile.{RawFile}
-use Rattle.ppdb_values.specs.declared.file.FileValue.{FileValue}
+use Rattle.ppdb_values.specs.{RawFile.{RawFile}, declared.file.FileValue.{FileValue}}
 use Rattle.ppdb_verify.specs.Files.{IsRawOf}
 use Rattle.ppdb_merge_parts.specs.Flat.{joined_inputs}
 use Rattle.ppdb_merge_rows.specs.Inputs.{moved_inputs}
-use Rattle.ppdb_build.specs.Building.{IsLimitOf}
-use Rattle.ppdb_build.proofs.Alone.{alone_fits, alone_same, alone_sound, there}
+use Rattle.ppdb_build.{specs.Building.{IsLimitOf}, proofs.Alone.{alone_fits, alone_same, alone_sound, there}}
 use Rattle.ppdb_build.proofs.rebuilding.rebuild.Goals as goal
 
 pub write_joined-requires-clause-fit : goal.write_joined-requires-clause-fit

@@ -1,6 +1,4 @@
-use Rattle.std.proofs.Common.{length, ap, ◌∙◌, Option, List}
-use Rattle.std.specs.Option.{option_or}
-use Rattle.std.specs.List.{filter_map}
+use Rattle.std.{proofs.Common.{length, ap, ◌∙◌, Option, List}, specs.Option.{option_or}, specs.List.{filter_map}}
 use Rattle.sequence_points.specs.Written.{first_of}
 use Rattle.ppdb_base.specs.declared.limits.Limit.{Limit}
 use Rattle.ppdb_values.specs.declared.file.MethodValue.{MethodValue}

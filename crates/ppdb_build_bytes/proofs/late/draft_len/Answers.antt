@@ -1,8 +1,7 @@
 use Rattle.std.proofs.Common.{ℕ, refl, ap, ◌∙◌}
 use Rattle.ppdb_build_layout.specs.Told.{told_lens}
 use Rattle.ppdb_build_draft.specs.Heaps.{heap_lens_of}
-use Rattle.ppdb_build_bytes.specs.Drafts.{file_from}
-use Rattle.ppdb_build_bytes.proofs.Laid.{guids_length}
+use Rattle.ppdb_build_bytes.{specs.Drafts.{file_from}, proofs.Laid.{guids_length}}
 use Rattle.ppdb_build_bytes.proofs.late.draft_len.Goals as goal
 
 pub returns : goal.returns

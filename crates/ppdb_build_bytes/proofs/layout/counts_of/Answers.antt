@@ -1,7 +1,5 @@
-use Rattle.std.proofs.Common.{◌≡◌, ◌++◌, take, drop, ap, sym, ◌∙◌, arith, add-one, get_or}
-use Rattle.std.specs.Prelude.{set}
-use Rattle.ppdb_build_bytes.specs.Drafts.{debug_counts_of}
-use Rattle.ppdb_build_bytes.proofs.Counts.{put_at, debug_long, counts_joined}
+use Rattle.std.{proofs.Common.{◌≡◌, ◌++◌, take, drop, ap, sym, ◌∙◌, arith, add-one, get_or}, specs.Prelude.{set}}
+use Rattle.ppdb_build_bytes.{specs.Drafts.{debug_counts_of}, proofs.Counts.{put_at, debug_long, counts_joined}}
 use Rattle.ppdb_build_bytes.proofs.layout.counts_of.Goals as goal
 
 pub loop-i-init : goal.loop-i-init

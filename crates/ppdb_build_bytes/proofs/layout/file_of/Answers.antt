@@ -1,10 +1,8 @@
 use Rattle.std.proofs.Common.{◌≡◌, ◌≤◌, ◌++◌, length, take, drop, replicate, sym, ap, subst, ◌∙◌, arith}
 use Rattle.ppdb_build_layout.specs.Bytes.{file_bytes}
-use Rattle.ppdb_build_canon.specs.Canon.{id_from}
+use Rattle.ppdb_build_canon.{specs.Canon.{id_from}, proofs.Ids.{id_placed}}
 use Rattle.sha2.specs.Sha256.{sha256}
-use Rattle.ppdb_build_canon.proofs.Ids.{id_placed}
-use Rattle.ppdb_build_bytes.specs.Drafts.{file_from, id_in}
-use Rattle.ppdb_build_bytes.proofs.Laid.{long_enough, refilled, placed}
+use Rattle.ppdb_build_bytes.{specs.Drafts.{file_from, id_in}, proofs.Laid.{long_enough, refilled, placed}}
 use Rattle.ppdb_build_bytes.proofs.layout.file_of.Goals as goal
 
 pub set_id-requires : goal.set_id-requires

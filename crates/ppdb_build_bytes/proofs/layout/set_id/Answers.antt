@@ -1,5 +1,4 @@
-use Rattle.std.proofs.Common.{◌++◌, take, drop, ap, ◌∙◌}
-use Rattle.std.proofs.lemmas.List.{drop-drop}
+use Rattle.std.proofs.{Common.{◌++◌, take, drop, ap, ◌∙◌}, lemmas.List.{drop-drop}}
 use Rattle.ppdb_build_bytes.proofs.layout.set_id.Goals as goal
 
 pub returns : goal.returns

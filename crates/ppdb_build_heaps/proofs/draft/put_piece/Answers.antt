@@ -1,10 +1,6 @@
 use Rattle.std.proofs.Common.{[], ◌∷◌, ◌++◌, sym, subst}
-use Rattle.ppdb_build_heaps.specs.declared.draft.BlobPiece.{BlobPiece}
-use Rattle.ppdb_build_heaps.specs.Items.{index_of, as_blob, shortest}
-use Rattle.ppdb_build_heaps.specs.Uses.{index}
-use Rattle.ppdb_build_heaps.specs.Interned.{Contents}
-use Rattle.ppdb_build_heaps.specs.Drafts.{IsDraft, piece_of}
-use Rattle.ppdb_build_heaps.proofs.Drafts.{index-drafted}
+use Rattle.ppdb_build_heaps.specs.{declared.draft.BlobPiece.{BlobPiece}, Items.{index_of, as_blob, shortest}, Uses.{index}, Interned.{Contents}, Drafts.{IsDraft}}
+use Rattle.ppdb_build_heaps.{specs.Drafts.{piece_of}, proofs.Drafts.{index-drafted}}
 use Rattle.ppdb_build_heaps.proofs.draft.put_piece.Goals as goal
 
 pub returns-in_ok-put_index-in-Index-clause-draft : goal.returns-in_ok-put_index-in-Index-clause-draft

@@ -1,15 +1,8 @@
-use Rattle.std.proofs.Common.{[], take, map, ap, sym, subst, ◌∙◌, arith}
-use Rattle.std.proofs.lemmas.List.{take_all, length-map}
-use Rattle.ppdb_build_heaps.specs.declared.draft.BlobPiece.{BlobPiece}
-use Rattle.ppdb_build_heaps.specs.declared.draft.BlobPiece.TheVariants.{Octets}
-use Rattle.ppdb_build_heaps.specs.Kinds.{spelled}
+use Rattle.std.proofs.{Common.{[], take, map, ap, sym, subst, ◌∙◌, arith}, lemmas.List.{take_all, length-map}}
+use Rattle.ppdb_build_heaps.specs.{declared.draft.BlobPiece.{BlobPiece}, declared.draft.BlobPiece.TheVariants.{Octets}, Kinds.{spelled}, Items.{with_use, index_of}}
+use Rattle.ppdb_build_heaps.specs.{Items.{as_blob}, Uses.{blob_bytes}, Drafts.{IsDraft, piece_of}, Interned.{Contents}}
+use Rattle.ppdb_build_heaps.proofs.{Drafts.{none-drafted, draft-interned, draft-spelled}, Parts.{part-next}}
 use Rattle.ppdb_base.specs.Told.{told}
-use Rattle.ppdb_build_heaps.specs.Items.{with_use, index_of, as_blob}
-use Rattle.ppdb_build_heaps.specs.Uses.{blob_bytes}
-use Rattle.ppdb_build_heaps.specs.Drafts.{IsDraft, piece_of}
-use Rattle.ppdb_build_heaps.specs.Interned.{Contents}
-use Rattle.ppdb_build_heaps.proofs.Drafts.{none-drafted, draft-interned, draft-spelled}
-use Rattle.ppdb_build_heaps.proofs.Parts.{part-next}
 use Rattle.ppdb_build_heaps.proofs.draft.use_pieces.Goals as goal
 
 pub loop-piece-init : goal.loop-piece-init

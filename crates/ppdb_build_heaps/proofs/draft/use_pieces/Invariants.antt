@@ -1,6 +1,5 @@
 use Rattle.std.proofs.Common.{◌≡◌, take, map}
-use Rattle.ppdb_build_heaps.specs.declared.heap.HeapKind.TheVariants.{Blobs}
-use Rattle.ppdb_build_heaps.specs.Drafts.{IsDraft, piece_of}
+use Rattle.ppdb_build_heaps.specs.{declared.heap.HeapKind.TheVariants.{Blobs}, Drafts.{IsDraft, piece_of}}
 use Rattle.ppdb_build_heaps.proofs.draft.use_pieces.Given as goal
 
 abbrev pub invariant-loop-piece : goal.invariant-loop-piece

@@ -1,9 +1,6 @@
-use Rattle.std.proofs.Common.{ℕ, List, [], take, map, fold, get_or, Bor, sym, ap, ◌∙◌, arith}
-use Rattle.std.proofs.lemmas.List.{map_push}
-use Rattle.std.proofs.lemmas.List.Sums.{fold_push}
+use Rattle.std.proofs.{Common.{ℕ, List, [], take, map, fold, get_or, Bor, sym, ap, ◌∙◌, arith}, lemmas.List.{map_push}, lemmas.List.Sums.{fold_push}}
 use Rattle.ppdb_build_heaps.specs.Uses.{index}
-use Rattle.ppdb_build_items.specs.Making.{with_piece}
-use Rattle.ppdb_build_items.proofs.Parts.{part-next}
+use Rattle.ppdb_build_items.{specs.Making.{with_piece}, proofs.Parts.{part-next}}
 use Rattle.ppdb_build_items.proofs.names.put_parts.Goals as goal
 
 pub loop-part-preserved : goal.loop-part-preserved

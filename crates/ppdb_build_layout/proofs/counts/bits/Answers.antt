@@ -1,6 +1,5 @@
 use Rattle.std.proofs.Common.{◌≡◌, ◌+◌, ◌^◌, ap, sym, ◌∙◌, arith}
-use Rattle.ppdb_build_layout.specs.Bytes.{bits_of}
-use Rattle.ppdb_build_layout.proofs.Tables.{next-none, bits-some, doubled, one_bit}
+use Rattle.ppdb_build_layout.{specs.Bytes.{bits_of}, proofs.Tables.{next-none, bits-some, doubled, one_bit}}
 use Rattle.ppdb_build_layout.proofs.counts.bits.Goals as goal
 use Rattle.ppdb_build_layout.proofs.counts.bits.Goals.{then-counts-first-gt0, else-counts-first-gt0}
 

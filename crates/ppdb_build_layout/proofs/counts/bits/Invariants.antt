@@ -1,5 +1,4 @@
-use Rattle.std.proofs.Common.{◌≡◌, ◌+◌, ◌<◌, ◌^◌}
-use Rattle.std.specs.List.{range_with_len}
+use Rattle.std.{proofs.Common.{◌≡◌, ◌+◌, ◌<◌, ◌^◌}, specs.List.{range_with_len}}
 use Rattle.ppdb_build_layout.specs.Bytes.{with_rows, bits_of}
 use Rattle.ppdb_build_layout.proofs.counts.bits.Given as goal
 

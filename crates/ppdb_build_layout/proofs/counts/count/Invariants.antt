@@ -1,5 +1,4 @@
-use Rattle.std.proofs.Common.{◌≡◌, ◌≤◌, length}
-use Rattle.std.specs.List.{range_with_len}
+use Rattle.std.{proofs.Common.{◌≡◌, ◌≤◌, length}, specs.List.{range_with_len}}
 use Rattle.ppdb_build_layout.specs.Bytes.{with_rows}
 use Rattle.ppdb_build_layout.proofs.counts.count.Given as goal
 

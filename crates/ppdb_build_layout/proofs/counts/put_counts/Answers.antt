@@ -1,9 +1,6 @@
-use Rattle.std.proofs.Common.{◌+◌, ◌++◌, ap, sym, ◌∙◌, append_assoc}
-use Rattle.std.specs.Prelude.{slice_index}
-use Rattle.std.specs.List.{range_with_len}
+use Rattle.std.{proofs.Common.{◌+◌, ◌++◌, ap, sym, ◌∙◌, append_assoc}, specs.Prelude.{slice_index}, specs.List.{range_with_len}}
 use Rattle.byteorder.specs.Endian.{little_bytes}
-use Rattle.ppdb_build_layout.specs.Bytes.{with_rows, counts_of}
-use Rattle.ppdb_build_layout.proofs.Tables.{next-none, counts-some}
+use Rattle.ppdb_build_layout.{specs.Bytes.{with_rows, counts_of}, proofs.Tables.{next-none, counts-some}}
 use Rattle.ppdb_build_layout.proofs.counts.put_counts.Goals as goal
 use Rattle.ppdb_build_layout.proofs.counts.put_counts.Goals.{then-rows-gt0+in_ok-put_u32, else-rows-gt0}
 

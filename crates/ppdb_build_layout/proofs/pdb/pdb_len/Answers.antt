@@ -1,6 +1,5 @@
 use Rattle.std.proofs.Common.{◌+◌, ◌*◌, sym, ap, ◌∙◌}
-use Rattle.ppdb_build_layout.specs.Bytes.{padding}
-use Rattle.ppdb_build_layout.proofs.Lengths.{length-pdb}
+use Rattle.ppdb_build_layout.{specs.Bytes.{padding}, proofs.Lengths.{length-pdb}}
 use Rattle.ppdb_build_layout.proofs.pdb.pdb_len.Goals as goal
 
 pub returns-clause-exact : goal.returns-clause-exact

@@ -1,11 +1,8 @@
-use Rattle.std.proofs.Common.{◌≡◌, ℕ, List, ◌++◌, refl, append_assoc}
-use Rattle.std.specs.List.{range_with_len}
+use Rattle.std.{proofs.Common.{◌≡◌, ℕ, List, ◌++◌, refl, append_assoc}, specs.List.{range_with_len}}
 use Rattle.byteorder.specs.Endian.{little_bytes}
 use Rattle.ppdb_tables.specs.Head.{method_token}
-use Rattle.ppdb_build_layout.specs.Bytes.{pdb_stream, with_rows, counts_of, bits_of}
+use Rattle.ppdb_build_layout.{specs.Bytes.{pdb_stream, with_rows, counts_of, bits_of}, proofs.Begins.{begins-more}, proofs.Lengths.{padded-put}}
 use Rattle.ppdb_base.proofs.Written.{on_err}
-use Rattle.ppdb_build_layout.proofs.Begins.{begins-more}
-use Rattle.ppdb_build_layout.proofs.Lengths.{padded-put}
 use Rattle.ppdb_build_layout.proofs.pdb.put_pdb.Goals as goal
 
 four : (old a b c d : List ℕ) → old ++ a ++ b ++ c ++ d ≡ old ++ (a ++ b ++ c ++ d)

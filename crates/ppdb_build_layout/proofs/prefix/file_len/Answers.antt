@@ -1,14 +1,11 @@
 use Rattle.std.proofs.Common.{min, ◌≡◌, ℕ, List, ◌+◌, ◌*◌, ◌<◌, ◌≤◌, ◌++◌, length, inl, inr, if◌then◌else◌, sym, ap, ◌∙◌, arith, length-append}
-use Rattle.std.proofs.lemmas.Bool.{cases_lt, le-leb}
+use Rattle.std.{proofs.lemmas.Bool.{cases_lt, le-leb}, specs.List.{range_with_len}}
 use Rattle.ppdb_values.specs.RawFile.{RawFile}
-use Rattle.std.specs.List.{range_with_len}
 use Rattle.row_layout.specs.declared.column.Sizes.{Sizes}
-use Rattle.ppdb_build_layout.specs.declared.rows.Rows.{Rows}
-use Rattle.ppdb_build_layout.specs.declared.rows.HeapLens.{HeapLens}
-use Rattle.ppdb_build_layout.specs.Bytes.{file_bytes, prefix_bytes, heap_bit, heap_bits, rows_of, heaps_of, pdb_stream, padding, with_rows}
+use Rattle.ppdb_build_layout.specs.{declared.rows.Rows.{Rows}, declared.rows.HeapLens.{HeapLens}, Bytes.{file_bytes, prefix_bytes, heap_bit, heap_bits, rows_of}}
+use Rattle.ppdb_build_layout.{specs.Bytes.{heaps_of, pdb_stream, padding, with_rows}, specs.Told.{told_lens}, proofs.Lengths.{length-prefix, length-tables}}
+use Rattle.ppdb_build_layout.proofs.Lengths.{rows_sum, add-told}
 use Rattle.ppdb_base.specs.Told.{told}
-use Rattle.ppdb_build_layout.specs.Told.{told_lens}
-use Rattle.ppdb_build_layout.proofs.Lengths.{length-prefix, length-tables, rows_sum, add-told}
 use Rattle.ppdb_build_layout.proofs.prefix.file_len.Goals as goal
 
 -- a length that is reported has the same bit

@@ -1,6 +1,5 @@
 use Rattle.std.proofs.Common.{length, arith}
-use Rattle.ppdb_build_layout.specs.Bytes.{pdb_stream, tables_stream}
-use Rattle.ppdb_build_layout.proofs.Lengths.{length-prefix}
+use Rattle.ppdb_build_layout.{specs.Bytes.{pdb_stream, tables_stream}, proofs.Lengths.{length-prefix}}
 use Rattle.ppdb_build_layout.proofs.prefix.prefix_len.Goals as goal
 
 pub returns : goal.returns

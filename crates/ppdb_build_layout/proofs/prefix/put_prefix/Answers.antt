@@ -1,7 +1,6 @@
 use Rattle.std.proofs.Common.{◌≡◌, ℕ, ◌≤◌, List, ◌++◌, length, refl, ap, ◌∙◌, arith, append_assoc}
-use Rattle.ppdb_build_layout.specs.Bytes.{prefix_bytes, pdb_stream, tables_stream, root_prefix, headers, stream_headers}
+use Rattle.ppdb_build_layout.{specs.Bytes.{prefix_bytes, pdb_stream, tables_stream, root_prefix, headers, stream_headers}, proofs.Lengths.{length-prefix}}
 use Rattle.ppdb_base.specs.Told.{told}
-use Rattle.ppdb_build_layout.proofs.Lengths.{length-prefix}
 use Rattle.ppdb_build_layout.proofs.prefix.put_prefix.Goals as goal
 
 -- a number that is reported is that number, where it is small

@@ -1,13 +1,9 @@
-use Rattle.std.proofs.Common.{◌≡◌, ℕ, Bool, true, false, List, ap, sym, subst, ◌∙◌, All, true≢false}
-use Rattle.std.specs.Prelude.{IsTrue, ◌↔◌, ◌&&◌}
-use Rattle.row_layout.specs.declared.column.Column.{Column}
-use Rattle.row_layout.specs.declared.column.Sizes.{Sizes}
-use Rattle.row_layout.specs.Rows.{Fit}
+use Rattle.std.{proofs.Common.{◌≡◌, ℕ, Bool, true, false, List, ap, sym, subst, ◌∙◌, All, true≢false}, specs.Prelude.{IsTrue, ◌↔◌, ◌&&◌}}
+use Rattle.row_layout.specs.{declared.column.Column.{Column}, declared.column.Sizes.{Sizes}, Rows.{Fit}}
 use Rattle.ppdb_tables.specs.Layouts.{widths_of, document_columns, method_columns, scope_columns, variable_columns, constant_columns, import_columns}
 use Rattle.ppdb_tables.specs.Layouts.{machine_columns, custom_columns}
 use Rattle.ppdb_build_layout.specs.Bytes.{sizes_of, document_cells, method_cells, scope_cells, variable_cells, constant_cells, import_cells, machine_cells}
-use Rattle.ppdb_build_layout.specs.Bytes.{custom_cells}
-use Rattle.ppdb_build_layout.specs.Laid.{RowsFit}
+use Rattle.ppdb_build_layout.specs.{Bytes.{custom_cells}, Laid.{RowsFit}}
 use Rattle.ppdb_build_layout.proofs.stream.all_rows_fit.Goals as goal
 
 both : (a b : Bool) → IsTrue (a && b) → IsTrue a × IsTrue b

@@ -1,14 +1,10 @@
-use Rattle.std.proofs.Common.{◌≡◌, ℕ, List, ◌++◌, ap, ◌∙◌, refl, append_assoc}
-use Rattle.row_layout.specs.declared.column.Column.{Column}
-use Rattle.row_layout.specs.declared.column.Sizes.{Sizes}
-use Rattle.row_layout.specs.Rows.{row_bytes}
+use Rattle.std.proofs.Common.{◌≡◌, ℕ, List, ◌++◌, ap, ◌∙◌, refl, append_assoc, flat_map}
+use Rattle.row_layout.specs.{declared.column.Column.{Column}, declared.column.Sizes.{Sizes}, Rows.{row_bytes}}
 use Rattle.ppdb_tables.specs.Layouts.{widths_of, document_columns, method_columns, scope_columns, variable_columns, constant_columns, import_columns}
 use Rattle.ppdb_tables.specs.Layouts.{machine_columns, custom_columns}
 use Rattle.ppdb_build_layout.specs.Bytes.{rows_bytes, all_rows, document_cells, method_cells, scope_cells, variable_cells, constant_cells, import_cells}
-use Rattle.ppdb_build_layout.specs.Bytes.{machine_cells, custom_cells}
-use Rattle.std.proofs.Common.{flat_map}
+use Rattle.ppdb_build_layout.{specs.Bytes.{machine_cells, custom_cells}, proofs.Begins.{begins-more}}
 use Rattle.ppdb_base.proofs.Written.{on_err}
-use Rattle.ppdb_build_layout.proofs.Begins.{begins-more}
 use Rattle.ppdb_build_layout.proofs.stream.put_all_rows.Goals as goal
 
 -- the rows of a table after the bytes before them

@@ -1,10 +1,8 @@
-use Rattle.std.proofs.Common.{◌≡◌, ℕ, List, [], ◌∷◌, ◌++◌, refl, append_assoc}
-use Rattle.std.specs.List.{range_with_len}
+use Rattle.std.{proofs.Common.{◌≡◌, ℕ, List, [], ◌∷◌, ◌++◌, refl, append_assoc}, specs.List.{range_with_len}}
 use Rattle.byteorder.specs.Endian.{little_bytes}
-use Rattle.ppdb_build_layout.specs.Bytes.{tables_stream, with_rows, counts_of, bits_of, heap_bits, all_rows, sizes_of}
-use Rattle.ppdb_base.proofs.Written.{on_err}
-use Rattle.ppdb_build_layout.proofs.Begins.{begins-more}
+use Rattle.ppdb_build_layout.{specs.Bytes.{tables_stream, with_rows, counts_of, bits_of, heap_bits, all_rows, sizes_of}, proofs.Begins.{begins-more}}
 use Rattle.ppdb_build_layout.proofs.Lengths.{padded-put}
+use Rattle.ppdb_base.proofs.Written.{on_err}
 use Rattle.ppdb_build_layout.proofs.stream.put_tables.Goals as goal
 
 six : (old a b c d e f : List ℕ) → old ++ a ++ b ++ c ++ d ++ e ++ f ≡ old ++ (a ++ b ++ c ++ d ++ e ++ f)

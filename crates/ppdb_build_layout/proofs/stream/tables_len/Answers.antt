@@ -1,8 +1,6 @@
-use Rattle.std.proofs.Common.{◌≡◌, ℕ, ◌+◌, ◌*◌, ◌≤◌, length, min, sym, ap, ◌∙◌, arith}
-use Rattle.std.specs.List.{range_with_len}
-use Rattle.ppdb_build_layout.specs.Bytes.{with_rows}
+use Rattle.std.{proofs.Common.{◌≡◌, ℕ, ◌+◌, ◌*◌, ◌≤◌, length, min, sym, ap, ◌∙◌, arith}, specs.List.{range_with_len}}
+use Rattle.ppdb_build_layout.{specs.Bytes.{with_rows}, proofs.Lengths.{length-all, length-tables, tables_sum, rows_sum, add-told, pad-told}}
 use Rattle.ppdb_base.specs.Told.{told}
-use Rattle.ppdb_build_layout.proofs.Lengths.{length-all, length-tables, tables_sum, rows_sum, add-told, pad-told}
 use Rattle.ppdb_build_layout.proofs.stream.tables_len.Goals as goal
 
 pub returns : goal.returns

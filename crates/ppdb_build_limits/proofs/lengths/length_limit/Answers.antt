@@ -1,14 +1,8 @@
-use Rattle.std.proofs.Common.{◌≡◌, List, length, ap, ◌∙◌, Option, Bool, sum_by}
-use Rattle.std.specs.Prelude.{◌==◌, ◌&&◌}
-use Rattle.std.specs.Option.{option_or}
-use Rattle.std.specs.List.{filter_map}
+use Rattle.std.{proofs.Common.{◌≡◌, List, length, ap, ◌∙◌, Option, Bool, sum_by}, specs.Prelude.{◌==◌, ◌&&◌}, specs.Option.{option_or}, specs.List.{filter_map}}
 use Rattle.sequence_points.specs.Written.{first_of, last_of}
-use Rattle.ppdb_base.specs.declared.limits.Limit.{Limit}
-use Rattle.ppdb_base.specs.declared.limits.Limit.TheVariants.{ListPastEnd}
-use Rattle.ppdb_base.specs.Told.{told}
+use Rattle.ppdb_base.specs.{declared.limits.Limit.{Limit}, declared.limits.Limit.TheVariants.{ListPastEnd}, Told.{told}}
 use Rattle.ppdb_values.specs.declared.scope.ScopeValue.{ScopeValue}
-use Rattle.ppdb_build_canon.specs.Limits.{too_many_rows, list_past_end, owns_none, tables}
-use Rattle.ppdb_build_canon.proofs.Limits.{met}
+use Rattle.ppdb_build_canon.{specs.Limits.{too_many_rows, list_past_end, owns_none, tables}, proofs.Limits.{met}}
 use Rattle.ppdb_build_limits.proofs.Firsts.{first_met_three}
 use Rattle.ppdb_build_limits.proofs.lengths.length_limit.Goals as goal
 

@@ -1,8 +1,5 @@
-use Rattle.std.proofs.Common.{◌≡◌, ap, sym, ◌∙◌, arith, Option}
-use Rattle.std.specs.Option.{option_or}
-use Rattle.std.proofs.lemmas.List.Concat.{length-flat_map}
-use Rattle.ppdb_base.specs.declared.limits.Limit.{Limit}
-use Rattle.ppdb_base.specs.Told.{told}
+use Rattle.std.{proofs.Common.{◌≡◌, ap, sym, ◌∙◌, arith, Option}, specs.Option.{option_or}, proofs.lemmas.List.Concat.{length-flat_map}}
+use Rattle.ppdb_base.specs.{declared.limits.Limit.{Limit}, Told.{told}}
 use Rattle.ppdb_values.specs.declared.scope.ScopeValue.{ScopeValue}
 use Rattle.ppdb_build_canon.specs.Limits.{too_many_rows}
 use Rattle.ppdb_build_canon.proofs.Counts as known

@@ -1,5 +1,4 @@
-use Rattle.std.proofs.Common.{◌≡◌, [], take}
-use Rattle.std.specs.List.{filter_map}
+use Rattle.std.{proofs.Common.{◌≡◌, [], take}, specs.List.{filter_map}}
 use Rattle.ppdb_build_canon.specs.Limits.{large_offset}
 use Rattle.ppdb_build_limits.proofs.offsets.offset_limit.Given as goal
 

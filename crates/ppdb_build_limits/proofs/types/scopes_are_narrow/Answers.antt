@@ -1,6 +1,5 @@
 use Rattle.std.proofs.Common.{subst, arith, All}
-use Rattle.ppdb_values.specs.declared.scope.ScopeValue.{ScopeValue}
-use Rattle.ppdb_values.specs.Types.{IsNarrow}
+use Rattle.ppdb_values.specs.{declared.scope.ScopeValue.{ScopeValue}, Types.{IsNarrow}}
 use Rattle.ppdb_build_limits.proofs.Firsts.{all_more, all_whole}
 use Rattle.ppdb_build_limits.proofs.types.scopes_are_narrow.Goals as goal
 

@@ -1,15 +1,11 @@
-use Rattle.std.proofs.Common.{List, Option, fold, sym, ap, subst, ◌∙◌}
-use Rattle.std.specs.Option.{option_to_list}
-use Rattle.type_blobs.specs.declared.types.Modifier.{Modifier}
-use Rattle.type_blobs.specs.Constants.{ConstantBody as StoredBody}
-use Rattle.type_blobs.specs.Spelling.{IsBody, constant_spelling}
+use Rattle.std.{proofs.Common.{List, Option, fold, sym, ap, subst, ◌∙◌}, specs.Option.{option_to_list}}
+use Rattle.type_blobs.specs.{declared.types.Modifier.{Modifier}, Constants.{ConstantBody as StoredBody}, Spelling.{IsBody, constant_spelling}}
 use Rattle.type_blobs.specs.ConstantReading.{shown}
 use Rattle.ppdb_values.specs.declared.scope.ConstantValue.{ConstantValue}
 use Rattle.ppdb_values_reading.specs.declared.constants.LentConstant.{LentConstant}
 use Rattle.ppdb_build_draft.specs.Draft.{with_constant, with_signature}
 use Rattle.ppdb_merge_items.specs.Each.{Each}
-use Rattle.ppdb_build_merged.specs.Writable.{IsTaken}
-use Rattle.ppdb_build_merged.proofs.Staying.{it_goes, it_stays}
+use Rattle.ppdb_build_merged.{specs.Writable.{IsTaken}, proofs.Staying.{it_goes, it_stays}}
 use Rattle.ppdb_build_merged.proofs.constants.add_constant.Goals as goal
 use Rattle.ppdb_values_sound_laws.proofs.Scopes.{stored_again}
 

@@ -1,8 +1,6 @@
 use Rattle.ppdb_build_draft.specs.Draft.{with_constants}
 use Rattle.ppdb_merge_order.specs.declared.keys.Key.{Key}
-use Rattle.ppdb_build_merged.specs.Keyed.{scope_of}
-use Rattle.ppdb_build_merged.specs.Writable.{HasConstants}
-use Rattle.ppdb_build_merged.proofs.Added.{key_added, keys_added, each_kept}
+use Rattle.ppdb_build_merged.{specs.Keyed.{scope_of}, specs.Writable.{HasConstants}, proofs.Added.{key_added, keys_added, each_kept}}
 use Rattle.ppdb_build_merged.proofs.constants.add_constants.Goals as goal
 
 pub add_scope-requires-clause-taken : goal.add_scope-requires-clause-taken

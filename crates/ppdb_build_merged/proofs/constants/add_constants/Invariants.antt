@@ -1,5 +1,4 @@
-use Rattle.std.proofs.Common.{◌≡◌, take, fold}
-use Rattle.std.specs.List.{filter_map}
+use Rattle.std.{proofs.Common.{◌≡◌, take, fold}, specs.List.{filter_map}}
 use Rattle.ppdb_build_draft.specs.Draft.{with_constants}
 use Rattle.ppdb_build_merged.specs.Keyed.{scope_of}
 use Rattle.ppdb_build_merged.proofs.constants.add_constants.Given as goal

@@ -1,9 +1,7 @@
 use Rattle.std.proofs.Common.{◌≤◌, ◌+◌, length, arith, fold}
 use Rattle.ppdb_build_draft.specs.Draft.{with_constant}
-use Rattle.ppdb_build_merged.specs.Constants.{constants_in, constants_left}
-use Rattle.ppdb_build_merged.specs.Writable.{IsTaken}
-use Rattle.ppdb_build_merged.proofs.Staying.{all_counted}
-use Rattle.ppdb_build_merged.proofs.Rows.{all_left_added, left_added, left_each}
+use Rattle.ppdb_build_merged.{specs.Constants.{constants_in, constants_left}, specs.Writable.{IsTaken}, proofs.Staying.{all_counted}, proofs.Rows.{all_left_added}}
+use Rattle.ppdb_build_merged.proofs.Rows.{left_added, left_each}
 use Rattle.ppdb_build_merged.proofs.constants.add_list.Goals as goal
 
 pub add_constant-requires-clause-taken : goal.add_constant-requires-clause-taken

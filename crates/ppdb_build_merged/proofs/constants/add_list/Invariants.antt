@@ -1,9 +1,7 @@
 use Rattle.std.proofs.Common.{◌≡◌, ◌-◌, ◌≤◌, fold}
 use Rattle.ppdb_build_draft.specs.Draft.{with_constant}
 use Rattle.ppdb_merge_items.specs.Each.{Each}
-use Rattle.ppdb_build_merged.specs.Constants.{constants_in, constants_left}
-use Rattle.ppdb_build_merged.specs.Writable.{IsTaken}
-use Rattle.ppdb_build_merged.proofs.Rows.{left_from}
+use Rattle.ppdb_build_merged.{specs.Constants.{constants_in, constants_left}, specs.Writable.{IsTaken}, proofs.Rows.{left_from}}
 use Rattle.ppdb_build_merged.proofs.constants.add_list.Given as goal
 
 abbrev pub invariant-rows : goal.invariant-rows

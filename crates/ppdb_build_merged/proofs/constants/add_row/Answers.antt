@@ -1,18 +1,12 @@
-use Rattle.std.proofs.Common.{Option, None, refl, sym, ap, subst, ◌∙◌}
-use Rattle.std.specs.Prelude.{Some}
-use Rattle.std.specs.Option.{option_and_then, option_map, option_to_list}
+use Rattle.std.{proofs.Common.{Option, None, refl, sym, ap, subst, ◌∙◌}, specs.Prelude.{Some}, specs.Option.{option_and_then, option_map, option_to_list}}
 use Rattle.ppdb_tables.specs.RawTables.{row_at}
-use Rattle.ppdb_values.specs.declared.scope.ScopeValue.{ScopeValue}
-use Rattle.ppdb_values.specs.Value.{value_of}
+use Rattle.ppdb_values.specs.{declared.scope.ScopeValue.{ScopeValue}, Value.{value_of}}
 use Rattle.ppdb_values_reading.specs.Scopes.{scope_with}
 use Rattle.ppdb_build_draft.specs.Draft.{with_constants}
 use Rattle.ppdb_merge_items.specs.Each.{Each}
 use Rattle.ppdb_merge_parts.specs.Flat.{scope_image}
 use Rattle.ppdb_merge_rows.specs.Rows.{scope_value}
-use Rattle.ppdb_build_merged.specs.Inputs.{counted_of, raw_of}
-use Rattle.ppdb_build_merged.specs.Writable.{HasConstants}
-use Rattle.ppdb_build_merged.proofs.Added.{no_row_put, row_put}
-use Rattle.ppdb_build_merged.proofs.Past.{no_scope}
+use Rattle.ppdb_build_merged.{specs.Inputs.{counted_of, raw_of}, specs.Writable.{HasConstants}, proofs.Added.{no_row_put, row_put}, proofs.Past.{no_scope}}
 use Rattle.ppdb_build_merged.proofs.constants.add_row.Goals as goal
 
 pub returns-then-not-has_row : goal.returns-then-not-has_row

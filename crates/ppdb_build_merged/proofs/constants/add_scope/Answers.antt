@@ -1,12 +1,8 @@
-use Rattle.std.proofs.Common.{Option, refl, subst, slice_get}
-use Rattle.std.specs.Option.{option_and_then, option_to_list}
+use Rattle.std.{proofs.Common.{Option, refl, subst, slice_get}, specs.Option.{option_and_then, option_to_list}}
 use Rattle.ppdb_merge_items.specs.Each.{Each}
-use Rattle.ppdb_build_merged.specs.Inputs.{HasRoom}
-use Rattle.ppdb_build_merged.specs.Writable.{HasConstants}
-use Rattle.ppdb_build_draft.specs.Draft.{with_constants}
-use Rattle.ppdb_build_merged.specs.declared.inputs.Placed.{Placed}
-use Rattle.ppdb_build_merged.specs.Keyed.{scope_in}
+use Rattle.ppdb_build_merged.specs.{Inputs.{HasRoom}, Writable.{HasConstants}, declared.inputs.Placed.{Placed}, Keyed.{scope_in}}
 use Rattle.ppdb_build_merged.proofs.Added.{item_each_of, item_there, no_item, no_row_put, row_put}
+use Rattle.ppdb_build_draft.specs.Draft.{with_constants}
 use Rattle.ppdb_build_merged.proofs.constants.add_scope.Goals as goal
 
 pub add_row-requires-clause-room : goal.add_row-requires-clause-room

@@ -1,5 +1,4 @@
-use Rattle.std.proofs.Common.{Option, length, sym, ap}
-use Rattle.std.specs.Option.{option_to_list}
+use Rattle.std.{proofs.Common.{Option, length, sym, ap}, specs.Option.{option_to_list}}
 use Rattle.ppdb_values.specs.declared.scope.ConstantValue.{ConstantValue}
 use Rattle.ppdb_build_merged.proofs.Staying.{it_goes, it_stays}
 use Rattle.ppdb_build_merged.proofs.constants.count_at.Goals as goal

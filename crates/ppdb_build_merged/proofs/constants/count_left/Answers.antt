@@ -1,7 +1,5 @@
 use Rattle.std.proofs.Common.{◌≤◌, ◌+◌, length, sym, ◌∙◌, arith}
-use Rattle.ppdb_build_merged.specs.Constants.{constants_in, constants_left}
-use Rattle.ppdb_build_merged.proofs.Staying.{all_counted}
-use Rattle.ppdb_build_merged.proofs.NoneGone.{list_counted, second_false}
+use Rattle.ppdb_build_merged.{specs.Constants.{constants_in, constants_left}, proofs.Staying.{all_counted}, proofs.NoneGone.{list_counted, second_false}}
 use Rattle.ppdb_build_merged.proofs.Rows.{left_counted, left_over}
 use Rattle.ppdb_build_merged.proofs.constants.count_left.Goals as goal
 

@@ -1,6 +1,5 @@
 use Rattle.std.proofs.Common.{◌≡◌, ◌+◌, ◌-◌, ◌≤◌, length}
-use Rattle.ppdb_build_merged.specs.Constants.{constants_in, constants_left}
-use Rattle.ppdb_build_merged.proofs.Rows.{left_from}
+use Rattle.ppdb_build_merged.{specs.Constants.{constants_in, constants_left}, proofs.Rows.{left_from}}
 use Rattle.ppdb_build_merged.proofs.constants.count_left.Given as goal
 
 abbrev pub invariant-rows : goal.invariant-rows

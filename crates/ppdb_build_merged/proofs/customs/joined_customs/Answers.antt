@@ -6,8 +6,7 @@ use Rattle.ppdb_merge_joined.specs.Same.{fresh, same_record}
 use Rattle.ppdb_merge_parts.specs.Flat.{MovedBy}
 use Rattle.ppdb_merge_records_laws.specs.Records.{records_of}
 use Rattle.ppdb_merge_rows.specs.Inputs.{moved_inputs}
-use Rattle.ppdb_build_merged.proofs.Records.{all_inputs, inputs_sound}
-use Rattle.ppdb_build_merged.proofs.Tables.{few_placed, inputs_placed}
+use Rattle.ppdb_build_merged.proofs.{Records.{all_inputs, inputs_sound}, Tables.{few_placed, inputs_placed}}
 use Rattle.ppdb_build_merged.proofs.customs.joined_customs.Goals as goal
 
 pub records_of-requires-clause-most : goal.records_of-requires-clause-most

@@ -1,8 +1,5 @@
-use Rattle.std.proofs.Common.{sym, ap, ◌∙◌, map, append-nil}
-use Rattle.std.specs.Prelude.{not}
-use Rattle.std.specs.List.{list_any}
-use Rattle.ppdb_build_merged.specs.Said.{said, same_said, shown}
-use Rattle.ppdb_build_merged.proofs.Fresh.{keys_more, kept_more}
+use Rattle.std.{proofs.Common.{sym, ap, ◌∙◌, map, append-nil}, specs.Prelude.{not}, specs.List.{list_any}}
+use Rattle.ppdb_build_merged.{specs.Said.{said, same_said, shown}, proofs.Fresh.{keys_more, kept_more}}
 use Rattle.ppdb_build_merged.proofs.customs_fresh.keep_new.Goals as goal
 
 pub loop-custom-init : goal.loop-custom-init

@@ -1,6 +1,4 @@
-use Rattle.std.proofs.Common.{◌≡◌, ◌++◌, List, map}
-use Rattle.std.specs.Prelude.{filter, not}
-use Rattle.std.specs.List.{list_any}
+use Rattle.std.{proofs.Common.{◌≡◌, ◌++◌, List, map}, specs.Prelude.{filter, not}, specs.List.{list_any}}
 use Rattle.ppdb_build_merged.specs.Said.{IsSeen, Said, said, same_said, shown}
 use Rattle.ppdb_build_merged.proofs.customs_fresh.keep_new.Given as goal
 

@@ -1,7 +1,5 @@
-use Rattle.std.proofs.Common.{◌++◌, [], ◌∷◌, List, sym, ap, ◌∙◌, map, subst, append-nil, append_assoc}
-use Rattle.std.proofs.lemmas.List.{map-append}
-use Rattle.ppdb_build_merged.specs.Said.{IsSeen, Said, shown}
-use Rattle.ppdb_build_merged.proofs.Fresh.{seen_more}
+use Rattle.std.proofs.{Common.{◌++◌, [], ◌∷◌, List, sym, ap, ◌∙◌, map, subst, append-nil, append_assoc}, lemmas.List.{map-append}}
+use Rattle.ppdb_build_merged.{specs.Said.{IsSeen, Said, shown}, proofs.Fresh.{seen_more}}
 use Rattle.ppdb_build_merged.proofs.customs_fresh.note.Goals as goal
 
 pub loop-key-init : goal.loop-key-init

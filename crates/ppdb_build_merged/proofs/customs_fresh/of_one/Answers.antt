@@ -1,5 +1,4 @@
-use Rattle.std.proofs.Common.{◌++◌, List, Option, ap, ◌∙◌}
-use Rattle.std.specs.Option.{option_to_list}
+use Rattle.std.{proofs.Common.{◌++◌, List, Option, ap, ◌∙◌}, specs.Option.{option_to_list}}
 use Rattle.ppdb_values.specs.declared.custom.CustomValue.{CustomValue}
 use Rattle.ppdb_build_merged.proofs.Fresh.{one_alone}
 use Rattle.ppdb_build_merged.proofs.customs_fresh.of_one.Goals as goal

@@ -1,8 +1,6 @@
-use Rattle.std.proofs.Common.{List, sym, subst, map}
-use Rattle.std.specs.Prelude.{flat_map}
+use Rattle.std.{proofs.Common.{List, sym, subst, map}, specs.Prelude.{flat_map}}
 use Rattle.ppdb_values.specs.declared.custom.CustomValue.{CustomValue}
-use Rattle.ppdb_build_merged.specs.Said.{IsSeen, Said, said}
-use Rattle.ppdb_build_merged.proofs.Fresh.{all_more, input_more}
+use Rattle.ppdb_build_merged.{specs.Said.{IsSeen, Said, said}, proofs.Fresh.{all_more, input_more}}
 use Rattle.ppdb_build_merged.proofs.customs_fresh.of_several.Goals as goal
 
 pub loop-records-preserved : goal.loop-records-preserved

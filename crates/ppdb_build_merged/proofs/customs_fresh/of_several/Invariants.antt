@@ -1,5 +1,4 @@
-use Rattle.std.proofs.Common.{◌≡◌, [], List, map}
-use Rattle.std.specs.Prelude.{flat_map}
+use Rattle.std.{proofs.Common.{◌≡◌, [], List, map}, specs.Prelude.{flat_map}}
 use Rattle.ppdb_values.specs.declared.custom.CustomValue.{CustomValue}
 use Rattle.ppdb_merge_joined.specs.Same.{fresh, same_record}
 use Rattle.ppdb_build_merged.specs.Said.{IsSeen, said}

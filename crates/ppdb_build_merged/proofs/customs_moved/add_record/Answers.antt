@@ -1,6 +1,4 @@
-use Rattle.std.proofs.Common.{◌++◌, Option, None, sym, ap, ◌∙◌, append-nil}
-use Rattle.std.specs.Prelude.{Some}
-use Rattle.std.specs.Option.{option_to_list}
+use Rattle.std.{proofs.Common.{◌++◌, Option, None, sym, ap, ◌∙◌, append-nil}, specs.Prelude.{Some}, specs.Option.{option_to_list}}
 use Rattle.ppdb_values.specs.declared.custom.CustomValue.{CustomValue}
 use Rattle.ppdb_build_merged.proofs.Records.{parent_there, record_found}
 use Rattle.ppdb_build_merged.proofs.customs_moved.add_record.Goals as goal

@@ -1,12 +1,7 @@
-use Rattle.std.proofs.Common.{List, ap, ◌∙◌, map}
-use Rattle.std.specs.List.{enumerate_from, filter_map}
-use Rattle.std.proofs.lemmas.List.{take_all}
+use Rattle.std.{proofs.Common.{List, ap, ◌∙◌, map}, specs.List.{enumerate_from, filter_map}, proofs.lemmas.List.{take_all}}
 use Rattle.ppdb_merge_records_laws.specs.Records.{Numbered, record_image}
 use Rattle.ppdb_merge_rows.specs.Inputs.{moved_by}
-use Rattle.ppdb_build_merged.specs.declared.inputs.Placed.{Placed}
-use Rattle.ppdb_build_merged.specs.Inputs.{HasRoom}
-use Rattle.ppdb_build_merged.specs.Records.{inputs_of}
-use Rattle.ppdb_build_merged.proofs.Added.{item_each_of, item_there}
+use Rattle.ppdb_build_merged.{specs.declared.inputs.Placed.{Placed}, specs.Inputs.{HasRoom}, specs.Records.{inputs_of}, proofs.Added.{item_each_of, item_there}}
 use Rattle.ppdb_build_merged.proofs.Records.{images_more}
 use Rattle.ppdb_build_merged.proofs.customs_moved.records_of.Goals as goal
 

@@ -1,8 +1,6 @@
-use Rattle.std.proofs.Common.{◌≡◌, map, take}
-use Rattle.std.specs.List.{enumerate_from, filter_map}
+use Rattle.std.{proofs.Common.{◌≡◌, map, take}, specs.List.{enumerate_from, filter_map}}
 use Rattle.ppdb_merge_records_laws.specs.Records.{Numbered, record_image}
-use Rattle.ppdb_build_merged.specs.Origins.{AreMade}
-use Rattle.ppdb_build_merged.specs.Records.{inputs_of}
+use Rattle.ppdb_build_merged.specs.{Origins.{AreMade}, Records.{inputs_of}}
 use Rattle.ppdb_build_merged.proofs.customs_moved.records_of.Given as goal
 
 abbrev pub invariant-loop-number : goal.invariant-loop-number

@@ -1,13 +1,9 @@
-use Rattle.std.proofs.Common.{[], fold, arith, ◌∙◌}
-use Rattle.std.proofs.lemmas.List.{length-map}
+use Rattle.std.proofs.{Common.{[], fold, arith, ◌∙◌}, lemmas.List.{length-map}}
 use Rattle.ppdb_tables.specs.RawTables.{row_at}
-use Rattle.ppdb_values.specs.Customs.{custom_of}
-use Rattle.ppdb_values.specs.Value.{value_of}
+use Rattle.ppdb_values.specs.{Customs.{custom_of}, Value.{value_of}}
 use Rattle.ppdb_merge_records_laws.specs.Records.{record_image}
-use Rattle.ppdb_build_merged.specs.Inputs.{raw_of}
-use Rattle.ppdb_build_merged.specs.Records.{inputs_of, numbered_by}
-use Rattle.ppdb_build_merged.proofs.Records.{all_put, one_put, with_image}
-use Rattle.ppdb_build_merged.proofs.Rows.{row_added, rows_added}
+use Rattle.ppdb_build_merged.{specs.Inputs.{raw_of}, specs.Records.{inputs_of, numbered_by}, proofs.Records.{all_put, one_put, with_image}, proofs.Rows.{row_added}}
+use Rattle.ppdb_build_merged.proofs.Rows.{rows_added}
 use Rattle.ppdb_build_merged.proofs.customs_moved.records_of_input.Goals as goal
 
 pub rows-preserved : goal.rows-preserved

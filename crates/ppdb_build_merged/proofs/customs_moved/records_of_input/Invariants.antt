@@ -1,10 +1,7 @@
 use Rattle.std.proofs.Common.{◌≡◌, ◌+◌, ◌-◌, ◌≤◌, [], drop, fold}
 use Rattle.ppdb_values.specs.Value.{value_of}
 use Rattle.ppdb_merge_records_laws.specs.Records.{record_image}
-use Rattle.ppdb_build_merged.specs.Inputs.{raw_of}
-use Rattle.ppdb_build_merged.specs.Origins.{AreMade}
-use Rattle.ppdb_build_merged.specs.Records.{inputs_of, numbered_by}
-use Rattle.ppdb_build_merged.proofs.Records.{with_image}
+use Rattle.ppdb_build_merged.{specs.Inputs.{raw_of}, specs.Origins.{AreMade}, specs.Records.{inputs_of, numbered_by}, proofs.Records.{with_image}}
 use Rattle.ppdb_build_merged.proofs.customs_moved.records_of_input.Given as goal
 
 abbrev pub invariant-rows : goal.invariant-rows

@@ -1,8 +1,6 @@
-use Rattle.std.proofs.Common.{arith}
-use Rattle.std.proofs.lemmas.List.{length-map}
+use Rattle.std.proofs.{Common.{arith}, lemmas.List.{length-map}}
 use Rattle.ppdb_values.specs.Imports.{import_scope_of}
-use Rattle.ppdb_build_merged.specs.Inputs.{raw_of}
-use Rattle.ppdb_build_merged.proofs.Records.{import_found}
+use Rattle.ppdb_build_merged.{specs.Inputs.{raw_of}, proofs.Records.{import_found}}
 use Rattle.ppdb_build_merged.proofs.customs_parents.import_row.Goals as goal
 
 pub overflow_add-result : goal.overflow_add-result

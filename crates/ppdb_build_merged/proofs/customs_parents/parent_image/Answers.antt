@@ -1,6 +1,5 @@
 use Rattle.std.proofs.Common.{ap, ◌∙◌, sym}
-use Rattle.ppdb_build_merged.specs.Records.{inputs_of, numbered_by}
-use Rattle.ppdb_build_merged.proofs.Records.{in_table, on_low, on_high}
+use Rattle.ppdb_build_merged.{specs.Records.{inputs_of, numbered_by}, proofs.Records.{in_table, on_low, on_high}}
 use Rattle.ppdb_build_merged.proofs.customs_parents.parent_image.Goals as goal
 
 pub returns-then-table-lt-TYPE_TABLES-clause-parent : goal.returns-then-table-lt-TYPE_TABLES-clause-parent

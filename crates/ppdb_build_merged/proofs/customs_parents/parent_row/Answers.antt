@@ -1,7 +1,6 @@
 use Rattle.std.proofs.Common.{ℕ, List, ap, ◌∙◌, arith}
 use Rattle.ppdb_tables.specs.RawTables.{row_at}
-use Rattle.ppdb_build_merged.specs.Records.{inputs_of, numbered_by}
-use Rattle.ppdb_build_merged.proofs.Records.{on_document, on_import, on_none, on_owned}
+use Rattle.ppdb_build_merged.{specs.Records.{inputs_of, numbered_by}, proofs.Records.{on_document, on_import, on_none, on_owned}}
 use Rattle.ppdb_build_merged.proofs.customs_parents.parent_row.Goals as goal
 
 pub returns-then-table-eq-DOCUMENT-clause-row : goal.returns-then-table-eq-DOCUMENT-clause-row

@@ -1,7 +1,6 @@
 use Rattle.std.proofs.Common.{◌≡◌, map, take}
 use Rattle.ppdb_tables.specs.RawTables.{count}
-use Rattle.ppdb_build_merged.specs.declared.inputs.Placed.{Placed}
-use Rattle.ppdb_build_merged.specs.Inputs.{raw_of}
+use Rattle.ppdb_build_merged.specs.{declared.inputs.Placed.{Placed}, Inputs.{raw_of}}
 use Rattle.ppdb_build_merged.proofs.customs_rows.counts_of.Given as goal
 
 abbrev pub invariant-loop-one : goal.invariant-loop-one

@@ -1,10 +1,7 @@
-use Rattle.std.proofs.Common.{◌≡◌, ℕ, List, map, sym, ap, ◌∙◌, arith}
-use Rattle.std.specs.Prelude.{flat_map}
+use Rattle.std.{proofs.Common.{◌≡◌, ℕ, List, map, sym, ap, ◌∙◌, arith}, specs.Prelude.{flat_map}}
 use Rattle.ppdb_merge_order.specs.declared.keys.Key.{Key}
 use Rattle.ppdb_merge_records_laws.specs.Records.{origins_in}
-use Rattle.ppdb_build_merged.specs.declared.customs_scopes.Owned.TheVariants.{Variables, Constants}
-use Rattle.ppdb_build_merged.specs.Origins.{left_at, origin_in}
-use Rattle.ppdb_build_merged.specs.Records.{inputs_of}
+use Rattle.ppdb_build_merged.specs.{declared.customs_scopes.Owned.TheVariants.{Variables, Constants}, Origins.{left_at, origin_in}, Records.{inputs_of}}
 use Rattle.ppdb_build_merged.proofs.Origins.{constants_from, scopes_from, variables_from}
 use Rattle.ppdb_build_merged.proofs.customs_rows.keys_in.Goals as goal
 

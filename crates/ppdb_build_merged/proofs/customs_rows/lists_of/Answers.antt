@@ -1,6 +1,5 @@
 use Rattle.std.proofs.Common.{map, ap, ◌∙◌}
-use Rattle.ppdb_build_merged.specs.Origins.{origin_in}
-use Rattle.ppdb_build_merged.proofs.Origins.{new_rows_are}
+use Rattle.ppdb_build_merged.{specs.Origins.{origin_in}, proofs.Origins.{new_rows_are}}
 use Rattle.ppdb_build_merged.proofs.customs_rows.lists_of.Goals as goal
 
 pub returns : goal.returns

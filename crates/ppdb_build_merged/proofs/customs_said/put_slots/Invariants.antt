@@ -1,5 +1,4 @@
-use Rattle.std.proofs.Common.{◌≡◌, ◌++◌, take}
-use Rattle.std.specs.Prelude.{flat_map}
+use Rattle.std.{proofs.Common.{◌≡◌, ◌++◌, take}, specs.Prelude.{flat_map}}
 use Rattle.ppdb_build_merged.specs.Said.{slot_numbers}
 use Rattle.ppdb_build_merged.proofs.customs_said.put_slots.Given as goal
 

@@ -1,8 +1,5 @@
-use Rattle.std.proofs.Common.{◌++◌, ap, ◌∙◌}
-use Rattle.std.specs.Prelude.{flat_map}
-use Rattle.std.proofs.lemmas.List.{take_all}
-use Rattle.ppdb_build_merged.specs.Said.{step_numbers}
-use Rattle.ppdb_build_merged.proofs.Said.{numbers_more}
+use Rattle.std.{proofs.Common.{◌++◌, ap, ◌∙◌}, specs.Prelude.{flat_map}, proofs.lemmas.List.{take_all}}
+use Rattle.ppdb_build_merged.{specs.Said.{step_numbers}, proofs.Said.{numbers_more}}
 use Rattle.ppdb_build_merged.proofs.customs_said.put_steps.Goals as goal
 
 pub loop-step-preserved : goal.loop-step-preserved

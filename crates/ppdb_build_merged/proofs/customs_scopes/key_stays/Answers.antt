@@ -1,10 +1,6 @@
-use Rattle.std.proofs.Common.{Option, ap, sym, ◌∙◌}
-use Rattle.std.specs.Prelude.{is_some}
-use Rattle.std.specs.Option.{option_and_then}
-use Rattle.ppdb_build_merged.specs.declared.inputs.Placed.{Placed}
-use Rattle.ppdb_build_merged.specs.Inputs.{HasRoom}
-use Rattle.ppdb_build_merged.specs.Keyed.{scope_in}
-use Rattle.ppdb_build_merged.proofs.Added.{item_each_of, item_there, no_item}
+use Rattle.std.{proofs.Common.{Option, ap, sym, ◌∙◌}, specs.Prelude.{is_some}, specs.Option.{option_and_then}}
+use Rattle.ppdb_build_merged.{specs.declared.inputs.Placed.{Placed}, specs.Inputs.{HasRoom}, specs.Keyed.{scope_in}, proofs.Added.{item_each_of, item_there}}
+use Rattle.ppdb_build_merged.proofs.Added.{no_item}
 use Rattle.ppdb_build_merged.proofs.customs_scopes.key_stays.Goals as goal
 
 pub scope_stays-requires : goal.scope_stays-requires

@@ -1,9 +1,6 @@
-use Rattle.std.proofs.Common.{ap, ◌∙◌}
-use Rattle.std.specs.Prelude.{flat_map}
-use Rattle.std.proofs.lemmas.List.{take_all}
+use Rattle.std.{proofs.Common.{ap, ◌∙◌}, specs.Prelude.{flat_map}, proofs.lemmas.List.{take_all}}
 use Rattle.ppdb_merge_order.specs.declared.keys.Key.{Key}
-use Rattle.ppdb_build_merged.specs.Origins.{left_at}
-use Rattle.ppdb_build_merged.proofs.Origins.{left_more}
+use Rattle.ppdb_build_merged.{specs.Origins.{left_at}, proofs.Origins.{left_more}}
 use Rattle.ppdb_build_merged.proofs.customs_scopes.owned_keys.Goals as goal
 
 pub loop-key-preserved : goal.loop-key-preserved

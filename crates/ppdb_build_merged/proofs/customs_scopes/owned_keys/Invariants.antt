@@ -1,5 +1,4 @@
-use Rattle.std.proofs.Common.{◌≡◌, map, take}
-use Rattle.std.specs.Prelude.{flat_map}
+use Rattle.std.{proofs.Common.{◌≡◌, map, take}, specs.Prelude.{flat_map}}
 use Rattle.ppdb_build_merged.specs.Origins.{left_at, origin_in}
 use Rattle.ppdb_build_merged.proofs.customs_scopes.owned_keys.Given as goal
 

@@ -1,9 +1,5 @@
-use Rattle.std.proofs.Common.{◌++◌, Option, map, sym, ap, ◌∙◌, append-nil}
-use Rattle.std.specs.Prelude.{flat_map}
-use Rattle.std.specs.Option.{option_to_list}
-use Rattle.ppdb_build_merged.specs.declared.inputs.Placed.{Placed}
-use Rattle.ppdb_build_merged.specs.Origins.{left_of, origin_in}
-use Rattle.ppdb_build_merged.proofs.Added.{item_there, no_item}
+use Rattle.std.{proofs.Common.{◌++◌, Option, map, sym, ap, ◌∙◌, append-nil}, specs.Prelude.{flat_map}, specs.Option.{option_to_list}}
+use Rattle.ppdb_build_merged.{specs.declared.inputs.Placed.{Placed}, specs.Origins.{left_of, origin_in}, proofs.Added.{item_there, no_item}}
 use Rattle.ppdb_build_merged.proofs.customs_scopes.put_key.Goals as goal
 
 pub returns-then-index-placed : goal.returns-then-index-placed

@@ -1,11 +1,7 @@
-use Rattle.std.proofs.Common.{◌≡◌, ◌+◌, ◌-◌, ◌++◌, ◌∷◌, [], List, Bool, cond, map, sym, ap, ◌∙◌, arith, append_assoc}
-use Rattle.std.specs.Prelude.{filter}
-use Rattle.std.specs.List.{range_with_len}
-use Rattle.std.proofs.lemmas.List.FromFn.{filter_of_map_range_with_len_more}
+use Rattle.std.{proofs.Common.{◌≡◌, ◌+◌, ◌-◌, ◌++◌, ◌∷◌, [], List, Bool, cond, map, sym, ap, ◌∙◌, arith, append_assoc}, specs.Prelude.{filter}}
+use Rattle.std.{specs.List.{range_with_len}, proofs.lemmas.List.FromFn.{filter_of_map_range_with_len_more}}
 use Rattle.ppdb_merge_order.specs.declared.keys.Key.{Key}
-use Rattle.ppdb_build_merged.specs.Inputs.{raw_of}
-use Rattle.ppdb_build_merged.specs.Origins.{item_stays, owned_key}
-use Rattle.ppdb_build_merged.proofs.Origins.{item_row}
+use Rattle.ppdb_build_merged.{specs.Inputs.{raw_of}, specs.Origins.{item_stays, owned_key}, proofs.Origins.{item_row}}
 use Rattle.ppdb_build_merged.proofs.customs_scopes.put_list.Goals as goal
 
 pub rows-preserved : goal.rows-preserved

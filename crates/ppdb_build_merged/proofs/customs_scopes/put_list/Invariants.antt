@@ -1,9 +1,6 @@
-use Rattle.std.proofs.Common.{◌≡◌, ◌++◌, ◌-◌, ◌≤◌, map}
-use Rattle.std.specs.Prelude.{filter}
-use Rattle.std.specs.List.{range_with_len}
+use Rattle.std.{proofs.Common.{◌≡◌, ◌++◌, ◌-◌, ◌≤◌, map}, specs.Prelude.{filter}, specs.List.{range_with_len}}
 use Rattle.ppdb_merge_order.specs.declared.keys.Key.{Key}
-use Rattle.ppdb_build_merged.specs.Inputs.{raw_of}
-use Rattle.ppdb_build_merged.specs.Origins.{item_stays, owned_key}
+use Rattle.ppdb_build_merged.specs.{Inputs.{raw_of}, Origins.{item_stays, owned_key}}
 use Rattle.ppdb_build_merged.proofs.customs_scopes.put_list.Given as goal
 
 abbrev pub invariant-rows : goal.invariant-rows

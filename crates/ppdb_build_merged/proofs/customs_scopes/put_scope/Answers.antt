@@ -1,14 +1,9 @@
-use Rattle.std.proofs.Common.{◌++◌, List, Option, map, sym, ap, ◌∙◌, subst, append-nil}
-use Rattle.std.specs.Prelude.{flat_map}
-use Rattle.std.specs.Option.{option_to_list}
+use Rattle.std.{proofs.Common.{◌++◌, List, Option, map, sym, ap, ◌∙◌, subst, append-nil}, specs.Prelude.{flat_map}, specs.Option.{option_to_list}}
 use Rattle.std.proofs.lemmas.List.{map-append}
 use Rattle.ppdb_values.specs.declared.scope.ScopeValue.{ScopeValue}
-use Rattle.ppdb_values_reading.specs.Scopes.{IsWithin}
-use Rattle.ppdb_values_reading.specs.declared.scopes.ListRange.{ListRange}
+use Rattle.ppdb_values_reading.specs.{Scopes.{IsWithin}, declared.scopes.ListRange.{ListRange}}
 use Rattle.ppdb_merge_records_laws.specs.Records.{Origin}
-use Rattle.ppdb_build_merged.specs.Inputs.{raw_of}
-use Rattle.ppdb_build_merged.specs.Origins.{count_of, left_in, list_keys, origin_in}
-use Rattle.ppdb_build_merged.proofs.Origins.{scope_left, within_of}
+use Rattle.ppdb_build_merged.{specs.Inputs.{raw_of}, specs.Origins.{count_of, left_in, list_keys, origin_in}, proofs.Origins.{scope_left, within_of}}
 use Rattle.ppdb_build_merged.proofs.Past.{no_scope}
 use Rattle.ppdb_build_merged.proofs.customs_scopes.put_scope.Goals as goal
 

@@ -1,6 +1,4 @@
-use Rattle.std.proofs.Common.{◌++◌, ◌∷◌, [], List, cond, get_or, sym, ap, ◌∙◌, Bool}
-use Rattle.std.specs.Prelude.{filter, is_some}
-use Rattle.std.proofs.lemmas.List.{take_all}
+use Rattle.std.{proofs.Common.{◌++◌, ◌∷◌, [], List, cond, get_or, sym, ap, ◌∙◌, Bool}, specs.Prelude.{filter, is_some}, proofs.lemmas.List.{take_all}}
 use Rattle.std.proofs.lemmas.List.Elements.{filter_more}
 use Rattle.ppdb_merge_order.specs.declared.keys.Key.{Key}
 use Rattle.ppdb_build_merged.specs.Keyed.{scope_of}

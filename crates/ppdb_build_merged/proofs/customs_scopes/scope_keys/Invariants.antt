@@ -1,5 +1,4 @@
-use Rattle.std.proofs.Common.{◌≡◌, take}
-use Rattle.std.specs.Prelude.{filter, is_some}
+use Rattle.std.{proofs.Common.{◌≡◌, take}, specs.Prelude.{filter, is_some}}
 use Rattle.ppdb_merge_order.specs.declared.keys.Key.{Key}
 use Rattle.ppdb_build_merged.specs.Keyed.{scope_of}
 use Rattle.ppdb_build_merged.proofs.customs_scopes.scope_keys.Given as goal

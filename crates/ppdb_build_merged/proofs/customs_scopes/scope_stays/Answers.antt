@@ -1,6 +1,4 @@
-use Rattle.ppdb_build_merged.specs.Inputs.{raw_of}
-use Rattle.ppdb_build_merged.proofs.Origins.{stays_not}
-use Rattle.ppdb_build_merged.proofs.Past.{no_scope}
+use Rattle.ppdb_build_merged.{specs.Inputs.{raw_of}, proofs.Origins.{stays_not}, proofs.Past.{no_scope}}
 use Rattle.ppdb_build_merged.proofs.customs_scopes.scope_stays.Goals as goal
 
 pub returns-then-not-has_row : goal.returns-then-not-has_row

@@ -1,13 +1,9 @@
-use Rattle.std.proofs.Common.{◌≡◌, ◌++◌, [], ◌∷◌, List, sym, ap, subst, ◌∙◌}
-use Rattle.std.specs.Option.{option_to_list, option_map}
-use Rattle.ppdb_values.specs.Value.{value_of}
+use Rattle.std.{proofs.Common.{◌≡◌, ◌++◌, [], ◌∷◌, List, sym, ap, subst, ◌∙◌}, specs.Option.{option_to_list, option_map}}
+use Rattle.ppdb_values.{specs.Value.{value_of}, specs.declared.file.DocumentValue.{DocumentValue}, proofs.Mapped.{row_map}}
 use Rattle.ppdb_verify.specs.Views.{raw_file}
 use Rattle.ppdb_merge_moved.specs.Moved.{moved_document}
-use Rattle.ppdb_values.specs.declared.file.DocumentValue.{DocumentValue}
-use Rattle.ppdb_values.proofs.Mapped.{row_map}
 use Rattle.ppdb_values_reading.specs.Lent.{document_shown}
-use Rattle.ppdb_build_merged.specs.Names.{AreNamed}
-use Rattle.ppdb_build_merged.proofs.Named.{row_among, named_old, row_old, named_new, row_next}
+use Rattle.ppdb_build_merged.{specs.Names.{AreNamed}, proofs.Named.{row_among, named_old, row_old, named_new, row_next}}
 use Rattle.ppdb_build_merged.proofs.documents.add_document.Goals as goal
 
 pub returns-then-known-ne0-clause-named : goal.returns-then-known-ne0-clause-named

@@ -1,19 +1,13 @@
-use Rattle.std.proofs.Common.{◌≡◌, ◌+◌, ◌<◌, ◌++◌, [], ◌∷◌, List, length, take, fold, refl, sym, ap, subst, ◌∙◌, arith}
-use Rattle.std.proofs.lemmas.List.{length-map, take_all, take_more}
-use Rattle.ppdb_values.specs.Imports.{import_scope_of}
-use Rattle.ppdb_values.specs.declared.file.DocumentValue.{DocumentValue}
-use Rattle.ppdb_merge_items.specs.Each.{Each}
-use Rattle.ppdb_merge_items.proofs.Lists.{Each-append}
-use Rattle.ppdb_merge_joined.specs.Joined.{firsts}
-use Rattle.ppdb_merge_joined.proofs.Placed.{flat_append}
+use Rattle.std.proofs.{Common.{◌≡◌, ◌+◌, ◌<◌, ◌++◌, [], ◌∷◌, List, length, take, fold, refl, sym, ap, subst, ◌∙◌, arith}, lemmas.List.{length-map, take_all}}
+use Rattle.std.proofs.lemmas.List.{take_more}
+use Rattle.ppdb_values.specs.{Imports.{import_scope_of}, declared.file.DocumentValue.{DocumentValue}}
+use Rattle.ppdb_merge_items.{specs.Each.{Each}, proofs.Lists.{Each-append}}
+use Rattle.ppdb_merge_joined.{specs.Joined.{firsts}, proofs.Placed.{flat_append}}
 use Rattle.ppdb_verify.specs.Views.{raw_file}
 use Rattle.ppdb_build_draft.specs.Draft.{with_document}
-use Rattle.ppdb_merge_rows.specs.declared.inputs.RowInput.{RowInput}
-use Rattle.ppdb_build_merged.specs.declared.inputs.Placed.{Placed}
-use Rattle.ppdb_merge_rows.specs.Inputs.{moved_by}
-use Rattle.ppdb_build_merged.specs.Inputs.{HasRoom, documents_in}
-use Rattle.ppdb_build_merged.specs.Names.{AreNamed}
-use Rattle.ppdb_build_merged.proofs.Named.{all_documents, all_placed, documents_are, none_placed, placed_next, ArePlacedSoFar}
+use Rattle.ppdb_merge_rows.specs.{declared.inputs.RowInput.{RowInput}, Inputs.{moved_by}}
+use Rattle.ppdb_build_merged.{specs.declared.inputs.Placed.{Placed}, specs.Inputs.{HasRoom, documents_in}, specs.Names.{AreNamed}, proofs.Named.{all_documents}}
+use Rattle.ppdb_build_merged.proofs.Named.{all_placed, documents_are, none_placed, placed_next, ArePlacedSoFar}
 use Rattle.ppdb_build_merged.proofs.documents.add_documents.Goals as goal
 
 pub loop-input-init : goal.loop-input-init

@@ -1,8 +1,6 @@
 use Rattle.std.proofs.Common.{◌*◌, ◌≤◌, take}
 use Rattle.ppdb_merge_items.specs.Each.{Each}
-use Rattle.ppdb_build_merged.specs.Inputs.{HasRoom}
-use Rattle.ppdb_build_merged.specs.Names.{AreNamed}
-use Rattle.ppdb_build_merged.proofs.Named.{all_documents, ArePlacedSoFar}
+use Rattle.ppdb_build_merged.{specs.Inputs.{HasRoom}, specs.Names.{AreNamed}, proofs.Named.{all_documents, ArePlacedSoFar}}
 use Rattle.ppdb_build_merged.proofs.documents.add_documents.Given as goal
 
 abbrev pub invariant-loop-input : goal.invariant-loop-input

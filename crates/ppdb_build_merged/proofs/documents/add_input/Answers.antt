@@ -1,15 +1,10 @@
-use Rattle.std.proofs.Common.{◌-◌, ◌++◌, List, map, take, sym, ap, subst, ◌∙◌, arith, append_assoc}
-use Rattle.std.specs.Option.{option_to_list}
-use Rattle.std.proofs.lemmas.List.{length-map, take_all}
-use Rattle.ppdb_tables.specs.RawTables.{row_at}
-use Rattle.ppdb_tables.proofs.NumberedRows.{row_there}
-use Rattle.ppdb_values.specs.Documents.{document_of}
-use Rattle.ppdb_values.specs.declared.file.DocumentValue.{DocumentValue}
+use Rattle.std.{proofs.Common.{◌-◌, ◌++◌, List, map, take, sym, ap, subst, ◌∙◌, arith, append_assoc}, specs.Option.{option_to_list}, proofs.lemmas.List.{length-map}}
+use Rattle.std.proofs.lemmas.List.{take_all}
+use Rattle.ppdb_tables.{specs.RawTables.{row_at}, proofs.NumberedRows.{row_there}}
+use Rattle.ppdb_values.specs.{Documents.{document_of}, declared.file.DocumentValue.{DocumentValue}}
 use Rattle.ppdb_merge_moved.specs.Moved.{moved_document}
 use Rattle.ppdb_verify.specs.Views.{raw_file}
-use Rattle.ppdb_build_merged.specs.Inputs.{documents_in}
-use Rattle.ppdb_build_merged.specs.Names.{AreNamed}
-use Rattle.ppdb_build_merged.proofs.Named.{take_row, row_among, rows_among, rows_more}
+use Rattle.ppdb_build_merged.{specs.Inputs.{documents_in}, specs.Names.{AreNamed}, proofs.Named.{take_row, row_among, rows_among, rows_more}}
 use Rattle.ppdb_build_merged.proofs.documents.add_input.Goals as goal
 
 pub documents-preserved : goal.documents-preserved

@@ -1,9 +1,7 @@
 use Rattle.std.proofs.Common.{◌≡◌, ◌+◌, ◌-◌, ◌≤◌, ◌++◌, List, take}
 use Rattle.ppdb_values.specs.declared.file.DocumentValue.{DocumentValue}
 use Rattle.ppdb_build_draft.specs.Draft.{Draft}
-use Rattle.ppdb_build_merged.specs.Inputs.{documents_in}
-use Rattle.ppdb_build_merged.specs.Names.{AreNamed}
-use Rattle.ppdb_build_merged.proofs.Named.{rows_among}
+use Rattle.ppdb_build_merged.{specs.Inputs.{documents_in}, specs.Names.{AreNamed}, proofs.Named.{rows_among}}
 use Rattle.ppdb_build_merged.proofs.documents.add_input.Given as goal
 
 abbrev pub invariant-documents : goal.invariant-documents

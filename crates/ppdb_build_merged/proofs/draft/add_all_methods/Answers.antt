@@ -1,16 +1,11 @@
-use Rattle.std.proofs.Common.{◌≤◌, List, fold, sym, ap, subst, ◌∙◌}
-use Rattle.std.specs.List.{filter_map}
+use Rattle.std.{proofs.Common.{◌≤◌, List, fold, sym, ap, subst, ◌∙◌}, specs.List.{filter_map}}
 use Rattle.ppdb_values.specs.declared.file.MethodValue.{MethodValue}
-use Rattle.ppdb_build_draft.specs.Draft.{with_method, with_all_methods}
-use Rattle.ppdb_build_draft.specs.Drafted.{with_documents}
+use Rattle.ppdb_build_draft.specs.{Draft.{with_method, with_all_methods}, Drafted.{with_documents}}
 use Rattle.ppdb_merge_items.specs.Each.{Each}
 use Rattle.ppdb_merge_parts.specs.Flat.{joined_inputs}
 use Rattle.ppdb_merge_order.specs.declared.keys.Key.{Key}
-use Rattle.ppdb_merge_rows.specs.Inputs.{moved_inputs}
-use Rattle.ppdb_merge_rows.specs.Methods.{HasForms}
-use Rattle.ppdb_build_merged.specs.Keyed.{method_of}
-use Rattle.ppdb_build_merged.proofs.Tables.{methods_found}
-use Rattle.ppdb_build_merged.proofs.Written.{methods_there}
+use Rattle.ppdb_merge_rows.specs.{Inputs.{moved_inputs}, Methods.{HasForms}}
+use Rattle.ppdb_build_merged.{specs.Keyed.{method_of}, proofs.Tables.{methods_found}, proofs.Written.{methods_there}}
 use Rattle.ppdb_build_merged.proofs.draft.add_all_methods.Goals as goal
 
 pub add_methods-requires-clause-there : goal.add_methods-requires-clause-there

@@ -1,14 +1,10 @@
-use Rattle.std.proofs.Common.{List, fold, sym, ap, subst, ◌∙◌}
-use Rattle.std.specs.List.{filter_map}
+use Rattle.std.{proofs.Common.{List, fold, sym, ap, subst, ◌∙◌}, specs.List.{filter_map}}
 use Rattle.ppdb_build_draft.specs.Draft.{with_constants, with_scope}
 use Rattle.ppdb_merge_items.specs.Each.{Each}
 use Rattle.ppdb_merge_parts.specs.Flat.{joined_inputs}
 use Rattle.ppdb_merge_order.specs.declared.keys.Key.{Key}
 use Rattle.ppdb_merge_rows.specs.Inputs.{moved_inputs}
-use Rattle.ppdb_build_merged.specs.Keyed.{scope_of}
-use Rattle.ppdb_build_merged.specs.Writable.{HasConstants}
-use Rattle.ppdb_build_merged.proofs.Tables.{scopes_found}
-use Rattle.ppdb_build_merged.proofs.Written.{constants_taken}
+use Rattle.ppdb_build_merged.{specs.Keyed.{scope_of}, specs.Writable.{HasConstants}, proofs.Tables.{scopes_found}, proofs.Written.{constants_taken}}
 use Rattle.ppdb_build_merged.proofs.draft.add_lists.Goals as goal
 
 pub add_constants-requires-clause-taken : goal.add_constants-requires-clause-taken

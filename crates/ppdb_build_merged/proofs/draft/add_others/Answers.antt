@@ -1,13 +1,10 @@
-use Rattle.std.proofs.Common.{List, fold, sym, ap, subst, ◌∙◌}
-use Rattle.std.specs.List.{filter_map}
+use Rattle.std.{proofs.Common.{List, fold, sym, ap, subst, ◌∙◌}, specs.List.{filter_map}}
 use Rattle.ppdb_build_draft.specs.Draft.{with_import, with_machine}
 use Rattle.ppdb_merge_items.specs.Each.{Each}
 use Rattle.ppdb_merge_parts.specs.Flat.{joined_inputs}
 use Rattle.ppdb_merge_order.specs.declared.keys.Key.{Key}
 use Rattle.ppdb_merge_rows.specs.Inputs.{moved_inputs}
-use Rattle.ppdb_build_merged.specs.Keyed.{machine_of}
-use Rattle.ppdb_build_merged.specs.Writable.{IsWritableImport}
-use Rattle.ppdb_build_merged.proofs.Tables.{imports_found, machines_found}
+use Rattle.ppdb_build_merged.{specs.Keyed.{machine_of}, specs.Writable.{IsWritableImport}, proofs.Tables.{imports_found, machines_found}}
 use Rattle.ppdb_build_merged.proofs.Written.{imports_taken}
 use Rattle.ppdb_build_merged.proofs.draft.add_others.Goals as goal
 

@@ -2,11 +2,9 @@ use Rattle.std.proofs.Common.{◌≤◌, List, length, fold, sym, ap, subst, ◌
 use Rattle.ppdb_build_draft.specs.Draft.{with_custom, with_document, with_import, with_machine}
 use Rattle.ppdb_merge_items.specs.Each.{Each}
 use Rattle.ppdb_merge_parts.specs.Flat.{joined_inputs}
-use Rattle.ppdb_build_merged.specs.declared.inputs.Placed.{Placed}
+use Rattle.ppdb_build_merged.{specs.declared.inputs.Placed.{Placed}, specs.Inputs.{ArePlaced, HasRoom, IsReady}, proofs.Tables.{all_ready, documents_few}}
+use Rattle.ppdb_build_merged.proofs.{Tables.{few_placed}, Written.{all_parts}}
 use Rattle.ppdb_merge_rows.specs.Inputs.{moved_inputs}
-use Rattle.ppdb_build_merged.specs.Inputs.{ArePlaced, HasRoom, IsReady}
-use Rattle.ppdb_build_merged.proofs.Tables.{all_ready, documents_few, few_placed}
-use Rattle.ppdb_build_merged.proofs.Written.{all_parts}
 use Rattle.ppdb_build_merged.proofs.draft.add_parts.Goals as goal
 
 pub add_all_methods-requires-clause-most : goal.add_all_methods-requires-clause-most

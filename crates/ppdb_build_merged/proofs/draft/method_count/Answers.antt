@@ -1,12 +1,9 @@
-use Rattle.std.proofs.Common.{sym, ap, ◌∙◌, arith}
-use Rattle.std.specs.Prelude.{unwrap_or, slice_index}
+use Rattle.std.{proofs.Common.{sym, ap, ◌∙◌, arith}, specs.Prelude.{unwrap_or, slice_index}}
 use Rattle.ppdb_maps.specs.Map.{count_of}
 use Rattle.ppdb_values_sound_laws.proofs.Counts.{type_system}
 use Rattle.ppdb_verify.specs.Views.{raw_file}
-use Rattle.ppdb_merge_rows.specs.declared.inputs.RowInput.{RowInput}
-use Rattle.ppdb_merge_rows.specs.Inputs.{moved_by}
-use Rattle.ppdb_build_merged.proofs.Tables.{method_count}
-use Rattle.ppdb_build_merged.proofs.Written.{rows_long}
+use Rattle.ppdb_merge_rows.specs.{declared.inputs.RowInput.{RowInput}, Inputs.{moved_by}}
+use Rattle.ppdb_build_merged.proofs.{Tables.{method_count}, Written.{rows_long}}
 use Rattle.ppdb_build_merged.proofs.draft.method_count.Goals as goal
 
 pub returns : goal.returns

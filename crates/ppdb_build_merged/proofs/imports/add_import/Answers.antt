@@ -1,5 +1,4 @@
-use Rattle.std.proofs.Common.{ap, subst}
-use Rattle.std.specs.Option.{option_to_list}
+use Rattle.std.{proofs.Common.{ap, subst}, specs.Option.{option_to_list}}
 use Rattle.ppdb_merge_items.specs.Each.{Each}
 use Rattle.ppdb_build_merged.specs.Writable.{IsWritableImport}
 use Rattle.ppdb_build_merged.proofs.imports.add_import.Goals as goal

@@ -1,8 +1,6 @@
 use Rattle.ppdb_build_draft.specs.Draft.{with_import}
-use Rattle.ppdb_build_merged.specs.Keyed.{imports_of}
-use Rattle.ppdb_build_merged.specs.Inputs.{HasRoom}
-use Rattle.ppdb_build_merged.specs.Writable.{IsWritableImport}
-use Rattle.ppdb_build_merged.proofs.Added.{each_part, item_each_of, part_added, parts_added}
+use Rattle.ppdb_build_merged.{specs.Keyed.{imports_of}, specs.Inputs.{HasRoom}, specs.Writable.{IsWritableImport}, proofs.Added.{each_part, item_each_of}}
+use Rattle.ppdb_build_merged.proofs.Added.{part_added, parts_added}
 use Rattle.ppdb_build_merged.proofs.imports.add_imports.Goals as goal
 
 pub add_input-requires-clause-room : goal.add_input-requires-clause-room

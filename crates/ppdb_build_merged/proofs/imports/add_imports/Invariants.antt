@@ -1,5 +1,4 @@
-use Rattle.std.proofs.Common.{◌≡◌, take, fold}
-use Rattle.std.specs.Prelude.{flat_map}
+use Rattle.std.{proofs.Common.{◌≡◌, take, fold}, specs.Prelude.{flat_map}}
 use Rattle.ppdb_build_draft.specs.Draft.{with_import}
 use Rattle.ppdb_build_merged.specs.Keyed.{imports_of}
 use Rattle.ppdb_build_merged.proofs.imports.add_imports.Given as goal

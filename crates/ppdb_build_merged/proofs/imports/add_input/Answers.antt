@@ -1,15 +1,9 @@
-use Rattle.std.proofs.Common.{arith, fold}
-use Rattle.std.proofs.lemmas.List.{length-map}
-use Rattle.ppdb_values.specs.declared.import.ImportScopeValue.{ImportScopeValue}
-use Rattle.ppdb_values.specs.Imports.{import_scope_of}
-use Rattle.ppdb_values.specs.Value.{value_of}
+use Rattle.std.proofs.{Common.{arith, fold}, lemmas.List.{length-map}}
+use Rattle.ppdb_values.specs.{declared.import.ImportScopeValue.{ImportScopeValue}, Imports.{import_scope_of}, Value.{value_of}}
 use Rattle.ppdb_build_draft.specs.Draft.{with_import}
 use Rattle.ppdb_merge_joined.specs.Joined.{renumbered_import}
 use Rattle.ppdb_merge_moved.specs.Moved.{moved_import_scope}
-use Rattle.ppdb_build_merged.specs.Inputs.{raw_of}
-use Rattle.ppdb_build_merged.specs.Keyed.{imports_of}
-use Rattle.ppdb_build_merged.specs.Writable.{IsWritableImport}
-use Rattle.ppdb_build_merged.proofs.Rows.{row_added, row_each, rows_added}
+use Rattle.ppdb_build_merged.{specs.Inputs.{raw_of}, specs.Keyed.{imports_of}, specs.Writable.{IsWritableImport}, proofs.Rows.{row_added, row_each, rows_added}}
 use Rattle.ppdb_build_merged.proofs.imports.add_input.Goals as goal
 
 pub add_import-requires-clause-taken : goal.add_import-requires-clause-taken

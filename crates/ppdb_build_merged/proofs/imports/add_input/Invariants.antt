@@ -1,8 +1,7 @@
 use Rattle.std.proofs.Common.{◌≡◌, ◌+◌, ◌-◌, ◌≤◌, drop, fold}
 use Rattle.ppdb_build_draft.specs.Draft.{with_import}
 use Rattle.ppdb_merge_items.specs.Each.{Each}
-use Rattle.ppdb_build_merged.specs.Keyed.{imports_of}
-use Rattle.ppdb_build_merged.specs.Writable.{IsWritableImport}
+use Rattle.ppdb_build_merged.specs.{Keyed.{imports_of}, Writable.{IsWritableImport}}
 use Rattle.ppdb_build_merged.proofs.imports.add_input.Given as goal
 
 abbrev pub invariant-rows : goal.invariant-rows

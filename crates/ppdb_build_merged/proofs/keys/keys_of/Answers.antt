@@ -1,10 +1,7 @@
-use Rattle.std.proofs.Common.{◌++◌, List, sym, ap, ◌∙◌}
-use Rattle.std.proofs.lemmas.List.{take_all}
+use Rattle.std.proofs.{Common.{◌++◌, List, sym, ap, ◌∙◌}, lemmas.List.{take_all}}
 use Rattle.ppdb_merge_items.specs.Sorted.{in_order}
 use Rattle.ppdb_merge_order.specs.declared.keys.Key.{Key}
-use Rattle.ppdb_build_merged.specs.declared.inputs.Placed.{Placed}
-use Rattle.ppdb_build_merged.specs.Keyed.{keys_in, keys_from}
-use Rattle.ppdb_build_merged.proofs.Counted.{keys_more}
+use Rattle.ppdb_build_merged.{specs.declared.inputs.Placed.{Placed}, specs.Keyed.{keys_in, keys_from}, proofs.Counted.{keys_more}}
 use Rattle.ppdb_build_merged.proofs.keys.keys_of.Goals as goal
 
 pub loop-number-preserved : goal.loop-number-preserved

@@ -1,10 +1,8 @@
-use Rattle.std.proofs.Common.{◌≡◌, ℕ, ◌+◌, ◌-◌, ◌++◌, [], ◌∷◌, List, map, sym, ap, ◌∙◌, arith, append_assoc}
-use Rattle.std.specs.List.{range_with_len}
+use Rattle.std.{proofs.Common.{◌≡◌, ℕ, ◌+◌, ◌-◌, ◌++◌, [], ◌∷◌, List, map, sym, ap, ◌∙◌, arith, append_assoc}, specs.List.{range_with_len}}
 use Rattle.std.proofs.lemmas.List.FromFn.{map-range_with_len_more}
 use Rattle.ppdb_maps.specs.Map.{moved_row}
 use Rattle.ppdb_merge_order.specs.declared.keys.Key.{Key}
-use Rattle.ppdb_build_merged.specs.Inputs.{raw_of}
-use Rattle.ppdb_build_merged.specs.Keyed.{key_of, rows_in}
+use Rattle.ppdb_build_merged.specs.{Inputs.{raw_of}, Keyed.{key_of, rows_in}}
 use Rattle.ppdb_build_merged.proofs.keys.put_keys.Goals as goal
 
 pub rows-preserved : goal.rows-preserved

@@ -1,5 +1,4 @@
-use Rattle.std.proofs.Common.{◌≡◌, ◌+◌, ◌-◌, ◌≤◌, ◌++◌, map}
-use Rattle.std.specs.List.{range_with_len}
+use Rattle.std.{proofs.Common.{◌≡◌, ◌+◌, ◌-◌, ◌≤◌, ◌++◌, map}, specs.List.{range_with_len}}
 use Rattle.ppdb_build_merged.specs.Keyed.{key_of}
 use Rattle.ppdb_build_merged.proofs.keys.put_keys.Given as goal
 

@@ -1,8 +1,6 @@
 use Rattle.std.proofs.Common.{refl, slice_get}
 use Rattle.ppdb_build_draft.specs.Draft.{with_machine}
-use Rattle.ppdb_build_merged.specs.declared.inputs.Placed.{Placed}
-use Rattle.ppdb_build_merged.specs.Keyed.{machine_in}
-use Rattle.ppdb_build_merged.proofs.Added.{item_there, no_item, no_row_put, row_put}
+use Rattle.ppdb_build_merged.{specs.declared.inputs.Placed.{Placed}, specs.Keyed.{machine_in}, proofs.Added.{item_there, no_item, no_row_put, row_put}}
 use Rattle.ppdb_build_merged.proofs.machines.add_machine.Goals as goal
 
 pub returns-then-index-placed : goal.returns-then-index-placed

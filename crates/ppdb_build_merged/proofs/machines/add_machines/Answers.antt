@@ -1,7 +1,6 @@
 use Rattle.ppdb_build_draft.specs.Draft.{with_machine}
 use Rattle.ppdb_merge_order.specs.declared.keys.Key.{Key}
-use Rattle.ppdb_build_merged.specs.Keyed.{machine_of}
-use Rattle.ppdb_build_merged.proofs.Added.{key_added, keys_added}
+use Rattle.ppdb_build_merged.{specs.Keyed.{machine_of}, proofs.Added.{key_added, keys_added}}
 use Rattle.ppdb_build_merged.proofs.machines.add_machines.Goals as goal
 
 pub loop-key-preserved : goal.loop-key-preserved

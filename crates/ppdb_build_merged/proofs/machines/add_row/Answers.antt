@@ -1,13 +1,9 @@
-use Rattle.std.proofs.Common.{None, refl}
-use Rattle.std.specs.Prelude.{Some}
-use Rattle.ppdb_tables.specs.declared.rows.MachineRow.{MachineRow}
-use Rattle.ppdb_tables.specs.RawTables.{row_at}
+use Rattle.std.{proofs.Common.{None, refl}, specs.Prelude.{Some}}
+use Rattle.ppdb_tables.specs.{declared.rows.MachineRow.{MachineRow}, RawTables.{row_at}}
 use Rattle.ppdb_values.specs.Value.{value_of}
 use Rattle.ppdb_build_draft.specs.Draft.{with_machine}
 use Rattle.ppdb_merge_parts.specs.Flat.{machine_image}
-use Rattle.ppdb_build_merged.specs.Inputs.{counted_of, raw_of}
-use Rattle.ppdb_build_merged.proofs.Added.{no_row_put, row_put}
-use Rattle.ppdb_build_merged.proofs.Past.{no_machine}
+use Rattle.ppdb_build_merged.{specs.Inputs.{counted_of, raw_of}, proofs.Added.{no_row_put, row_put}, proofs.Past.{no_machine}}
 use Rattle.ppdb_build_merged.proofs.machines.add_row.Goals as goal
 
 pub returns-then-not-has_row : goal.returns-then-not-has_row

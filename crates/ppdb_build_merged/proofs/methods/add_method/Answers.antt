@@ -1,12 +1,10 @@
-use Rattle.std.proofs.Common.{◌≤◌, Option, refl, subst, slice_get}
-use Rattle.std.specs.Option.{option_and_then, option_to_list}
+use Rattle.std.{proofs.Common.{◌≤◌, Option, refl, subst, slice_get}, specs.Option.{option_and_then, option_to_list}}
 use Rattle.ppdb_values.specs.declared.file.MethodValue.{MethodValue}
 use Rattle.ppdb_merge_items.specs.Each.{Each}
 use Rattle.ppdb_build_draft.specs.Draft.{with_method}
-use Rattle.ppdb_build_merged.specs.declared.inputs.Placed.{Placed}
+use Rattle.ppdb_build_merged.{specs.declared.inputs.Placed.{Placed}, specs.Inputs.{IsReady, raw_of}, proofs.Added.{item_each_of, item_there, no_item, no_row_has}}
+use Rattle.ppdb_build_merged.proofs.Added.{no_row_put, row_has, row_put}
 use Rattle.ppdb_merge_rows.specs.Methods.{HasForms, method_after}
-use Rattle.ppdb_build_merged.specs.Inputs.{IsReady, raw_of}
-use Rattle.ppdb_build_merged.proofs.Added.{item_each_of, item_there, no_item, no_row_has, no_row_put, row_has, row_put}
 use Rattle.ppdb_build_merged.proofs.methods.add_method.Goals as goal
 
 pub add_row-requires-clause-ready : goal.add_row-requires-clause-ready

@@ -3,8 +3,7 @@ use Rattle.ppdb_values.specs.declared.file.MethodValue.{MethodValue}
 use Rattle.ppdb_build_draft.specs.Draft.{with_method}
 use Rattle.ppdb_merge_order.specs.declared.keys.Key.{Key}
 use Rattle.ppdb_merge_rows.specs.Methods.{HasForms}
-use Rattle.ppdb_build_merged.specs.Keyed.{method_of}
-use Rattle.ppdb_build_merged.proofs.Added.{each_all, each_kept, each_more, key_added, keys_added}
+use Rattle.ppdb_build_merged.{specs.Keyed.{method_of}, proofs.Added.{each_all, each_kept, each_more, key_added, keys_added}}
 use Rattle.ppdb_build_merged.proofs.methods.add_methods.Goals as goal
 
 pub add_method-requires-clause-there : goal.add_method-requires-clause-there

@@ -1,5 +1,4 @@
-use Rattle.std.proofs.Common.{◌≡◌, take, fold}
-use Rattle.std.specs.List.{filter_map}
+use Rattle.std.{proofs.Common.{◌≡◌, take, fold}, specs.List.{filter_map}}
 use Rattle.ppdb_build_draft.specs.Draft.{with_method}
 use Rattle.ppdb_merge_items.specs.Each.{Each}
 use Rattle.ppdb_merge_rows.specs.Methods.{HasForms}

@@ -1,14 +1,11 @@
-use Rattle.std.proofs.Common.{◌≤◌, Option, fold, sym, ap, subst, ◌∙◌, arith}
-use Rattle.std.specs.Option.{option_map, option_to_list}
+use Rattle.std.{proofs.Common.{◌≤◌, Option, fold, sym, ap, subst, ◌∙◌, arith}, specs.Option.{option_map, option_to_list}}
 use Rattle.ppdb_values.specs.declared.file.MethodValue.{MethodValue}
 use Rattle.ppdb_build_draft.specs.Draft.{with_method}
 use Rattle.ppdb_merge_items.specs.Each.{Each}
 use Rattle.ppdb_merge_joined.specs.Joined.{row_in, renumbered_method}
 use Rattle.ppdb_merge_moved.specs.Moved.{moved_method}
 use Rattle.ppdb_merge_rows.specs.Methods.{HasForms}
-use Rattle.ppdb_build_merged.specs.Inputs.{raw_of}
-use Rattle.ppdb_build_merged.proofs.Added.{no_row_has, no_row_put}
-use Rattle.ppdb_build_merged.proofs.Past.{no_method}
+use Rattle.ppdb_build_merged.{specs.Inputs.{raw_of}, proofs.Added.{no_row_has, no_row_put}, proofs.Past.{no_method}}
 use Rattle.ppdb_build_merged.proofs.methods.add_row.Goals as goal
 
 pub returns-then-not-has_row-clause-added : goal.returns-then-not-has_row-clause-added

@@ -1,18 +1,11 @@
-use Rattle.std.proofs.Common.{Option, None, refl, sym, ap, ◌∙◌}
-use Rattle.std.specs.Prelude.{Some}
-use Rattle.std.specs.Option.{option_map}
+use Rattle.std.{proofs.Common.{Option, None, refl, sym, ap, ◌∙◌}, specs.Prelude.{Some}, specs.Option.{option_map}}
 use Rattle.ppdb_tables.specs.RawTables.{row_at}
-use Rattle.ppdb_values.specs.declared.scope.ScopeValue.{ScopeValue}
-use Rattle.ppdb_values.specs.Value.{value_of}
+use Rattle.ppdb_values.specs.{declared.scope.ScopeValue.{ScopeValue}, Value.{value_of}}
 use Rattle.ppdb_values_reading.specs.Scopes.{scope_with}
 use Rattle.ppdb_build_draft.specs.Draft.{with_scope}
 use Rattle.ppdb_merge_parts.specs.Flat.{scope_image}
-use Rattle.ppdb_merge_rows.specs.declared.scopes.MovedScope.{MovedScope}
-use Rattle.ppdb_merge_rows.specs.Rows.{scope_value}
-use Rattle.ppdb_build_merged.specs.Inputs.{counted_of, raw_of}
-use Rattle.ppdb_build_merged.proofs.Added.{no_row_put, row_put}
-use Rattle.ppdb_build_merged.proofs.Past.{no_scope}
-use Rattle.ppdb_build_merged.proofs.Ranges.{stays_forward}
+use Rattle.ppdb_merge_rows.specs.{declared.scopes.MovedScope.{MovedScope}, Rows.{scope_value}}
+use Rattle.ppdb_build_merged.{specs.Inputs.{counted_of, raw_of}, proofs.Added.{no_row_put, row_put}, proofs.Past.{no_scope}, proofs.Ranges.{stays_forward}}
 use Rattle.ppdb_build_merged.proofs.scopes.add_row.Goals as goal
 
 pub returns-then-not-has_row : goal.returns-then-not-has_row

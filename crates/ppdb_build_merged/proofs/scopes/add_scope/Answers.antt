@@ -1,9 +1,7 @@
 use Rattle.std.proofs.Common.{refl, slice_get}
-use Rattle.ppdb_build_merged.specs.Inputs.{HasRoom}
+use Rattle.ppdb_build_merged.{specs.Inputs.{HasRoom}, specs.declared.inputs.Placed.{Placed}, specs.Keyed.{scope_in}, proofs.Added.{item_each_of, item_there}}
+use Rattle.ppdb_build_merged.proofs.Added.{no_item, no_row_put, row_put}
 use Rattle.ppdb_build_draft.specs.Draft.{with_scope}
-use Rattle.ppdb_build_merged.specs.declared.inputs.Placed.{Placed}
-use Rattle.ppdb_build_merged.specs.Keyed.{scope_in}
-use Rattle.ppdb_build_merged.proofs.Added.{item_each_of, item_there, no_item, no_row_put, row_put}
 use Rattle.ppdb_build_merged.proofs.scopes.add_scope.Goals as goal
 
 pub add_row-requires : goal.add_row-requires

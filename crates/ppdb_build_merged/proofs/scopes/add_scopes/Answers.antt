@@ -1,7 +1,6 @@
 use Rattle.ppdb_build_draft.specs.Draft.{with_scope}
 use Rattle.ppdb_merge_order.specs.declared.keys.Key.{Key}
-use Rattle.ppdb_build_merged.specs.Keyed.{scope_of}
-use Rattle.ppdb_build_merged.proofs.Added.{key_added, keys_added}
+use Rattle.ppdb_build_merged.{specs.Keyed.{scope_of}, proofs.Added.{key_added, keys_added}}
 use Rattle.ppdb_build_merged.proofs.scopes.add_scopes.Goals as goal
 
 pub loop-key-preserved : goal.loop-key-preserved

@@ -1,9 +1,7 @@
-use Rattle.std.proofs.Common.{◌≤◌, ◌+◌, length, arith, fold}
-use Rattle.std.proofs.lemmas.List.{length-map}
+use Rattle.std.proofs.{Common.{◌≤◌, ◌+◌, length, arith, fold}, lemmas.List.{length-map}}
 use Rattle.ppdb_values.specs.Value.{variable_of}
 use Rattle.ppdb_verify.specs.Views.{raw_file}
-use Rattle.ppdb_values_reading.specs.Lent.{variables_of}
-use Rattle.ppdb_values_reading.specs.Scopes.{items_in}
+use Rattle.ppdb_values_reading.specs.{Lent.{variables_of}, Scopes.{items_in}}
 use Rattle.ppdb_build_draft.specs.Draft.{with_variable}
 use Rattle.ppdb_merge_moved.specs.Moved.{moved_variable}
 use Rattle.ppdb_merge_rows.specs.Rows.{variables_after}

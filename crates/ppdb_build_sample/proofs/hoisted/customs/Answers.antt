@@ -1,8 +1,5 @@
-use Rattle.std.proofs.Common.{◌+◌, ◌%◌, ◌∙◌}
-use Rattle.std.proofs.lemmas.Bool.{eq-eqb, ne_eqb}
-use Rattle.ppdb_build_sample.specs.Sample.{sample_custom}
-use Rattle.ppdb_build_sample.proofs.Annotated.{is_fourth}
-use Rattle.ppdb_build_sample.proofs.Counting.{none_more, passes_more}
+use Rattle.std.proofs.{Common.{◌+◌, ◌%◌, ◌∙◌}, lemmas.Bool.{eq-eqb, ne_eqb}}
+use Rattle.ppdb_build_sample.{specs.Sample.{sample_custom}, proofs.Annotated.{is_fourth}, proofs.Counting.{none_more, passes_more}}
 use Rattle.ppdb_build_sample.proofs.hoisted.customs.Goals as goal
 use Rattle.ppdb_build_sample.proofs.hoisted.customs.Goals.{then-before-eq0+in_ok-hoisted+in_ok-push, else-before-eq0}
 

@@ -1,7 +1,5 @@
-use Rattle.std.proofs.Common.{◌≡◌, map}
-use Rattle.std.specs.List.{filter, range_with_len}
-use Rattle.ppdb_build_sample.specs.Sample.{sample_custom}
-use Rattle.ppdb_build_sample.proofs.Annotated.{is_fourth}
+use Rattle.std.{proofs.Common.{◌≡◌, map}, specs.List.{filter, range_with_len}}
+use Rattle.ppdb_build_sample.{specs.Sample.{sample_custom}, proofs.Annotated.{is_fourth}}
 use Rattle.ppdb_build_sample.proofs.hoisted.customs.Given as goal
 
 abbrev pub invariant-loop-before : goal.invariant-loop-before

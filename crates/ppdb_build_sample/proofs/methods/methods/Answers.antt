@@ -1,7 +1,6 @@
 use Rattle.std.proofs.Common.{◌+◌, ap}
 use Rattle.ppdb_values.specs.declared.file.MethodValue.{MethodValue}
-use Rattle.ppdb_build_sample.specs.Sample.{sample_method}
-use Rattle.ppdb_build_sample.proofs.Counting.{one_more}
+use Rattle.ppdb_build_sample.{specs.Sample.{sample_method}, proofs.Counting.{one_more}}
 use Rattle.ppdb_build_sample.proofs.methods.methods.Goals as goal
 
 pub loop-before-preserved : goal.loop-before-preserved

@@ -1,5 +1,4 @@
-use Rattle.ppdb_build_sample.specs.Sample.{sample_document}
-use Rattle.ppdb_build_sample.proofs.Counting.{one_more}
+use Rattle.ppdb_build_sample.{specs.Sample.{sample_document}, proofs.Counting.{one_more}}
 use Rattle.ppdb_build_sample.proofs.parts.documents.Goals as goal
 
 pub loop-before-preserved : goal.loop-before-preserved

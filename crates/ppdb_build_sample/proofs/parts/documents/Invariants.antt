@@ -1,5 +1,4 @@
-use Rattle.std.proofs.Common.{◌≡◌, map}
-use Rattle.std.specs.List.{range_with_len}
+use Rattle.std.{proofs.Common.{◌≡◌, map}, specs.List.{range_with_len}}
 use Rattle.ppdb_build_sample.specs.Sample.{sample_document}
 use Rattle.ppdb_build_sample.proofs.parts.documents.Given as goal
 

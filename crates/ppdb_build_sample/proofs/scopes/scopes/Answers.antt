@@ -1,5 +1,4 @@
-use Rattle.ppdb_build_sample.proofs.Annotated.{outer_scope, inner_scope}
-use Rattle.ppdb_build_sample.proofs.Counting.{two_more}
+use Rattle.ppdb_build_sample.proofs.{Annotated.{outer_scope, inner_scope}, Counting.{two_more}}
 use Rattle.ppdb_build_sample.proofs.scopes.scopes.Goals as goal
 
 pub loop-before-preserved : goal.loop-before-preserved

@@ -1,5 +1,4 @@
-use Rattle.std.proofs.Common.{◌≡◌, ◌∷◌, [], flat_map}
-use Rattle.std.specs.List.{range_with_len}
+use Rattle.std.{proofs.Common.{◌≡◌, ◌∷◌, [], flat_map}, specs.List.{range_with_len}}
 use Rattle.ppdb_build_sample.proofs.Annotated.{outer_scope, inner_scope}
 use Rattle.ppdb_build_sample.proofs.scopes.scopes.Given as goal
 

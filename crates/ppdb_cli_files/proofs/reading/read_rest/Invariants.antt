@@ -1,5 +1,4 @@
-use Rattle.std.proofs.Common.{◌≡◌, List, ℕ, ◌++◌, length, ◌-◌, ◌+◌}
-use Rattle.std.specs.Io.KnownBytes.{Consumes}
+use Rattle.std.{proofs.Common.{◌≡◌, List, ℕ, ◌++◌, length, ◌-◌, ◌+◌}, specs.Io.KnownBytes.{Consumes}}
 use Rattle.ppdb_cli_files.proofs.reading.read_rest.Given as goal
 
 -- what was read so far was put after what was there

@@ -1,7 +1,5 @@
 use Rattle.std.proofs.Common.{sym, subst, true, false}
-use Rattle.ppdb_cli_files.specs.declared.place.Call.TheVariants.{Create}
-use Rattle.ppdb_cli_files.specs.Replaces.{refused, Replaces}
-use Rattle.ppdb_cli_files.proofs.Joined.{one, weaker}
+use Rattle.ppdb_cli_files.{specs.declared.place.Call.TheVariants.{Create}, specs.Replaces.{refused, Replaces}, proofs.Joined.{one, weaker}}
 use Rattle.ppdb_cli_files.proofs.Runs.{run_not_made, run_done, run_not_flushed, not_written_between, named_between}
 use Rattle.ppdb_cli_files.proofs.replace.replace_file.Goals as goal
 

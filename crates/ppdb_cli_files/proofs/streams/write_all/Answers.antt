@@ -1,10 +1,7 @@
-use Rattle.std.proofs.Common.{◌≡◌, refl, Option, None, Some, ℕ, ◌-◌, List, [], ◌++◌, rules, length, take, drop, sym, ap, ◌∙◌, subst}
-use Rattle.std.proofs.Common.{append_assoc, append-nil, take-append-drop, drop_of_length-le}
-use Rattle.std.proofs.lemmas.List.{take_rest}
-use Rattle.std.proofs.Math.Seq.{take-append_seam}
-use Rattle.std.specs.Io.KnownBytes.{Appends, Keeps}
+use Rattle.std.proofs.Common.{◌≡◌, refl, Option, None, Some, ℕ, ◌-◌, List, [], ◌++◌, rules, length, take, drop, sym, ap, ◌∙◌, subst, append_assoc, append-nil}
+use Rattle.std.proofs.{Common.{take-append-drop, drop_of_length-le}, lemmas.List.{take_rest}, Math.Seq.{take-append_seam}}
+use Rattle.std.{specs.Io.KnownBytes.{Appends, Keeps}, proofs.KnownBytes.{Appends-trans, Appends-nil}}
 use Rattle.ppdb_cli_files.specs.Kept.{AppendsPart}
-use Rattle.std.proofs.KnownBytes.{Appends-trans, Appends-nil}
 use Rattle.ppdb_cli_files.proofs.streams.write_all.Goals as goal
 
 moves_prefix : (all done rest : List ℕ) (n : ℕ) → all ≡ done ++ rest → all ≡ (done ++ take n rest) ++ take (length rest - n) (drop n rest)

@@ -1,5 +1,4 @@
-use Rattle.std.proofs.Common.{◌≡◌, ℕ, List, ◌++◌, length}
-use Rattle.std.specs.Io.KnownBytes.{Appends}
+use Rattle.std.{proofs.Common.{◌≡◌, ℕ, List, ◌++◌, length}, specs.Io.KnownBytes.{Appends}}
 use Rattle.ppdb_cli_files.proofs.streams.write_all.Given as goal
 
 -- what is gone from `rest` was appended

@@ -1,7 +1,5 @@
-use Rattle.std.proofs.Common.{◌∙◌, Some, None}
-use Rattle.std.proofs.lemmas.Result.{err_from_is_err_and}
-use Rattle.ppdb_heaps.specs.Views.{blobs_of}
-use Rattle.ppdb_heaps.proofs.Joins.{joining-starts, joining-ends, joining-none, joining-fault, answer-is}
+use Rattle.std.proofs.{Common.{◌∙◌, Some, None}, lemmas.Result.{err_from_is_err_and}}
+use Rattle.ppdb_heaps.{specs.Views.{blobs_of}, proofs.Joins.{joining-starts, joining-ends, joining-none, joining-fault, answer-is}}
 use Rattle.ppdb_heaps.proofs.join.parts_into.Goals as goal
 
 pub loop-part-init : goal.loop-part-init

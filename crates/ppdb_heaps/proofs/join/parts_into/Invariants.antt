@@ -1,6 +1,5 @@
 use Rattle.std.proofs.Common.{◌≡◌, ◌++◌, List, ℕ, length}
-use Rattle.ppdb_heaps.specs.Views.{blobs_of}
-use Rattle.ppdb_heaps.proofs.Joins.{Joining}
+use Rattle.ppdb_heaps.{specs.Views.{blobs_of}, proofs.Joins.{Joining}}
 use Rattle.ppdb_heaps.proofs.join.parts_into.Given as goal
 
 abbrev pub decreases-loop-part : goal.decreases-loop-part

@@ -1,7 +1,6 @@
-use Rattle.std.proofs.Common.{sym, length}
-use Rattle.std.proofs.lemmas.Result.{err_from_is_err_and}
-use Rattle.ppdb_heaps.specs.Views.{blobs_of}
-use Rattle.ppdb_heaps.proofs.Names.{part-end, part-missing, part-absent, part-there, index-end, index-missing, index-absent, index-there, stays_at}
+use Rattle.std.proofs.{Common.{sym, length}, lemmas.Result.{err_from_is_err_and}}
+use Rattle.ppdb_heaps.{specs.Views.{blobs_of}, proofs.Names.{part-end, part-missing, part-absent, part-there, index-end, index-missing, index-absent, index-there}}
+use Rattle.ppdb_heaps.proofs.Names.{stays_at}
 use Rattle.ppdb_heaps.proofs.name.part_at.Goals as goal
 
 pub returns-then-at-start-clause-content : goal.returns-then-at-start-clause-content

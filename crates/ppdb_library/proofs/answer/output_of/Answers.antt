@@ -1,7 +1,5 @@
 use Rattle.std.proofs.Common.{◌∙◌, ap}
-use Rattle.ppdb_run_words.specs.Task.{task_of}
-use Rattle.ppdb_run_words.specs.Words.{texts, written_file}
-use Rattle.ppdb_run_words.proofs.OneTask.{one_task}
+use Rattle.ppdb_run_words.{specs.Task.{task_of}, specs.Words.{texts, written_file}, proofs.OneTask.{one_task}}
 use Rattle.ppdb_library.proofs.answer.output_of.Goals as goal
 
 pub returns-in-Ok : goal.returns-in-Ok

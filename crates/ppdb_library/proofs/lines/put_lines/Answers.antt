@@ -1,8 +1,6 @@
-use Rattle.std.proofs.Common.{◌≡◌, ◌∙◌, ◌++◌, map, length, take, drop, ap, arith}
-use Rattle.std.proofs.lemmas.List.{take_all}
+use Rattle.std.proofs.{Common.{◌≡◌, ◌∙◌, ◌++◌, map, length, take, drop, ap, arith}, lemmas.List.{take_all}}
 use Rattle.ppdb_verify.specs.Views.{raw_file}
-use Rattle.ppdb_library.specs.Lines.{bare_line, line_of}
-use Rattle.ppdb_library.proofs.Placed.{put_more}
+use Rattle.ppdb_library.{specs.Lines.{bare_line, line_of}, proofs.Placed.{put_more}}
 use Rattle.ppdb_library.proofs.lines.put_lines.Goals as goal
 
 pub loop-i-preserved : goal.loop-i-preserved

@@ -1,7 +1,6 @@
 use Rattle.std.proofs.Common.{◌∙◌, ◌++◌, map, length, drop, ap}
 use Rattle.ppdb_verify.specs.Views.{raw_file}
-use Rattle.ppdb_library.specs.Lines.{line_of}
-use Rattle.ppdb_library.proofs.OneRaw.{one_raw}
+use Rattle.ppdb_library.{specs.Lines.{line_of}, proofs.OneRaw.{one_raw}}
 use Rattle.ppdb_library.proofs.lines.verified_lines.Goals as goal
 
 pub returns-in-Ok-clause-lines : goal.returns-in-Ok-clause-lines

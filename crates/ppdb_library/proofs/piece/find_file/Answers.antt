@@ -1,10 +1,6 @@
-use Rattle.std.proofs.Common.{◌∙◌, Some, sym, ap, arith}
-use Rattle.std.proofs.lemmas.List.{drop_all}
-use Rattle.std.specs.Cmp.Lexicographic.{slice_cmp}
-use Rattle.std.specs.FinMap.{get, get-empty}
+use Rattle.std.{proofs.Common.{◌∙◌, Some, sym, ap, arith}, proofs.lemmas.List.{drop_all}, specs.Cmp.Lexicographic.{slice_cmp}, specs.FinMap.{get, get-empty}}
 use Rattle.std.specs.Ordering.{nat_cmp}
-use Rattle.ppdb_library.specs.Pieces.{files_in}
-use Rattle.ppdb_library.proofs.Pieces.{file_from}
+use Rattle.ppdb_library.{specs.Pieces.{files_in}, proofs.Pieces.{file_from}}
 use Rattle.ppdb_library.proofs.piece.find_file.Goals as goal
 
 pub returns-then-eq : goal.returns-then-eq

@@ -1,5 +1,4 @@
-use Rattle.std.proofs.Common.{◌≡◌, drop}
-use Rattle.std.specs.FinMap.{get}
+use Rattle.std.{proofs.Common.{◌≡◌, drop}, specs.FinMap.{get}}
 use Rattle.ppdb_library.specs.Pieces.{files_in}
 use Rattle.ppdb_library.proofs.piece.find_file.Given as goal
 

@@ -1,9 +1,6 @@
 use Rattle.std.proofs.Common.{inl, inr, sym, ◌∙◌, ap, subst}
 use Rattle.ppdb_run_stops.specs.Status.{status_number}
-use Rattle.ppdb_library.specs.Pieces.{files_in}
-use Rattle.ppdb_library.specs.Room.{IsGiven}
-use Rattle.ppdb_library.proofs.Ends.{came, made_due, same_call}
-use Rattle.ppdb_library.proofs.Statuses.{zero_is_done}
+use Rattle.ppdb_library.{specs.Pieces.{files_in}, specs.Room.{IsGiven}, proofs.Ends.{came, made_due, same_call}, proofs.Statuses.{zero_is_done}}
 use Rattle.ppdb_library.proofs.run.ppdb_run.Goals as goal
 
 pub returns-in-Ok-clause-due : goal.returns-in-Ok-clause-due

@@ -1,11 +1,7 @@
-use Rattle.std.proofs.Common.{rules, ◌≡◌, ◌≢◌, ◌∙◌, ◌++◌, [], ◌∷◌, append-nil, string_bytes, ap, sym, arith}
-use Rattle.std.proofs.lemmas.List.{map-append}
-use Rattle.std.proofs.lemmas.List.Elements.{All-from_get_or, All-push}
-use Rattle.std.proofs.lemmas.Str.Pattern.{split_parts}
-use Rattle.std.specs.List.{All}
+use Rattle.std.proofs.{Common.{rules, ◌≡◌, ◌≢◌, ◌∙◌, ◌++◌, [], ◌∷◌, append-nil, string_bytes, ap, sym, arith}, lemmas.List.{map-append}}
+use Rattle.std.{proofs.lemmas.List.Elements.{All-from_get_or, All-push}, proofs.lemmas.Str.Pattern.{split_parts}, specs.List.{All}}
 use Rattle.ppdb_run_words.specs.Words.{texts}
-use Rattle.ppdb_library.specs.Words.{ended}
-use Rattle.ppdb_library.proofs.Splits.{nothing_left, one_word}
+use Rattle.ppdb_library.{specs.Words.{ended}, proofs.Splits.{nothing_left, one_word}}
 use Rattle.ppdb_library.proofs.words.split_words.Goals as goal
 
 pub loop-word-preserved : goal.loop-word-preserved

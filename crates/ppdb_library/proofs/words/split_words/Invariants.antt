@@ -1,5 +1,4 @@
-use Rattle.std.proofs.Common.{◌≡◌, ◌≢◌, ◌++◌, length}
-use Rattle.std.specs.List.{All}
+use Rattle.std.{proofs.Common.{◌≡◌, ◌≢◌, ◌++◌, length}, specs.List.{All}}
 use denote.Text.{Utf8}
 use denote.Shadow.{shadow}
 use Rattle.ppdb_run_words.specs.Words.{texts}

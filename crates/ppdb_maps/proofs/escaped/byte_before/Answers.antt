@@ -1,5 +1,4 @@
-use Rattle.std.proofs.Common.{sym, ◌∙◌}
-use Rattle.std.proofs.lemmas.Option.{IfSome_then}
+use Rattle.std.proofs.{Common.{sym, ◌∙◌}, lemmas.Option.{IfSome_then}}
 use Rattle.ppdb_maps.proofs.Spelled.{nothing_first, plain_there, coded_there, no_byte, none_then, plain_below}
 use Rattle.ppdb_maps.proofs.escaped.byte_before.Goals as goal
 

@@ -1,6 +1,4 @@
-use Rattle.std.proofs.Common.{◌≡◌, ◌/◌, ◌%◌, get_or, sym, ap, ◌∙◌, arith}
-use Rattle.std.proofs.lemmas.Bool.{false≢true}
-use Rattle.std.proofs.lemmas.Grind.{common_steps}
+use Rattle.std.proofs.{Common.{◌≡◌, ◌/◌, ◌%◌, get_or, sym, ap, ◌∙◌, arith}, lemmas.Bool.{false≢true}, lemmas.Grind.{common_steps}}
 use Rattle.ppdb_base.specs.Escaped.{is_plain}
 use Rattle.ppdb_maps.proofs.Spelled.{code_long, code_high, code_low, code_one, code_there, code_below}
 use Rattle.ppdb_maps.proofs.escaped.code_before.Goals as goal

@@ -1,5 +1,4 @@
-use Rattle.std.proofs.Common.{refl}
-use Rattle.std.proofs.lemmas.Bool.{false≢true}
+use Rattle.std.proofs.{Common.{refl}, lemmas.Bool.{false≢true}}
 use Rattle.ppdb_maps.proofs.Spelled.{read_more, read_whole, read_no_more, none_left}
 use Rattle.ppdb_maps.proofs.escaped.unescaped.Goals as goal
 

@@ -1,5 +1,4 @@
-use Rattle.std.proofs.Common.{rules}
-use Rattle.std.proofs.lemmas.Fn.{always_returns_same}
+use Rattle.std.proofs.{Common.{rules}, lemmas.Fn.{always_returns_same}}
 use Rattle.ppdb_maps.specs.Gathered.{gone_key}
 use Rattle.ppdb_maps.proofs.finish.gone_in_order.Goals as goal
 

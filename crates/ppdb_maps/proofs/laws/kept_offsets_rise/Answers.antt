@@ -1,8 +1,5 @@
-use Rattle.std.proofs.Common.{ℕ, ◌≡◌, ◌<◌, inl, inr, subst, arith}
-use Rattle.std.proofs.lemmas.Bool.{cases_lt}
-use Rattle.ppdb_base.specs.Offsets.{Offsets, Kept, Rise, stop_runs}
-use Rattle.ppdb_base.proofs.Stops.{moves_rise, moves_same}
-use Rattle.ppdb_base.proofs.Moved.{kept_stops}
+use Rattle.std.proofs.{Common.{ℕ, ◌≡◌, ◌<◌, inl, inr, subst, arith}, lemmas.Bool.{cases_lt}}
+use Rattle.ppdb_base.{specs.Offsets.{Offsets, Kept, Rise, stop_runs}, proofs.Stops.{moves_rise, moves_same}, proofs.Moved.{kept_stops}}
 use Rattle.ppdb_maps.proofs.laws.kept_offsets_rise.Goals as goal
 
 below : (o : Offsets) → Rise o → (x y u v : ℕ) → Kept o x y → Kept o u v → y < v → x < u

@@ -1,7 +1,5 @@
-use Rattle.std.proofs.Common.{ℕ, ◌≡◌, ◌≤◌, inl, inr, subst, arith}
-use Rattle.std.proofs.lemmas.Bool.{cases_lt}
-use Rattle.ppdb_base.specs.Offsets.{Offsets, IsNextImage, Moves, Rise, stop_runs}
-use Rattle.ppdb_base.proofs.Stops.{moves_rise, moves_same}
+use Rattle.std.proofs.{Common.{ℕ, ◌≡◌, ◌≤◌, inl, inr, subst, arith}, lemmas.Bool.{cases_lt}}
+use Rattle.ppdb_base.{specs.Offsets.{Offsets, IsNextImage, Moves, Rise, stop_runs}, proofs.Stops.{moves_rise, moves_same}}
 use Rattle.ppdb_maps.proofs.laws.next_image_never_falls.Goals as goal
 
 never_falls : (o : Offsets) → Rise o → (x y u v : ℕ) → IsNextImage o x y → IsNextImage o u v → x ≤ u → y ≤ v

@@ -1,9 +1,5 @@
-use Rattle.std.proofs.Common.{◌≡◌, ◌<◌, ◌^◌, arith, sym, ap, ◌∙◌}
-use Rattle.std.specs.Fmt.{decimal}
-use Rattle.std.specs.Str.Parse.{digits_value}
-use Rattle.std.proofs.lemmas.Grind.{common_steps}
-use Rattle.ppdb_maps.specs.Spelling.{MaySpell}
-use Rattle.ppdb_maps.proofs.Numbers.{may_spell_word, all_digits_decimal, decimal_of_digits, spelled_or_none, none_is_above}
+use Rattle.std.{proofs.Common.{◌≡◌, ◌<◌, ◌^◌, arith, sym, ap, ◌∙◌}, specs.Fmt.{decimal}, specs.Str.Parse.{digits_value}, proofs.lemmas.Grind.{common_steps}}
+use Rattle.ppdb_maps.{specs.Spelling.{MaySpell}, proofs.Numbers.{may_spell_word, all_digits_decimal, decimal_of_digits, spelled_or_none, none_is_above}}
 use Rattle.ppdb_maps.proofs.number.decimal_of.Goals as goal
 
 pub returns-then-not-may_spell-clause-none : goal.returns-then-not-may_spell-clause-none

@@ -1,10 +1,5 @@
-use Rattle.std.proofs.Common.{List, ℕ, ◌≡◌, ◌<◌, ◌≤◌, ◌+◌, length, take, get_or, arith}
-use Rattle.std.specs.Char.{digit_value}
-use Rattle.std.specs.Str.Parse.{AllDigits, digits_value}
-use Rattle.std.proofs.lemmas.Grind.{common_steps}
-use Rattle.std.proofs.lemmas.List.{length-take-le}
-use Rattle.std.proofs.lemmas.Str.{digit_value_digit}
-use Rattle.std.proofs.lemmas.Str.Parse.{digit_at, digit_from_value}
+use Rattle.std.{proofs.Common.{List, ℕ, ◌≡◌, ◌<◌, ◌≤◌, ◌+◌, length, take, get_or, arith}, specs.Char.{digit_value}, specs.Str.Parse.{AllDigits, digits_value}}
+use Rattle.std.proofs.lemmas.{Grind.{common_steps}, List.{length-take-le}, Str.{digit_value_digit}, Str.Parse.{digit_at, digit_from_value}}
 use Rattle.std.proofs.lemmas.Int.Digits.{digits_value_more, digits_more}
 use Rattle.ppdb_maps.proofs.Numbers.{nine_digits}
 use Rattle.ppdb_maps.proofs.number.digits.Goals as goal

@@ -1,6 +1,5 @@
 -- What the digits so far say.
-use Rattle.std.proofs.Common.{◌≡◌, ◌≤◌, take, length}
-use Rattle.std.specs.Str.Parse.{AllDigits, digits_value}
+use Rattle.std.{proofs.Common.{◌≡◌, ◌≤◌, take, length}, specs.Str.Parse.{AllDigits, digits_value}}
 use Rattle.ppdb_maps.proofs.number.digits.Given as goal
 
 abbrev pub invariant-loop-byte : goal.invariant-loop-byte

@@ -1,6 +1,4 @@
-use Rattle.std.proofs.Common.{◌≡◌, arith, sym, ◌∙◌}
-use Rattle.std.specs.Fmt.{decimal}
-use Rattle.std.proofs.lemmas.Fmt.{decimal_injective}
+use Rattle.std.{proofs.Common.{◌≡◌, arith, sym, ◌∙◌}, specs.Fmt.{decimal}, proofs.lemmas.Fmt.{decimal_injective}}
 use Rattle.ppdb_maps.proofs.number.number.Goals as goal
 use Rattle.ppdb_maps.proofs.number.number.Goals.{else-least-value-via-then-least-value+else-value-most, else-least-value-via-else-least-value}
 

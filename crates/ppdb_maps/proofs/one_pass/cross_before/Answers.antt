@@ -1,5 +1,4 @@
-use Rattle.std.proofs.Common.{◌≡◌, get_or, take, drop, arith}
-use Rattle.std.proofs.lemmas.Grind.{common_steps}
+use Rattle.std.proofs.{Common.{◌≡◌, get_or, take, drop, arith}, lemmas.Grind.{common_steps}}
 use Rattle.ppdb_maps.proofs.OnePass.{after, row_word, table_word, cross_there}
 use Rattle.ppdb_maps.proofs.one_pass.cross_before.Goals as goal
 

@@ -1,13 +1,7 @@
-use Rattle.std.proofs.Common.{List, ℕ, ◌≡◌, ◌<◌, ◌≤◌, ◌+◌, ◌^◌, length, take, get_or, arith}
-use Rattle.std.specs.Char.{digit_value}
-use Rattle.std.specs.Str.Parse.{AllDigits, digits_value}
-use Rattle.std.proofs.lemmas.Grind.{common_steps}
-use Rattle.std.proofs.lemmas.List.{length-take-le}
-use Rattle.std.proofs.lemmas.Str.{digit_value_digit}
-use Rattle.std.proofs.lemmas.Str.Parse.{digit_from_value}
-use Rattle.std.proofs.lemmas.Int.Digits.{digits_value_more, digits_more}
-use Rattle.ppdb_maps.specs.Spelling.{MaySpell}
-use Rattle.ppdb_maps.proofs.OnePass.{few_digits, number_there}
+use Rattle.std.{proofs.Common.{List, ℕ, ◌≡◌, ◌<◌, ◌≤◌, ◌+◌, ◌^◌, length, take, get_or, arith}, specs.Char.{digit_value}, specs.Str.Parse.{AllDigits, digits_value}}
+use Rattle.std.proofs.lemmas.{Grind.{common_steps}, List.{length-take-le}, Str.{digit_value_digit}, Str.Parse.{digit_from_value}, Int.Digits.{digits_value_more}}
+use Rattle.std.proofs.lemmas.Int.Digits.{digits_more}
+use Rattle.ppdb_maps.{specs.Spelling.{MaySpell}, proofs.OnePass.{few_digits, number_there}}
 use Rattle.ppdb_maps.proofs.one_pass.number_before.Goals as goal
 
 below : (bytes : List ℕ) (count value most : ℕ) → AllDigits 10 (take count bytes) → value ≡ digits_value 10 (take count bytes) → count ≤ length bytes

@@ -1,6 +1,5 @@
 -- What the digits so far say.
-use Rattle.std.proofs.Common.{◌≡◌, ◌≤◌, take}
-use Rattle.std.specs.Str.Parse.{AllDigits, digits_value}
+use Rattle.std.{proofs.Common.{◌≡◌, ◌≤◌, take}, specs.Str.Parse.{AllDigits, digits_value}}
 use Rattle.ppdb_maps.proofs.one_pass.number_before.Given as goal
 
 abbrev pub invariant-loop-byte : goal.invariant-loop-byte

@@ -1,6 +1,4 @@
-use Rattle.std.proofs.Common.{take, drop}
-use Rattle.std.proofs.Common.{◌≡◌, get_or, arith}
-use Rattle.std.proofs.lemmas.Grind.{common_steps}
+use Rattle.std.proofs.{Common.{take, drop, ◌≡◌, get_or, arith}, lemmas.Grind.{common_steps}}
 use Rattle.ppdb_maps.proofs.OnePass.{after, row_word, row_there}
 use Rattle.ppdb_maps.proofs.one_pass.row_before.Goals as goal
 

@@ -1,5 +1,4 @@
-use Rattle.std.proofs.Common.{◌≡◌, get_or, arith}
-use Rattle.std.proofs.lemmas.Grind.{common_steps}
+use Rattle.std.proofs.{Common.{◌≡◌, get_or, arith}, lemmas.Grind.{common_steps}}
 use Rattle.ppdb_maps.proofs.OnePass.{after, run_word, run_there}
 use Rattle.ppdb_maps.proofs.one_pass.run_before.Goals as goal
 

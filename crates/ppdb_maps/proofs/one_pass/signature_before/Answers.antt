@@ -1,5 +1,4 @@
-use Rattle.std.proofs.Common.{◌≡◌, get_or, arith}
-use Rattle.std.proofs.lemmas.Grind.{common_steps}
+use Rattle.std.proofs.{Common.{◌≡◌, get_or, arith}, lemmas.Grind.{common_steps}}
 use Rattle.ppdb_maps.proofs.OnePass.{after, signature_word, signature_there}
 use Rattle.ppdb_maps.proofs.one_pass.signature_before.Goals as goal
 

@@ -1,6 +1,4 @@
-use Rattle.std.proofs.Common.{◌<◌, length, arith}
-use Rattle.std.specs.Str.Lines.{lines}
-use Rattle.std.proofs.lemmas.Grind.{common_steps}
+use Rattle.std.{proofs.Common.{◌<◌, length, arith}, specs.Str.Lines.{lines}, proofs.lemmas.Grind.{common_steps}}
 use Rattle.ppdb_maps.proofs.Looping.{so_far_start, so_far_more, so_far_refused}
 use Rattle.ppdb_maps.proofs.read.read_lines.Goals as goal
 

@@ -1,6 +1,5 @@
 -- The draft holds what the lines so far say, and the others are left.
-use Rattle.std.proofs.Common.{◌≤◌, ◌+◌, length}
-use Rattle.std.specs.Str.Lines.{lines}
+use Rattle.std.{proofs.Common.{◌≤◌, ◌+◌, length}, specs.Str.Lines.{lines}}
 use Rattle.ppdb_maps.proofs.Looping.{SoFar}
 use Rattle.ppdb_maps.proofs.read.read_lines.Given as goal
 

@@ -1,7 +1,5 @@
-use Rattle.std.proofs.Common.{sym, ◌∙◌}
-use Rattle.std.proofs.lemmas.Bool.{false≢true}
-use Rattle.ppdb_maps.specs.Forms.{cross_line}
-use Rattle.ppdb_maps.proofs.Saying.{cross_values, cross_none}
+use Rattle.std.proofs.{Common.{sym, ◌∙◌}, lemmas.Bool.{false≢true}}
+use Rattle.ppdb_maps.{specs.Forms.{cross_line}, proofs.Saying.{cross_values, cross_none}}
 use Rattle.ppdb_maps.proofs.reading.cross_line.Goals as goal
 
 pub returns-then-crosses : goal.returns-then-crosses

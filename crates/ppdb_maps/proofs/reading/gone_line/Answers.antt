@@ -1,5 +1,4 @@
-use Rattle.ppdb_maps.specs.Forms.{gone_line}
-use Rattle.ppdb_maps.proofs.Saying.{gone_values}
+use Rattle.ppdb_maps.{specs.Forms.{gone_line}, proofs.Saying.{gone_values}}
 use Rattle.ppdb_maps.proofs.reading.gone_line.Goals as goal
 
 pub returns : goal.returns

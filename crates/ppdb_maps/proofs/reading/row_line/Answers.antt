@@ -1,5 +1,4 @@
-use Rattle.ppdb_maps.specs.Forms.{row_line}
-use Rattle.ppdb_maps.proofs.Saying.{row_values}
+use Rattle.ppdb_maps.{specs.Forms.{row_line}, proofs.Saying.{row_values}}
 use Rattle.ppdb_maps.proofs.reading.row_line.Goals as goal
 
 pub returns : goal.returns

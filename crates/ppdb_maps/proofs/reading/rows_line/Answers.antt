@@ -1,5 +1,4 @@
-use Rattle.ppdb_maps.specs.Forms.{rows_line}
-use Rattle.ppdb_maps.proofs.Saying.{rows_values}
+use Rattle.ppdb_maps.{specs.Forms.{rows_line}, proofs.Saying.{rows_values}}
 use Rattle.ppdb_maps.proofs.reading.rows_line.Goals as goal
 
 pub returns : goal.returns

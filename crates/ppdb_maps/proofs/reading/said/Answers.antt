@@ -1,7 +1,5 @@
-use Rattle.std.proofs.Common.{sym, ◌∙◌}
-use Rattle.std.proofs.lemmas.Bool.{false≢true}
-use Rattle.ppdb_maps.specs.Forms.{silent}
-use Rattle.ppdb_maps.proofs.Saying.{tells_form, breaks_form, breaks_value}
+use Rattle.std.proofs.{Common.{sym, ◌∙◌}, lemmas.Bool.{false≢true}}
+use Rattle.ppdb_maps.{specs.Forms.{silent}, proofs.Saying.{tells_form, breaks_form, breaks_value}}
 use Rattle.ppdb_maps.proofs.reading.said.Goals as goal
 
 pub returns-then-is_silent : goal.returns-then-is_silent

@@ -1,10 +1,7 @@
-use Rattle.std.proofs.Common.{rules, ◌≡◌, ◌∙◌, arith, leb, leb-true, subst, sym}
-use Rattle.std.proofs.lemmas.Bool.{leb-false}
-use Rattle.std.proofs.lemmas.List.Sorted.{IsPartitionPoint-from_clause, IsPartitionedBy-leb}
+use Rattle.std.proofs.{Common.{rules, ◌≡◌, ◌∙◌, arith, leb, leb-true, subst, sym}, lemmas.Bool.{leb-false}, lemmas.List.Sorted.{IsPartitionPoint-from_clause}}
+use Rattle.std.proofs.lemmas.List.Sorted.{IsPartitionedBy-leb}
 use Rattle.ppdb_base.specs.Offsets.{end_of, run_at}
-use Rattle.ppdb_maps.specs.Runs.{RunIs}
-use Rattle.ppdb_maps.proofs.Searching.{ends_rise, found_at, item_copied}
-use Rattle.ppdb_maps.proofs.Lines.{run_is}
+use Rattle.ppdb_maps.{specs.Runs.{RunIs}, proofs.Searching.{ends_rise, found_at, item_copied}, proofs.Lines.{run_is}}
 use Rattle.ppdb_maps.proofs.runs.first_after.Goals as goal
 
 pub returns : goal.returns

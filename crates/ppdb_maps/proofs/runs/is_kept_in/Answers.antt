@@ -1,5 +1,4 @@
-use Rattle.std.proofs.Common.{ltb-true}
-use Rattle.std.proofs.lemmas.Bool.{lt-ltb}
+use Rattle.std.proofs.{Common.{ltb-true}, lemmas.Bool.{lt-ltb}}
 use Rattle.ppdb_maps.proofs.Lines.{between_at, not_between}
 use Rattle.ppdb_maps.proofs.runs.is_kept_in.Goals as goal
 

@@ -1,10 +1,6 @@
-use Rattle.std.proofs.Common.{◌≡◌, ◌+◌, ◌-◌, ◌∷◌, ◌++◌, [], None, false, ℕ, map, refl, sym, ap, subst, ◌∙◌, arith}
-use Rattle.std.specs.List.{range_with_len}
+use Rattle.std.{proofs.Common.{◌≡◌, ◌+◌, ◌-◌, ◌∷◌, ◌++◌, [], None, false, ℕ, map, refl, sym, ap, subst, ◌∙◌, arith}, specs.List.{range_with_len}}
 use Rattle.std.proofs.lemmas.List.FromFn.{map-range_with_len_more}
-use Rattle.ppdb_maps.specs.declared.entries.Count.{Count}
-use Rattle.ppdb_maps.specs.declared.entries.RowLine.{RowLine}
-use Rattle.ppdb_maps.specs.Readable.{IsReadable}
-use Rattle.ppdb_maps.specs.Sample.{sample_method}
+use Rattle.ppdb_maps.specs.{declared.entries.Count.{Count}, declared.entries.RowLine.{RowLine}, Readable.{IsReadable}, Sample.{sample_method}}
 use Rattle.ppdb_maps.proofs.SampleMap.{sample_readable, sample_of}
 use Rattle.ppdb_maps.proofs.sample.sample_map.Goals as goal
 use Rattle.ppdb_maps.proofs.Parts.{sample_row}

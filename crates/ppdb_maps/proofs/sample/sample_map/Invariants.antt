@@ -1,5 +1,4 @@
-use Rattle.std.proofs.Common.{◌≡◌, map}
-use Rattle.std.specs.List.{range_with_len}
+use Rattle.std.{proofs.Common.{◌≡◌, map}, specs.List.{range_with_len}}
 use Rattle.ppdb_maps.specs.Sample.{sample_method}
 use Rattle.ppdb_maps.proofs.sample.sample_map.Given as goal
 use Rattle.ppdb_maps.proofs.Parts.{sample_row}

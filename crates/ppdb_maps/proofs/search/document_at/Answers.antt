@@ -1,11 +1,6 @@
-use Rattle.std.proofs.Common.{rules, refl}
-use Rattle.std.specs.Prelude.{bytes_eq}
-use Rattle.std.specs.Ordering.{nat_cmp, is_lt}
-use Rattle.std.specs.Cmp.Lexicographic.{slice_cmp, nat_list_cmp_total}
+use Rattle.std.{proofs.Common.{rules, refl}, specs.Prelude.{bytes_eq}, specs.Ordering.{nat_cmp, is_lt}, specs.Cmp.Lexicographic.{slice_cmp, nat_list_cmp_total}}
 use Rattle.std.proofs.lemmas.Fn.{always_returns_same}
-use Rattle.ppdb_maps.proofs.Halving.{parted}
-use Rattle.ppdb_maps.proofs.Named.{same_bytes}
-use Rattle.ppdb_maps.specs.declared.entries.NameLine.{NameLine}
+use Rattle.ppdb_maps.{proofs.Halving.{parted}, proofs.Named.{same_bytes}, specs.declared.entries.NameLine.{NameLine}}
 use Rattle.ppdb_maps.proofs.search.document_at.Goals as goal
 
 pub returns : goal.returns

@@ -1,5 +1,4 @@
-use Rattle.std.proofs.Common.{◌≡◌, ◌∷◌, [], true, false, Option, Bor, sym, ap, ◌∙◌, refl}
-use Rattle.std.specs.Option.{option_copied}
+use Rattle.std.{proofs.Common.{◌≡◌, ◌∷◌, [], true, false, Option, Bor, sym, ap, ◌∙◌, refl}, specs.Option.{option_copied}}
 use Rattle.ppdb_maps.proofs.Halving.{found_lent, if_passes}
 use Rattle.ppdb_maps.proofs.search.find_by.Goals as goal
 

@@ -1,6 +1,4 @@
-use Rattle.std.proofs.Common.{rules, ◌∙◌, sym, ap}
-use Rattle.std.specs.Prelude.{nat_eq, nat_lt, is_some}
-use Rattle.std.proofs.lemmas.Fn.{always_returns_same}
+use Rattle.std.{proofs.Common.{rules, ◌∙◌, sym, ap}, specs.Prelude.{nat_eq, nat_lt, is_some}, proofs.lemmas.Fn.{always_returns_same}}
 use Rattle.ppdb_maps.proofs.Halving.{by_itself, any_found, some_lent}
 use Rattle.ppdb_maps.proofs.search.has_number.Goals as goal
 

@@ -1,9 +1,5 @@
-use Rattle.std.proofs.Common.{rules, ◌&&◌, ◌||◌, ◌∙◌, sym, ap}
-use Rattle.std.specs.Prelude.{nat_eq, nat_lt, is_some}
-use Rattle.std.proofs.lemmas.Fn.{always_returns_same}
-use Rattle.ppdb_maps.proofs.Halving.{by_pair, some_lent}
-use Rattle.ppdb_maps.proofs.OneList.{any_is}
-use Rattle.ppdb_maps.specs.declared.entries.GoneLine.{GoneLine}
+use Rattle.std.{proofs.Common.{rules, ◌&&◌, ◌||◌, ◌∙◌, sym, ap}, specs.Prelude.{nat_eq, nat_lt, is_some}, proofs.lemmas.Fn.{always_returns_same}}
+use Rattle.ppdb_maps.{proofs.Halving.{by_pair, some_lent}, proofs.OneList.{any_is}, specs.declared.entries.GoneLine.{GoneLine}}
 use Rattle.ppdb_maps.proofs.search.is_gone_at.Goals as goal
 
 pub returns : goal.returns

@@ -1,5 +1,4 @@
-use Rattle.std.proofs.Common.{◌≡◌, ◌≤◌, ◌+◌, ◌∷◌, [], true, false, Option, Bor, length, sym, ap, ◌∙◌, refl, arith}
-use Rattle.std.specs.Option.{option_copied}
+use Rattle.std.{proofs.Common.{◌≡◌, ◌≤◌, ◌+◌, ◌∷◌, [], true, false, Option, Bor, length, sym, ap, ◌∙◌, refl, arith}, specs.Option.{option_copied}}
 use Rattle.std.proofs.lemmas.Grind.{common_steps}
 use Rattle.ppdb_maps.proofs.Halving.{nth_lent, nth_past, if_passes}
 use Rattle.ppdb_maps.proofs.search.nth_by.Goals as goal

@@ -1,8 +1,5 @@
-use Rattle.std.proofs.Common.{rules}
-use Rattle.std.specs.Prelude.{nat_eq, nat_lt}
-use Rattle.std.proofs.lemmas.Fn.{always_returns_same}
-use Rattle.ppdb_maps.proofs.Halving.{by_first}
-use Rattle.ppdb_maps.specs.declared.entries.GoneLine.{GoneLine}
+use Rattle.std.{proofs.Common.{rules}, specs.Prelude.{nat_eq, nat_lt}, proofs.lemmas.Fn.{always_returns_same}}
+use Rattle.ppdb_maps.{proofs.Halving.{by_first}, specs.declared.entries.GoneLine.{GoneLine}}
 use Rattle.ppdb_maps.proofs.search.nth_gone.Goals as goal
 
 pub returns : goal.returns

@@ -1,10 +1,6 @@
-use Rattle.std.proofs.Common.{◌≡◌, ◌&&◌, ◌||◌, true, Some, refl, sym, ap, ◌∙◌}
-use Rattle.std.proofs.lemmas.Bool.{eq-eqb}
-use Rattle.std.specs.Option.{option_copied}
-use Rattle.std.specs.Prelude.{nat_eq, nat_lt, slice_get}
-use Rattle.ppdb_maps.proofs.Halving.{at_there, by_pair}
-use Rattle.ppdb_maps.proofs.Searching.{item_copied}
-use Rattle.ppdb_maps.specs.declared.entries.RowLine.{RowLine}
+use Rattle.std.{proofs.Common.{◌≡◌, ◌&&◌, ◌||◌, true, Some, refl, sym, ap, ◌∙◌}, proofs.lemmas.Bool.{eq-eqb}, specs.Option.{option_copied}, specs.Prelude.{nat_eq}}
+use Rattle.std.specs.Prelude.{nat_lt, slice_get}
+use Rattle.ppdb_maps.{proofs.Halving.{at_there, by_pair}, proofs.Searching.{item_copied}, specs.declared.entries.RowLine.{RowLine}}
 use Rattle.ppdb_maps.proofs.search.row_near.Goals as goal
 
 pub returns-in-Some : goal.returns-in-Some

@@ -1,8 +1,5 @@
-use Rattle.std.proofs.Common.{◌≡◌, ◌++◌, sym, ap, ◌∙◌}
-use Rattle.std.specs.Prelude.{slice_get}
-use Rattle.std.proofs.lemmas.List.{append_assoc}
-use Rattle.ppdb_merge.specs.Refusals.{documents_differ, links_differ, methods_taken}
-use Rattle.ppdb_merge.proofs.Told.{first_told, second_told}
+use Rattle.std.{proofs.Common.{◌≡◌, ◌++◌, sym, ap, ◌∙◌}, specs.Prelude.{slice_get}, proofs.lemmas.List.{append_assoc}}
+use Rattle.ppdb_merge.{specs.Refusals.{documents_differ, links_differ, methods_taken}, proofs.Told.{first_told, second_told}}
 use Rattle.ppdb_merge.proofs.index.clash_before.Goals as goal
 
 pub returns-then-is_some : goal.returns-then-is_some

@@ -1,10 +1,7 @@
 use Rattle.std.proofs.Common.{sym, subst, ◌∙◌}
-use Rattle.ppdb_merge_meaning_laws.specs.Kept.{KeepsMeaning}
-use Rattle.ppdb_merge_meaning_laws.specs.Origins.{KeepsOrigins}
-use Rattle.ppdb_merge_joined.specs.Joinable.{AreJoinable}
-use Rattle.ppdb_merge_joined.specs.Small.{HaveRoom}
-use Rattle.ppdb_merge.proofs.Adding.{have_few, joined_sound, some_files, if_sound, if_kept}
-use Rattle.ppdb_merge.proofs.Counted.{can_be_joined}
+use Rattle.ppdb_merge_meaning_laws.specs.{Kept.{KeepsMeaning}, Origins.{KeepsOrigins}}
+use Rattle.ppdb_merge_joined.specs.{Joinable.{AreJoinable}, Small.{HaveRoom}}
+use Rattle.ppdb_merge.proofs.{Adding.{have_few, joined_sound, some_files, if_sound, if_kept}, Counted.{can_be_joined}}
 use Rattle.ppdb_merge.proofs.joining.join_traces.Goals as goal
 
 pub joined_value-requires-clause-some : goal.joined_value-requires-clause-some

@@ -1,6 +1,5 @@
 use Rattle.std.proofs.Common.{sym, ap, ◌∙◌, arith}
-use Rattle.ppdb_merge.specs.Indexes.{link_row}
-use Rattle.ppdb_merge.proofs.Told.{numbered_told, numbered_past}
+use Rattle.ppdb_merge.{specs.Indexes.{link_row}, proofs.Told.{numbered_told, numbered_past}}
 use Rattle.ppdb_merge.proofs.links.first_link.Goals as goal
 
 pub returns-then-is_some : goal.returns-then-is_some

@@ -1,5 +1,4 @@
-use Rattle.std.proofs.Common.{◌≡◌, ◌+◌, [], take}
-use Rattle.std.specs.List.{filter_map}
+use Rattle.std.{proofs.Common.{◌≡◌, ◌+◌, [], take}, specs.List.{filter_map}}
 use Rattle.ppdb_tables.specs.RawTables.{numbered}
 use Rattle.ppdb_merge.specs.Indexes.{link_row}
 use Rattle.ppdb_merge.proofs.links.first_link.Given as goal

@@ -1,5 +1,4 @@
-use Rattle.std.proofs.Common.{Some, true, false, sym, ap, ◌∙◌}
-use Rattle.std.specs.Option.{option_copied}
+use Rattle.std.{proofs.Common.{Some, true, false, sym, ap, ◌∙◌}, specs.Option.{option_copied}}
 use Rattle.ppdb_merge.proofs.Linked.{told_of, no_record, without_line}
 use Rattle.ppdb_merge.proofs.links.first_link_differing.Goals as goal
 

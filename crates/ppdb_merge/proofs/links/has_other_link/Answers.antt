@@ -1,8 +1,6 @@
-use Rattle.std.proofs.Common.{sym, ap, ◌∙◌}
-use Rattle.std.specs.List.{list_any}
+use Rattle.std.{proofs.Common.{sym, ap, ◌∙◌}, specs.List.{list_any}}
 use Rattle.ppdb_merge_fits.proofs.First.{any_hit, any_miss, any_none}
-use Rattle.ppdb_merge.specs.Refusals.{is_other_link}
-use Rattle.ppdb_merge.proofs.Linked.{input_has, by_inputs}
+use Rattle.ppdb_merge.{specs.Refusals.{is_other_link}, proofs.Linked.{input_has, by_inputs}}
 use Rattle.ppdb_merge.proofs.links.has_other_link.Goals as goal
 
 pub returns-then-input_has_other : goal.returns-then-input_has_other

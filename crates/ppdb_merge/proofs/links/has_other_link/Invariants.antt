@@ -1,5 +1,4 @@
-use Rattle.std.proofs.Common.{◌≡◌, false, take}
-use Rattle.std.specs.List.{list_any}
+use Rattle.std.{proofs.Common.{◌≡◌, false, take}, specs.List.{list_any}}
 use Rattle.ppdb_merge.proofs.Linked.{input_has}
 use Rattle.ppdb_merge.proofs.links.has_other_link.Given as goal
 

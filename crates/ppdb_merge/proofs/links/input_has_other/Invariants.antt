@@ -1,5 +1,4 @@
-use Rattle.std.proofs.Common.{◌≡◌, false, take}
-use Rattle.std.specs.List.{list_any}
+use Rattle.std.{proofs.Common.{◌≡◌, false, take}, specs.List.{list_any}}
 use Rattle.ppdb_merge.specs.Refusals.{is_other_link}
 use Rattle.ppdb_merge.proofs.links.input_has_other.Given as goal
 

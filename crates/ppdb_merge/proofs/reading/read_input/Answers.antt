@@ -1,11 +1,9 @@
 use Rattle.std.proofs.Common.{◌<◌, length, sym, ap, subst, ◌∙◌, inr, Some, None}
 use Rattle.ppdb_values.specs.declared.file.FileValue.{FileValue}
 use Rattle.ppdb_verify.specs.Views.{raw_file}
-use Rattle.ppdb_merge_items.specs.Annotated.{annotated_file}
-use Rattle.ppdb_merge_items.specs.SoundParts.{SoundMoved}
+use Rattle.ppdb_merge_items.specs.{Annotated.{annotated_file}, SoundParts.{SoundMoved}}
 use Rattle.ppdb_merge_moved.specs.Moved.{moved_file}
-use Rattle.ppdb_merge.specs.Merged.{is_first}
-use Rattle.ppdb_merge.proofs.Adding.{few_customs, few_documents, few_moved, moved_is_sound, refused_as, added_sound, is_sound}
+use Rattle.ppdb_merge.{specs.Merged.{is_first}, proofs.Adding.{few_customs, few_documents, few_moved, moved_is_sound, refused_as, added_sound, is_sound}}
 use Rattle.ppdb_merge.proofs.reading.read_input.Goals as goal
 
 pub clash_before-requires-clause-documents : goal.clash_before-requires-clause-documents

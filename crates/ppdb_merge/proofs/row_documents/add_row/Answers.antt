@@ -3,8 +3,7 @@ use Rattle.ppdb_values.specs.Value.{value_of}
 use Rattle.ppdb_verify.specs.Views.{raw_file}
 use Rattle.ppdb_merge_joined.specs.Joined.{firsts}
 use Rattle.ppdb_merge_moved.specs.Moved.{moved_document}
-use Rattle.ppdb_merge.specs.Indexes.{HoldsDocuments}
-use Rattle.ppdb_merge.proofs.RowWalks.{mapped_row}
+use Rattle.ppdb_merge.{specs.Indexes.{HoldsDocuments}, proofs.RowWalks.{mapped_row}}
 use Rattle.ppdb_merge.proofs.row_documents.add_row.Goals as goal
 
 pub returns : goal.returns

@@ -1,7 +1,5 @@
-use Rattle.std.proofs.Common.{◌≡◌, ◌+◌, ◌-◌, ◌++◌, [], arith, map, subst, sym, take}
-use Rattle.std.proofs.lemmas.List.{append-nil, length-map, take_all}
-use Rattle.ppdb_values.specs.Documents.{document_of}
-use Rattle.ppdb_values.specs.Value.{value_of}
+use Rattle.std.proofs.{Common.{◌≡◌, ◌+◌, ◌-◌, ◌++◌, [], arith, map, subst, sym, take}, lemmas.List.{append-nil, length-map, take_all}}
+use Rattle.ppdb_values.specs.{Documents.{document_of}, Value.{value_of}}
 use Rattle.ppdb_verify.specs.Views.{raw_file}
 use Rattle.ppdb_merge_joined.specs.Joined.{firsts}
 use Rattle.ppdb_merge_moved.specs.Moved.{moved_document}

@@ -1,6 +1,5 @@
 use Rattle.std.proofs.Common.{◌+◌, ◌-◌, ◌≤◌, ◌++◌, List, [], map, take}
-use Rattle.ppdb_values.specs.Value.{value_of}
-use Rattle.ppdb_values.specs.declared.file.DocumentValue.{DocumentValue}
+use Rattle.ppdb_values.specs.{Value.{value_of}, declared.file.DocumentValue.{DocumentValue}}
 use Rattle.ppdb_verify.specs.Views.{raw_file}
 use Rattle.ppdb_merge_joined.specs.Joined.{firsts}
 use Rattle.ppdb_merge_moved.specs.Moved.{moved_document}

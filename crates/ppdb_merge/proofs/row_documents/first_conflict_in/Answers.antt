@@ -1,10 +1,7 @@
-use Rattle.std.proofs.Common.{◌∙◌, arith, sym}
-use Rattle.std.proofs.lemmas.List.{length-map}
-use Rattle.ppdb_values.specs.Documents.{document_of}
-use Rattle.ppdb_values.specs.Value.{value_of}
+use Rattle.std.proofs.{Common.{◌∙◌, arith, sym}, lemmas.List.{length-map}}
+use Rattle.ppdb_values.specs.{Documents.{document_of}, Value.{value_of}}
 use Rattle.ppdb_verify.specs.Views.{raw_file}
-use Rattle.ppdb_merge.specs.Refusals.{moved_conflict}
-use Rattle.ppdb_merge.proofs.RowWalks.{all_silent, row_silent, row_told}
+use Rattle.ppdb_merge.{specs.Refusals.{moved_conflict}, proofs.RowWalks.{all_silent, row_silent, row_told}}
 use Rattle.ppdb_merge.proofs.row_documents.first_conflict_in.Goals as goal
 
 pub returns-then-is_some : goal.returns-then-is_some

@@ -1,11 +1,8 @@
-use Rattle.std.proofs.Common.{◌≡◌, ◌+◌, ◌-◌, ◌≤◌, List, [], take}
-use Rattle.std.specs.List.{filter_map}
+use Rattle.std.{proofs.Common.{◌≡◌, ◌+◌, ◌-◌, ◌≤◌, List, [], take}, specs.List.{filter_map}}
 use Rattle.ppdb_tables.specs.RawTables.{numbered}
-use Rattle.ppdb_values.specs.Value.{value_of}
-use Rattle.ppdb_values.specs.declared.file.DocumentValue.{DocumentValue}
+use Rattle.ppdb_values.specs.{Value.{value_of}, declared.file.DocumentValue.{DocumentValue}}
 use Rattle.ppdb_verify.specs.Views.{raw_file}
-use Rattle.ppdb_merge.specs.Indexes.{HoldsDocuments}
-use Rattle.ppdb_merge.specs.Refusals.{moved_conflict}
+use Rattle.ppdb_merge.specs.{Indexes.{HoldsDocuments}, Refusals.{moved_conflict}}
 use Rattle.ppdb_merge.proofs.row_documents.first_conflict_in.Given as goal
 
 abbrev pub invariant-rows : goal.invariant-rows

@@ -1,13 +1,9 @@
-use Rattle.std.proofs.Common.{◌+◌, ◌<◌, ◌∙◌, ◌∷◌, ◌++◌, [], ap, arith, length, List, subst, sym, take}
-use Rattle.std.proofs.lemmas.List.{take_all}
+use Rattle.std.proofs.{Common.{◌+◌, ◌<◌, ◌∙◌, ◌∷◌, ◌++◌, [], ap, arith, length, List, subst, sym, take}, lemmas.List.{take_all}}
 use Rattle.ppdb_values.specs.declared.file.FileValue.{FileValue}
 use Rattle.ppdb_verify.specs.Views.{raw_file}
-use Rattle.ppdb_merge_items.specs.Annotated.{annotated_file}
-use Rattle.ppdb_merge_items.specs.SoundParts.{SoundMoved}
+use Rattle.ppdb_merge_items.specs.{Annotated.{annotated_file}, SoundParts.{SoundMoved}}
 use Rattle.ppdb_merge_moved.specs.Moved.{moved_file}
-use Rattle.ppdb_merge.specs.declared.trace.Trace.{Trace}
-use Rattle.ppdb_merge.specs.Rows.{traces_in}
-use Rattle.ppdb_merge.proofs.RowIndexing.{made_again, many_kept, many_traces, sound_by, traced_by}
+use Rattle.ppdb_merge.{specs.declared.trace.Trace.{Trace}, specs.Rows.{traces_in}, proofs.RowIndexing.{made_again, many_kept, many_traces, sound_by, traced_by}}
 use Rattle.ppdb_merge.proofs.row_joining.moved_again.Goals as goal
 
 pub bounds-traces-place : goal.bounds-traces-place

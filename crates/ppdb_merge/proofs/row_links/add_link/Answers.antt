@@ -1,8 +1,7 @@
 use Rattle.ppdb_tables.specs.RawTables.{row_at}
 use Rattle.ppdb_values.specs.Value.{value_of}
 use Rattle.ppdb_verify.specs.Views.{raw_file}
-use Rattle.ppdb_merge.specs.Rows.{link_after}
-use Rattle.ppdb_merge.proofs.RowWalks.{silent_row}
+use Rattle.ppdb_merge.{specs.Rows.{link_after}, proofs.RowWalks.{silent_row}}
 use Rattle.ppdb_merge.proofs.row_links.add_link.Goals as goal
 
 pub returns-in_default : goal.returns-in_default

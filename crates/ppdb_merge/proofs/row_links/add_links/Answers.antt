@@ -1,13 +1,8 @@
-use Rattle.std.proofs.Common.{◌≡◌, ◌-◌, ◌++◌, ◌∙◌, ap, arith, sym, length, ◌≤◌}
-use Rattle.std.specs.List.{filter_map}
-use Rattle.std.specs.Option.{option_to_list}
+use Rattle.std.{proofs.Common.{◌≡◌, ◌-◌, ◌++◌, ◌∙◌, ap, arith, sym, length, ◌≤◌}, specs.List.{filter_map}, specs.Option.{option_to_list}}
 use Rattle.std.proofs.lemmas.List.{append-nil, length-map, take_all}
-use Rattle.ppdb_values.specs.Customs.{custom_of}
-use Rattle.ppdb_values.specs.Value.{value_of}
-use Rattle.ppdb_values.specs.declared.custom.CustomValue.{CustomValue}
+use Rattle.ppdb_values.specs.{Customs.{custom_of}, Value.{value_of}, declared.custom.CustomValue.{CustomValue}}
 use Rattle.ppdb_verify.specs.Views.{raw_file}
-use Rattle.ppdb_merge.specs.Rows.{link_after}
-use Rattle.ppdb_merge.proofs.RowWalks.{given_row, said}
+use Rattle.ppdb_merge.{specs.Rows.{link_after}, proofs.RowWalks.{given_row, said}}
 use Rattle.ppdb_merge.proofs.row_links.add_links.Goals as goal
 use Rattle.ppdb_tables.proofs.NumberedRows.{row_there}
 

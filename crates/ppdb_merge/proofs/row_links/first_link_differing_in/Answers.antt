@@ -1,9 +1,7 @@
-use Rattle.std.proofs.Common.{true, false, sym, ap, ◌∙◌}
-use Rattle.std.specs.Option.{option_copied}
+use Rattle.std.{proofs.Common.{true, false, sym, ap, ◌∙◌}, specs.Option.{option_copied}}
 use Rattle.ppdb_values.specs.Value.{value_of}
 use Rattle.ppdb_verify.specs.Views.{raw_file}
-use Rattle.ppdb_merge.proofs.Linked.{no_record, without_line}
-use Rattle.ppdb_merge.proofs.RowLinks.{told_by}
+use Rattle.ppdb_merge.proofs.{Linked.{no_record, without_line}, RowLinks.{told_by}}
 use Rattle.ppdb_merge.proofs.row_links.first_link_differing_in.Goals as goal
 
 pub returns-in_err-value : goal.returns-in_err-value

@@ -1,12 +1,7 @@
-use Rattle.std.proofs.Common.{◌≡◌, ◌≤◌, ◌∙◌, Some, None, cond, ap, arith, length, refl, sym}
-use Rattle.std.proofs.lemmas.List.{length-map}
-use Rattle.ppdb_values.specs.Customs.{custom_of}
-use Rattle.ppdb_values.specs.Value.{value_of}
-use Rattle.ppdb_values.specs.declared.custom.CustomValue.{CustomValue}
+use Rattle.std.proofs.{Common.{◌≡◌, ◌≤◌, ◌∙◌, Some, None, cond, ap, arith, length, refl, sym}, lemmas.List.{length-map}}
+use Rattle.ppdb_values.specs.{Customs.{custom_of}, Value.{value_of}, declared.custom.CustomValue.{CustomValue}, Parts.{is_link}}
 use Rattle.ppdb_verify.specs.Views.{raw_file}
-use Rattle.ppdb_values.specs.Parts.{is_link}
-use Rattle.ppdb_merge.specs.Indexes.{link_row}
-use Rattle.ppdb_merge.proofs.RowWalks.{all_silent, row_silent, row_told, said}
+use Rattle.ppdb_merge.{specs.Indexes.{link_row}, proofs.RowWalks.{all_silent, row_silent, row_told, said}}
 use Rattle.ppdb_merge.proofs.row_links.first_link_in.Goals as goal
 use Rattle.ppdb_tables.proofs.NumberedRows.{row_there}
 

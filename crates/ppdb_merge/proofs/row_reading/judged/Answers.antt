@@ -1,8 +1,6 @@
-use Rattle.std.proofs.Common.{◌≡◌, None, subst}
-use Rattle.std.specs.Prelude.{IfOk}
+use Rattle.std.{proofs.Common.{◌≡◌, None, subst}, specs.Prelude.{IfOk}}
 use Rattle.ppdb_verify.specs.Views.{raw_file}
-use Rattle.ppdb_merge_fits.specs.Clashes.{first_clash}
-use Rattle.ppdb_merge_fits.specs.Signatures.{all_images}
+use Rattle.ppdb_merge_fits.specs.{Clashes.{first_clash}, Signatures.{all_images}}
 use Rattle.ppdb_merge.proofs.RowAdding.{first_of, unfit_if}
 use Rattle.ppdb_merge.proofs.row_reading.judged.Goals as goal
 

@@ -1,10 +1,7 @@
 use Rattle.std.proofs.Common.{◌≡◌, ◌∙◌, inr, refl, sym, Some, None}
 use Rattle.ppdb_values.specs.Value.{value_of}
 use Rattle.ppdb_verify.specs.Views.{raw_file}
-use Rattle.ppdb_merge.specs.Refusals.{refusal_of}
-use Rattle.ppdb_merge.specs.Rows.{traces_in}
-use Rattle.ppdb_merge.proofs.Adding.{refused_as}
-use Rattle.ppdb_merge.proofs.RowAdding.{read_fitting, read_trace}
+use Rattle.ppdb_merge.{specs.Refusals.{refusal_of}, specs.Rows.{traces_in}, proofs.Adding.{refused_as}, proofs.RowAdding.{read_fitting, read_trace}}
 use Rattle.ppdb_merge.proofs.row_reading.judged_beside.Goals as goal
 
 pub returns-in-Some-clause-refused : goal.returns-in-Some-clause-refused

@@ -1,8 +1,5 @@
-use Rattle.std.proofs.Common.{sym, ap, ◌∙◌}
-use Rattle.std.specs.Prelude.{slice_get}
-use Rattle.std.specs.List.{filter_map}
-use Rattle.ppdb_merge.specs.Together.{above}
-use Rattle.ppdb_merge.proofs.Told.{plain_told, plain_past, nothing_told}
+use Rattle.std.{proofs.Common.{sym, ap, ◌∙◌}, specs.Prelude.{slice_get}, specs.List.{filter_map}}
+use Rattle.ppdb_merge.{specs.Together.{above}, proofs.Told.{plain_told, plain_past, nothing_told}}
 use Rattle.ppdb_merge.proofs.together.first_above.Goals as goal
 
 pub returns-then-is_some : goal.returns-then-is_some

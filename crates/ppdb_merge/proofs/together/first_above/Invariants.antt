@@ -1,5 +1,4 @@
-use Rattle.std.proofs.Common.{◌≡◌, [], take}
-use Rattle.std.specs.List.{filter_map}
+use Rattle.std.{proofs.Common.{◌≡◌, [], take}, specs.List.{filter_map}}
 use Rattle.ppdb_merge.specs.Together.{above}
 use Rattle.ppdb_merge.proofs.together.first_above.Given as goal
 

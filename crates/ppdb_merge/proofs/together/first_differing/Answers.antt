@@ -1,6 +1,5 @@
 use Rattle.std.proofs.Common.{sym, ap, ◌∙◌, arith}
-use Rattle.ppdb_merge.specs.Together.{differs}
-use Rattle.ppdb_merge.proofs.Counting.{made_told, made_past}
+use Rattle.ppdb_merge.{specs.Together.{differs}, proofs.Counting.{made_told, made_past}}
 use Rattle.ppdb_merge.proofs.together.first_differing.Goals as goal
 
 pub returns-then-is_some : goal.returns-then-is_some

@@ -1,5 +1,4 @@
-use Rattle.std.proofs.Common.{◌≡◌, ◌+◌, [], map, take}
-use Rattle.std.specs.List.{enumerate_from, filter_map}
+use Rattle.std.{proofs.Common.{◌≡◌, ◌+◌, [], map, take}, specs.List.{enumerate_from, filter_map}}
 use Rattle.ppdb_merge.specs.Together.{differs}
 use Rattle.ppdb_merge.proofs.together.first_differing.Given as goal
 

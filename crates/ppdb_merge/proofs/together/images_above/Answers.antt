@@ -1,10 +1,6 @@
-use Rattle.std.proofs.Common.{sym, ap, ◌∙◌, ℕ, List, arith}
-use Rattle.std.specs.Prelude.{slice_get}
-use Rattle.std.specs.List.{filter_map}
+use Rattle.std.{proofs.Common.{sym, ap, ◌∙◌, ℕ, List, arith}, specs.Prelude.{slice_get}, specs.List.{filter_map}}
 use Rattle.ppdb_base.specs.declared.merge_error.MergeError.{MergeError}
-use Rattle.ppdb_merge.specs.declared.trace.Trace.{Trace}
-use Rattle.ppdb_merge.specs.Together.{above}
-use Rattle.ppdb_merge.proofs.Counting.{all_told, all_past}
+use Rattle.ppdb_merge.{specs.declared.trace.Trace.{Trace}, specs.Together.{above}, proofs.Counting.{all_told, all_past}}
 use Rattle.ppdb_merge.proofs.together.images_above.Goals as goal
 
 abbrev told : ℕ × Trace → List MergeError

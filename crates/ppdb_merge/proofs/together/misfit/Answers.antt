@@ -1,8 +1,5 @@
-use Rattle.std.proofs.Common.{sym, ap, ◌∙◌, ◌∷◌, List, map}
-use Rattle.std.specs.Prelude.{slice_get}
-use Rattle.ppdb_merge.specs.declared.trace.Trace.{Trace}
-use Rattle.ppdb_merge.specs.Together.{rows_differ, images_above, misfit_of}
-use Rattle.ppdb_merge.proofs.Told.{first_told, second_told}
+use Rattle.std.{proofs.Common.{sym, ap, ◌∙◌, ◌∷◌, List, map}, specs.Prelude.{slice_get}}
+use Rattle.ppdb_merge.{specs.declared.trace.Trace.{Trace}, specs.Together.{rows_differ, images_above, misfit_of}, proofs.Told.{first_told, second_told}}
 use Rattle.ppdb_merge.proofs.together.misfit.Goals as goal
 
 pub returns-then-is_some : goal.returns-then-is_some

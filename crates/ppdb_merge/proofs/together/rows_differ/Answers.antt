@@ -1,9 +1,6 @@
-use Rattle.std.proofs.Common.{sym, ap, ◌∙◌, ◌+◌, ◌≡◌, arith, ℕ, List, map}
-use Rattle.std.specs.Prelude.{slice_get}
-use Rattle.std.specs.List.{enumerate_from, filter_map}
+use Rattle.std.{proofs.Common.{sym, ap, ◌∙◌, ◌+◌, ◌≡◌, arith, ℕ, List, map}, specs.Prelude.{slice_get}, specs.List.{enumerate_from, filter_map}}
 use Rattle.ppdb_base.specs.declared.merge_error.MergeError.{MergeError}
-use Rattle.ppdb_merge.specs.Together.{differs}
-use Rattle.ppdb_merge.proofs.Told.{range_told, range_past}
+use Rattle.ppdb_merge.{specs.Together.{differs}, proofs.Told.{range_told, range_past}}
 use Rattle.ppdb_merge.proofs.together.rows_differ.Goals as goal
 
 pub returns-then-is_some : goal.returns-then-is_some

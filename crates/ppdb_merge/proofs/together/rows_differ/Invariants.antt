@@ -1,5 +1,4 @@
-use Rattle.std.proofs.Common.{◌≡◌, [], flat_map, map}
-use Rattle.std.specs.List.{enumerate_from, filter_map, range_with_len}
+use Rattle.std.{proofs.Common.{◌≡◌, [], flat_map, map}, specs.List.{enumerate_from, filter_map, range_with_len}}
 use Rattle.ppdb_merge.specs.Together.{differs}
 use Rattle.ppdb_merge.proofs.together.rows_differ.Given as goal
 

@@ -1,8 +1,7 @@
 use Rattle.std.proofs.Common.{◌++◌, sym, ◌∙◌, flat_map}
 use Rattle.ppdb_values.specs.Value.{value_of}
 use Rattle.ppdb_verify.specs.Views.{raw_file}
-use Rattle.ppdb_merge_fits.specs.Offsets.{points_beyond, scope_beyond}
-use Rattle.ppdb_merge_fits.proofs.First.{first_back, first_prefix}
+use Rattle.ppdb_merge_fits.{specs.Offsets.{points_beyond, scope_beyond}, proofs.First.{first_back, first_prefix}}
 use Rattle.ppdb_merge_fits.proofs.beyond.first_beyond.Goals as goal
 use Rattle.ppdb_merge_fits.proofs.Parts.{custom_beyond}
 

@@ -1,15 +1,10 @@
-use Rattle.std.proofs.Common.{◌≡◌, ◌+◌, refl, sym, ◌∙◌, ap, arith}
-use Rattle.std.specs.Option.{option_map}
-use Rattle.std.proofs.lemmas.List.{length-map}
+use Rattle.std.{proofs.Common.{◌≡◌, ◌+◌, refl, sym, ◌∙◌, ap, arith}, specs.Option.{option_map}, proofs.lemmas.List.{length-map}}
 use Rattle.ppdb_base.specs.declared.merge_error.MergeError.TheVariants.{DocumentTwice}
 use Rattle.ppdb_maps.specs.Map.{moved_name}
-use Rattle.ppdb_values.specs.Documents.{document_of}
-use Rattle.ppdb_values.specs.Value.{value_of}
+use Rattle.ppdb_values.specs.{Documents.{document_of}, Value.{value_of}}
 use Rattle.ppdb_values_reading.specs.Lent.{document_shown}
 use Rattle.ppdb_verify.specs.Views.{raw_file}
-use Rattle.ppdb_merge_fits.proofs.OneName.{told_by, leads_next}
-use Rattle.ppdb_merge_fits.proofs.First.{hit_row, miss_row, none_of_rows}
-use Rattle.ppdb_merge_fits.proofs.Rows.{item_at}
+use Rattle.ppdb_merge_fits.proofs.{OneName.{told_by, leads_next}, First.{hit_row, miss_row, none_of_rows}, Rows.{item_at}}
 use Rattle.ppdb_merge_fits.proofs.documents.first_name_twice.Goals as goal
 use Rattle.ppdb_merge_fits.proofs.Parts.{name_twice}
 

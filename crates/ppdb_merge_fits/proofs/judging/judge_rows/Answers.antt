@@ -1,10 +1,7 @@
-use Rattle.std.proofs.Common.{◌∙◌, ap, slice_get}
-use Rattle.std.proofs.lemmas.Result.{err_from_is_err_and}
+use Rattle.std.proofs.{Common.{◌∙◌, ap, slice_get}, lemmas.Result.{err_from_is_err_and}}
 use Rattle.ppdb_verify.specs.Views.{raw_file}
 use Rattle.ppdb_merge_names.specs.declared.imaged.Imaged.{Imaged}
-use Rattle.ppdb_merge_fits.specs.Rows.{rows_twice, unmapped, imaged_rows}
-use Rattle.ppdb_merge_fits.specs.Twice.{each_once}
-use Rattle.ppdb_merge_fits.proofs.Told.{then_fine, refused, both_fine}
+use Rattle.ppdb_merge_fits.{specs.Rows.{rows_twice, unmapped, imaged_rows}, specs.Twice.{each_once}, proofs.Told.{then_fine, refused, both_fine}}
 use Rattle.ppdb_merge_fits.proofs.judging.judge_rows.Goals as goal
 
 pub returns-in_err-rows-clause-told : goal.returns-in_err-rows-clause-told

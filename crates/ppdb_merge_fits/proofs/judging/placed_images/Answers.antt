@@ -1,7 +1,6 @@
 use Rattle.std.proofs.Common.{◌∙◌, inr, subst}
 use Rattle.ppdb_verify.specs.Views.{raw_file}
-use Rattle.ppdb_merge_names.specs.References.{references, names}
-use Rattle.ppdb_merge_names.specs.Imaging.{IsFirstUnmapped, IsRefusedBy}
+use Rattle.ppdb_merge_names.specs.{References.{references, names}, Imaging.{IsFirstUnmapped, IsRefusedBy}}
 use Rattle.ppdb_merge_fits.proofs.Images.{images_are, none_unmapped, first_unmapped}
 use Rattle.ppdb_merge_fits.proofs.judging.placed_images.Goals as goal
 

@@ -1,6 +1,4 @@
-use Rattle.std.proofs.Common.{sym, ◌∙◌, ap, ◌++◌, ◌∷◌, [], get_or}
-use Rattle.std.specs.Prelude.{not}
-use Rattle.std.proofs.lemmas.List.Elements.{filter_more}
+use Rattle.std.{proofs.Common.{sym, ◌∙◌, ap, ◌++◌, ◌∷◌, [], get_or}, specs.Prelude.{not}, proofs.lemmas.List.Elements.{filter_more}}
 use Rattle.ppdb_merge_names.specs.declared.imaged.Imaged.{Imaged}
 use Rattle.ppdb_merge_moved.specs.Fits.{may_share}
 use Rattle.ppdb_merge_fits.specs.Rows.{unshared}

@@ -1,13 +1,8 @@
 use Rattle.std.proofs.Common.{sym, ◌∙◌, ◌+◌, ap, arith}
 use Rattle.custom_info.specs.Kinds.{kind_of}
-use Rattle.ppdb_values.specs.Customs.{custom_of}
-use Rattle.ppdb_values.specs.Value.{value_of}
-use Rattle.ppdb_values.specs.declared.custom.CustomValue.{CustomValue}
+use Rattle.ppdb_values.specs.{Customs.{custom_of}, Value.{value_of}, declared.custom.CustomValue.{CustomValue}}
 use Rattle.ppdb_verify.specs.Views.{raw_file}
-use Rattle.ppdb_merge_fits.specs.Clashes.{is_unknown}
-use Rattle.ppdb_merge_fits.proofs.First.{any_none}
-use Rattle.ppdb_merge_fits.proofs.CustomRows.{custom_there, customs_many}
-use Rattle.ppdb_merge_fits.proofs.Rows.{any_row, not_row}
+use Rattle.ppdb_merge_fits.{specs.Clashes.{is_unknown}, proofs.First.{any_none}, proofs.CustomRows.{custom_there, customs_many}, proofs.Rows.{any_row, not_row}}
 use Rattle.ppdb_merge_fits.proofs.kinds.any_unknown.Goals as goal
 
 pub returns-then-is_unknown : goal.returns-then-is_unknown

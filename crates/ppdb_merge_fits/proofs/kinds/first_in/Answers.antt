@@ -1,6 +1,5 @@
 use Rattle.std.proofs.Common.{sym, ◌∙◌, arith}
-use Rattle.ppdb_merge_fits.specs.Clashes.{if_unknown}
-use Rattle.ppdb_merge_fits.proofs.First.{hit_row, miss_row, none_of_rows}
+use Rattle.ppdb_merge_fits.{specs.Clashes.{if_unknown}, proofs.First.{hit_row, miss_row, none_of_rows}}
 use Rattle.ppdb_merge_fits.proofs.kinds.first_in.Goals as goal
 
 pub returns-in-Some : goal.returns-in-Some

@@ -1,5 +1,4 @@
-use Rattle.std.proofs.Common.{sym, ◌∙◌, ap, ◌++◌, map, flat_map, take}
-use Rattle.std.proofs.lemmas.List.{map-append}
+use Rattle.std.proofs.{Common.{sym, ◌∙◌, ap, ◌++◌, map, flat_map, take}, lemmas.List.{map-append}}
 use Rattle.ppdb_values.specs.declared.scope.ScopeValue.{ScopeValue}
 use Rattle.ppdb_merge_items.specs.NamedRows.{goes_constant}
 use Rattle.ppdb_merge_fits.proofs.First.{flat_next}

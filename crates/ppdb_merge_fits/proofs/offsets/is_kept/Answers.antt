@@ -1,8 +1,6 @@
 use Rattle.std.proofs.Common.{sym, ◌∙◌, ap, ◌+◌}
-use Rattle.ppdb_base.specs.Offsets.{is_kept_between}
-use Rattle.ppdb_base.proofs.Moved.{kept_test}
-use Rattle.ppdb_maps.specs.Map.{offsets_in}
-use Rattle.ppdb_maps.specs.Says.{offsets_of}
+use Rattle.ppdb_base.{specs.Offsets.{is_kept_between}, proofs.Moved.{kept_test}}
+use Rattle.ppdb_maps.specs.{Map.{offsets_in}, Says.{offsets_of}}
 use Rattle.ppdb_merge_fits.proofs.Far.{far_is}
 use Rattle.ppdb_merge_fits.proofs.offsets.is_kept.Goals as goal
 

@@ -1,7 +1,6 @@
 use Rattle.std.proofs.Common.{sym, ◌∙◌, arith}
 use Rattle.ppdb_verify.specs.Views.{raw_file}
-use Rattle.ppdb_merge_fits.specs.Offsets.{points_beyond}
-use Rattle.ppdb_merge_fits.proofs.Rows.{method_hit, method_miss, no_method}
+use Rattle.ppdb_merge_fits.{specs.Offsets.{points_beyond}, proofs.Rows.{method_hit, method_miss, no_method}}
 use Rattle.ppdb_merge_fits.proofs.points.first_point_beyond.Goals as goal
 
 pub returns-in-Some : goal.returns-in-Some

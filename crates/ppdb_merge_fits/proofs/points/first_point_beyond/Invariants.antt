@@ -1,8 +1,7 @@
 use Rattle.std.proofs.Common.{◌≡◌, ◌-◌, [], take, flat_map}
 use Rattle.ppdb_tables.specs.RawTables.{numbered}
 use Rattle.ppdb_verify.specs.Views.{raw_file}
-use Rattle.ppdb_merge_fits.specs.Offsets.{points_beyond}
-use Rattle.ppdb_merge_fits.proofs.Rows.{told}
+use Rattle.ppdb_merge_fits.{specs.Offsets.{points_beyond}, proofs.Rows.{told}}
 use Rattle.ppdb_merge_fits.proofs.points.first_point_beyond.Given as goal
 
 abbrev pub invariant-rows : goal.invariant-rows

@@ -1,10 +1,8 @@
 use Rattle.std.proofs.Common.{sym, ◌∙◌, ◌+◌, arith}
 use Rattle.ppdb_values.specs.Value.{scope_of, value_of}
 use Rattle.ppdb_verify.specs.Views.{raw_file}
-use Rattle.ppdb_merge_fits.specs.Offsets.{scope_beyond}
-use Rattle.ppdb_merge_fits.proofs.First.{none_left}
-use Rattle.ppdb_merge_fits.proofs.CustomRows.{scope_there, scopes_many}
-use Rattle.ppdb_merge_fits.proofs.Rows.{item_there, row_hit, row_miss}
+use Rattle.ppdb_merge_fits.{specs.Offsets.{scope_beyond}, proofs.First.{none_left}, proofs.CustomRows.{scope_there, scopes_many}, proofs.Rows.{item_there, row_hit}}
+use Rattle.ppdb_merge_fits.proofs.Rows.{row_miss}
 use Rattle.ppdb_merge_fits.proofs.points.first_range_beyond.Goals as goal
 
 pub returns-in-Some : goal.returns-in-Some

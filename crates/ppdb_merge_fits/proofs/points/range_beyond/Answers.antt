@@ -1,6 +1,5 @@
 use Rattle.std.proofs.Common.{◌∙◌, ap, slice_get}
-use Rattle.ppdb_tables.specs.declared.rows.ScopeRow.{ScopeRow}
-use Rattle.ppdb_tables.proofs.NumberedRows.{same_row}
+use Rattle.ppdb_tables.{specs.declared.rows.ScopeRow.{ScopeRow}, proofs.NumberedRows.{same_row}}
 use Rattle.ppdb_verify.specs.Views.{raw_file}
 use Rattle.ppdb_values.specs.Value.{range_of}
 use Rattle.ppdb_merge_fits.specs.Offsets.{end_beyond}

@@ -1,7 +1,5 @@
-use Rattle.std.proofs.Common.{ℕ, sym, ◌∙◌, ap, flat_map, slice_get}
-use Rattle.std.specs.Prelude.{Option}
-use Rattle.ppdb_merge_fits.specs.Offsets.{handler_offsets, step_offsets}
-use Rattle.ppdb_merge_fits.proofs.First.{first_then}
+use Rattle.std.{proofs.Common.{ℕ, sym, ◌∙◌, ap, flat_map, slice_get}, specs.Prelude.{Option}}
+use Rattle.ppdb_merge_fits.{specs.Offsets.{handler_offsets, step_offsets}, proofs.First.{first_then}}
 use Rattle.ppdb_merge_fits.proofs.records.first_of_async.Goals as goal
 
 pub returns : goal.returns

@@ -1,10 +1,7 @@
 use Rattle.std.proofs.Common.{sym, ◌∙◌, arith}
 use Rattle.ppdb_values.specs.Value.{value_of}
 use Rattle.ppdb_verify.specs.Views.{raw_file}
-use Rattle.ppdb_merge_fits.specs.Walks.{record_told}
-use Rattle.ppdb_merge_fits.proofs.First.{none_left}
-use Rattle.ppdb_merge_fits.proofs.CustomRows.{customs_many}
-use Rattle.ppdb_merge_fits.proofs.Rows.{item_there, row_hit, row_miss}
+use Rattle.ppdb_merge_fits.{specs.Walks.{record_told}, proofs.First.{none_left}, proofs.CustomRows.{customs_many}, proofs.Rows.{item_there, row_hit, row_miss}}
 use Rattle.ppdb_merge_fits.proofs.records.first_of_records.Goals as goal
 
 pub returns-in-Some : goal.returns-in-Some

@@ -1,10 +1,7 @@
-use Rattle.std.proofs.Common.{Some, sym, ◌∙◌, ap}
-use Rattle.std.specs.Option.{option_and_then}
-use Rattle.std.proofs.lemmas.Bool.{ne_eqb}
+use Rattle.std.{proofs.Common.{Some, sym, ◌∙◌, ap}, specs.Option.{option_and_then}, proofs.lemmas.Bool.{ne_eqb}}
 use Rattle.ppdb_values.specs.Value.{value_of}
 use Rattle.ppdb_verify.specs.Views.{raw_file}
-use Rattle.ppdb_merge_fits.specs.Signatures.{given_signature}
-use Rattle.ppdb_merge_fits.proofs.Methods.{unsigned, signed_none, signed_some}
+use Rattle.ppdb_merge_fits.{specs.Signatures.{given_signature}, proofs.Methods.{unsigned, signed_none, signed_some}}
 use Rattle.ppdb_merge_fits.proofs.signatures.given_signature.Goals as goal
 
 pub returns-in_err-image : goal.returns-in_err-image

@@ -2,10 +2,7 @@ use Rattle.std.proofs.Common.{sym, ◌∙◌, arith}
 use Rattle.ppdb_maps.specs.declared.entries.SignatureImage.{SignatureImage}
 use Rattle.ppdb_values.specs.Value.{value_of}
 use Rattle.ppdb_verify.specs.Views.{raw_file}
-use Rattle.ppdb_merge_fits.specs.Signatures.{given_signature}
-use Rattle.ppdb_merge_fits.proofs.Methods.{none_given}
-use Rattle.ppdb_merge_fits.proofs.NoSlots.{no_seen_line}
-use Rattle.ppdb_merge_fits.proofs.Rows.{given_more, given_all}
+use Rattle.ppdb_merge_fits.{specs.Signatures.{given_signature}, proofs.Methods.{none_given}, proofs.NoSlots.{no_seen_line}, proofs.Rows.{given_more, given_all}}
 use Rattle.ppdb_merge_fits.proofs.signatures.given_signatures.Goals as goal
 
 pub returns-then-is_none : goal.returns-then-is_none

@@ -1,9 +1,7 @@
-use Rattle.std.proofs.Common.{◌≡◌, ◌-◌, take}
-use Rattle.std.specs.List.{filter_map}
+use Rattle.std.{proofs.Common.{◌≡◌, ◌-◌, take}, specs.List.{filter_map}}
 use Rattle.ppdb_tables.specs.RawTables.{numbered}
 use Rattle.ppdb_verify.specs.Views.{raw_file}
-use Rattle.ppdb_merge_fits.proofs.Rows.{given_by}
-use Rattle.ppdb_merge_fits.specs.Signatures.{given_signature}
+use Rattle.ppdb_merge_fits.{proofs.Rows.{given_by}, specs.Signatures.{given_signature}}
 use Rattle.ppdb_merge_fits.proofs.signatures.given_signatures.Given as goal
 
 abbrev pub invariant-rows : goal.invariant-rows

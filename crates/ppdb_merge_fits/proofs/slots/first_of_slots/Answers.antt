@@ -2,11 +2,8 @@ use Rattle.std.proofs.Common.{List, ◌≤◌, ◌≡◌, sym, ap, ◌∙◌, su
 use Rattle.ppdb_tables.specs.RawTables.{numbered}
 use Rattle.ppdb_values.specs.Value.{value_of}
 use Rattle.ppdb_verify.specs.Views.{raw_file}
-use Rattle.ppdb_merge_fits.specs.declared.used.MethodSlot.{MethodSlot}
-use Rattle.ppdb_merge_fits.specs.Slots.{if_slot_unmapped, slots_twice, slots_unmapped, variable_slots}
-use Rattle.ppdb_merge_fits.proofs.Counted.{few_slots}
-use Rattle.ppdb_merge_fits.proofs.First.{first_back, first_prefix}
-use Rattle.ppdb_merge_fits.proofs.NoSlots.{no_line, nothing_of_slots}
+use Rattle.ppdb_merge_fits.specs.{declared.used.MethodSlot.{MethodSlot}, Slots.{if_slot_unmapped, slots_twice, slots_unmapped, variable_slots}}
+use Rattle.ppdb_merge_fits.proofs.{Counted.{few_slots}, First.{first_back, first_prefix}, NoSlots.{no_line, nothing_of_slots}}
 use Rattle.ppdb_merge_fits.proofs.slots.first_of_slots.Goals as goal
 
 pub returns-then-is_none : goal.returns-then-is_none

@@ -1,9 +1,5 @@
-use Rattle.std.proofs.Common.{◌≡◌, sym, ap, ◌∙◌, subst, slice_get}
-use Rattle.std.specs.Prelude.{All}
-use Rattle.std.specs.List.{filter_map}
-use Rattle.ppdb_merge_fits.specs.declared.used.UsedSlot.{UsedSlot}
-use Rattle.ppdb_merge_fits.specs.Slots.{used, slot_twice}
-use Rattle.ppdb_merge_fits.proofs.Kept.{none_twice_once}
+use Rattle.std.{proofs.Common.{◌≡◌, sym, ap, ◌∙◌, subst, slice_get}, specs.Prelude.{All}, specs.List.{filter_map}}
+use Rattle.ppdb_merge_fits.{specs.declared.used.UsedSlot.{UsedSlot}, specs.Slots.{used, slot_twice}, proofs.Kept.{none_twice_once}}
 use Rattle.ppdb_merge_fits.proofs.slots.first_slot_twice.Goals as goal
 
 pub returns-then-all_keep_numbers : goal.returns-then-all_keep_numbers

@@ -1,6 +1,5 @@
 use Rattle.std.proofs.Common.{sym, ◌∙◌, arith}
-use Rattle.ppdb_merge_fits.specs.Slots.{if_slot_unmapped}
-use Rattle.ppdb_merge_fits.proofs.First.{hit_row, miss_row, none_of_rows, there}
+use Rattle.ppdb_merge_fits.{specs.Slots.{if_slot_unmapped}, proofs.First.{hit_row, miss_row, none_of_rows, there}}
 use Rattle.ppdb_merge_fits.proofs.slots.first_unmapped.Goals as goal
 
 pub returns-in-Some : goal.returns-in-Some

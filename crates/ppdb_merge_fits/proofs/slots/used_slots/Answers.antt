@@ -1,7 +1,5 @@
-use Rattle.std.proofs.Common.{sym, ◌∙◌, ap, ◌++◌, get_or}
-use Rattle.std.specs.Option.{option_to_list}
-use Rattle.ppdb_merge_fits.specs.Slots.{used}
-use Rattle.ppdb_merge_fits.proofs.First.{filter_next, there}
+use Rattle.std.{proofs.Common.{sym, ◌∙◌, ap, ◌++◌, get_or}, specs.Option.{option_to_list}}
+use Rattle.ppdb_merge_fits.{specs.Slots.{used}, proofs.First.{filter_next, there}}
 use Rattle.ppdb_merge_fits.proofs.slots.used_slots.Goals as goal
 
 pub loop-x-preserved : goal.loop-x-preserved

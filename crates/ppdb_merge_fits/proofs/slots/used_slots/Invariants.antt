@@ -1,5 +1,4 @@
-use Rattle.std.proofs.Common.{◌≡◌, take}
-use Rattle.std.specs.List.{filter_map}
+use Rattle.std.{proofs.Common.{◌≡◌, take}, specs.List.{filter_map}}
 use Rattle.ppdb_merge_fits.specs.Slots.{used}
 use Rattle.ppdb_merge_fits.proofs.slots.used_slots.Given as goal
 

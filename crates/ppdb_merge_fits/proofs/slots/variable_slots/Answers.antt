@@ -2,9 +2,8 @@ use Rattle.std.proofs.Common.{List, sym, subst, All, ◌∙◌}
 use Rattle.blob_grammar.specs.Reader.{tail}
 use Rattle.ppdb_values.specs.Value.{value_of}
 use Rattle.ppdb_verify.specs.Views.{raw_file}
-use Rattle.ppdb_values_reading.specs.declared.scopes.Scope.{Scope}
-use Rattle.ppdb_values_reading.specs.Scopes.{scope_with, HasLists}
-use Rattle.ppdb_values_reading.proofs.Answered.{next_first, next_none, all_first, all_rest}
+use Rattle.ppdb_values_reading.{specs.declared.scopes.Scope.{Scope}, specs.Scopes.{scope_with, HasLists}, proofs.Answered.{next_first, next_none, all_first}}
+use Rattle.ppdb_values_reading.proofs.Answered.{all_rest}
 use Rattle.ppdb_merge_fits.proofs.SlotLists.{slots_begun, slots_on, slots_made}
 use Rattle.ppdb_merge_fits.proofs.slots.variable_slots.Goals as goal
 

@@ -1,6 +1,5 @@
 use Rattle.std.proofs.Common.{sym, ◌∙◌, ◌-◌, ap, arith, cond, [], ◌∷◌, slice_get}
-use Rattle.ppdb_merge_fits.specs.Twice.{if_one_image}
-use Rattle.ppdb_merge_fits.proofs.Beside.{no_more, none_beside}
+use Rattle.ppdb_merge_fits.{specs.Twice.{if_one_image}, proofs.Beside.{no_more, none_beside}}
 use Rattle.ppdb_merge_fits.proofs.twice.first_beside.Goals as goal
 
 pub loop-at-preserved : goal.loop-at-preserved

@@ -1,5 +1,4 @@
-use Rattle.ppdb_merge_items.proofs.Orders.{in_order_is, in_order_filter, in_order_keeps, rises_of}
-use Rattle.ppdb_merge_items.proofs.StableSort.{sorted_is_in_order}
+use Rattle.ppdb_merge_items.proofs.{Orders.{in_order_is, in_order_filter, in_order_keeps, rises_of}, StableSort.{sorted_is_in_order}}
 use Rattle.ppdb_merge_items.proofs.laws.sorted_in_order.Goals as goal
 
 pub returns : goal.returns

@@ -1,15 +1,8 @@
 use Rattle.std.proofs.Common.{◌≡◌, [], map, ap, ◌∙◌, get_or}
-use Rattle.ppdb_tables.specs.declared.rows.MachineRow.{MachineRow}
-use Rattle.ppdb_tables.specs.Parents.{coded_of}
-use Rattle.ppdb_values.specs.declared.file.MethodValue.{MethodValue}
-use Rattle.ppdb_values.specs.declared.custom.CustomValue.{CustomValue}
-use Rattle.ppdb_merge_items.specs.declared.file.AnnotatedFile.{AnnotatedFile}
-use Rattle.ppdb_merge_items.specs.declared.file.AnnotatedScope.{AnnotatedScope}
-use Rattle.ppdb_merge_items.specs.Sorted.{in_order}
-use Rattle.ppdb_merge_joined.specs.declared.joining.Parts.{Parts}
-use Rattle.ppdb_merge_joined.specs.Parts.{finished}
-use Rattle.ppdb_merge_joined.specs.Repeats.{unrepeated}
-use Rattle.ppdb_merge_joined.proofs.Whole.{itself, made_is, joined_is}
+use Rattle.ppdb_tables.specs.{declared.rows.MachineRow.{MachineRow}, Parents.{coded_of}}
+use Rattle.ppdb_values.specs.declared.{file.MethodValue.{MethodValue}, custom.CustomValue.{CustomValue}}
+use Rattle.ppdb_merge_items.specs.{declared.file.AnnotatedFile.{AnnotatedFile}, declared.file.AnnotatedScope.{AnnotatedScope}, Sorted.{in_order}}
+use Rattle.ppdb_merge_joined.{specs.declared.joining.Parts.{Parts}, specs.Parts.{finished}, specs.Repeats.{unrepeated}, proofs.Whole.{itself, made_is, joined_is}}
 use Rattle.ppdb_merge_joined.proofs.joining.join.Goals as goal
 
 pub returns : goal.returns

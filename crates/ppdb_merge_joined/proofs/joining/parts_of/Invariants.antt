@@ -1,5 +1,4 @@
-use Rattle.std.proofs.Common.{◌≡◌, ◌≤◌, length}
-use Rattle.std.specs.Prelude.{sum_by}
+use Rattle.std.{proofs.Common.{◌≡◌, ◌≤◌, length}, specs.Prelude.{sum_by}}
 use Rattle.ppdb_merge_joined.specs.Parts.{ArePut}
 use Rattle.ppdb_merge_joined.proofs.joining.parts_of.Given as goal
 

@@ -1,5 +1,4 @@
-use Rattle.std.proofs.Common.{◌≡◌}
-use Rattle.std.specs.Prelude.{flat_map}
+use Rattle.std.{proofs.Common.{◌≡◌}, specs.Prelude.{flat_map}}
 use Rattle.ppdb_merge_joined.proofs.repeats.in_a_row.Given as goal
 
 abbrev pub invariant-loop-input : goal.invariant-loop-input

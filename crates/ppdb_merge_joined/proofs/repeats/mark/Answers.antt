@@ -1,9 +1,5 @@
-use Rattle.std.proofs.Common.{◌<◌, ◌++◌, length, map, ap, ◌∙◌, arith}
-use Rattle.std.specs.Prelude.{not}
-use Rattle.std.proofs.lemmas.List.{take_all}
-use Rattle.ppdb_merge_joined.specs.Keys.{plain}
-use Rattle.ppdb_merge_joined.specs.Repeats.{key_among}
-use Rattle.ppdb_merge_joined.proofs.Marked.{marks_push}
+use Rattle.std.{proofs.Common.{◌<◌, ◌++◌, length, map, ap, ◌∙◌, arith}, specs.Prelude.{not}, proofs.lemmas.List.{take_all}}
+use Rattle.ppdb_merge_joined.{specs.Keys.{plain}, specs.Repeats.{key_among}, proofs.Marked.{marks_push}}
 use Rattle.ppdb_merge_joined.proofs.repeats.mark.Goals as goal
 
 pub loop-item-preserved : goal.loop-item-preserved

@@ -1,8 +1,6 @@
-use Rattle.std.proofs.Common.{◌≡◌, ◌++◌, List, map, take}
-use Rattle.std.specs.Prelude.{not}
+use Rattle.std.{proofs.Common.{◌≡◌, ◌++◌, List, map, take}, specs.Prelude.{not}}
 use Rattle.ppdb_values.specs.declared.custom.CustomValue.{CustomValue}
-use Rattle.ppdb_merge_joined.specs.Keys.{plain}
-use Rattle.ppdb_merge_joined.specs.Repeats.{IsSeen, key_among}
+use Rattle.ppdb_merge_joined.specs.{Keys.{plain}, Repeats.{IsSeen, key_among}}
 use Rattle.ppdb_merge_joined.proofs.repeats.mark.Given as goal
 
 abbrev pub invariant-loop-item : goal.invariant-loop-item

@@ -1,7 +1,5 @@
-use Rattle.std.proofs.Common.{◌++◌, ◌∷◌, [], false, cond, get_or, refl, sym, ap, ◌∙◌, arith}
-use Rattle.std.proofs.lemmas.List.{length-append}
-use Rattle.ppdb_merge_joined.specs.Repeats.{kept_by}
-use Rattle.ppdb_merge_joined.proofs.Marked.{kept_none, kept_more}
+use Rattle.std.proofs.{Common.{◌++◌, ◌∷◌, [], false, cond, get_or, refl, sym, ap, ◌∙◌, arith}, lemmas.List.{length-append}}
+use Rattle.ppdb_merge_joined.{specs.Repeats.{kept_by}, proofs.Marked.{kept_none, kept_more}}
 use Rattle.ppdb_merge_joined.proofs.repeats.marked.Goals as goal
 
 pub loop-item-init : goal.loop-item-init

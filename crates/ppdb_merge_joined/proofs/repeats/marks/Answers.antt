@@ -1,11 +1,6 @@
-use Rattle.std.proofs.Common.{◌<◌, ◌++◌, ◌∷◌, [], length, take, subst, sym, ap, ◌∙◌, arith}
-use Rattle.std.proofs.Common.{map}
-use Rattle.std.specs.Prelude.{not}
-use Rattle.std.specs.List.{filter_map}
+use Rattle.std.{proofs.Common.{◌<◌, ◌++◌, ◌∷◌, [], length, take, subst, sym, ap, ◌∙◌, arith, map}, specs.Prelude.{not}, specs.List.{filter_map}}
 use Rattle.std.proofs.lemmas.List.{take_more}
-use Rattle.ppdb_merge_joined.specs.Keys.{plain}
-use Rattle.ppdb_merge_joined.specs.Repeats.{IsSeen, key_among, marks_after}
-use Rattle.ppdb_merge_joined.proofs.Marked.{keys_of, keys_snoc, marks_snoc}
+use Rattle.ppdb_merge_joined.{specs.Keys.{plain}, specs.Repeats.{IsSeen, key_among, marks_after}, proofs.Marked.{keys_of, keys_snoc, marks_snoc}}
 use Rattle.ppdb_merge_joined.proofs.repeats.marks.Goals as goal
 
 pub loop-input-preserved : goal.loop-input-preserved

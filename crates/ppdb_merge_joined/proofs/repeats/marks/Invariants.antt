@@ -1,6 +1,5 @@
 use Rattle.std.proofs.Common.{◌≡◌, [], take}
-use Rattle.ppdb_merge_joined.specs.Repeats.{IsSeen, marks_after}
-use Rattle.ppdb_merge_joined.proofs.Marked.{keys_of}
+use Rattle.ppdb_merge_joined.{specs.Repeats.{IsSeen, marks_after}, proofs.Marked.{keys_of}}
 use Rattle.ppdb_merge_joined.proofs.repeats.marks.Given as goal
 
 abbrev pub invariant-loop-input : goal.invariant-loop-input

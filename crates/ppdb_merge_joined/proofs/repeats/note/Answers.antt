@@ -1,8 +1,5 @@
-use Rattle.std.proofs.Common.{◌<◌, ◌++◌, ◌∷◌, [], length, take, subst, sym, ap, ◌∙◌, arith, append_assoc}
-use Rattle.std.specs.List.{filter_map}
-use Rattle.ppdb_merge_joined.specs.Keys.{plain}
-use Rattle.ppdb_merge_joined.specs.Repeats.{IsSeen}
-use Rattle.ppdb_merge_joined.proofs.Marked.{keys_more}
+use Rattle.std.{proofs.Common.{◌<◌, ◌++◌, ◌∷◌, [], length, take, subst, sym, ap, ◌∙◌, arith, append_assoc}, specs.List.{filter_map}}
+use Rattle.ppdb_merge_joined.{specs.Keys.{plain}, specs.Repeats.{IsSeen}, proofs.Marked.{keys_more}}
 use Rattle.ppdb_merge_joined.proofs.repeats.note.Goals as goal
 
 pub loop-item-preserved : goal.loop-item-preserved

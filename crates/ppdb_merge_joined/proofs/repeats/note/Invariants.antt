@@ -1,8 +1,6 @@
-use Rattle.std.proofs.Common.{◌++◌, List, take}
-use Rattle.std.specs.List.{filter_map}
+use Rattle.std.{proofs.Common.{◌++◌, List, take}, specs.List.{filter_map}}
 use Rattle.ppdb_values.specs.declared.custom.CustomValue.{CustomValue}
-use Rattle.ppdb_merge_joined.specs.Keys.{plain}
-use Rattle.ppdb_merge_joined.specs.Repeats.{IsSeen}
+use Rattle.ppdb_merge_joined.specs.{Keys.{plain}, Repeats.{IsSeen}}
 use Rattle.ppdb_merge_joined.proofs.repeats.note.Given as goal
 
 abbrev pub invariant-loop-item : goal.invariant-loop-item

@@ -1,7 +1,5 @@
-use Rattle.std.proofs.Common.{sym, ap, ◌∙◌}
-use Rattle.std.specs.Option.{option_map}
-use Rattle.ppdb_merge_joined.specs.Keys.{plain, record_of}
-use Rattle.ppdb_merge_joined.proofs.Marked.{seen_more}
+use Rattle.std.{proofs.Common.{sym, ap, ◌∙◌}, specs.Option.{option_map}}
+use Rattle.ppdb_merge_joined.{specs.Keys.{plain, record_of}, proofs.Marked.{seen_more}}
 use Rattle.ppdb_merge_joined.proofs.repeats.note_one.Goals as goal
 
 pub returns-in_ok-insert : goal.returns-in_ok-insert

@@ -1,7 +1,5 @@
-use Rattle.std.proofs.Common.{◌≡◌, [], ap, ◌∙◌}
-use Rattle.std.proofs.lemmas.Result.{IfOk-weaker}
-use Rattle.ppdb_merge_joined.specs.Repeats.{kept_by, marks_after, unrepeated}
-use Rattle.ppdb_merge_joined.proofs.Marked.{marks_keep}
+use Rattle.std.proofs.{Common.{◌≡◌, [], ap, ◌∙◌}, lemmas.Result.{IfOk-weaker}}
+use Rattle.ppdb_merge_joined.{specs.Repeats.{kept_by, marks_after, unrepeated}, proofs.Marked.{marks_keep}}
 use Rattle.ppdb_merge_joined.proofs.repeats.without_repeats.Goals as goal
 
 pub returns : goal.returns

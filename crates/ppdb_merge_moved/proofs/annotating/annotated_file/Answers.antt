@@ -1,9 +1,6 @@
-use Rattle.std.proofs.Common.{ℕ, length, List, refl, ap, ◌∙◌}
-use Rattle.std.specs.List.{sum_by}
-use Rattle.ppdb_values.specs.declared.scope.ScopeValue.{ScopeValue}
-use Rattle.ppdb_values.specs.declared.annotation.Custom.{Custom}
-use Rattle.ppdb_merge_moved.specs.OnRows.{in_lists, annotated_by, annotated_scopes_by}
-use Rattle.ppdb_merge_moved.proofs.FileAtRows.{file_is, counts_same}
+use Rattle.std.{proofs.Common.{ℕ, length, List, refl, ap, ◌∙◌}, specs.List.{sum_by}}
+use Rattle.ppdb_values.specs.declared.{scope.ScopeValue.{ScopeValue}, annotation.Custom.{Custom}}
+use Rattle.ppdb_merge_moved.{specs.OnRows.{in_lists, annotated_by, annotated_scopes_by}, proofs.FileAtRows.{file_is, counts_same}}
 use Rattle.ppdb_merge_moved.proofs.annotating.annotated_file.Goals as goal
 
 abbrev Lists : Type 0

@@ -1,7 +1,5 @@
-use Rattle.std.proofs.Common.{◌≡◌, ℕ, ◌+◌, ◌-◌, ◌++◌, ◌∷◌, [], length, get_or, ap, ◌∙◌, arith}
-use Rattle.std.proofs.lemmas.List.{length-append}
-use Rattle.ppdb_merge_moved.specs.OnRows.{in_lists}
-use Rattle.ppdb_merge_moved.proofs.AtRows.{annotated_more}
+use Rattle.std.proofs.{Common.{◌≡◌, ℕ, ◌+◌, ◌-◌, ◌++◌, ◌∷◌, [], length, get_or, ap, ◌∙◌, arith}, lemmas.List.{length-append}}
+use Rattle.ppdb_merge_moved.{specs.OnRows.{in_lists}, proofs.AtRows.{annotated_more}}
 use Rattle.ppdb_merge_moved.proofs.annotating.annotated_items.Goals as goal
 
 pub loop-item-preserved : goal.loop-item-preserved

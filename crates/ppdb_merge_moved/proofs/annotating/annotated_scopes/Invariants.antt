@@ -1,5 +1,4 @@
-use Rattle.std.proofs.Common.{◌≡◌, ◌≤◌, ℕ, [], length, get_or}
-use Rattle.std.specs.List.{sum_by}
+use Rattle.std.{proofs.Common.{◌≡◌, ◌≤◌, ℕ, [], length, get_or}, specs.List.{sum_by}}
 use Rattle.ppdb_values.specs.declared.scope.ScopeValue.{ScopeValue}
 use Rattle.ppdb_merge_moved.specs.OnRows.{annotated_scopes_by, in_lists}
 use Rattle.ppdb_merge_moved.proofs.annotating.annotated_scopes.Given as goal

@@ -1,7 +1,5 @@
-use Rattle.std.proofs.Common.{◌≡◌, sym, ap, ◌∙◌, arith}
-use Rattle.std.proofs.lemmas.List.{take_all, length-set}
-use Rattle.ppdb_merge_moved.specs.Moved.{moved_counts}
-use Rattle.ppdb_merge_moved.proofs.Counts.{counts_more}
+use Rattle.std.proofs.{Common.{◌≡◌, sym, ap, ◌∙◌, arith}, lemmas.List.{take_all, length-set}}
+use Rattle.ppdb_merge_moved.{specs.Moved.{moved_counts}, proofs.Counts.{counts_more}}
 use Rattle.ppdb_merge_moved.proofs.file.moved_rows.Goals as goal
 
 pub loop-table-preserved : goal.loop-table-preserved

@@ -1,5 +1,4 @@
-use Rattle.std.proofs.Common.{◌<◌, length, sym, ap, ◌∙◌, arith}
-use Rattle.std.proofs.lemmas.List.Filters.{FiltersInPlace-more_no, FiltersInPlace-more_swap}
+use Rattle.std.proofs.{Common.{◌<◌, length, sym, ap, ◌∙◌, arith}, lemmas.List.Filters.{FiltersInPlace-more_no, FiltersInPlace-more_swap}}
 use Rattle.ppdb_merge_moved.proofs.moves.live_prefix.Goals as goal
 use Rattle.ppdb_merge_moved.proofs.moves.live_prefix.Goals.{then-lives_by, else-lives_by}
 

@@ -1,5 +1,4 @@
-use Rattle.std.proofs.Common.{◌<◌, length, set, sym, ap, ◌∙◌, arith}
-use Rattle.std.proofs.lemmas.List.Edits.{map_over_more}
+use Rattle.std.proofs.{Common.{◌<◌, length, set, sym, ap, ◌∙◌, arith}, lemmas.List.Edits.{map_over_more}}
 use Rattle.ppdb_merge_moved.proofs.moves.move_all.Goals as goal
 
 pub loop-item-preserved : goal.loop-item-preserved

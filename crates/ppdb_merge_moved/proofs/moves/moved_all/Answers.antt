@@ -1,6 +1,4 @@
-use Rattle.std.proofs.Common.{◌++◌, ◌∷◌, [], sym, ap, ◌∙◌, append-nil}
-use Rattle.std.specs.List.{filter_map, cons_option}
-use Rattle.std.proofs.lemmas.List.Elements.{filter_map-append}
+use Rattle.std.{proofs.Common.{◌++◌, ◌∷◌, [], sym, ap, ◌∙◌, append-nil}, specs.List.{filter_map, cons_option}, proofs.lemmas.List.Elements.{filter_map-append}}
 use Rattle.ppdb_merge_moved.proofs.moves.moved_all.Goals as goal
 
 pub loop-item-preserved-in-Continue-branch-2 : goal.loop-item-preserved-in-Continue-branch-2

@@ -1,5 +1,4 @@
-use Rattle.std.proofs.Common.{◌≡◌}
-use Rattle.std.specs.List.{filter_map}
+use Rattle.std.{proofs.Common.{◌≡◌}, specs.List.{filter_map}}
 use Rattle.ppdb_merge_moved.proofs.moves.moved_all.Given as goal
 
 abbrev pub invariant-loop-item : goal.invariant-loop-item

@@ -1,9 +1,6 @@
-use Rattle.std.proofs.Common.{◌≡◌, length, map, ap, ◌∙◌}
-use Rattle.std.specs.List.{filter_map}
-use Rattle.std.proofs.lemmas.List.{length-map}
+use Rattle.std.{proofs.Common.{◌≡◌, length, map, ap, ◌∙◌}, specs.List.{filter_map}, proofs.lemmas.List.{length-map}}
 use Rattle.ppdb_maps.specs.Map.{Map}
-use Rattle.ppdb_merge_moved.specs.Moved.{linked, moved_record}
-use Rattle.ppdb_merge_moved.proofs.Lists.{filter_map-after, refill_all}
+use Rattle.ppdb_merge_moved.{specs.Moved.{linked, moved_record}, proofs.Lists.{filter_map-after, refill_all}}
 use Rattle.ppdb_merge_moved.proofs.named.moved_customs.Goals as goal
 
 pub returns : goal.returns

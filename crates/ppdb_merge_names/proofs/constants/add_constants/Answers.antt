@@ -1,18 +1,11 @@
-use Rattle.std.proofs.Common.{◌≡◌, sym, ap, refl, subst, ◌∙◌, List, All, Ok, Err, []}
-use Rattle.std.proofs.lemmas.Result.{err_from_is_err_and}
-use Rattle.std.specs.List.{flat_map}
+use Rattle.std.{proofs.Common.{◌≡◌, sym, ap, refl, subst, ◌∙◌, List, All, Ok, Err, []}, proofs.lemmas.Result.{err_from_is_err_and}, specs.List.{flat_map}}
 use Rattle.blob_grammar.specs.Reader.{tail}
 use Rattle.ppdb_maps.specs.Map.{Map}
 use Rattle.ppdb_tables.specs.RawTables.{numbered}
 use Rattle.ppdb_verify.specs.Views.{raw_file}
-use Rattle.ppdb_values_reading.specs.declared.scopes.Scope.{Scope}
-use Rattle.ppdb_values_reading.specs.Scopes.{HasLists}
-use Rattle.ppdb_values_reading.proofs.Answered.{next_first, all_first, all_rest, next_none}
-use Rattle.ppdb_merge_names.specs.References.{of_constant}
-use Rattle.ppdb_merge_names.specs.Imaging.{imaged_on}
-use Rattle.ppdb_merge_names.specs.Lists.{of_scope_constants}
-use Rattle.ppdb_merge_names.proofs.Going.{leads-few, leads-end, goes-stop, goes-as, map-stays}
-use Rattle.ppdb_merge_names.proofs.ConstantLists.{all-scopes}
+use Rattle.ppdb_values_reading.{specs.declared.scopes.Scope.{Scope}, specs.Scopes.{HasLists}, proofs.Answered.{next_first, all_first, all_rest, next_none}}
+use Rattle.ppdb_merge_names.{specs.References.{of_constant}, specs.Imaging.{imaged_on}, specs.Lists.{of_scope_constants}, proofs.Going.{leads-few, leads-end}}
+use Rattle.ppdb_merge_names.proofs.{Going.{goes-stop, goes-as, map-stays}, ConstantLists.{all-scopes}}
 use Rattle.ppdb_merge_names.proofs.constants.add_constants.Goals as goal
 
 pub scopes-init : goal.scopes-init

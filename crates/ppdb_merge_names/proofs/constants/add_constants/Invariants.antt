@@ -1,11 +1,8 @@
-use Rattle.std.proofs.Common.{◌≡◌, length, All}
-use Rattle.std.specs.List.{flat_map}
+use Rattle.std.{proofs.Common.{◌≡◌, length, All}, specs.List.{flat_map}}
 use Rattle.ppdb_tables.specs.RawTables.{numbered}
 use Rattle.ppdb_verify.specs.Views.{raw_file}
 use Rattle.ppdb_values_reading.specs.Scopes.{HasLists}
-use Rattle.ppdb_merge_names.specs.References.{of_constant}
-use Rattle.ppdb_merge_names.specs.Lists.{of_scope_constants}
-use Rattle.ppdb_merge_names.proofs.Going.{Leads}
+use Rattle.ppdb_merge_names.{specs.References.{of_constant}, specs.Lists.{of_scope_constants}, proofs.Going.{Leads}}
 use Rattle.ppdb_merge_names.proofs.constants.add_constants.Given as goal
 
 abbrev pub invariant-scopes : goal.invariant-scopes

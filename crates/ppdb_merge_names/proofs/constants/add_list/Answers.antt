@@ -1,13 +1,9 @@
-use Rattle.std.proofs.Common.{◌≡◌, ◌+◌, ap, sym, ◌∙◌, arith, Ok, Err}
-use Rattle.std.proofs.lemmas.Result.{err_from_is_err_and}
+use Rattle.std.proofs.{Common.{◌≡◌, ◌+◌, ap, sym, ◌∙◌, arith, Ok, Err}, lemmas.Result.{err_from_is_err_and}}
 use Rattle.ppdb_maps.specs.Map.{Map}
 use Rattle.ppdb_verify.specs.Views.{raw_file}
 use Rattle.type_blobs_rows.specs.Rows.{constant_types}
-use Rattle.ppdb_merge_names.specs.References.{inside, live_types, types_of}
-use Rattle.ppdb_merge_names.specs.Imaging.{imaged_on}
-use Rattle.ppdb_merge_names.specs.Lists.{of_list}
-use Rattle.ppdb_merge_names.proofs.Going.{leads-few, leads-end, goes-stop, goes-as, map-stays}
-use Rattle.ppdb_merge_names.proofs.ConstantLists.{list_first, list_over}
+use Rattle.ppdb_merge_names.{specs.References.{inside, live_types, types_of}, specs.Imaging.{imaged_on}, specs.Lists.{of_list}, proofs.Going.{leads-few, leads-end}}
+use Rattle.ppdb_merge_names.proofs.{Going.{goes-stop, goes-as, map-stays}, ConstantLists.{list_first, list_over}}
 use Rattle.ppdb_merge_names.proofs.constants.add_list.Goals as goal
 
 pub rows-preserved : goal.rows-preserved

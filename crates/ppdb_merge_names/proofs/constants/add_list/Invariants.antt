@@ -1,7 +1,6 @@
 use Rattle.std.proofs.Common.{◌≡◌, ◌≤◌, ◌-◌}
 use Rattle.ppdb_verify.specs.Views.{raw_file}
-use Rattle.ppdb_merge_names.specs.Lists.{of_list}
-use Rattle.ppdb_merge_names.proofs.Going.{Leads}
+use Rattle.ppdb_merge_names.{specs.Lists.{of_list}, proofs.Going.{Leads}}
 use Rattle.ppdb_merge_names.proofs.constants.add_list.Given as goal
 
 abbrev pub invariant-rows : goal.invariant-rows

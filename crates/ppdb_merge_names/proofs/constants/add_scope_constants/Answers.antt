@@ -1,8 +1,6 @@
 use Rattle.std.proofs.Common.{sym, ◌∙◌}
 use Rattle.ppdb_verify.specs.Views.{raw_file}
-use Rattle.ppdb_merge_names.specs.Lists.{of_scope_constants}
-use Rattle.ppdb_merge_names.proofs.Going.{goes-none}
-use Rattle.ppdb_merge_names.proofs.ConstantLists.{scope_dropped}
+use Rattle.ppdb_merge_names.{specs.Lists.{of_scope_constants}, proofs.Going.{goes-none}, proofs.ConstantLists.{scope_dropped}}
 use Rattle.ppdb_merge_names.proofs.constants.add_scope_constants.Goals as goal
 
 pub returns-then-drops : goal.returns-then-drops

@@ -1,8 +1,6 @@
 use Rattle.std.proofs.Common.{sym, ◌∙◌}
 use Rattle.type_blobs_rows.specs.Rows.{constant_types}
-use Rattle.ppdb_merge_names.specs.References.{inside, live_types}
-use Rattle.ppdb_merge_names.proofs.Going.{goes-none}
-use Rattle.ppdb_merge_names.proofs.Walked.{types_gone}
+use Rattle.ppdb_merge_names.{specs.References.{inside, live_types}, proofs.Going.{goes-none}, proofs.Walked.{types_gone}}
 use Rattle.ppdb_merge_names.proofs.constants.add_types.Goals as goal
 
 pub returns-then-constant_goes : goal.returns-then-constant_goes

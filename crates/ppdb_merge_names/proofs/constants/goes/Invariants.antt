@@ -1,5 +1,4 @@
-use Rattle.std.proofs.Common.{◌≡◌, length}
-use Rattle.std.specs.List.{list_any}
+use Rattle.std.{proofs.Common.{◌≡◌, length}, specs.List.{list_any}}
 use Rattle.ppdb_merge_names.specs.References.{takes_constant}
 use Rattle.ppdb_merge_names.proofs.constants.goes.Given as goal
 

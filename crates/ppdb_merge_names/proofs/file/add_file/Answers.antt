@@ -1,9 +1,7 @@
-use Rattle.std.proofs.Common.{Err, ◌++◌}
-use Rattle.std.proofs.lemmas.Result.{err_from_is_err_and}
+use Rattle.std.proofs.{Common.{Err, ◌++◌}, lemmas.Result.{err_from_is_err_and}}
 use Rattle.ppdb_maps.specs.Map.{Map}
 use Rattle.ppdb_verify.specs.Views.{raw_file}
-use Rattle.ppdb_merge_names.specs.References.{of_entry, of_methods, of_others, references}
-use Rattle.ppdb_merge_names.proofs.Going.{goes-cut, goes-more}
+use Rattle.ppdb_merge_names.{specs.References.{of_entry, of_methods, of_others, references}, proofs.Going.{goes-cut, goes-more}}
 use Rattle.ppdb_merge_names.proofs.file.add_file.Goals as goal
 
 pub returns-in_err-add_entry : goal.returns-in_err-add_entry

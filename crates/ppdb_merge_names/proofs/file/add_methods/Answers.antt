@@ -1,12 +1,8 @@
-use Rattle.std.proofs.Common.{Err, ◌++◌}
-use Rattle.std.proofs.lemmas.Result.{err_from_is_err_and}
-use Rattle.std.specs.List.{flat_map}
+use Rattle.std.{proofs.Common.{Err, ◌++◌}, proofs.lemmas.Result.{err_from_is_err_and}, specs.List.{flat_map}}
 use Rattle.ppdb_maps.specs.Map.{Map}
 use Rattle.ppdb_tables.specs.RawTables.{numbered}
 use Rattle.ppdb_verify.specs.Views.{raw_file}
-use Rattle.ppdb_merge_names.specs.References.{of_constant}
-use Rattle.ppdb_merge_names.specs.TableRows.{of_table}
-use Rattle.ppdb_merge_names.specs.declared.rows.Table.TheVariants.{MethodDebug, LocalScope}
+use Rattle.ppdb_merge_names.specs.{References.{of_constant}, TableRows.{of_table}, declared.rows.Table.TheVariants.{MethodDebug, LocalScope}}
 use Rattle.ppdb_merge_names.proofs.Going.{goes-cut, goes-more}
 use Rattle.ppdb_merge_names.proofs.file.add_methods.Goals as goal
 

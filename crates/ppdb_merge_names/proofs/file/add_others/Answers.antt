@@ -1,10 +1,8 @@
-use Rattle.std.proofs.Common.{Err, ◌++◌}
-use Rattle.std.proofs.lemmas.Result.{err_from_is_err_and}
+use Rattle.std.proofs.{Common.{Err, ◌++◌}, lemmas.Result.{err_from_is_err_and}}
 use Rattle.ppdb_maps.specs.Map.{Map}
 use Rattle.ppdb_verify.specs.Views.{raw_file}
-use Rattle.ppdb_merge_names.specs.TableRows.{of_table}
-use Rattle.ppdb_merge_names.specs.declared.rows.Table.TheVariants.{ImportScope, StateMachine, Custom}
-use Rattle.ppdb_merge_names.proofs.Going.{goes-cut, goes-more}
+use Rattle.ppdb_merge_names.{specs.TableRows.{of_table}, specs.declared.rows.Table.TheVariants.{ImportScope, StateMachine, Custom}, proofs.Going.{goes-cut}}
+use Rattle.ppdb_merge_names.proofs.Going.{goes-more}
 use Rattle.ppdb_merge_names.proofs.file.add_others.Goals as goal
 
 pub returns-in_err-add_table : goal.returns-in_err-add_table

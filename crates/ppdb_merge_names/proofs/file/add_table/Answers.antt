@@ -1,14 +1,10 @@
-use Rattle.std.proofs.Common.{◌≡◌, ◌+◌, length, sym, ap, refl, ◌∙◌, arith, Some, Ok}
-use Rattle.std.proofs.lemmas.Result.{err_from_is_err_and}
+use Rattle.std.proofs.{Common.{◌≡◌, ◌+◌, length, sym, ap, refl, ◌∙◌, arith, Some, Ok}, lemmas.Result.{err_from_is_err_and}}
 use Rattle.ppdb_maps.specs.Map.{Map}
-use Rattle.ppdb_tables.specs.RawTables.{count, row_at}
-use Rattle.ppdb_tables.proofs.NumberedRows.{row_there}
+use Rattle.ppdb_tables.{specs.RawTables.{count, row_at}, proofs.NumberedRows.{row_there}}
 use Rattle.ppdb_verify.specs.Views.{raw_file}
-use Rattle.ppdb_merge_names.specs.Imaging.{imaged_on}
-use Rattle.ppdb_merge_names.specs.TableRows.{of_table, row_references}
+use Rattle.ppdb_merge_names.{specs.Imaging.{imaged_on}, specs.TableRows.{of_table, row_references}, proofs.TableLists.{rows_are, table_is}, proofs.Going.{leads-few}}
+use Rattle.ppdb_merge_names.proofs.Going.{leads-end, goes-stop, map-stays}
 use Rattle.ppdb_verify_total.proofs.RowLists.{from_row, no_rest, row_and_rest}
-use Rattle.ppdb_merge_names.proofs.TableLists.{rows_are, table_is}
-use Rattle.ppdb_merge_names.proofs.Going.{leads-few, leads-end, goes-stop, map-stays}
 use Rattle.ppdb_merge_names.proofs.file.add_table.Goals as goal
 
 pub rows-init : goal.rows-init

@@ -1,7 +1,6 @@
 use Rattle.std.proofs.Common.{◌≡◌, ◌≤◌, ◌+◌, ◌-◌}
 use Rattle.ppdb_verify.specs.Views.{raw_file}
-use Rattle.ppdb_merge_names.specs.TableRows.{of_table, row_references}
-use Rattle.ppdb_merge_names.proofs.Going.{Leads}
+use Rattle.ppdb_merge_names.{specs.TableRows.{of_table, row_references}, proofs.Going.{Leads}}
 use Rattle.ppdb_verify_total.proofs.RowLists.{from_row}
 use Rattle.ppdb_merge_names.proofs.file.add_table.Given as goal
 

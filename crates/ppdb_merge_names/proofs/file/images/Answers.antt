@@ -1,10 +1,6 @@
-use Rattle.std.proofs.Common.{◌≡◌, subst, Ok, Err}
-use Rattle.std.proofs.lemmas.Result.{err_from_is_err_and}
+use Rattle.std.proofs.{Common.{◌≡◌, subst, Ok, Err}, lemmas.Result.{err_from_is_err_and}}
 use Rattle.ppdb_verify.specs.Views.{raw_file}
-use Rattle.ppdb_merge_names.specs.References.{references}
-use Rattle.ppdb_merge_names.specs.Imaging.{Imaging, imaged_on, Goes}
-use Rattle.ppdb_merge_names.proofs.Going.{images-are, refused}
-use Rattle.ppdb_merge_names.proofs.Still.{all_still}
+use Rattle.ppdb_merge_names.{specs.References.{references}, specs.Imaging.{Imaging, imaged_on, Goes}, proofs.Going.{images-are, refused}, proofs.Still.{all_still}}
 use Rattle.ppdb_merge_names.proofs.file.images.Goals as goal
 
 pub returns-in_err-add_file-clause-unmapped : goal.returns-in_err-add_file-clause-unmapped

@@ -1,8 +1,6 @@
 use Rattle.std.proofs.Common.{sym, ◌∙◌, ap}
 use Rattle.ppdb_verify.specs.Views.{raw_file}
-use Rattle.ppdb_merge_names.specs.Imaging.{Imaging}
-use Rattle.ppdb_merge_names.specs.References.{of_parent, leaves_types, of_custom}
-use Rattle.ppdb_merge_names.proofs.Going.{goes-as, goes-none}
+use Rattle.ppdb_merge_names.{specs.Imaging.{Imaging}, specs.References.{of_parent, leaves_types, of_custom}, proofs.Going.{goes-as, goes-none}}
 use Rattle.ppdb_merge_names.proofs.RowNames.{custom_dropped, custom_leaves, custom_names}
 use Rattle.ppdb_merge_names.proofs.rows.add_custom.Goals as goal
 

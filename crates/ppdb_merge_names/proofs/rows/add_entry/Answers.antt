@@ -1,8 +1,6 @@
 use Rattle.std.proofs.Common.{sym, ◌∙◌}
 use Rattle.ppdb_verify.specs.Views.{raw_file}
-use Rattle.ppdb_merge_names.specs.References.{of_entry}
-use Rattle.ppdb_merge_names.proofs.Going.{goes-none}
-use Rattle.ppdb_merge_names.proofs.RowNames.{entry_later, entry_dropped}
+use Rattle.ppdb_merge_names.{specs.References.{of_entry}, proofs.Going.{goes-none}, proofs.RowNames.{entry_later, entry_dropped}}
 use Rattle.ppdb_merge_names.proofs.rows.add_entry.Goals as goal
 
 pub returns-then-not-first : goal.returns-then-not-first

@@ -1,7 +1,5 @@
 use Rattle.std.proofs.Common.{sym, ◌∙◌, [], ◌∷◌}
-use Rattle.ppdb_merge_names.specs.References.{inside}
-use Rattle.ppdb_merge_names.proofs.Going.{goes-as, goes-none}
-use Rattle.ppdb_merge_names.proofs.Walked.{live_inside, live_gone, live_there}
+use Rattle.ppdb_merge_names.{specs.References.{inside}, proofs.Going.{goes-as, goes-none}, proofs.Walked.{live_inside, live_gone, live_there}}
 use Rattle.ppdb_merge_names.proofs.rows.add_live_row.Goals as goal
 
 pub returns-then-not-is_live : goal.returns-then-not-is_live

@@ -1,11 +1,9 @@
-use Rattle.std.proofs.Common.{◌≡◌, ◌∙◌, sym, ap, [], ◌∷◌, List, Ok, Err}
-use Rattle.std.proofs.lemmas.Result.{err_from_is_err_and}
+use Rattle.std.proofs.{Common.{◌≡◌, ◌∙◌, sym, ap, [], ◌∷◌, List, Ok, Err}, lemmas.Result.{err_from_is_err_and}}
 use Rattle.ppdb_maps.specs.Map.{Map}
 use Rattle.type_blobs_rows.specs.declared.row.PlacedRow.{PlacedRow}
 use Rattle.blob_grammar.specs.Reader.{tail}
-use Rattle.ppdb_merge_names.specs.Imaging.{imaged_on}
-use Rattle.ppdb_merge_names.proofs.Going.{leads-few, leads-end, goes-stop, goes-as, map-stays}
-use Rattle.ppdb_merge_names.proofs.Walked.{first_is, none_is, live_inside, live_first}
+use Rattle.ppdb_merge_names.{specs.Imaging.{imaged_on}, proofs.Going.{leads-few, leads-end, goes-stop, goes-as, map-stays}, proofs.Walked.{first_is, none_is}}
+use Rattle.ppdb_merge_names.proofs.Walked.{live_inside, live_first}
 use Rattle.ppdb_merge_names.proofs.rows.add_live_rows.Goals as goal
 
 pub rows-preserved : goal.rows-preserved

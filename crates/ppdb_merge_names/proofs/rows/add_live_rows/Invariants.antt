@@ -1,7 +1,5 @@
-use Rattle.std.proofs.Common.{◌≡◌, length}
-use Rattle.std.specs.List.{filter}
-use Rattle.ppdb_merge_names.specs.References.{inside, is_live}
-use Rattle.ppdb_merge_names.proofs.Going.{Leads}
+use Rattle.std.{proofs.Common.{◌≡◌, length}, specs.List.{filter}}
+use Rattle.ppdb_merge_names.{specs.References.{inside, is_live}, proofs.Going.{Leads}}
 use Rattle.ppdb_merge_names.proofs.rows.add_live_rows.Given as goal
 
 abbrev pub invariant-rows : goal.invariant-rows

@@ -1,8 +1,6 @@
-use Rattle.std.proofs.Common.{Err, sym, ◌∙◌, [], ◌∷◌}
-use Rattle.std.proofs.lemmas.Result.{err_from_is_err_and}
+use Rattle.std.proofs.{Common.{Err, sym, ◌∙◌, [], ◌∷◌}, lemmas.Result.{err_from_is_err_and}}
 use Rattle.ppdb_base.specs.Place.{cell}
-use Rattle.ppdb_merge_names.specs.References.{names, of_machine}
-use Rattle.ppdb_merge_names.proofs.Going.{goes-as, goes-none, goes-cut, goes-then, goes-at}
+use Rattle.ppdb_merge_names.{specs.References.{names, of_machine}, proofs.Going.{goes-as, goes-none, goes-cut, goes-then, goes-at}}
 use Rattle.ppdb_merge_names.proofs.RowNames.{machine_dropped, machine_names}
 use Rattle.ppdb_merge_names.proofs.rows.add_machine.Goals as goal
 

@@ -1,11 +1,9 @@
-use Rattle.std.proofs.Common.{Err, sym, ◌∙◌, ap, None, Some, [], ◌∷◌}
-use Rattle.std.proofs.lemmas.Result.{err_from_is_err_and}
+use Rattle.std.proofs.{Common.{Err, sym, ◌∙◌, ap, None, Some, [], ◌∷◌}, lemmas.Result.{err_from_is_err_and}}
 use Rattle.ppdb_base.specs.Place.{cell}
 use Rattle.ppdb_values.specs.declared.file.MethodValue.{MethodValue}
 use Rattle.ppdb_maps.specs.Map.{Map}
 use Rattle.ppdb_verify.specs.Views.{raw_file}
-use Rattle.ppdb_merge_names.specs.References.{names, of_signature, of_method}
-use Rattle.ppdb_merge_names.proofs.Going.{goes-as, goes-none, goes-cut, goes-more, goes-at}
+use Rattle.ppdb_merge_names.{specs.References.{names, of_signature, of_method}, proofs.Going.{goes-as, goes-none, goes-cut, goes-more, goes-at}}
 use Rattle.ppdb_merge_names.proofs.RowNames.{method_is, method_dropped, method_names}
 use Rattle.ppdb_merge_names.proofs.rows.add_method.Goals as goal
 use Rattle.ppdb_merge_names.proofs.Parts.{of_points}

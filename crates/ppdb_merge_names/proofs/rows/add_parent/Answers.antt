@@ -1,9 +1,7 @@
-use Rattle.std.proofs.Common.{Err, [], ◌∷◌}
-use Rattle.std.proofs.lemmas.Result.{err_from_is_err_and}
+use Rattle.std.proofs.{Common.{Err, [], ◌∷◌}, lemmas.Result.{err_from_is_err_and}}
 use Rattle.ppdb_base.specs.Place.{cell}
 use Rattle.ppdb_verify.specs.Views.{raw_file}
-use Rattle.ppdb_merge_names.specs.References.{names, inside, methods_of}
-use Rattle.ppdb_merge_names.proofs.Going.{goes-cut, goes-then, goes-at}
+use Rattle.ppdb_merge_names.{specs.References.{names, inside, methods_of}, proofs.Going.{goes-cut, goes-then, goes-at}}
 use Rattle.ppdb_merge_names.proofs.rows.add_parent.Goals as goal
 
 pub returns-in_err-add : goal.returns-in_err-add

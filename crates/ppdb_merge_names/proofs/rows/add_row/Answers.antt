@@ -1,8 +1,7 @@
 use Rattle.std.proofs.Common.{sym, ◌∙◌, ap}
 use Rattle.ppdb_tables.specs.RawTables.{row_at}
 use Rattle.ppdb_verify.specs.Views.{raw_file}
-use Rattle.ppdb_merge_names.specs.References.{of_method, of_scope, of_import, of_machine, of_custom}
-use Rattle.ppdb_merge_names.specs.TableRows.{row_references}
+use Rattle.ppdb_merge_names.specs.{References.{of_method, of_scope, of_import, of_machine, of_custom}, TableRows.{row_references}}
 use Rattle.ppdb_merge_names.specs.declared.rows.Table as table
 use Rattle.ppdb_merge_names.proofs.Going.{goes-as}
 use Rattle.ppdb_verify_total.proofs.RowLists.{names_are}

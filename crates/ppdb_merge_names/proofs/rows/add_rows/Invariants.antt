@@ -1,6 +1,5 @@
 use Rattle.std.proofs.Common.{length}
-use Rattle.ppdb_merge_names.specs.References.{inside}
-use Rattle.ppdb_merge_names.proofs.Going.{Leads}
+use Rattle.ppdb_merge_names.{specs.References.{inside}, proofs.Going.{Leads}}
 use Rattle.ppdb_merge_names.proofs.rows.add_rows.Given as goal
 
 abbrev pub invariant-rows : goal.invariant-rows

@@ -1,7 +1,5 @@
 use Rattle.std.proofs.Common.{sym, ◌∙◌}
-use Rattle.ppdb_merge_names.specs.References.{of_scope}
-use Rattle.ppdb_merge_names.proofs.Going.{goes-none}
-use Rattle.ppdb_merge_names.proofs.RowNames.{scope_dropped}
+use Rattle.ppdb_merge_names.{specs.References.{of_scope}, proofs.Going.{goes-none}, proofs.RowNames.{scope_dropped}}
 use Rattle.ppdb_merge_names.proofs.rows.add_scope.Goals as goal
 
 pub returns-then-drops : goal.returns-then-drops

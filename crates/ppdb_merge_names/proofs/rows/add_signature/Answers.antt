@@ -1,7 +1,5 @@
 use Rattle.std.proofs.Common.{sym, ◌∙◌}
-use Rattle.ppdb_merge_names.specs.References.{of_signature}
-use Rattle.ppdb_merge_names.proofs.Going.{goes-none}
-use Rattle.ppdb_merge_names.proofs.RowNames.{signature_none, signature_cut, signature_gone}
+use Rattle.ppdb_merge_names.{specs.References.{of_signature}, proofs.Going.{goes-none}, proofs.RowNames.{signature_none, signature_cut, signature_gone}}
 use Rattle.ppdb_merge_names.proofs.rows.add_signature.Goals as goal
 
 pub returns-then-signature-eq0 : goal.returns-then-signature-eq0

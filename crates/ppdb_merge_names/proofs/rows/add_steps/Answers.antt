@@ -1,17 +1,10 @@
 use Rattle.std.proofs.Common.{◌≡◌, ◌∙◌, [], ap, subst, sym, List}
-use Rattle.ppdb_values.specs.RawFile.{blob}
+use Rattle.ppdb_values.specs.{RawFile.{blob}, Customs.{kind_in}}
 use Rattle.ppdb_verify.specs.Views.{raw_file}
 use Rattle.ppdb_tables.specs.RawTables.{count}
-use Rattle.type_blobs_rows.specs.declared.row.PlacedRow.{PlacedRow}
-use Rattle.type_blobs_rows.specs.Rows.{resume_methods}
-use Rattle.custom_info.specs.Kinds.{kind_of}
-use Rattle.custom_info.specs.declared.kinds.Kind.{Kind}
-use Rattle.custom_info.specs.declared.kinds.Kind.TheVariants.{Async}
-use Rattle.ppdb_values.specs.Customs.{kind_in}
-use Rattle.ppdb_merge_names.specs.Imaging.{Goes}
-use Rattle.ppdb_merge_names.specs.References.{inside, methods_in, methods_of}
-use Rattle.ppdb_merge_names.proofs.Going.{goes-none}
-use Rattle.ppdb_merge_names.proofs.RowNames.{no_methods}
+use Rattle.type_blobs_rows.specs.{declared.row.PlacedRow.{PlacedRow}, Rows.{resume_methods}}
+use Rattle.custom_info.specs.{Kinds.{kind_of}, declared.kinds.Kind.{Kind}, declared.kinds.Kind.TheVariants.{Async}}
+use Rattle.ppdb_merge_names.{specs.Imaging.{Goes}, specs.References.{inside, methods_in, methods_of}, proofs.Going.{goes-none}, proofs.RowNames.{no_methods}}
 use Rattle.ppdb_merge_names.proofs.rows.add_steps.Goals as goal
 
 pub returns-in_default : goal.returns-in_default

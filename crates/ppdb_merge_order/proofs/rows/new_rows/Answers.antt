@@ -1,7 +1,5 @@
 use Rattle.std.proofs.Common.{ℕ, ◌+◌, ◌∙◌, List, get_or, take, length, subst, sym, ap}
-use Rattle.ppdb_merge_order.specs.declared.keys.Key.{Key}
-use Rattle.ppdb_merge_order.specs.NewRows.{AreNewRows, IsNoted}
-use Rattle.ppdb_merge_order.proofs.Noted.{one_more, refilled}
+use Rattle.ppdb_merge_order.{specs.declared.keys.Key.{Key}, specs.NewRows.{AreNewRows, IsNoted}, proofs.Noted.{one_more, refilled}}
 use Rattle.ppdb_merge_order.proofs.rows.new_rows.Goals as goal
 
 pub loop-index-preserved : goal.loop-index-preserved

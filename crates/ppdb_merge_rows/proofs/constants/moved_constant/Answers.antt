@@ -1,17 +1,10 @@
-use Rattle.std.proofs.Common.{◌≡◌, ◌||◌, Bool, cond, List, Some, None, length, map, sym, ap, ◌∙◌}
-use Rattle.std.specs.List.{list_any}
-use Rattle.std.proofs.lemmas.List.{length-map}
-use Rattle.type_blobs.specs.declared.types.Modifier.{Modifier}
-use Rattle.type_blobs.specs.ConstantReading.{shown}
-use Rattle.ppdb_values.specs.declared.scope.ConstantBody.{ConstantBody}
-use Rattle.ppdb_values.specs.declared.scope.ConstantValue.{ConstantValue}
-use Rattle.ppdb_values.specs.Constants.{body_value}
+use Rattle.std.{proofs.Common.{◌≡◌, ◌||◌, Bool, cond, List, Some, None, length, map, sym, ap, ◌∙◌}, specs.List.{list_any}, proofs.lemmas.List.{length-map}}
+use Rattle.type_blobs.specs.{declared.types.Modifier.{Modifier}, ConstantReading.{shown}}
+use Rattle.ppdb_values.specs.{declared.scope.ConstantBody.{ConstantBody}, declared.scope.ConstantValue.{ConstantValue}, Constants.{body_value}}
 use Rattle.ppdb_verify.specs.Views.{raw_file}
-use Rattle.ppdb_values_reading.specs.Lent.{constant_value_shown, constants_of}
-use Rattle.ppdb_values_reading.proofs.Rows.{row_made}
+use Rattle.ppdb_values_reading.{specs.Lent.{constant_value_shown, constants_of}, proofs.Rows.{row_made}}
 use Rattle.ppdb_merge_items.specs.NamedRows.{goes_constant, is_gone_type, live_body, names_gone_class, with_live_body}
-use Rattle.ppdb_merge_moved.specs.Moved.{moved_constant, moved_constant_body, moved_modifier}
-use Rattle.ppdb_merge_moved.proofs.Lists.{refill_all}
+use Rattle.ppdb_merge_moved.{specs.Moved.{moved_constant, moved_constant_body, moved_modifier}, proofs.Lists.{refill_all}}
 use Rattle.ppdb_merge_parts.specs.Flat.{constant_image}
 use Rattle.ppdb_merge_rows.proofs.constants.moved_constant.Goals as goal
 

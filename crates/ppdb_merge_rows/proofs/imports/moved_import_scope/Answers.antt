@@ -1,6 +1,5 @@
 use Rattle.std.proofs.Common.{◌≡◌, ℕ, ◌≤◌, Some, sym, ap, ◌∙◌, arith}
-use Rattle.ppdb_values.specs.declared.import.ImportScopeValue.{ImportScopeValue}
-use Rattle.ppdb_values.specs.Value.{value_of}
+use Rattle.ppdb_values.specs.{declared.import.ImportScopeValue.{ImportScopeValue}, Value.{value_of}}
 use Rattle.ppdb_verify.specs.Views.{raw_file}
 use Rattle.ppdb_values_reading.proofs.Rows.{row_made}
 use Rattle.ppdb_merge_joined.specs.Joined.{renumbered_import}

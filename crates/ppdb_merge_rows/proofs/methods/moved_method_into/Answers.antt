@@ -1,11 +1,8 @@
 use Rattle.std.proofs.Common.{ℕ, ◌<◌, refl, sym, ap, subst, ◌∙◌, arith, inr}
 use Rattle.ppdb_maps.specs.Map.{moved_signature}
 use Rattle.ppdb_verify.specs.Views.{raw_file}
-use Rattle.ppdb_merge_rows.proofs.After.{after_dropped}
-use Rattle.ppdb_merge_rows.proofs.Asked.{held, reads_of, asked_some, asked_reads, asked_whole, asked_below, asked_images, small_offsets}
-use Rattle.ppdb_merge_rows.proofs.Asked.{gone_answer, blob_answer, step_answer}
-use Rattle.ppdb_merge_rows.proofs.Images.{signature_fits}
-use Rattle.ppdb_merge_rows.proofs.Read.{is_read}
+use Rattle.ppdb_merge_rows.proofs.{After.{after_dropped}, Asked.{held, reads_of, asked_some, asked_reads, asked_whole, asked_below, asked_images, small_offsets}}
+use Rattle.ppdb_merge_rows.proofs.{Asked.{gone_answer, blob_answer, step_answer}, Images.{signature_fits}, Read.{is_read}}
 use Rattle.ppdb_merge_rows.proofs.methods.moved_method_into.Goals as goal
 
 pub returns-then-dropped-clause-moved : goal.returns-then-dropped-clause-moved

@@ -1,12 +1,8 @@
-use Rattle.std.proofs.Common.{ℕ, List, Some, sym, ap, ◌∙◌}
-use Rattle.std.specs.Prelude.{Option, option_map, unwrap_or}
-use Rattle.ppdb_values.specs.declared.custom.CustomBody.{CustomBody}
-use Rattle.ppdb_values.specs.declared.custom.CustomBody.TheVariants.{Unread}
-use Rattle.ppdb_values.specs.declared.custom.CustomValue.{CustomValue}
+use Rattle.std.{proofs.Common.{ℕ, List, Some, sym, ap, ◌∙◌}, specs.Prelude.{Option, option_map, unwrap_or}}
+use Rattle.ppdb_values.specs.declared.custom.{CustomBody.{CustomBody}, CustomBody.TheVariants.{Unread}, CustomValue.{CustomValue}}
 use Rattle.ppdb_values.specs.Value.{value_of}
 use Rattle.ppdb_verify.specs.Views.{raw_file}
-use Rattle.ppdb_values_reading.specs.Lent.{body_shown, custom_shown}
-use Rattle.ppdb_values_reading.proofs.Rows.{row_made}
+use Rattle.ppdb_values_reading.{specs.Lent.{body_shown, custom_shown}, proofs.Rows.{row_made}}
 use Rattle.ppdb_merge_joined.specs.Joined.{row_in, with_documents}
 use Rattle.ppdb_merge_moved.specs.Moved.{moved_body}
 use Rattle.ppdb_merge_rows.specs.Rows.{body_after}

@@ -1,9 +1,7 @@
-use Rattle.std.proofs.Common.{ℕ, Some, sym, ap, ◌∙◌}
-use Rattle.std.specs.Prelude.{Option, unwrap_or}
+use Rattle.std.{proofs.Common.{ℕ, Some, sym, ap, ◌∙◌}, specs.Prelude.{Option, unwrap_or}}
 use Rattle.ppdb_values.specs.declared.scope.VariableValue.{VariableValue}
 use Rattle.ppdb_verify.specs.Views.{raw_file}
-use Rattle.ppdb_values_reading.specs.Lent.{variable_shown, variables_of}
-use Rattle.ppdb_values_reading.proofs.Rows.{row_made}
+use Rattle.ppdb_values_reading.{specs.Lent.{variable_shown, variables_of}, proofs.Rows.{row_made}}
 use Rattle.ppdb_merge_moved.specs.Moved.{moved_variable}
 use Rattle.ppdb_merge_rows.proofs.scopes.moved_variable.Goals as goal
 

@@ -1,10 +1,7 @@
-use Rattle.std.proofs.Common.{arith, map, ap, length, ◌∙◌}
-use Rattle.std.proofs.lemmas.List.{length-map}
+use Rattle.std.proofs.{Common.{arith, map, ap, length, ◌∙◌}, lemmas.List.{length-map}}
 use Rattle.ppdb_tables.specs.RawOf.{raw_of}
 use Rattle.ppdb_verify.specs.Views.{tables_of}
-use Rattle.ppdb_queries.proofs.Filters.{forward}
-use Rattle.ppdb_queries.proofs.Slots.{hoisted_all}
-use Rattle.ppdb_queries.proofs.Views.{rows_many}
+use Rattle.ppdb_queries.proofs.{Filters.{forward}, Slots.{hoisted_all}, Views.{rows_many}}
 use Rattle.ppdb_queries.proofs.hoisted.hoisted_at.Goals as goal
 
 pub invariant_of-result : goal.invariant_of-result

@@ -1,8 +1,7 @@
 use Rattle.std.proofs.Common.{◌≡◌, ap, ◌∙◌, arith, List}
 use Rattle.blob_grammar.specs.Reader.{Left}
 use Rattle.custom_info.specs.declared.slots.Slot.{Slot}
-use Rattle.ppdb_tables.specs.RawOf.{raw_of}
-use Rattle.ppdb_tables.specs.declared.rows.CustomRow.{CustomRow}
+use Rattle.ppdb_tables.specs.{RawOf.{raw_of}, declared.rows.CustomRow.{CustomRow}}
 use Rattle.ppdb_verify.specs.Views.{tables_of}
 use Rattle.ppdb_queries.specs.Hoisted.{slots_from, slots_of}
 use Rattle.ppdb_queries.proofs.hoisted.record_slots.Goals as goal

@@ -1,8 +1,6 @@
-use Rattle.std.proofs.Common.{sym, ap, ◌∙◌, List, [], arith}
-use Rattle.std.specs.Prelude.{None}
+use Rattle.std.{proofs.Common.{sym, ap, ◌∙◌, List, [], arith}, specs.Prelude.{None}}
 use Rattle.blob_grammar.specs.Reader.{Left}
-use Rattle.custom_info.specs.HoistedScopes.{hoisted_scopes}
-use Rattle.custom_info.specs.declared.slots.Slot.{Slot}
+use Rattle.custom_info.specs.{HoistedScopes.{hoisted_scopes}, declared.slots.Slot.{Slot}}
 use Rattle.ppdb_verify.specs.Views.{raw_file}
 use Rattle.ppdb_verify_rows.proofs.Whole.{whole_left, left_of}
 use Rattle.ppdb_queries.proofs.Records.{slots_none, slots_are, hoisted_kind, nothing_whole, nothing_read}

@@ -1,12 +1,7 @@
-use Rattle.std.proofs.Common.{◌-◌, ◌/◌, ◌+◌, length, map, arith, sym, ◌∙◌}
+use Rattle.std.proofs.{Common.{◌-◌, ◌/◌, ◌+◌, length, map, arith, sym, ◌∙◌}, lemmas.List.{length-map}}
 use Rattle.ppdb_tables.specs.RawOf.{raw_of}
 use Rattle.ppdb_verify.specs.Views.{tables_of}
-use Rattle.std.proofs.lemmas.List.{length-map}
-use Rattle.ppdb_queries.proofs.Powers.{within_digits}
-use Rattle.ppdb_queries.proofs.Searches.{unprobed}
-use Rattle.ppdb_queries.specs.Machines.{cell_of}
-use Rattle.ppdb_queries.proofs.Keys.{key_at}
-use Rattle.ppdb_queries.proofs.Searches.{all_below, all_above, probed}
+use Rattle.ppdb_queries.{proofs.Powers.{within_digits}, proofs.Searches.{unprobed, all_below, all_above, probed}, specs.Machines.{cell_of}, proofs.Keys.{key_at}}
 use Rattle.ppdb_queries.proofs.Filters.{rising_sorted, above_both, rising_found, rising_none}
 use Rattle.ppdb_queries.proofs.machines.machine_with.Goals as goal
 

@@ -1,8 +1,7 @@
 use Rattle.std.proofs.Common.{◌-◌, ◌+◌, ◌<◌, ◌≤◌, ℕ, length, slice_index, map}
 use Rattle.ppdb_tables.specs.RawOf.{raw_of}
 use Rattle.ppdb_verify.specs.Views.{tables_of}
-use Rattle.ppdb_queries.specs.Machines.{cell_of}
-use Rattle.ppdb_queries.proofs.Powers.{Halved}
+use Rattle.ppdb_queries.{specs.Machines.{cell_of}, proofs.Powers.{Halved}}
 use Rattle.ppdb_queries.proofs.machines.machine_with.Given as goal
 
 abbrev pub invariant-halves : goal.invariant-halves

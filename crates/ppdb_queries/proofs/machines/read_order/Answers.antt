@@ -1,9 +1,7 @@
-use Rattle.std.proofs.Common.{arith, map, true}
-use Rattle.std.specs.Bool.{OnTrue}
+use Rattle.std.{proofs.Common.{arith, map, true}, specs.Bool.{OnTrue}}
 use Rattle.ppdb_tables.specs.RawOf.{raw_of}
 use Rattle.ppdb_verify.specs.Views.{tables_of}
-use Rattle.ppdb_queries.proofs.Keys.{key_at}
-use Rattle.ppdb_queries.proofs.Orders.{found_more, found_all, still_rises, next_last, all_rise, RisesBefore}
+use Rattle.ppdb_queries.proofs.{Keys.{key_at}, Orders.{found_more, found_all, still_rises, next_last, all_rise, RisesBefore}}
 use Rattle.ppdb_queries.proofs.machines.read_order.Goals as goal
 
 pub loop-row-init : goal.loop-row-init

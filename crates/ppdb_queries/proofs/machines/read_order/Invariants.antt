@@ -1,5 +1,4 @@
-use Rattle.std.proofs.Common.{◌+◌, ◌≤◌, map}
-use Rattle.std.specs.Bool.{OnTrue}
+use Rattle.std.{proofs.Common.{◌+◌, ◌≤◌, map}, specs.Bool.{OnTrue}}
 use Rattle.ppdb_tables.specs.RawOf.{raw_of}
 use Rattle.ppdb_verify.specs.Views.{tables_of}
 use Rattle.ppdb_queries.proofs.Orders.{FoundBefore, RisesBefore, IsLast}

@@ -1,9 +1,7 @@
 use Rattle.std.proofs.Common.{◌≡◌, ℕ, arith, ap, sym, ◌∙◌, Bool}
 use Rattle.custom_info.specs.declared.slots.Range.{Range}
-use Rattle.ppdb_tables.specs.declared.rows.ScopeRow.{ScopeRow}
-use Rattle.ppdb_values.specs.Parts.{holds}
-use Rattle.ppdb_values.specs.Value.{range_of}
-use Rattle.ppdb_tables.specs.RawOf.{raw_of}
+use Rattle.ppdb_tables.specs.{declared.rows.ScopeRow.{ScopeRow}, RawOf.{raw_of}}
+use Rattle.ppdb_values.specs.{Parts.{holds}, Value.{range_of}}
 use Rattle.ppdb_verify.specs.Views.{tables_of}
 use Rattle.ppdb_queries.proofs.Views.{view_held, view_passed}
 use Rattle.ppdb_queries.proofs.scopes.next_scope.Goals as goal

@@ -1,9 +1,7 @@
-use Rattle.std.proofs.Common.{arith, map}
-use Rattle.std.proofs.lemmas.List.{length-map}
+use Rattle.std.proofs.{Common.{arith, map}, lemmas.List.{length-map}}
 use Rattle.ppdb_tables.specs.RawOf.{raw_of}
 use Rattle.ppdb_verify.specs.Views.{tables_of}
-use Rattle.ppdb_queries.proofs.Filters.{forward}
-use Rattle.ppdb_queries.proofs.Views.{all_views, all_rows}
+use Rattle.ppdb_queries.proofs.{Filters.{forward}, Views.{all_views, all_rows}}
 use Rattle.ppdb_queries.proofs.scopes.scopes_at.Goals as goal
 
 pub invariant_of-result : goal.invariant_of-result

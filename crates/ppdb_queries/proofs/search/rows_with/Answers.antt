@@ -1,6 +1,5 @@
 use Rattle.std.proofs.Common.{◌-◌, ◌/◌, ◌+◌, arith, length}
-use Rattle.ppdb_queries.proofs.Powers.{within_digits}
-use Rattle.ppdb_queries.proofs.Searches.{all_below, all_above, probed, unprobed}
+use Rattle.ppdb_queries.proofs.{Powers.{within_digits}, Searches.{all_below, all_above, probed, unprobed}}
 use Rattle.ppdb_queries.proofs.search.rows_with.Goals as goal
 
 pub halves-init : goal.halves-init

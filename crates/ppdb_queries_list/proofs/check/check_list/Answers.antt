@@ -1,6 +1,4 @@
-use Rattle.std.proofs.Common.{◌<◌, length, arith, sym, ◌∙◌, subst}
-use Rattle.std.specs.Str.Lines.{lines}
-use Rattle.std.proofs.lemmas.Grind.{common_steps}
+use Rattle.std.{proofs.Common.{◌<◌, length, arith, sym, ◌∙◌, subst}, specs.Str.Lines.{lines}, proofs.lemmas.Grind.{common_steps}}
 use Rattle.ppdb_queries_list.proofs.Checking.{SoFar, first_of, is_said, not_said, nothing_left, so_far_list, so_far_more, so_far_other, so_far_start}
 use Rattle.ppdb_queries_list.proofs.check.check_list.Goals as goal
 

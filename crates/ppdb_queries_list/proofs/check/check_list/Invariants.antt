@@ -1,6 +1,5 @@
 -- So many lines were read.
-use Rattle.std.proofs.Common.{◌≤◌, ◌+◌, length}
-use Rattle.std.specs.Str.Lines.{lines}
+use Rattle.std.{proofs.Common.{◌≤◌, ◌+◌, length}, specs.Str.Lines.{lines}}
 use Rattle.ppdb_queries_list.proofs.Checking.{SoFar}
 use Rattle.ppdb_queries_list.proofs.check.check_list.Given as goal
 

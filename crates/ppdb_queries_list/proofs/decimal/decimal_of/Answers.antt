@@ -1,5 +1,4 @@
-use Rattle.std.proofs.Common.{◌≡◌, ◌≢◌, length, get_or, arith}
-use Rattle.std.proofs.lemmas.Grind.{common_steps}
+use Rattle.std.proofs.{Common.{◌≡◌, ◌≢◌, length, get_or, arith}, lemmas.Grind.{common_steps}}
 use Rattle.ppdb_queries_list.proofs.Numbers.{begins_as_number, parsed, not_parsed}
 use Rattle.ppdb_queries_list.proofs.decimal.decimal_of.Goals as goal
 

@@ -1,6 +1,4 @@
-use Rattle.std.proofs.Common.{◌≡◌, arith, sym, ◌∙◌}
-use Rattle.std.specs.Fmt.{decimal}
-use Rattle.std.proofs.lemmas.Fmt.{decimal_injective}
+use Rattle.std.{proofs.Common.{◌≡◌, arith, sym, ◌∙◌}, specs.Fmt.{decimal}, proofs.lemmas.Fmt.{decimal_injective}}
 use Rattle.ppdb_queries_list.proofs.decimal.number.Goals as goal
 
 pub returns-else-value-most-clause-none : goal.returns-else-value-most-clause-none

@@ -1,5 +1,4 @@
-use Rattle.std.proofs.Common.{inl, inr, sym, ◌∙◌}
-use Rattle.std.proofs.lemmas.Bool.{false≢true}
+use Rattle.std.proofs.{Common.{inl, inr, sym, ◌∙◌}, lemmas.Bool.{false≢true}}
 use Rattle.ppdb_queries_list.specs.Lists.{IsListed}
 use Rattle.ppdb_queries_list.proofs.line.read_line.Goals as goal
 

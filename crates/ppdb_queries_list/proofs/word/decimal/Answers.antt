@@ -1,5 +1,4 @@
-use Rattle.std.proofs.Common.{arith}
-use Rattle.std.proofs.lemmas.Str.{IsUtf8-from_ascii}
+use Rattle.std.proofs.{Common.{arith}, lemmas.Str.{IsUtf8-from_ascii}}
 use Rattle.ppdb_queries_list.proofs.Words.{decimal_ascii}
 use Rattle.ppdb_queries_list.proofs.word.decimal.Goals as goal
 

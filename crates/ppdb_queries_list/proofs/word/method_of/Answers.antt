@@ -1,5 +1,4 @@
-use Rattle.std.proofs.Common.{◌≡◌, get_or, arith}
-use Rattle.std.proofs.lemmas.Grind.{common_steps}
+use Rattle.std.proofs.{Common.{◌≡◌, get_or, arith}, lemmas.Grind.{common_steps}}
 use Rattle.ppdb_queries_list.proofs.Prefixed.{from, token_word, token_read}
 use Rattle.ppdb_queries_list.proofs.word.method_of.Goals as goal
 

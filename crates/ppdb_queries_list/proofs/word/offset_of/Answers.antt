@@ -1,5 +1,4 @@
-use Rattle.std.proofs.Common.{◌≡◌, get_or, arith}
-use Rattle.std.proofs.lemmas.Grind.{common_steps}
+use Rattle.std.proofs.{Common.{◌≡◌, get_or, arith}, lemmas.Grind.{common_steps}}
 use Rattle.ppdb_queries_list.proofs.Prefixed.{from, hexadecimal_word, no_offset, offset_above}
 use Rattle.ppdb_queries_list.proofs.word.offset_of.Goals as goal
 

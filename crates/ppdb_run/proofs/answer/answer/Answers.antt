@@ -1,14 +1,9 @@
 use Rattle.std.proofs.Common.{refl}
 use Rattle.ppdb_verify.specs.Views.{raw_file}
-use Rattle.ppdb_run.specs.Ends.{IsWithinBound}
-use Rattle.ppdb_run_stops.specs.Refusals.{Outcome}
-use Rattle.ppdb_run_stops.specs.Causes.{cause_of}
-use Rattle.ppdb_run.specs.Stops.{Settles}
-use Rattle.ppdb_run_words.specs.Task.{question_of}
-use Rattle.ppdb_run_words.specs.Words.{Ask}
-use Rattle.ppdb_run_stops.proofs.Causes.{widened, widened_stop}
-use Rattle.ppdb_run.proofs.Cuts.{cut_nothing}
-use Rattle.ppdb_run.proofs.Outcomes.{no_answer, stop_settles, stop_found, on_answer, answer_found, on_read, nothing_read}
+use Rattle.ppdb_run.{specs.Ends.{IsWithinBound}, specs.Stops.{Settles}, proofs.Cuts.{cut_nothing}, proofs.Outcomes.{no_answer, stop_settles, stop_found, on_answer}}
+use Rattle.ppdb_run.proofs.Outcomes.{answer_found, on_read, nothing_read}
+use Rattle.ppdb_run_stops.{specs.Refusals.{Outcome}, specs.Causes.{cause_of}, proofs.Causes.{widened, widened_stop}}
+use Rattle.ppdb_run_words.specs.{Task.{question_of}, Words.{Ask}}
 use Rattle.ppdb_run.proofs.answer.answer.Goals as goal
 
 pub returns-in-Err-clause-found : goal.returns-in-Err-clause-found

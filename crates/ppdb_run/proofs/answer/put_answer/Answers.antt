@@ -2,10 +2,8 @@ use Rattle.std.proofs.Common.{◌≡◌, ◌∙◌, ap, subst}
 use Rattle.ppdb_show_sources.specs.Links.{file_links}
 use Rattle.ppdb_values.specs.Value.{value_of}
 use Rattle.ppdb_verify.specs.Views.{raw_file}
-use Rattle.ppdb_run_words.specs.declared.question.Question.{Question}
-use Rattle.ppdb_run.specs.Outcome.{form_of, links_answer, outcome_of}
-use Rattle.ppdb_run.specs.Stops.{Settles}
-use Rattle.ppdb_run_words.specs.Task.{json_of, question_of}
+use Rattle.ppdb_run_words.specs.{declared.question.Question.{Question}, Task.{json_of, question_of}}
+use Rattle.ppdb_run.specs.{Outcome.{form_of, links_answer, outcome_of}, Stops.{Settles}}
 use Rattle.ppdb_run.proofs.answer.put_answer.Goals as goal
 
 pub returns-in-Links-clause-told : goal.returns-in-Links-clause-told

@@ -1,7 +1,6 @@
 use Rattle.std.proofs.Common.{[], ◌∷◌}
 use Rattle.ppdb_base.proofs.Written.{puts_cut, puts_then}
-use Rattle.ppdb_show_lines.specs.Heads.{id_line, entry_line}
-use Rattle.ppdb_show_lines.proofs.Texts.{more_lines}
+use Rattle.ppdb_show_lines.{specs.Heads.{id_line, entry_line}, proofs.Texts.{more_lines}}
 use Rattle.ppdb_verify.specs.Views.{raw_file}
 use Rattle.ppdb_run.proofs.answer.put_id.Goals as goal
 

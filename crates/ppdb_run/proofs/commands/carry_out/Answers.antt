@@ -1,22 +1,12 @@
-use Rattle.std.proofs.Common.{◌≡◌, refl, subst, sym, Some}
-use Rattle.ppdb_run.specs.Outcome.{IsOutcome}
-use Rattle.ppdb_run_stops.specs.Causes.{cause_of, OnCut}
-use Rattle.ppdb_run.specs.Stops.{Finds, Settles}
-use Rattle.std.specs.Prelude.{IfErr, IfSome, OnOk}
+use Rattle.std.{proofs.Common.{◌≡◌, refl, subst, sym, Some}, specs.Prelude.{IfErr, IfSome, OnOk}}
+use Rattle.ppdb_run.{specs.Outcome.{IsOutcome}, specs.Stops.{Finds, Settles}, specs.Ends.{IsValid, WritesAgain, WritesValid}, proofs.Cuts.{nothing_cut}}
+use Rattle.ppdb_run.proofs.{Kept.{is_unread, is_input, is_output, leaves_all, nothing_to_judge}, Lookups.{leaves_looked_up, on_none}, Outcomes.{of_told, of_task}}
+use Rattle.ppdb_run.proofs.{Outcomes.{of_rows}, Sampling.{of_sampled, sampled_again, sampled_found, sampled_leaves, sampled_valid}, Writing.{nothing_put}}
+use Rattle.ppdb_run.{proofs.Writing.{nothing_due, on_asked, on_done, on_then, writes_file}, specs.Means.{WritesMeaning}, proofs.Means.{nothing_means}}
+use Rattle.ppdb_run_stops.{specs.Causes.{cause_of, OnCut}, proofs.Causes.{widened_stop}}
 use Rattle.ppdb_base.specs.Written.{appended, AppendsPrefix}
-use Rattle.ppdb_run.specs.Ends.{IsValid, WritesAgain, WritesValid}
-use Rattle.ppdb_run_words.specs.Task.{inputs_of, options_of, question_of}
-use Rattle.ppdb_run_words.proofs.PairWords.{merge_counts}
-use Rattle.ppdb_run_words.specs.Words.{Ask, Lookup, Rebuild, Compose, Merge, Sample, Words, texts}
-use Rattle.ppdb_run_stops.proofs.Causes.{widened_stop}
-use Rattle.ppdb_run.proofs.Cuts.{nothing_cut}
-use Rattle.ppdb_run.proofs.Kept.{is_unread, is_input, is_output, leaves_all, nothing_to_judge}
-use Rattle.ppdb_run.proofs.Lookups.{leaves_looked_up, on_none}
-use Rattle.ppdb_run.proofs.Outcomes.{of_told, of_task, of_rows}
-use Rattle.ppdb_run.proofs.Sampling.{of_sampled, sampled_again, sampled_found, sampled_leaves, sampled_valid}
-use Rattle.ppdb_run.proofs.Writing.{nothing_put, nothing_due, on_asked, on_done, on_then, writes_file}
-use Rattle.ppdb_run.specs.Means.{WritesMeaning}
-use Rattle.ppdb_run.proofs.Means.{nothing_means}
+use Rattle.ppdb_run_words.{specs.Task.{inputs_of, options_of, question_of}, proofs.PairWords.{merge_counts}, specs.Words.{Ask, Lookup, Rebuild, Compose, Merge}}
+use Rattle.ppdb_run_words.specs.Words.{Sample, Words, texts}
 use Rattle.ppdb_run.proofs.commands.carry_out.Goals as goal
 
 pub returns-in-Ask-clause-found : goal.returns-in-Ask-clause-found

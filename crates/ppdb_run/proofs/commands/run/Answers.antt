@@ -1,7 +1,6 @@
-use Rattle.ppdb_run_stops.specs.Causes.{cause_of}
-use Rattle.ppdb_run_stops.proofs.Causes.{refuses}
-use Rattle.ppdb_run.proofs.Endings.{stopped_outcome, stopped_status, stopped_text, stopped_files, stopped_complete, stopped_kept}
-use Rattle.ppdb_run.proofs.Endings.{stopped_not_done, stopped_read_fault, stopped_unread, stopped_write_fault, stopped_unwritten, stopped_usage, stopped_untold}
+use Rattle.ppdb_run_stops.{specs.Causes.{cause_of}, proofs.Causes.{refuses}}
+use Rattle.ppdb_run.proofs.Endings.{stopped_outcome, stopped_status, stopped_text, stopped_files, stopped_complete, stopped_kept, stopped_not_done}
+use Rattle.ppdb_run.proofs.Endings.{stopped_read_fault, stopped_unread, stopped_write_fault, stopped_unwritten, stopped_usage, stopped_untold}
 use Rattle.ppdb_run.proofs.Prefixes.{prefix_of_done, prefix_of_stop}
 use Rattle.ppdb_run.proofs.commands.run.Goals as goal
 

@@ -1,10 +1,8 @@
 use Rattle.std.proofs.Common.{◌∙◌, subst}
 use Rattle.ppdb_base.specs.Causes.{Rose}
-use Rattle.ppdb_run_stops.specs.Causes.{cause_of}
+use Rattle.ppdb_run_stops.{specs.Causes.{cause_of}, proofs.Causes.{widened, widened_stop}}
 use Rattle.ppdb_run_words.specs.Words.{Compose, Task}
-use Rattle.ppdb_run_stops.proofs.Causes.{widened, widened_stop}
-use Rattle.ppdb_run.proofs.Writing.{nothing_due}
-use Rattle.ppdb_run.proofs.Carried.{stopped, wrote}
+use Rattle.ppdb_run.proofs.{Writing.{nothing_due}, Carried.{stopped, wrote}}
 use Rattle.ppdb_run.proofs.compose.compose.Goals as goal
 
 pub returns-in-Err-clause-comes : goal.returns-in-Err-clause-comes

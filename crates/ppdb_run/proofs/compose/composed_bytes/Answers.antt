@@ -1,9 +1,6 @@
 use Rattle.std.proofs.Common.{refl, ◌∙◌}
-use Rattle.ppdb_run_stops.specs.Causes.{cause_of}
-use Rattle.ppdb_run_stops.proofs.Causes.{widened, widened_stop}
-use Rattle.ppdb_run.proofs.Composing.{no_second, both_read}
-use Rattle.ppdb_run.proofs.Endings.{rose_before}
-use Rattle.ppdb_run.proofs.Kept.{is_second_map}
+use Rattle.ppdb_run_stops.{specs.Causes.{cause_of}, proofs.Causes.{widened, widened_stop}}
+use Rattle.ppdb_run.proofs.{Composing.{no_second, both_read}, Endings.{rose_before}, Kept.{is_second_map}}
 use Rattle.ppdb_run.proofs.compose.composed_bytes.Goals as goal
 
 pub returns-in-Err-read_map_file-clause-told : goal.returns-in-Err-read_map_file-clause-told

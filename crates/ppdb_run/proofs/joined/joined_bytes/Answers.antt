@@ -1,16 +1,11 @@
-use Rattle.std.proofs.Common.{ℕ, List, sym, ap, subst, ◌∙◌, arith}
-use Rattle.std.specs.Prelude.{Option, Ok, Err, IfSome}
+use Rattle.std.{proofs.Common.{ℕ, List, sym, ap, subst, ◌∙◌, arith}, specs.Prelude.{Option, Ok, Err, IfSome}}
 use Rattle.ppdb_values_sound_laws.specs.Sound.{IsSound}
 use Rattle.ppdb_merge_meaning_laws.specs.Kept.{InputsFit, MovedBy, joined_inputs}
 use Rattle.ppdb_build.specs.Joining.{moved_inputs}
-use Rattle.ppdb_run.specs.Ends.{RebuildsWhereKnown}
-use Rattle.ppdb_run.specs.Joined.{GivesIfSome}
-use Rattle.ppdb_run.specs.MeaningLaws.{SaysButForId}
-use Rattle.ppdb_run.specs.Outcome.{gives, in_limits, written}
+use Rattle.ppdb_run.specs.{Ends.{RebuildsWhereKnown}, Joined.{GivesIfSome}, MeaningLaws.{SaysButForId}, Outcome.{gives, in_limits, written}}
+use Rattle.ppdb_run.proofs.{Merges.{comes_unfit, tells_unfit}, Merging.{together_told, value_written}}
 use Rattle.ppdb_run_stops.specs.declared.stop.Stop.TheVariants.{Unfit}
 use Rattle.ppdb_run_words.specs.Task.{file_of, inputs_of}
-use Rattle.ppdb_run.proofs.Merges.{comes_unfit, tells_unfit}
-use Rattle.ppdb_run.proofs.Merging.{together_told, value_written}
 use Rattle.ppdb_run.proofs.joined.joined_bytes.Goals as goal
 
 pub returns-in-Some-clause-told : goal.returns-in-Some-clause-told

@@ -1,8 +1,7 @@
 use Rattle.std.proofs.Common.{refl}
 use Rattle.ppdb_verify.specs.Views.{raw_file}
 use Rattle.ppdb_run_stops.specs.declared.stop.Stop.TheVariants as stops
-use Rattle.ppdb_run.specs.Outcome.{form_of}
-use Rattle.ppdb_run.proofs.Lookups.{not_listed, put_all, put_cut}
+use Rattle.ppdb_run.{specs.Outcome.{form_of}, proofs.Lookups.{not_listed, put_all, put_cut}}
 use Rattle.ppdb_run.proofs.lookup.answer_list.Goals as goal
 
 pub returns-in-Err-clause-answered : goal.returns-in-Err-clause-answered

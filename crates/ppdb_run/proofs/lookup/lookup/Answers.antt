@@ -1,18 +1,10 @@
-use Rattle.std.proofs.Common.{◌≡◌, ◌∙◌, refl}
-use Rattle.std.specs.Prelude.{IfErr, OnOk}
-use Rattle.ppdb_base.specs.First.{IsAccepted}
-use Rattle.ppdb_base.specs.Written.{appended, AppendsPrefix}
-use Rattle.ppdb_verify.specs.Files.{FileFaults, IsRawOf}
-use Rattle.ppdb_verify.specs.Views.{raw_file}
-use Rattle.ppdb_run_stops.specs.Refusals.{Outcome}
-use Rattle.ppdb_run_stops.specs.Causes.{cause_of, OnCut}
-use Rattle.ppdb_run.specs.Stops.{Settles}
+use Rattle.std.{proofs.Common.{◌≡◌, ◌∙◌, refl}, specs.Prelude.{IfErr, OnOk}}
+use Rattle.ppdb_base.specs.{First.{IsAccepted}, Written.{appended, AppendsPrefix}}
+use Rattle.ppdb_verify.specs.{Files.{FileFaults, IsRawOf}, Views.{raw_file}}
+use Rattle.ppdb_run_stops.{specs.Refusals.{Outcome}, specs.Causes.{cause_of, OnCut}, proofs.Causes.{widened, widened_stop}}
+use Rattle.ppdb_run.{specs.Stops.{Settles}, proofs.Cuts.{cut_nothing}, proofs.Endings.{rose_before}, proofs.Lookups.{fault_stops, file_stops, found, is_file}}
+use Rattle.ppdb_run.proofs.{Lookups.{is_list, list_stops, nothing_looked_up, on_delivered, within_rows}, Outcomes.{stop_found, stop_settles}}
 use Rattle.ppdb_run_words.specs.Words.{Lookup}
-use Rattle.ppdb_run_stops.proofs.Causes.{widened, widened_stop}
-use Rattle.ppdb_run.proofs.Cuts.{cut_nothing}
-use Rattle.ppdb_run.proofs.Endings.{rose_before}
-use Rattle.ppdb_run.proofs.Lookups.{fault_stops, file_stops, found, is_file, is_list, list_stops, nothing_looked_up, on_delivered, within_rows}
-use Rattle.ppdb_run.proofs.Outcomes.{stop_found, stop_settles}
 use Rattle.ppdb_run.proofs.lookup.lookup.Goals as goal
 
 pub returns-in-Err-clause-found : goal.returns-in-Err-clause-found

@@ -1,11 +1,8 @@
 use Rattle.std.proofs.Common.{◌∙◌, subst}
 use Rattle.ppdb_base.specs.Causes.{Rose}
-use Rattle.ppdb_run_stops.specs.Causes.{cause_of}
-use Rattle.ppdb_run_words.specs.Task.{inputs_of, options_of}
-use Rattle.ppdb_run_words.specs.Words.{Merge, Task}
-use Rattle.ppdb_run_stops.proofs.Causes.{widened, widened_stop}
-use Rattle.ppdb_run.proofs.Means.{means_again, means_written}
-use Rattle.ppdb_run.proofs.Carried.{stopped, wrote}
+use Rattle.ppdb_run_stops.{specs.Causes.{cause_of}, proofs.Causes.{widened, widened_stop}}
+use Rattle.ppdb_run_words.specs.{Task.{inputs_of, options_of}, Words.{Merge, Task}}
+use Rattle.ppdb_run.proofs.{Means.{means_again, means_written}, Carried.{stopped, wrote}}
 use Rattle.ppdb_run.proofs.merge.merge.Goals as goal
 
 pub returns-in-Err-clause-comes : goal.returns-in-Err-clause-comes

@@ -1,8 +1,7 @@
 use Rattle.std.proofs.Common.{List}
 use Rattle.ppdb_merge.specs.declared.trace.Trace.{Trace}
 use Rattle.ppdb_run_words.specs.Task.{inputs_of, options_of}
-use Rattle.ppdb_run.proofs.Means.{joined_all}
-use Rattle.ppdb_run.proofs.Merging.{not_merged, joined_told}
+use Rattle.ppdb_run.proofs.{Means.{joined_all}, Merging.{not_merged, joined_told}}
 use Rattle.ppdb_run.proofs.merge.merged_bytes.Goals as goal
 
 pub returns-in-Err-clause-told : goal.returns-in-Err-clause-told

@@ -1,8 +1,7 @@
 use Rattle.std.proofs.Common.{◌≡◌, List, ◌∷◌, [], length, refl, ap, arith}
 use Rattle.ppdb_merge.specs.declared.trace.Trace.{Trace}
-use Rattle.ppdb_run_stops.specs.Causes.{cause_of}
+use Rattle.ppdb_run_stops.{specs.Causes.{cause_of}, proofs.Causes.{widened}}
 use Rattle.ppdb_run_words.specs.Task.{input_of}
-use Rattle.ppdb_run_stops.proofs.Causes.{widened}
 use Rattle.ppdb_run.proofs.Merges.{goes_from, goes_end, goes_on, goes_stop, next_unread}
 use Rattle.ppdb_run.proofs.merged.add_one.Goals as goal
 

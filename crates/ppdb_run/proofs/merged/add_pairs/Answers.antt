@@ -1,12 +1,9 @@
 use Rattle.std.proofs.Common.{◌∙◌, List, drop, length, refl, subst, arith}
 use Rattle.ppdb_merge.specs.declared.trace.Trace.{Trace}
-use Rattle.ppdb_run.specs.Ends.{IsInputUnread}
-use Rattle.ppdb_run_stops.specs.Causes.{cause_of}
-use Rattle.ppdb_run_words.specs.Task.{pairs_of}
-use Rattle.ppdb_run_words.specs.Words.{texts}
-use Rattle.ppdb_run_stops.proofs.Causes.{widened}
-use Rattle.ppdb_run.proofs.Endings.{rose_before}
-use Rattle.ppdb_run.proofs.Merges.{cell_left, goes_count, goes_end, goes_on, goes_pair, goes_stop, next_unread, no_pair, two_more}
+use Rattle.ppdb_run.{specs.Ends.{IsInputUnread}, proofs.Endings.{rose_before}, proofs.Merges.{cell_left, goes_count, goes_end, goes_on, goes_pair, goes_stop}}
+use Rattle.ppdb_run.proofs.Merges.{next_unread, no_pair, two_more}
+use Rattle.ppdb_run_stops.{specs.Causes.{cause_of}, proofs.Causes.{widened}}
+use Rattle.ppdb_run_words.specs.{Task.{pairs_of}, Words.{texts}}
 use Rattle.ppdb_run.proofs.merged.add_pairs.Goals as goal
 
 pub unreachable-requires : goal.unreachable-requires

@@ -1,6 +1,5 @@
 use Rattle.std.proofs.Common.{◌≡◌, ◌≤◌, ◌<◌, ◌+◌, length}
-use Rattle.ppdb_run_words.specs.Task.{pairs_of}
-use Rattle.ppdb_run_words.specs.Words.{texts}
+use Rattle.ppdb_run_words.specs.{Task.{pairs_of}, Words.{texts}}
 use Rattle.ppdb_run.proofs.Merges.{Goes, reads_of}
 use Rattle.ppdb_run.proofs.merged.add_pairs.Given as goal
 

@@ -1,13 +1,8 @@
-use Rattle.std.proofs.Common.{◌∙◌, subst}
+use Rattle.std.{proofs.Common.{◌∙◌, subst}, specs.Prelude.{Some}}
 use Rattle.ppdb_base.specs.Causes.{Rose}
-use Rattle.ppdb_run.specs.Ends.{WritesAgain}
-use Rattle.ppdb_run_words.specs.Task.{options_of}
-use Rattle.ppdb_run_words.specs.Words.{Rebuild, Task}
-use Rattle.std.specs.Prelude.{Some}
+use Rattle.ppdb_run.{specs.Ends.{WritesAgain}, proofs.Means.{means_written}, proofs.Writing.{on_written}, proofs.Carried.{stopped, wrote}}
+use Rattle.ppdb_run_words.specs.{Task.{options_of}, Words.{Rebuild, Task}}
 use Rattle.ppdb_run_stops.proofs.Causes.{widened_stop}
-use Rattle.ppdb_run.proofs.Means.{means_written}
-use Rattle.ppdb_run.proofs.Writing.{on_written}
-use Rattle.ppdb_run.proofs.Carried.{stopped, wrote}
 use Rattle.ppdb_run.proofs.rebuild.rebuild.Goals as goal
 
 pub returns-in-Err-clause-comes : goal.returns-in-Err-clause-comes

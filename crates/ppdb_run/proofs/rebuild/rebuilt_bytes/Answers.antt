@@ -1,12 +1,9 @@
 use Rattle.std.proofs.Common.{subst, IfOk}
 use Rattle.ppdb_values.specs.Value.{value_of}
 use Rattle.ppdb_verify.specs.Views.{raw_file}
-use Rattle.ppdb_run.specs.Outcome.{gives, rebuilt, written}
-use Rattle.ppdb_run.specs.Stops.{Gives}
-use Rattle.ppdb_run_words.specs.Task.{options_of}
-use Rattle.ppdb_run.proofs.Rebuilds.{not_read, is_rebuilt}
-use Rattle.ppdb_run.specs.Ends.{RebuildsToItself}
+use Rattle.ppdb_run.{specs.Outcome.{gives, rebuilt, written}, specs.Stops.{Gives}, proofs.Rebuilds.{not_read, is_rebuilt}, specs.Ends.{RebuildsToItself}}
 use Rattle.ppdb_run.proofs.Means.{rebuilt_all}
+use Rattle.ppdb_run_words.specs.Task.{options_of}
 use Rattle.ppdb_run.proofs.rebuild.rebuilt_bytes.Goals as goal
 
 pub returns-in-Err-clause-told : goal.returns-in-Err-clause-told

@@ -1,5 +1,4 @@
-use Rattle.std.proofs.Common.{◌≡◌, sym, ap, true, false, arith}
-use Rattle.std.specs.Prelude.{option_map}
+use Rattle.std.{proofs.Common.{◌≡◌, sym, ap, true, false, arith}, specs.Prelude.{option_map}}
 use Rattle.ppdb_base.specs.declared.merge_error.MergeError.TheVariants.{KindUnknown}
 use Rattle.custom_info.specs.Kinds.{kind_of}
 use Rattle.ppdb_tables.specs.RawOf.{raw_of}

@@ -1,7 +1,6 @@
 use Rattle.std.proofs.Common.{sym, subst}
 use Rattle.ppdb_base.specs.First.{IsAccepted}
-use Rattle.ppdb_verify.specs.Files.{FileFaults}
-use Rattle.ppdb_verify.specs.Views.{raw_file}
+use Rattle.ppdb_verify.specs.{Files.{FileFaults}, Views.{raw_file}}
 use Rattle.ppdb_run.proofs.remapped.merged.Goals as goal
 
 pub accepted-requires-clause-accepted : goal.accepted-requires-clause-accepted

@@ -1,8 +1,6 @@
 use Rattle.std.proofs.Common.{◌≡◌, None, sym, ◌∙◌, ap, subst, arith, ◌≤◌, length}
 use Rattle.ppdb_build.specs.Building.{IsLimit}
-use Rattle.ppdb_build_canon.specs.Canon.{canon, chosen_id}
-use Rattle.ppdb_build_canon.specs.Limits.{first_limit}
-use Rattle.ppdb_build_canon.specs.declared.choice.IdChoice.TheVariants.{Hash}
+use Rattle.ppdb_build_canon.specs.{Canon.{canon, chosen_id}, Limits.{first_limit}, declared.choice.IdChoice.TheVariants.{Hash}}
 use Rattle.ppdb_run.proofs.Reporting.{hashed_id, hashed_long, hashed_short, none_passed, report_is, second_passed}
 use Rattle.ppdb_run.proofs.report.report.Goals as goal
 

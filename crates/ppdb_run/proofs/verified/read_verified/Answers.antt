@@ -1,6 +1,5 @@
 use Rattle.ppdb_base.specs.First.{IsAccepted}
-use Rattle.ppdb_verify.specs.Files.{FileFaults, IsRawOf}
-use Rattle.ppdb_verify.specs.Views.{raw_file}
+use Rattle.ppdb_verify.specs.{Files.{FileFaults, IsRawOf}, Views.{raw_file}}
 use Rattle.ppdb_run.proofs.Outcomes.{read_accepted}
 use Rattle.ppdb_run.proofs.verified.read_verified.Goals as goal
 

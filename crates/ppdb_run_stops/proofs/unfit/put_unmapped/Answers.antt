@@ -1,5 +1,4 @@
-use Rattle.std.proofs.Common.{◌≡◌, ◌==◌, false, arith}
-use Rattle.std.proofs.lemmas.Bool.Decides.{nat_tests}
+use Rattle.std.proofs.{Common.{◌≡◌, ◌==◌, false, arith}, lemmas.Bool.Decides.{nat_tests}}
 use Rattle.ppdb_run_stops.proofs.unfit.put_unmapped.Goals as goal
 
 pub returns-then-place-eq-ROWS : goal.returns-then-place-eq-ROWS

@@ -1,9 +1,5 @@
-use Rattle.std.proofs.Common.{◌<◌, length, drop, string_bytes, ◌∙◌, ap, arith}
-use Rattle.std.proofs.lemmas.List.{length-map}
-use Rattle.ppdb_run_words.specs.Task.{file_of}
-use Rattle.ppdb_run_words.specs.Task.{pairs_of}
-use Rattle.ppdb_run_words.specs.Words.{texts}
-use Rattle.ppdb_run_words.proofs.PairWords.{file_here, file_next, file_none, first_two}
+use Rattle.std.proofs.{Common.{◌<◌, length, drop, string_bytes, ◌∙◌, ap, arith}, lemmas.List.{length-map}}
+use Rattle.ppdb_run_words.{specs.Task.{file_of, pairs_of}, specs.Words.{texts}, proofs.PairWords.{file_here, file_next, file_none, first_two}}
 use Rattle.ppdb_run_words.proofs.inputs.file_in.Goals as goal
 
 pub returns-then-left-eq1 : goal.returns-then-left-eq1

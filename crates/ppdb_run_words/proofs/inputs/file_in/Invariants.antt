@@ -1,7 +1,5 @@
 use Rattle.std.proofs.Common.{◌≡◌, length}
-use Rattle.ppdb_run_words.specs.Task.{file_of}
-use Rattle.ppdb_run_words.specs.Task.{pairs_of}
-use Rattle.ppdb_run_words.specs.Words.{texts}
+use Rattle.ppdb_run_words.specs.{Task.{file_of, pairs_of}, Words.{texts}}
 use Rattle.ppdb_run_words.proofs.inputs.file_in.Given as goal
 
 abbrev pub invariant-loop-rest : goal.invariant-loop-rest

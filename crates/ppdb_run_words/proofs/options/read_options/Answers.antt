@@ -1,6 +1,5 @@
 use Rattle.std.proofs.Common.{◌∷◌, ◌∙◌, ap}
-use Rattle.ppdb_run_words.specs.Words.{texts}
-use Rattle.ppdb_run_words.proofs.Choices.{reads_all, reads_keep, reads_free, ends, no_guid, no_word}
+use Rattle.ppdb_run_words.{specs.Words.{texts}, proofs.Choices.{reads_all, reads_keep, reads_free, ends, no_guid, no_word}}
 use Rattle.ppdb_run_words.proofs.options.read_options.Goals as goal
 
 pub loop-word-init : goal.loop-word-init

@@ -1,6 +1,5 @@
 use Rattle.std.proofs.Common.{length}
-use Rattle.ppdb_run_words.specs.Words.{texts}
-use Rattle.ppdb_run_words.proofs.Choices.{Reads}
+use Rattle.ppdb_run_words.{specs.Words.{texts}, proofs.Choices.{Reads}}
 use Rattle.ppdb_run_words.proofs.options.read_options.Given as goal
 
 abbrev pub invariant-loop-word : goal.invariant-loop-word

@@ -1,8 +1,5 @@
-use Rattle.std.proofs.Common.{◌≡◌, ◌-◌, ◌∷◌, length, string_bytes, sym, ◌∙◌, ap, subst, arith}
-use Rattle.std.specs.Prelude.{IsTrue}
-use Rattle.std.proofs.lemmas.List.{length-map}
-use Rattle.ppdb_run_words.specs.Words.{is_file_word, texts}
-use Rattle.ppdb_run_words.proofs.PairWords.{prefix_even, prefix_next, prefix_taken, two_of}
+use Rattle.std.{proofs.Common.{◌≡◌, ◌-◌, ◌∷◌, length, string_bytes, sym, ◌∙◌, ap, subst, arith}, specs.Prelude.{IsTrue}, proofs.lemmas.List.{length-map}}
+use Rattle.ppdb_run_words.{specs.Words.{is_file_word, texts}, proofs.PairWords.{prefix_even, prefix_next, prefix_taken, two_of}}
 use Rattle.ppdb_run_words.proofs.pairs.pairs_in_prefix.Goals as goal
 
 pub loop-rest-preserved : goal.loop-rest-preserved

@@ -1,6 +1,5 @@
 use Rattle.std.proofs.Common.{◌≤◌, length}
-use Rattle.ppdb_run_words.specs.Words.{texts}
-use Rattle.ppdb_run_words.proofs.PairWords.{Prefix}
+use Rattle.ppdb_run_words.{specs.Words.{texts}, proofs.PairWords.{Prefix}}
 use Rattle.ppdb_run_words.proofs.pairs.pairs_in_prefix.Given as goal
 
 abbrev pub invariant-loop-rest : goal.invariant-loop-rest

@@ -1,6 +1,4 @@
-use Rattle.std.proofs.Common.{◌≡◌, ℕ, List, [], ◌∷◌, sym, ap, ◌∙◌}
-use Rattle.std.specs.Prelude.{codes}
-use Rattle.std.proofs.lemmas.Slice.Eq.{bytes_eq-Decides}
+use Rattle.std.{proofs.Common.{◌≡◌, ℕ, List, [], ◌∷◌, sym, ap, ◌∙◌}, specs.Prelude.{codes}, proofs.lemmas.Slice.Eq.{bytes_eq-Decides}}
 use Rattle.ppdb_run_words.proofs.WordList.{one_word}
 use Rattle.ppdb_run_words.proofs.words.asks_json.Goals as goal
 

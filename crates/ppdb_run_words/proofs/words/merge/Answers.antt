@@ -1,9 +1,7 @@
-use Rattle.std.proofs.Common.{string_bytes, inl, inr, sym, ◌∙◌, subst, arith}
-use Rattle.std.specs.Prelude.{IsTrue}
-use Rattle.std.proofs.lemmas.List.{length-map}
-use Rattle.ppdb_run_words.specs.Words.{is_file_word}
+use Rattle.std.{proofs.Common.{string_bytes, inl, inr, sym, ◌∙◌, subst, arith}, specs.Prelude.{IsTrue}, proofs.lemmas.List.{length-map}}
+use Rattle.ppdb_run_words.{specs.Words.{is_file_word}, proofs.PairWords.{is_empty, merge_spelled, merge_words, no_merge_count, no_merge_options, not_empty, one_of}}
+use Rattle.ppdb_run_words.proofs.PairWords.{options_pairs}
 use Rattle.ppdb_base.proofs.Written.{on_err}
-use Rattle.ppdb_run_words.proofs.PairWords.{is_empty, merge_spelled, merge_words, no_merge_count, no_merge_options, not_empty, one_of, options_pairs}
 use Rattle.ppdb_run_words.proofs.words.merge.Goals as goal
 use Rattle.ppdb_run_words.proofs.words.merge.Goals.{then-is_empty-via-then-is_empty, then-is_empty-via-else-is_empty+then-pairs}
 

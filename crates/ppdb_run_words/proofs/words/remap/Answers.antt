@@ -1,8 +1,6 @@
-use Rattle.std.proofs.Common.{rules, ◌≡◌, ◌<◌, length, false, string_bytes, sym, ◌∙◌, subst, arith}
-use Rattle.std.proofs.lemmas.List.{length-map}
-use Rattle.ppdb_run_words.specs.Words.{is_file_word}
+use Rattle.std.proofs.{Common.{rules, ◌≡◌, ◌<◌, length, false, string_bytes, sym, ◌∙◌, subst, arith}, lemmas.List.{length-map}}
+use Rattle.ppdb_run_words.{specs.Words.{is_file_word}, proofs.PairWords.{first_not, no_remap_few, no_remap_names, no_remap_options, second_not, third_not, three_of}}
 use Rattle.ppdb_base.proofs.Written.{on_err}
-use Rattle.ppdb_run_words.proofs.PairWords.{first_not, no_remap_few, no_remap_names, no_remap_options, second_not, third_not, three_of}
 use Rattle.ppdb_run_words.proofs.words.remap.Goals as goal
 use Rattle.ppdb_run_words.proofs.words.remap.Goals.{in_default-via-then-args-lt3, in_default-via-in-len3-up+then-names_file+then-names_file-2+else-names_file-3}
 use Rattle.ppdb_run_words.proofs.words.remap.Goals.{in_default-via-in-len3-up+then-names_file+else-names_file-2, in_default-via-in-len3-up+else-names_file}

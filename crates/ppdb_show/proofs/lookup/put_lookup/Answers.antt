@@ -1,10 +1,8 @@
-use Rattle.std.proofs.Common.{◌<◌, length, arith, sym, ◌∙◌}
-use Rattle.std.specs.Str.Lines.{lines}
-use Rattle.std.proofs.lemmas.Grind.{common_steps}
+use Rattle.std.{proofs.Common.{◌<◌, length, arith, sym, ◌∙◌}, specs.Str.Lines.{lines}, proofs.lemmas.Grind.{common_steps}}
 use Rattle.ppdb_queries_list.proofs.Checking.{first_of, nothing_left}
 use Rattle.ppdb_verify.specs.Views.{raw_file}
-use Rattle.ppdb_show.proofs.Notes.{new_notes}
-use Rattle.ppdb_show.proofs.Looked.{left_all, left_cost, left_cut, left_listed, left_next, left_none, left_read, left_silent, said_asks, said_nothing}
+use Rattle.ppdb_show.proofs.{Notes.{new_notes}, Looked.{left_all, left_cost, left_cut, left_listed, left_next, left_none, left_read, left_silent, said_asks}}
+use Rattle.ppdb_show.proofs.Looked.{said_nothing}
 use Rattle.ppdb_show.proofs.lookup.put_lookup.Goals as goal
 
 pub lines-init : goal.lines-init

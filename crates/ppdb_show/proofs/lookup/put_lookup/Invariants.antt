@@ -1,11 +1,8 @@
 -- So many lines were answered.
-use Rattle.std.proofs.Common.{List, length}
-use Rattle.std.specs.Str.Lines.{lines}
-use Rattle.ppdb_queries_list.specs.Lists.{Lists}
-use Rattle.ppdb_queries_list.specs.declared.line.MethodOffset.{MethodOffset}
+use Rattle.std.{proofs.Common.{List, length}, specs.Str.Lines.{lines}}
+use Rattle.ppdb_queries_list.specs.{Lists.{Lists}, declared.line.MethodOffset.{MethodOffset}}
 use Rattle.ppdb_verify.specs.Views.{raw_file}
-use Rattle.ppdb_show.specs.Noted.{AreNotes}
-use Rattle.ppdb_show.proofs.Looked.{Left}
+use Rattle.ppdb_show.{specs.Noted.{AreNotes}, proofs.Looked.{Left}}
 use Rattle.ppdb_show.proofs.lookup.put_lookup.Given as goal
 
 abbrev pub invariant-lines : goal.invariant-lines

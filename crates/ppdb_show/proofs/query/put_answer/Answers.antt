@@ -2,9 +2,7 @@ use Rattle.std.proofs.Common.{arith, ap, [], ◌∷◌}
 use Rattle.ppdb_tables.specs.RawOf.{raw_of}
 use Rattle.ppdb_verify.specs.Views.{tables_of, raw_file}
 use Rattle.ppdb_show_lines.specs.Lines.{Line}
-use Rattle.ppdb_show.proofs.Added.{then_ok, adds_same}
-use Rattle.ppdb_show.proofs.Names.{found_is, found_whole}
-use Rattle.ppdb_show.proofs.Bounded.{reads_bounded}
+use Rattle.ppdb_show.proofs.{Added.{then_ok, adds_same}, Names.{found_is, found_whole}, Bounded.{reads_bounded}}
 use Rattle.ppdb_show.proofs.query.put_answer.Goals as goal
 
 pub put_point-requires : goal.put_point-requires

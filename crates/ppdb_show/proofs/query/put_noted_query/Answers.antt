@@ -2,9 +2,7 @@ use Rattle.std.proofs.Common.{arith, sym, ◌∙◌}
 use Rattle.ppdb_base.proofs.Written.{prefix_nothing}
 use Rattle.ppdb_tables.specs.RawOf.{raw_of}
 use Rattle.ppdb_verify.specs.Views.{tables_of, raw_file}
-use Rattle.ppdb_show.specs.Query.{query_lines, query_text_of}
-use Rattle.ppdb_show.proofs.Added.{whole_text}
-use Rattle.ppdb_show.proofs.Bounded.{at_least}
+use Rattle.ppdb_show.{specs.Query.{query_lines, query_text_of}, proofs.Added.{whole_text}, proofs.Bounded.{at_least}}
 use Rattle.ppdb_show.proofs.query.put_noted_query.Goals as goal
 
 pub returns-in_default-clause-err : goal.returns-in_default-clause-err

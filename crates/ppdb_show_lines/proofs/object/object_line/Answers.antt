@@ -1,13 +1,7 @@
-use Rattle.std.proofs.Common.{◌≡◌, ℕ, List, [], ◌∷◌, ◌++◌, ◌∙◌, ap, arith}
-use Rattle.std.specs.List.{flat_map}
-use Rattle.std.proofs.lemmas.List.{take_all}
+use Rattle.std.{proofs.Common.{◌≡◌, ℕ, List, [], ◌∷◌, ◌++◌, ◌∙◌, ap, arith}, specs.List.{flat_map}, proofs.lemmas.List.{take_all}}
 use Rattle.json.specs.Token.{Token, begin_object, end_object}
-use Rattle.serde_json.specs.Data.{object}
-use Rattle.serde_json.specs.Written.{compact_text}
-use Rattle.ppdb_show_lines.specs.Lines.{json_of, members_of}
-use Rattle.ppdb_show_lines.specs.Tokens.{member_tokens, object_tokens}
-use Rattle.ppdb_show_lines.specs.Views.{line_of}
-use Rattle.ppdb_show_lines.proofs.Printed.{object_printed}
+use Rattle.serde_json.specs.{Data.{object}, Written.{compact_text}}
+use Rattle.ppdb_show_lines.{specs.Lines.{json_of, members_of}, specs.Tokens.{member_tokens, object_tokens}, specs.Views.{line_of}, proofs.Printed.{object_printed}}
 use Rattle.ppdb_show_lines.proofs.object.object_line.Goals as goal
 
 pub returns : goal.returns

@@ -1,8 +1,6 @@
-use Rattle.std.proofs.Common.{◌≡◌, [], ◌∷◌, take}
-use Rattle.std.specs.List.{flat_map}
+use Rattle.std.{proofs.Common.{◌≡◌, [], ◌∷◌, take}, specs.List.{flat_map}}
 use Rattle.json.specs.Token.{begin_object}
-use Rattle.ppdb_show_lines.specs.Tokens.{member_tokens}
-use Rattle.ppdb_show_lines.specs.Views.{line_of}
+use Rattle.ppdb_show_lines.specs.{Tokens.{member_tokens}, Views.{line_of}}
 use Rattle.ppdb_show_lines.proofs.object.object_line.Given as goal
 
 abbrev pub invariant-loop-place : goal.invariant-loop-place

@@ -1,10 +1,6 @@
-use Rattle.std.proofs.Common.{sym, ◌∙◌, ap}
-use Rattle.std.specs.Prelude.{Some}
-use Rattle.std.proofs.lemmas.Bool.{ltb-true, ltb-false}
-use Rattle.ppdb_show_lines.specs.declared.line.Part.{Part}
-use Rattle.ppdb_show_lines.specs.Tokens.{field_tokens}
-use Rattle.ppdb_show_lines.specs.Views.{field_of}
-use Rattle.ppdb_show_lines.proofs.Places.{part_there, part_past, two_tokens, no_tokens}
+use Rattle.std.{proofs.Common.{sym, ◌∙◌, ap}, specs.Prelude.{Some}, proofs.lemmas.Bool.{ltb-true, ltb-false}}
+use Rattle.ppdb_show_lines.{specs.declared.line.Part.{Part}, specs.Tokens.{field_tokens}, specs.Views.{field_of}, proofs.Places.{part_there, part_past, two_tokens}}
+use Rattle.ppdb_show_lines.proofs.Places.{no_tokens}
 use Rattle.ppdb_show_lines.proofs.object.put_member.Goals as goal
 
 pub returns-in_ok-put_key-in-Some-Field-clause-ok : goal.returns-in_ok-put_key-in-Some-Field-clause-ok

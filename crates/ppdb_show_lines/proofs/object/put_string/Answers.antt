@@ -1,8 +1,5 @@
-use Rattle.std.proofs.Common.{sym, ◌∙◌}
-use Rattle.std.proofs.lemmas.Str.{IsUtf8-from_ascii}
-use Rattle.ppdb_show_lines.specs.Lines.{content_text}
-use Rattle.ppdb_show_lines.specs.Views.{content_of}
-use Rattle.ppdb_show_lines.proofs.Ascii.{content_ascii, given}
+use Rattle.std.proofs.{Common.{sym, ◌∙◌}, lemmas.Str.{IsUtf8-from_ascii}}
+use Rattle.ppdb_show_lines.{specs.Lines.{content_text}, specs.Views.{content_of}, proofs.Ascii.{content_ascii, given}}
 use Rattle.ppdb_show_lines.proofs.object.put_string.Goals as goal
 
 pub unreachable-requires : goal.unreachable-requires

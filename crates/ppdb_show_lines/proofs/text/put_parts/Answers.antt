@@ -1,7 +1,5 @@
-use Rattle.std.proofs.Common.{arith, sym}
-use Rattle.std.proofs.lemmas.List.{append-nil}
-use Rattle.ppdb_show_lines.proofs.Keeping.{keeps_text}
-use Rattle.ppdb_show_lines.proofs.Parts.{parts_then, parts_cut, parts_all}
+use Rattle.std.proofs.{Common.{arith, sym}, lemmas.List.{append-nil}}
+use Rattle.ppdb_show_lines.proofs.{Keeping.{keeps_text}, Parts.{parts_then, parts_cut, parts_all}}
 use Rattle.ppdb_show_lines.proofs.text.put_parts.Goals as goal
 
 pub loop-part-init : goal.loop-part-init

@@ -1,7 +1,5 @@
-use Rattle.std.proofs.Common.{take}
-use Rattle.std.specs.Prelude.{Ok}
-use Rattle.ppdb_show_lines.specs.Keeping.{Keeps}
-use Rattle.ppdb_show_lines.specs.Views.{fields_text}
+use Rattle.std.{proofs.Common.{take}, specs.Prelude.{Ok}}
+use Rattle.ppdb_show_lines.specs.{Keeping.{Keeps}, Views.{fields_text}}
 use Rattle.ppdb_show_lines.proofs.text.put_parts.Given as goal
 
 abbrev pub invariant-loop-part : goal.invariant-loop-part

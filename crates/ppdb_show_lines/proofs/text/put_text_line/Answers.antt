@@ -1,6 +1,5 @@
 use Rattle.std.proofs.Common.{[]}
-use Rattle.ppdb_show_lines.specs.Lines.{text_of}
-use Rattle.ppdb_show_lines.proofs.Keeping.{keeps_cut, keeps_then, puts_kept}
+use Rattle.ppdb_show_lines.{specs.Lines.{text_of}, proofs.Keeping.{keeps_cut, keeps_then, puts_kept}}
 use Rattle.ppdb_show_lines.proofs.text.put_text_line.Goals as goal
 
 pub returns-in_err-put : goal.returns-in_err-put

@@ -1,6 +1,5 @@
 use Rattle.std.proofs.Common.{◌∙◌, sym}
-use Rattle.ppdb_show_lines.proofs.Hexed.{hex_some, hex_none, digits_nil, digits_parts}
-use Rattle.ppdb_show_lines.proofs.Putting.{put_none, put_piece, put_prefix, put_whole}
+use Rattle.ppdb_show_lines.proofs.{Hexed.{hex_some, hex_none, digits_nil, digits_parts}, Putting.{put_none, put_piece, put_prefix, put_whole}}
 use Rattle.ppdb_show_lines.proofs.values.put_hex.Goals as goal
 
 pub returns-then-is_empty : goal.returns-then-is_empty

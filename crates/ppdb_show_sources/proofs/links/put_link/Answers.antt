@@ -1,13 +1,10 @@
 use Rattle.std.proofs.Common.{◌≡◌, ◌∙◌, List, [], ◌∷◌, ℕ, Option, Some, ap, sym, true, false, Ok}
-use Rattle.ppdb_show_lines.proofs.Putting.{puts_memory}
-use Rattle.ppdb_show_lines.specs.Forms.{lines_as}
-use Rattle.ppdb_tables.proofs.NumberedRows.{same_row}
-use Rattle.ppdb_tables.specs.declared.rows.DocumentRow.{DocumentRow}
+use Rattle.ppdb_show_lines.{proofs.Putting.{puts_memory}, specs.Forms.{lines_as}}
+use Rattle.ppdb_tables.{proofs.NumberedRows.{same_row}, specs.declared.rows.DocumentRow.{DocumentRow}}
 use Rattle.ppdb_values.specs.Documents.{document_of}
 use Rattle.ppdb_verify.specs.Views.{raw_file}
 use Rattle.source_link.specs.Address.{address_of}
-use Rattle.ppdb_show_sources.specs.Links.{link_line}
-use Rattle.ppdb_show_sources.proofs.Told.{puts_as, told, untold}
+use Rattle.ppdb_show_sources.{specs.Links.{link_line}, proofs.Told.{puts_as, told, untold}}
 use Rattle.ppdb_show_sources.proofs.links.put_link.Goals as goal
 
 pub returns-in_err-name-clause-puts : goal.returns-in_err-name-clause-puts

@@ -2,8 +2,7 @@ use Rattle.std.proofs.Common.{◌-◌, arith}
 use Rattle.ppdb_show_lines.proofs.Putting.{put_none, put_piece, put_prefix, put_whole}
 use Rattle.ppdb_tables.proofs.NumberedRows.{row_there}
 use Rattle.ppdb_verify.specs.Views.{raw_file}
-use Rattle.ppdb_show_sources.proofs.Documents.{all_lines, next_row, no_lines}
-use Rattle.ppdb_show_sources.proofs.Told.{rest_is}
+use Rattle.ppdb_show_sources.proofs.{Documents.{all_lines, next_row, no_lines}, Told.{rest_is}}
 use Rattle.ppdb_show_sources.proofs.links.put_links.Goals as goal
 
 pub rows-init : goal.rows-init

@@ -2,8 +2,7 @@ use Rattle.std.proofs.Common.{◌+◌, ◌-◌, ◌≤◌}
 use Rattle.ppdb_show_lines.proofs.Putting.{Putting}
 use Rattle.ppdb_values.specs.Value.{value_of}
 use Rattle.ppdb_verify.specs.Views.{raw_file}
-use Rattle.ppdb_show_sources.specs.Links.{link_text}
-use Rattle.ppdb_show_sources.proofs.Documents.{lines_after}
+use Rattle.ppdb_show_sources.{specs.Links.{link_text}, proofs.Documents.{lines_after}}
 use Rattle.ppdb_show_sources.proofs.links.put_links.Given as goal
 
 abbrev pub invariant-rows : goal.invariant-rows

@@ -1,9 +1,6 @@
-use Rattle.std.proofs.Common.{◌≡◌, ℕ, ◌+◌, ◌*◌, take, sum, get_or, subst, sym, ap, ◌∙◌, arith, below_more, slice_index, set}
-use Rattle.std.proofs.lemmas.List.{length-replicate, length-set, get_or-set_same, get_or-set_other}
-use Rattle.std.proofs.lemmas.Result.{err_from_is_err_and}
-use Rattle.ppdb_tables.specs.Layouts.{debug_tables, row_fields, row_len}
-use Rattle.ppdb_tables.specs.Tables.{rows_start}
-use Rattle.ppdb_tables.specs.Bounds.{StandsAt, IsRowFault}
+use Rattle.std.proofs.{Common.{◌≡◌, ℕ, ◌+◌, ◌*◌, take, sum, get_or, subst, sym, ap, ◌∙◌, arith, below_more, slice_index, set}, lemmas.List.{length-replicate}}
+use Rattle.std.proofs.lemmas.{List.{length-set, get_or-set_same, get_or-set_other}, Result.{err_from_is_err_and}}
+use Rattle.ppdb_tables.specs.{Layouts.{debug_tables, row_fields, row_len}, Tables.{rows_start}, Bounds.{StandsAt, IsRowFault}}
 use Rattle.ppdb_tables.proofs.FirstOfRows.{table, len_is, row_some, next_table, row_is_first, rows_accepted}
 use Rattle.ppdb_tables.proofs.bounds.place_tables.Goals as goal
 

@@ -1,7 +1,5 @@
 use Rattle.std.proofs.Common.{◌≡◌, ℕ, ◌+◌, ◌<◌, ◌≤◌, length, take, sum, slice_index}
-use Rattle.ppdb_tables.specs.Layouts.{debug_tables, row_fields}
-use Rattle.ppdb_tables.specs.Tables.{rows_start}
-use Rattle.ppdb_tables.specs.Bounds.{StandsAt}
+use Rattle.ppdb_tables.specs.{Layouts.{debug_tables, row_fields}, Tables.{rows_start}, Bounds.{StandsAt}}
 use Rattle.ppdb_tables.proofs.bounds.place_tables.Given as goal
 
 abbrev pub invariant-loop-index : goal.invariant-loop-index

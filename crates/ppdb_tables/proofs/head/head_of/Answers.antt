@@ -1,7 +1,6 @@
 use Rattle.std.proofs.Common.{lit<, slice_index, sym, subst, ◌∙◌}
 use Rattle.ppdb_base.proofs.Judging.{first_of_after}
-use Rattle.ppdb_tables.specs.Head.{PdbFieldFaults, EntryFaults, NamesMethod, entry_in}
-use Rattle.ppdb_tables.proofs.FirstOfHead.{entry_is_first}
+use Rattle.ppdb_tables.{specs.Head.{PdbFieldFaults, EntryFaults, NamesMethod, entry_in}, proofs.FirstOfHead.{entry_is_first}}
 use Rattle.ppdb_tables.proofs.head.head_of.Goals as goal
 
 pub returns-in_default-clause-first : goal.returns-in_default-clause-first

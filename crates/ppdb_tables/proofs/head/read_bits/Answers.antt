@@ -1,5 +1,4 @@
-use Rattle.std.proofs.Common.{arith}
-use Rattle.std.proofs.lemmas.Result.{err_from_is_err_and}
+use Rattle.std.proofs.{Common.{arith}, lemmas.Result.{err_from_is_err_and}}
 use Rattle.ppdb_tables.proofs.FirstOfHead.{prefix_is_first, foreign_is_first}
 use Rattle.ppdb_tables.proofs.head.read_bits.Goals as goal
 

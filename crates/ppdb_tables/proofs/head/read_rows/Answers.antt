@@ -1,9 +1,6 @@
-use Rattle.std.proofs.Common.{◌≡◌, ℕ, ◌≤◌, subst, ap, ◌∙◌, arith, below_more, slice_index, set}
-use Rattle.std.proofs.lemmas.List.{length-replicate, length-set, get_or-set_same, get_or-set_other}
-use Rattle.std.proofs.lemmas.Result.{err_from_is_err_and}
-use Rattle.ppdb_tables.specs.Counts.{IsCountFault, count_place}
-use Rattle.ppdb_tables.specs.Head.{referenced, pdb_rows}
-use Rattle.ppdb_tables.proofs.RowCounts.{counts-zero, count_is, place_is}
+use Rattle.std.proofs.{Common.{◌≡◌, ℕ, ◌≤◌, subst, ap, ◌∙◌, arith, below_more, slice_index, set}, lemmas.List.{length-replicate, length-set, get_or-set_same}}
+use Rattle.std.proofs.lemmas.{List.{get_or-set_other}, Result.{err_from_is_err_and}}
+use Rattle.ppdb_tables.{specs.Counts.{IsCountFault, count_place}, specs.Head.{referenced, pdb_rows}, proofs.RowCounts.{counts-zero, count_is, place_is}}
 use Rattle.ppdb_tables.proofs.FirstOfHead.{pdb_part, count_is_first, fields_accepted}
 use Rattle.ppdb_tables.proofs.head.read_rows.Goals as goal
 

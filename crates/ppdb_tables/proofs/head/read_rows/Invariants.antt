@@ -1,6 +1,5 @@
 use Rattle.std.proofs.Common.{◌≡◌, ℕ, ◌+◌, ◌*◌, ◌<◌, ◌≤◌, length, slice_index}
-use Rattle.ppdb_tables.specs.Counts.{count_place}
-use Rattle.ppdb_tables.specs.Head.{pdb_rows, referenced}
+use Rattle.ppdb_tables.specs.{Counts.{count_place}, Head.{pdb_rows, referenced}}
 use Rattle.ppdb_tables.proofs.head.read_rows.Given as goal
 
 abbrev pub invariant-loop-table : goal.invariant-loop-table

@@ -1,15 +1,9 @@
-use Rattle.std.proofs.Common.{◌≡◌, ℕ, ◌+◌, ◌≤◌, length, subst, sym, ap, ◌∙◌, arith, below_more, slice_index, set}
-use Rattle.std.specs.Int.{bit_at}
-use Rattle.std.proofs.lemmas.Bool.{iff_false}
-use Rattle.std.proofs.lemmas.List.{length-replicate, length-set, get_or-set_same, get_or-set_other}
-use Rattle.std.proofs.lemmas.List.FromFn.{fill_by_all}
+use Rattle.std.{proofs.Common.{◌≡◌, ℕ, ◌+◌, ◌≤◌, length, subst, sym, ap, ◌∙◌, arith, below_more, slice_index, set}, specs.Int.{bit_at}}
+use Rattle.std.proofs.lemmas.{Bool.{iff_false}, List.{length-replicate, length-set, get_or-set_same, get_or-set_other}, List.FromFn.{fill_by_all}}
 use Rattle.std.proofs.lemmas.Result.{err_from_is_err_and}
-use Rattle.ppdb_base.specs.declared.code.Code.TheVariants.{MethodRows}
-use Rattle.ppdb_base.specs.Place.{at_byte}
-use Rattle.ppdb_tables.specs.Counts.{IsCountFault, count_place}
-use Rattle.ppdb_tables.specs.Tables.{valid, table_rows, count_in}
-use Rattle.ppdb_tables.proofs.RowCounts.{counts-zero, count_is, place_is, has_count}
-use Rattle.ppdb_tables.proofs.FirstOfTables.{table_part, count_is_first, methods_are_first, fields_accepted, start_is, kept_is, fit_step}
+use Rattle.ppdb_base.specs.{declared.code.Code.TheVariants.{MethodRows}, Place.{at_byte}}
+use Rattle.ppdb_tables.{specs.Counts.{IsCountFault, count_place}, specs.Tables.{valid, table_rows, count_in}, proofs.RowCounts.{counts-zero, count_is, place_is}}
+use Rattle.ppdb_tables.proofs.{RowCounts.{has_count}, FirstOfTables.{table_part, count_is_first, methods_are_first, fields_accepted, start_is, kept_is, fit_step}}
 use Rattle.ppdb_tables.proofs.header.read_counts.Goals as goal
 
 pub loop-table-init : goal.loop-table-init

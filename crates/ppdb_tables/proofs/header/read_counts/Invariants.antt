@@ -1,7 +1,5 @@
 use Rattle.std.proofs.Common.{◌≡◌, ℕ, ◌+◌, ◌*◌, ◌<◌, ◌≤◌, length, slice_index}
-use Rattle.ppdb_tables.specs.Counts.{count_place}
-use Rattle.ppdb_tables.specs.Tables.{table_rows, count_in, valid}
-use Rattle.ppdb_tables.proofs.FirstOfTables.{FitMethods}
+use Rattle.ppdb_tables.{specs.Counts.{count_place}, specs.Tables.{table_rows, count_in, valid}, proofs.FirstOfTables.{FitMethods}}
 use Rattle.ppdb_tables.proofs.header.read_counts.Given as goal
 
 abbrev pub invariant-loop-table : goal.invariant-loop-table

@@ -1,5 +1,4 @@
-use Rattle.std.proofs.Common.{arith}
-use Rattle.std.proofs.lemmas.Result.{err_from_is_err_and}
+use Rattle.std.proofs.{Common.{arith}, lemmas.Result.{err_from_is_err_and}}
 use Rattle.ppdb_tables.proofs.FirstOfTables.{heap_short, heap_is_first}
 use Rattle.ppdb_tables.proofs.header.read_heap_bits.Goals as goal
 

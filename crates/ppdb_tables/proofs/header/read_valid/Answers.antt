@@ -1,8 +1,5 @@
-use Rattle.std.proofs.Common.{sym, subst, arith}
-use Rattle.std.proofs.lemmas.Bool.{iff_false}
-use Rattle.std.proofs.lemmas.Result.{err_from_is_err_and}
-use Rattle.ppdb_tables.specs.Tables.{IsForeign}
-use Rattle.ppdb_tables.proofs.FirstOfTables.{valid_short, sorted_short, foreign_is_first}
+use Rattle.std.proofs.{Common.{sym, subst, arith}, lemmas.Bool.{iff_false}, lemmas.Result.{err_from_is_err_and}}
+use Rattle.ppdb_tables.{specs.Tables.{IsForeign}, proofs.FirstOfTables.{valid_short, sorted_short, foreign_is_first}}
 use Rattle.ppdb_tables.proofs.header.read_valid.Goals as goal
 
 pub returns-in_err-fields_end-clause-first : goal.returns-in_err-fields_end-clause-first

@@ -1,18 +1,11 @@
-use Rattle.std.proofs.Common.{◌≡◌, ℕ, ◌+◌, ◌*◌, ◌≤◌, List, length, sum, slice_index, refl, sym, ap, subst, ◌∙◌, arith, lit<}
-use Rattle.std.specs.Prelude.{Some, slice_get}
-use Rattle.std.proofs.lemmas.Result.{err_from_is_err_and}
-use Rattle.std.proofs.lemmas.List.FromFn.{length-map-range_with_len}
-use Rattle.ppdb_base.specs.First.{IsAccepted, IsFirst}
-use Rattle.ppdb_base.proofs.Judging.{first_of_after, accepted_then}
-use Rattle.metadata_root.specs.declared.kind.StreamKind.TheVariants.{Pdb, Tables}
-use Rattle.metadata_root.specs.Streams.{bytes_of}
-use Rattle.row_layout.specs.declared.column.Sizes.{Sizes}
-use Rattle.row_layout.specs.declared.column.Column.{Column}
-use Rattle.ppdb_tables.specs.Bounds.{StandsAt}
-use Rattle.ppdb_tables.specs.Layouts.{debug_tables, widths_of, document_columns, method_columns, scope_columns, variable_columns, constant_columns}
-use Rattle.ppdb_tables.specs.Layouts.{import_columns, machine_columns, custom_columns, document_row, method_row, scope_row, variable_row}
-use Rattle.ppdb_tables.specs.Layouts.{constant_row, import_row, machine_row, custom_row}
-use Rattle.ppdb_tables.specs.Tables.{TablesFaults, TableFieldFaults, BoundFaults, count_in, sizes_in}
+use Rattle.std.{proofs.Common.{◌≡◌, ℕ, ◌+◌, ◌*◌, ◌≤◌, List, length, sum, slice_index, refl, sym, ap, subst, ◌∙◌, arith, lit<}, specs.Prelude.{Some, slice_get}}
+use Rattle.std.proofs.lemmas.{Result.{err_from_is_err_and}, List.FromFn.{length-map-range_with_len}}
+use Rattle.ppdb_base.{specs.First.{IsAccepted, IsFirst}, proofs.Judging.{first_of_after, accepted_then}}
+use Rattle.metadata_root.specs.{declared.kind.StreamKind.TheVariants.{Pdb, Tables}, Streams.{bytes_of}}
+use Rattle.row_layout.specs.declared.column.{Sizes.{Sizes}, Column.{Column}}
+use Rattle.ppdb_tables.specs.{Bounds.{StandsAt}, Layouts.{debug_tables, widths_of, document_columns, method_columns, scope_columns, variable_columns}}
+use Rattle.ppdb_tables.specs.Layouts.{constant_columns, import_columns, machine_columns, custom_columns, document_row, method_row, scope_row, variable_row}
+use Rattle.ppdb_tables.specs.{Layouts.{constant_row, import_row, machine_row, custom_row}, Tables.{TablesFaults, TableFieldFaults, BoundFaults, count_in, sizes_in}}
 use Rattle.ppdb_tables.proofs.TablesRead.{table_fits, table_read, same_tables, small_counts}
 use Rattle.ppdb_tables.proofs.reading.read_tables.Goals as goal
 

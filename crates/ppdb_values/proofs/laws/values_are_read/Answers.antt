@@ -1,10 +1,8 @@
-use Rattle.custom_info.specs.HoistedScopes.{hoisted_scopes}
-use Rattle.custom_info.specs.TypeDocuments.{type_documents}
+use Rattle.custom_info.specs.{HoistedScopes.{hoisted_scopes}, TypeDocuments.{type_documents}}
 use Rattle.type_blobs.specs.Imports.{imports}
 use Rattle.ppdb_tables.specs.RawTables.{count}
 use Rattle.ppdb_heaps.specs.Heaps.{blob_at}
-use Rattle.ppdb_values.specs.RawFile.{type_limits}
-use Rattle.ppdb_values.proofs.Readings.{records_are, name_is, points_are, signature_is, stepping_is}
+use Rattle.ppdb_values.{specs.RawFile.{type_limits}, proofs.Readings.{records_are, name_is, points_are, signature_is, stepping_is}}
 use Rattle.ppdb_values.proofs.laws.values_are_read.Goals as goal
 
 pub returns : goal.returns

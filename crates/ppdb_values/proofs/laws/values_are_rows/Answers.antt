@@ -1,5 +1,4 @@
-use Rattle.ppdb_values.proofs.Mapped.{scopes_are_rows, chain_is_rows}
-use Rattle.ppdb_values.proofs.Rows.{method_is_row}
+use Rattle.ppdb_values.proofs.{Mapped.{scopes_are_rows, chain_is_rows}, Rows.{method_is_row}}
 use Rattle.ppdb_values.proofs.laws.values_are_rows.Goals as goal
 
 pub returns : goal.returns

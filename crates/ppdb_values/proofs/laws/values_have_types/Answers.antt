@@ -1,15 +1,8 @@
-use Rattle.std.proofs.Common.{◌∙◌, arith, refl}
-use Rattle.std.specs.Option.{option_map_or}
-use Rattle.std.specs.Prelude.{All, take, nat_eq, false}
-use Rattle.std.proofs.lemmas.List.{length-take-le, length-append}
-use Rattle.std.proofs.lemmas.List.Elements.{All-map, All-filter, All-weaker}
+use Rattle.std.{proofs.Common.{◌∙◌, arith, refl}, specs.Option.{option_map_or}, specs.Prelude.{All, take, nat_eq, false}, proofs.lemmas.List.{length-take-le}}
+use Rattle.std.proofs.lemmas.{List.{length-append}, List.Elements.{All-map, All-filter, All-weaker}}
 use Rattle.ppdb_tables.specs.RawTables.{numbered}
-use Rattle.ppdb_values.specs.Customs.{custom_of, kind_in}
-use Rattle.ppdb_values.specs.Documents.{document_of}
-use Rattle.ppdb_values.specs.Rules.{IsCustom}
-use Rattle.ppdb_values.specs.Types.{HasGuids, IsGuid, IsNarrow, IsNarrowRow}
-use Rattle.ppdb_values.specs.Value.{scope_of, variable_of, owner_of}
-use Rattle.ppdb_values.proofs.Typed.{each_all, numbered_all, any_all, guid_length, guid_or_none}
+use Rattle.ppdb_values.specs.{Customs.{custom_of, kind_in}, Documents.{document_of}, Rules.{IsCustom}, Types.{HasGuids, IsGuid, IsNarrow, IsNarrowRow}}
+use Rattle.ppdb_values.{specs.Value.{scope_of, variable_of, owner_of}, proofs.Typed.{each_all, numbered_all, any_all, guid_length, guid_or_none}}
 use Rattle.ppdb_values.proofs.laws.values_have_types.Goals as goal
 
 pub returns : goal.returns

@@ -1,6 +1,5 @@
 use Rattle.std.proofs.Common.{ℕ, ◌+◌, ◌<◌, length}
-use Rattle.ppdb_tables.specs.Chains.{NeverEnds}
-use Rattle.ppdb_tables.specs.Marks.{MarksEnd}
+use Rattle.ppdb_tables.specs.{Chains.{NeverEnds}, Marks.{MarksEnd}}
 use Rattle.ppdb_values_check.specs.Chains.{parent_of}
 use Rattle.ppdb_values_check.proofs.chains.chains_end.Given as goal
 

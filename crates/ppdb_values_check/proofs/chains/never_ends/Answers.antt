@@ -1,8 +1,7 @@
 use Rattle.std.proofs.Common.{◌<◌, ◌-◌, length, get_or, ap, ◌∙◌, arith, refl}
 use Rattle.ppdb_tables.proofs.Walks.{row_ends, marks_end, walk_cycles, joins_end, walk_on, ends_decides, past_end}
-use Rattle.ppdb_values_check.proofs.Parents.{parent_here}
+use Rattle.ppdb_values_check.{proofs.Parents.{parent_here}, specs.Chains.{parent_of}}
 use Rattle.ppdb_values.specs.declared.import.ImportScopeValue.{ImportScopeValue}
-use Rattle.ppdb_values_check.specs.Chains.{parent_of}
 use Rattle.ppdb_values_check.proofs.chains.never_ends.Goals as goal
 
 pub returns-then-mark-row-clause-value : goal.returns-then-mark-row-clause-value

@@ -1,5 +1,4 @@
-use Rattle.std.proofs.Common.{◌==◌, length}
-use Rattle.std.specs.List.{count_by}
+use Rattle.std.{proofs.Common.{◌==◌, length}, specs.List.{count_by}}
 use Rattle.ppdb_tables.specs.Marks.{WalksTo}
 use Rattle.ppdb_values_check.specs.Chains.{parent_of}
 use Rattle.ppdb_values_check.proofs.chains.never_ends.Given as goal

@@ -1,5 +1,4 @@
-use Rattle.std.proofs.Common.{take, length}
-use Rattle.std.specs.List.{sum_by}
+use Rattle.std.{proofs.Common.{take, length}, specs.List.{sum_by}}
 use Rattle.ppdb_values_check.specs.Counts.{IsCapped}
 use Rattle.ppdb_values_check.proofs.counts.constants_of.Given as goal
 

@@ -1,5 +1,4 @@
-use Rattle.std.proofs.Common.{take}
-use Rattle.std.specs.Prelude.{All}
+use Rattle.std.{proofs.Common.{take}, specs.Prelude.{All}}
 use Rattle.ppdb_values_sound_laws.specs.Named.{HasRow}
 use Rattle.ppdb_values_check.proofs.customs.are_documents.Given as goal
 

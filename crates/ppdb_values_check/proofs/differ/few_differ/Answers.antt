@@ -1,8 +1,5 @@
-use Rattle.std.proofs.Common.{◌≡◌, ◌∙◌, sym, ap, true}
-use Rattle.std.specs.Ordering.{is_eq}
-use Rattle.ppdb_values_check.proofs.Listed.{says_no}
-use Rattle.ppdb_values_check.proofs.Pairs.{not_pairs}
-use Rattle.ppdb_values_check.specs.Pairs.{AreApart}
+use Rattle.std.{proofs.Common.{◌≡◌, ◌∙◌, sym, ap, true}, specs.Ordering.{is_eq}}
+use Rattle.ppdb_values_check.{proofs.Listed.{says_no}, proofs.Pairs.{not_pairs}, specs.Pairs.{AreApart}}
 use Rattle.ppdb_values_check.proofs.differ.few_differ.Goals as goal
 
 pub returns-then-is_eq : goal.returns-then-is_eq

@@ -1,9 +1,5 @@
-use Rattle.std.proofs.Common.{◌≡◌, Bool, true, false, not, refl}
-use Rattle.std.specs.BTreeSet.{contains}
-use Rattle.ppdb_values_check.proofs.Keys.{repeated, differs, seen_next}
-use Rattle.ppdb_values_check.proofs.Listed.{says_no}
-use Rattle.ppdb_values_check.proofs.Pairs.{pairs_more}
-use Rattle.ppdb_values_check.specs.Pairs.{AreApart}
+use Rattle.std.{proofs.Common.{◌≡◌, Bool, true, false, not, refl}, specs.BTreeSet.{contains}}
+use Rattle.ppdb_values_check.{proofs.Keys.{repeated, differs, seen_next}, proofs.Listed.{says_no}, proofs.Pairs.{pairs_more}, specs.Pairs.{AreApart}}
 use Rattle.ppdb_values_check.proofs.differ.many_differ.Goals as goal
 
 old_key : (added has : Bool) → added ≡ not has → added ≡ false → has ≡ true

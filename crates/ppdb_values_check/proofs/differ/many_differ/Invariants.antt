@@ -1,7 +1,4 @@
-use Rattle.std.proofs.Common.{◌≡◌, take}
-use Rattle.std.specs.BTreeSet.{contains}
-use Rattle.std.specs.List.{list_any}
-use Rattle.std.specs.Ordering.{is_eq}
+use Rattle.std.{proofs.Common.{◌≡◌, take}, specs.BTreeSet.{contains}, specs.List.{list_any}, specs.Ordering.{is_eq}}
 use Rattle.ppdb_values_check.specs.Pairs.{AreApart, PairsBelow}
 use Rattle.ppdb_values_check.proofs.differ.many_differ.Given as goal
 

@@ -1,13 +1,6 @@
-use Rattle.std.proofs.Common.{ℕ, ◌↔◌, ◌≢◌, IsTrue, List, map, ap, ◌∙◌}
-use Rattle.std.specs.Prelude.{AllPairs}
-use Rattle.std.specs.Borrow.{Bor}
-use Rattle.std.specs.Cmp.Lexicographic.{slice_cmp}
-use Rattle.std.specs.Ordering.{nat_cmp}
-use Rattle.std.proofs.lemmas.List.{take_all}
-use Rattle.std.proofs.lemmas.Result.{IfOk-weaker}
-use Rattle.ppdb_values_check.proofs.Keys.{names_by_keys, text_decides}
-use Rattle.ppdb_values_check.proofs.Listed.{answers}
-use Rattle.ppdb_values_check.specs.Pairs.{AreApart}
+use Rattle.std.{proofs.Common.{ℕ, ◌↔◌, ◌≢◌, IsTrue, List, map, ap, ◌∙◌}, specs.Prelude.{AllPairs}, specs.Borrow.{Bor}, specs.Cmp.Lexicographic.{slice_cmp}}
+use Rattle.std.{specs.Ordering.{nat_cmp}, proofs.lemmas.List.{take_all}, proofs.lemmas.Result.{IfOk-weaker}}
+use Rattle.ppdb_values_check.{proofs.Keys.{names_by_keys, text_decides}, proofs.Listed.{answers}, specs.Pairs.{AreApart}}
 use Rattle.ppdb_values_check.proofs.differ.names_differ.Goals as goal
 
 pub returns : goal.returns

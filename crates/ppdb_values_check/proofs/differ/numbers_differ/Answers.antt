@@ -1,11 +1,6 @@
-use Rattle.std.proofs.Common.{ℕ, ◌↔◌, ◌≢◌, IsTrue, map, ap, ◌∙◌}
-use Rattle.std.specs.Prelude.{AllPairs}
-use Rattle.std.specs.Ordering.{nat_cmp}
-use Rattle.std.proofs.lemmas.List.{take_all, map-id}
+use Rattle.std.{proofs.Common.{ℕ, ◌↔◌, ◌≢◌, IsTrue, map, ap, ◌∙◌}, specs.Prelude.{AllPairs}, specs.Ordering.{nat_cmp}, proofs.lemmas.List.{take_all, map-id}}
 use Rattle.std.proofs.lemmas.Result.{IfOk-weaker}
-use Rattle.ppdb_values_check.proofs.Keys.{names_by_keys, number_decides}
-use Rattle.ppdb_values_check.proofs.Listed.{answers}
-use Rattle.ppdb_values_check.specs.Pairs.{AreApart}
+use Rattle.ppdb_values_check.{proofs.Keys.{names_by_keys, number_decides}, proofs.Listed.{answers}, specs.Pairs.{AreApart}}
 use Rattle.ppdb_values_check.proofs.differ.numbers_differ.Goals as goal
 
 pub returns : goal.returns

@@ -1,6 +1,5 @@
 use Rattle.std.proofs.Common.{ap, ◌∙◌}
-use Rattle.ppdb_values_check.proofs.Joined.{machines_joined, ok_last}
-use Rattle.ppdb_values_check.proofs.Listed.{refuted, says_no}
+use Rattle.ppdb_values_check.proofs.{Joined.{machines_joined, ok_last}, Listed.{refuted, says_no}}
 use Rattle.ppdb_values_check.proofs.machines.sound_machines.Goals as goal
 
 pub returns-then-not-in_order : goal.returns-then-not-in_order

@@ -1,6 +1,5 @@
 use Rattle.std.proofs.Common.{ap, ◌∙◌}
-use Rattle.ppdb_values_check.proofs.Joined.{beside, first_no, methods_joined}
-use Rattle.ppdb_values_check.proofs.Listed.{answers}
+use Rattle.ppdb_values_check.proofs.{Joined.{beside, first_no, methods_joined}, Listed.{answers}}
 use Rattle.ppdb_values_check.proofs.methods.sound_methods.Goals as goal
 
 pub returns-then-all_sound : goal.returns-then-all_sound

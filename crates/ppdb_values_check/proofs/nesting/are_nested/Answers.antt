@@ -1,7 +1,5 @@
 use Rattle.std.proofs.Common.{◌<◌, ◌+◌, ◌∷◌, ◌++◌, [], sym, subst, ap, ◌∙◌}
-use Rattle.ppdb_values_check.specs.Scopes.{IsNested, WasOpen}
-use Rattle.ppdb_values_check.proofs.Open.{from_open, is_open, is_then_open, open_pushed}
-use Rattle.ppdb_values_check.proofs.Pairs.{pairs_more}
+use Rattle.ppdb_values_check.{specs.Scopes.{IsNested, WasOpen}, proofs.Open.{from_open, is_open, is_then_open, open_pushed}, proofs.Pairs.{pairs_more}}
 use Rattle.ppdb_values_check.proofs.nesting.are_nested.Goals as goal
 
 pub loop-place-preserved : goal.loop-place-preserved

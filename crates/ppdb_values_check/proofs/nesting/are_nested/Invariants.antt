@@ -1,5 +1,4 @@
-use Rattle.ppdb_values_check.specs.Pairs.{PairsBelow}
-use Rattle.ppdb_values_check.specs.Scopes.{IsNested, WasOpen}
+use Rattle.ppdb_values_check.specs.{Pairs.{PairsBelow}, Scopes.{IsNested, WasOpen}}
 use Rattle.ppdb_values_check.proofs.nesting.are_nested.Given as goal
 
 abbrev pub invariant-loop-place : goal.invariant-loop-place

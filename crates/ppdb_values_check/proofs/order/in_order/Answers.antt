@@ -1,5 +1,4 @@
-use Rattle.std.proofs.Common.{arith, ◌-◌}
-use Rattle.std.proofs.lemmas.List.Elements.{pair_read}
+use Rattle.std.proofs.{Common.{arith, ◌-◌}, lemmas.List.Elements.{pair_read}}
 use Rattle.ppdb_values_check.proofs.Pairs.{next_in_order}
 use Rattle.ppdb_values_check.proofs.order.in_order.Goals as goal
 

@@ -1,5 +1,4 @@
-use Rattle.std.proofs.Common.{take}
-use Rattle.std.specs.Prelude.{All}
+use Rattle.std.{proofs.Common.{take}, specs.Prelude.{All}}
 use Rattle.ppdb_values_check.proofs.part.all_sound.Given as goal
 
 abbrev pub invariant-loop-part : goal.invariant-loop-part

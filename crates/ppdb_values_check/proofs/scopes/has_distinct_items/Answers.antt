@@ -1,5 +1,4 @@
-use Rattle.ppdb_values_check.proofs.Joined.{items_joined, ok_last}
-use Rattle.ppdb_values_check.proofs.Listed.{refuted, says_no}
+use Rattle.ppdb_values_check.proofs.{Joined.{items_joined, ok_last}, Listed.{refuted, says_no}}
 use Rattle.ppdb_values_check.proofs.scopes.has_distinct_items.Goals as goal
 
 pub returns-then-not-branch : goal.returns-then-not-branch

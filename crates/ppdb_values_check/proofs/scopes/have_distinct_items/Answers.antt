@@ -1,7 +1,5 @@
-use Rattle.std.proofs.Common.{refl, subst}
-use Rattle.std.proofs.lemmas.List.Elements.{All-more}
-use Rattle.ppdb_values_check.specs.Scopes.{HasDistinctItems}
-use Rattle.ppdb_values_check.proofs.Listed.{all_taken, not_all, refuted, says_no}
+use Rattle.std.proofs.{Common.{refl, subst}, lemmas.List.Elements.{All-more}}
+use Rattle.ppdb_values_check.{specs.Scopes.{HasDistinctItems}, proofs.Listed.{all_taken, not_all, refuted, says_no}}
 use Rattle.ppdb_values_check.proofs.scopes.have_distinct_items.Goals as goal
 
 pub returns-then-not-branch : goal.returns-then-not-branch

@@ -1,5 +1,4 @@
-use Rattle.std.proofs.Common.{take}
-use Rattle.std.specs.Prelude.{All}
+use Rattle.std.{proofs.Common.{take}, specs.Prelude.{All}}
 use Rattle.ppdb_values_check.specs.Scopes.{HasDistinctItems}
 use Rattle.ppdb_values_check.proofs.scopes.have_distinct_items.Given as goal
 

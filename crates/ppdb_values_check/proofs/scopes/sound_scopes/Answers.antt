@@ -1,6 +1,5 @@
 use Rattle.std.proofs.Common.{ap, ◌∙◌}
-use Rattle.ppdb_values_check.proofs.Joined.{scopes_joined, ok_scopes}
-use Rattle.ppdb_values_check.proofs.Listed.{refuted, says_no}
+use Rattle.ppdb_values_check.proofs.{Joined.{scopes_joined, ok_scopes}, Listed.{refuted, says_no}}
 use Rattle.ppdb_values_check.proofs.scopes.sound_scopes.Goals as goal
 
 pub returns-then-not-all_sound : goal.returns-then-not-all_sound

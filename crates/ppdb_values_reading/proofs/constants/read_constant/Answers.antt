@@ -1,12 +1,8 @@
-use Rattle.std.proofs.Common.{◌∙◌, sym, ap}
-use Rattle.std.specs.Prelude.{Some}
-use Rattle.std.proofs.lemmas.List.{map-id}
-use Rattle.ppdb_values.specs.declared.scope.ConstantValue.{ConstantValue}
-use Rattle.ppdb_values.specs.Constants.{constant_of}
+use Rattle.std.{proofs.Common.{◌∙◌, sym, ap}, specs.Prelude.{Some}, proofs.lemmas.List.{map-id}}
+use Rattle.ppdb_values.specs.{declared.scope.ConstantValue.{ConstantValue}, Constants.{constant_of}}
 use Rattle.ppdb_verify.specs.Views.{raw_file}
 use Rattle.type_blobs.specs.ConstantReading.{body_answer}
-use Rattle.ppdb_values_reading.proofs.Rows.{row_made}
-use Rattle.ppdb_values_reading.proofs.WholeConstants.{whole_constant, no_invalid_modifier, no_invalid_body, constant_read}
+use Rattle.ppdb_values_reading.proofs.{Rows.{row_made}, WholeConstants.{whole_constant, no_invalid_modifier, no_invalid_body, constant_read}}
 use Rattle.ppdb_values_reading.proofs.constants.read_constant.Goals as goal
 
 pub fill-requires : goal.fill-requires

@@ -1,9 +1,7 @@
 use Rattle.ppdb_heaps.specs.Names.{names}
-use Rattle.ppdb_values.specs.Documents.{document_of}
-use Rattle.ppdb_values.specs.RawFile.{blob}
+use Rattle.ppdb_values.specs.{Documents.{document_of}, RawFile.{blob}}
 use Rattle.ppdb_verify.specs.Views.{raw_file}
-use Rattle.ppdb_verify_rows.proofs.Whole.{no_fault}
-use Rattle.ppdb_verify_rows.proofs.WholeNames.{name_joined}
+use Rattle.ppdb_verify_rows.proofs.{Whole.{no_fault}, WholeNames.{name_joined}}
 use Rattle.ppdb_values_reading.proofs.Rows.{row_made}
 use Rattle.ppdb_values_reading.proofs.documents.read_document.Goals as goal
 

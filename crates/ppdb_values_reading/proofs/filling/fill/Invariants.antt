@@ -1,5 +1,4 @@
-use Rattle.std.proofs.Common.{◌≡◌, ◌++◌, map, length}
-use Rattle.std.specs.Prelude.{None}
+use Rattle.std.{proofs.Common.{◌≡◌, ◌++◌, map, length}, specs.Prelude.{None}}
 use Rattle.ppdb_values_reading.proofs.filling.fill.Given as goal
 
 abbrev pub invariant-items : goal.invariant-items

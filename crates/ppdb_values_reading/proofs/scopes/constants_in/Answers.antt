@@ -1,7 +1,6 @@
 use Rattle.std.proofs.Common.{arith}
 use Rattle.ppdb_verify.specs.Views.{raw_file}
-use Rattle.ppdb_values_reading.specs.Lent.{constants_of}
-use Rattle.ppdb_values_reading.proofs.Lists.{slice_more}
+use Rattle.ppdb_values_reading.{specs.Lent.{constants_of}, proofs.Lists.{slice_more}}
 use Rattle.ppdb_values_reading.proofs.scopes.constants_in.Goals as goal
 
 pub rows-preserved : goal.rows-preserved

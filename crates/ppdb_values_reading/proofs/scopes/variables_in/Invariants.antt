@@ -1,5 +1,4 @@
-use Rattle.std.proofs.Common.{◌≡◌, ◌+◌, ◌-◌, ◌≤◌}
-use Rattle.std.specs.Prelude.{slice_range}
+use Rattle.std.{proofs.Common.{◌≡◌, ◌+◌, ◌-◌, ◌≤◌}, specs.Prelude.{slice_range}}
 use Rattle.ppdb_verify.specs.Views.{raw_file}
 use Rattle.ppdb_values_reading.specs.Lent.{variables_of}
 use Rattle.ppdb_values_reading.proofs.scopes.variables_in.Given as goal

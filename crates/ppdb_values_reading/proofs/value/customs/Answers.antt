@@ -1,7 +1,5 @@
-use Rattle.std.proofs.Common.{arith}
-use Rattle.std.proofs.lemmas.List.{length-map}
-use Rattle.ppdb_values.specs.Customs.{custom_of}
-use Rattle.ppdb_values.specs.Value.{value_of}
+use Rattle.std.proofs.{Common.{arith}, lemmas.List.{length-map}}
+use Rattle.ppdb_values.specs.{Customs.{custom_of}, Value.{value_of}}
 use Rattle.ppdb_verify.specs.Views.{raw_file}
 use Rattle.ppdb_values_reading.proofs.Rows.{made_more, made_all}
 use Rattle.ppdb_values_reading.proofs.value.customs.Goals as goal

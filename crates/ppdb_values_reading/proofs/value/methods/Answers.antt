@@ -1,8 +1,7 @@
 use Rattle.std.proofs.Common.{◌≤◌, length, arith, ◌∙◌}
 use Rattle.ppdb_values.specs.Documents.{method_of}
 use Rattle.ppdb_verify.specs.Views.{raw_file}
-use Rattle.ppdb_values_reading.proofs.Given.{method_more, method_none}
-use Rattle.ppdb_values_reading.proofs.Rows.{given_all}
+use Rattle.ppdb_values_reading.proofs.{Given.{method_more, method_none}, Rows.{given_all}}
 use Rattle.ppdb_values_reading.proofs.value.methods.Goals as goal
 use Rattle.ppdb_values_reading.proofs.value.methods.Goals.{in-Some+in_ok-push, in_default}
 

@@ -1,12 +1,8 @@
-use Rattle.std.proofs.Common.{List, arith, sym, ◌∙◌, ap, subst, All}
-use Rattle.std.specs.List.{sum_by}
-use Rattle.std.proofs.lemmas.List.Sums.{sum_by-cons}
+use Rattle.std.{proofs.Common.{List, arith, sym, ◌∙◌, ap, subst, All}, specs.List.{sum_by}, proofs.lemmas.List.Sums.{sum_by-cons}}
 use Rattle.blob_grammar.specs.Reader.{tail}
 use Rattle.ppdb_values.specs.Value.{value_of}
 use Rattle.ppdb_verify.specs.Views.{raw_file}
-use Rattle.ppdb_values_reading.specs.declared.scopes.Scope.{Scope}
-use Rattle.ppdb_values_reading.specs.Scopes.{scope_with, HasLists, rows_of}
-use Rattle.ppdb_values_reading.proofs.Answered.{next_first, all_first, all_rest}
+use Rattle.ppdb_values_reading.{specs.declared.scopes.Scope.{Scope}, specs.Scopes.{scope_with, HasLists, rows_of}, proofs.Answered.{next_first, all_first, all_rest}}
 use Rattle.ppdb_values_reading.proofs.Given.{made_on}
 use Rattle.ppdb_values_reading.proofs.value.scopes.Goals as goal
 

@@ -1,9 +1,7 @@
-use Rattle.std.proofs.Common.{◌≡◌, ◌+◌, ◌-◌, ◌++◌, length, map, All}
-use Rattle.std.specs.List.{sum_by}
+use Rattle.std.{proofs.Common.{◌≡◌, ◌+◌, ◌-◌, ◌++◌, length, map, All}, specs.List.{sum_by}}
 use Rattle.ppdb_values.specs.Value.{value_of}
 use Rattle.ppdb_verify.specs.Views.{raw_file}
-use Rattle.ppdb_values_reading.specs.Totals.{scope_total}
-use Rattle.ppdb_values_reading.specs.Scopes.{scope_with, HasLists, rows_of}
+use Rattle.ppdb_values_reading.specs.{Totals.{scope_total}, Scopes.{scope_with, HasLists, rows_of}}
 use Rattle.ppdb_values_reading.proofs.value.scopes.Given as goal
 
 abbrev pub invariant-scopes : goal.invariant-scopes

@@ -1,15 +1,9 @@
-use Rattle.std.proofs.Common.{◌≡◌, ◌≢◌, ◌≤◌, sym, subst, ap, ◌∙◌}
-use Rattle.std.specs.Prelude.{slice_index}
+use Rattle.std.{proofs.Common.{◌≡◌, ◌≢◌, ◌≤◌, sym, subst, ap, ◌∙◌}, specs.Prelude.{slice_index}}
 use Rattle.ppdb_base.specs.First.{IsFirst}
-use Rattle.metadata_root.specs.declared.kind.StreamKind.TheVariants.{Pdb}
-use Rattle.metadata_root.specs.Streams.{bytes_of}
-use Rattle.ppdb_tables.specs.RawTables.{RawTables, count}
-use Rattle.ppdb_tables.specs.RawOf.{raw_of}
+use Rattle.metadata_root.specs.{declared.kind.StreamKind.TheVariants.{Pdb}, Streams.{bytes_of}}
+use Rattle.ppdb_tables.specs.{RawTables.{RawTables, count}, RawOf.{raw_of}}
 use Rattle.ppdb_values.specs.RawFile.{raw_in}
-use Rattle.ppdb_verify.specs.Files.{FileFaults, RowsFaults}
-use Rattle.ppdb_verify.proofs.Counted.{methods_fit}
-use Rattle.ppdb_verify.proofs.Families.{fault_is}
-use Rattle.ppdb_verify.proofs.Headed.{entry_within, rows_are}
+use Rattle.ppdb_verify.{specs.Files.{FileFaults, RowsFaults}, proofs.Counted.{methods_fit}, proofs.Families.{fault_is}, proofs.Headed.{entry_within, rows_are}}
 use Rattle.ppdb_verify.proofs.Parts.{all_accepted, head_first, rows_first, same_tables, tables_first}
 use Rattle.ppdb_verify.proofs.file.verify.Goals as goal
 

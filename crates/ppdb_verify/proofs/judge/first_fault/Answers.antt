@@ -1,10 +1,7 @@
-use Rattle.std.proofs.Common.{refl, subst}
-use Rattle.std.proofs.lemmas.Bool.{false≢true}
+use Rattle.std.proofs.{Common.{refl, subst}, lemmas.Bool.{false≢true}}
 use Rattle.ppdb_base.specs.First.{IsFirst}
 use Rattle.ppdb_tables.specs.RawOf.{raw_of}
-use Rattle.ppdb_verify_rules.specs.declared.errors.VerifyError.{VerifyError}
-use Rattle.ppdb_verify_rules.specs.Errors.{FaultIs}
-use Rattle.ppdb_verify_rules.specs.Rows.{RowFaults}
+use Rattle.ppdb_verify_rules.specs.{declared.errors.VerifyError.{VerifyError}, Errors.{FaultIs}, Rows.{RowFaults}}
 use Rattle.ppdb_verify.proofs.Families.{row_is_earlier, span_is_earlier, span_is_first}
 use Rattle.ppdb_verify.proofs.judge.first_fault.Goals as goal
 

@@ -1,8 +1,7 @@
 use Rattle.ppdb_base.specs.First.{IsFirst}
 use Rattle.ppdb_tables.specs.RawOf.{raw_of}
 use Rattle.ppdb_verify_rules.specs.Rows.{RowFaults}
-use Rattle.ppdb_verify.specs.Files.{RowsFaults}
-use Rattle.ppdb_verify.proofs.Families.{both_accepted, fault_is, row_is_first}
+use Rattle.ppdb_verify.{specs.Files.{RowsFaults}, proofs.Families.{both_accepted, fault_is, row_is_first}}
 use Rattle.ppdb_verify.proofs.judge.judge_all.Goals as goal
 
 pub returns-in-Ok-judge_rows-clause-accepted : goal.returns-in-Ok-judge_rows-clause-accepted

@@ -1,6 +1,5 @@
 use Rattle.std.proofs.Common.{◌+◌, [], ◌∷◌, inl, inr, refl, arith}
-use Rattle.ppdb_base.specs.Place.{numbers}
-use Rattle.ppdb_base.proofs.Judging.{comes_before_trans}
+use Rattle.ppdb_base.{specs.Place.{numbers}, proofs.Judging.{comes_before_trans}}
 use Rattle.ppdb_tables.specs.RawOf.{raw_of}
 use Rattle.ppdb_verify_total.proofs.Placed.{span_place}
 use Rattle.ppdb_verify.proofs.judge.judge_up_to.Goals as goal

@@ -1,5 +1,4 @@
-use Rattle.std.proofs.Common.{◌∙◌, ap}
-use Rattle.std.specs.Prelude.{is_some}
+use Rattle.std.{proofs.Common.{◌∙◌, ap}, specs.Prelude.{is_some}}
 use Rattle.ppdb_verify_rows.proofs.customs.guid_of_kind.Goals as goal
 
 pub unwrap-requires : goal.unwrap-requires

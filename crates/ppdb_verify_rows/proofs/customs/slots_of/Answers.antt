@@ -1,7 +1,6 @@
 use Rattle.std.proofs.Common.{arith}
 use Rattle.ppdb_verify.specs.Views.{raw_file}
-use Rattle.ppdb_verify_rows.proofs.Records.{slots_begun}
-use Rattle.ppdb_verify_rows.proofs.Lengths.{slots_most}
+use Rattle.ppdb_verify_rows.proofs.{Records.{slots_begun}, Lengths.{slots_most}}
 use Rattle.ppdb_verify_rows.proofs.customs.slots_of.Goals as goal
 
 pub returns-clause-slots : goal.returns-clause-slots

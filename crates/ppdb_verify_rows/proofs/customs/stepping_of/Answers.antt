@@ -1,11 +1,9 @@
 use Rattle.std.proofs.Common.{[]}
-use Rattle.custom_info.specs.AsyncStepping.{async_stepping}
-use Rattle.custom_info.specs.declared.kinds.Kind.TheVariants.{Async}
+use Rattle.custom_info.specs.{AsyncStepping.{async_stepping}, declared.kinds.Kind.TheVariants.{Async}}
 use Rattle.ppdb_tables.specs.RawTables.{count}
 use Rattle.ppdb_values.specs.RawFile.{blob}
 use Rattle.ppdb_verify.specs.Views.{raw_file}
-use Rattle.ppdb_verify_rows.proofs.Records.{stepping_begun, whole_of_kind}
-use Rattle.ppdb_verify_rows.proofs.Whole.{no_fault}
+use Rattle.ppdb_verify_rows.proofs.{Records.{stepping_begun, whole_of_kind}, Whole.{no_fault}}
 use Rattle.ppdb_verify_rows.proofs.customs.stepping_of.Goals as goal
 
 pub unreachable-requires : goal.unreachable-requires

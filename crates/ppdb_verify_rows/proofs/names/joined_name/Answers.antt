@@ -1,8 +1,7 @@
 use Rattle.ppdb_heaps.specs.Names.{names}
 use Rattle.ppdb_values.specs.RawFile.{blob}
 use Rattle.ppdb_verify.specs.Views.{raw_file}
-use Rattle.ppdb_verify_rows.proofs.WholeNames.{name_joined}
-use Rattle.ppdb_verify_rows.proofs.Whole.{no_fault}
+use Rattle.ppdb_verify_rows.proofs.{WholeNames.{name_joined}, Whole.{no_fault}}
 use Rattle.ppdb_verify_rows.proofs.names.joined_name.Goals as goal
 
 pub unreachable-requires : goal.unreachable-requires

@@ -2,8 +2,7 @@ use Rattle.std.proofs.Common.{[]}
 use Rattle.ppdb_heaps.specs.Names.{names}
 use Rattle.ppdb_values.specs.RawFile.{blob}
 use Rattle.ppdb_verify.specs.Views.{raw_file}
-use Rattle.ppdb_verify_rows.proofs.WholeNames.{name_begun}
-use Rattle.ppdb_verify_rows.proofs.Whole.{no_fault}
+use Rattle.ppdb_verify_rows.proofs.{WholeNames.{name_begun}, Whole.{no_fault}}
 use Rattle.ppdb_verify_rows.proofs.names.name.Goals as goal
 
 pub unreachable-requires : goal.unreachable-requires

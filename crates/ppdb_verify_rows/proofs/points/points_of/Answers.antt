@@ -1,11 +1,9 @@
-use Rattle.std.proofs.Common.{◌≡◌, ℕ, ◌<◌, List, [], ◌∷◌, length, refl, sym, ◌∙◌, subst, arith, Bool, true, false}
-use Rattle.std.specs.Prelude.{◌==◌}
+use Rattle.std.{proofs.Common.{◌≡◌, ℕ, ◌<◌, List, [], ◌∷◌, length, refl, sym, ◌∙◌, subst, arith, Bool, true, false}, specs.Prelude.{◌==◌}}
 use Rattle.std.proofs.lemmas.Bool.Decides.{nat_tests}
 use Rattle.sequence_points.specs.Records.{sequence_points}
 use Rattle.ppdb_values.specs.RawFile.{blob, point_limits}
 use Rattle.ppdb_verify.specs.Views.{raw_file}
-use Rattle.ppdb_verify_rows.proofs.WholePoints.{points_none, points_begun, points_whole}
-use Rattle.ppdb_verify_rows.proofs.Whole.{no_fault}
+use Rattle.ppdb_verify_rows.proofs.{WholePoints.{points_none, points_begun, points_whole}, Whole.{no_fault}}
 use Rattle.ppdb_verify_rows.proofs.points.points_of.Goals as goal
 
 is_zero : (n : ℕ) (b : Bool) → b ≡ (n == 0) → b ≡ true → n ≡ 0

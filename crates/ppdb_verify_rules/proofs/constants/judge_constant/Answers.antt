@@ -1,6 +1,5 @@
 use Rattle.ppdb_tables.specs.RawOf.{raw_of}
-use Rattle.ppdb_verify_rules.proofs.ListOwners.{owner_before}
-use Rattle.ppdb_verify_rules.proofs.ConstantFaults.{past_row}
+use Rattle.ppdb_verify_rules.proofs.{ListOwners.{owner_before}, ConstantFaults.{past_row}}
 use Rattle.ppdb_verify_rules.proofs.constants.judge_constant.Goals as goal
 
 pub returns-clause-ok : goal.returns-clause-ok

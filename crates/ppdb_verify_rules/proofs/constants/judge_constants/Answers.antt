@@ -1,8 +1,6 @@
 use Rattle.std.proofs.Common.{inl, refl}
-use Rattle.ppdb_tables.specs.RawOf.{raw_of}
-use Rattle.ppdb_tables.specs.declared.rows.ConstantRow.{ConstantRow}
-use Rattle.ppdb_verify_rules.proofs.ListOwners.{lists_of_constants, texts_at_first}
-use Rattle.ppdb_verify_rules.proofs.ConstantFaults.{first_row}
+use Rattle.ppdb_tables.specs.{RawOf.{raw_of}, declared.rows.ConstantRow.{ConstantRow}}
+use Rattle.ppdb_verify_rules.proofs.{ListOwners.{lists_of_constants, texts_at_first}, ConstantFaults.{first_row}}
 use Rattle.ppdb_verify_rules.proofs.constants.judge_constants.Goals as goal
 
 pub loop-row-init : goal.loop-row-init

@@ -1,6 +1,5 @@
 use Rattle.ppdb_tables.specs.RawOf.{raw_of}
-use Rattle.ppdb_verify_rules.specs.Judged.{ToRow}
-use Rattle.ppdb_verify_rules.specs.Seen.{AreConstantNames, OwnsBefore}
+use Rattle.ppdb_verify_rules.specs.{Judged.{ToRow}, Seen.{AreConstantNames, OwnsBefore}}
 use Rattle.ppdb_verify_rules.proofs.constants.judge_constants.Given as goal
 
 abbrev pub invariant-loop-row : goal.invariant-loop-row

@@ -1,8 +1,6 @@
 use Rattle.std.proofs.Common.{arith}
-use Rattle.ppdb_tables.specs.declared.rows.ConstantRow.{ConstantRow}
-use Rattle.ppdb_tables.specs.RawOf.{raw_of}
-use Rattle.ppdb_verify_rules.specs.Seen.{HasText}
-use Rattle.ppdb_verify_rules.proofs.ListOwners.{annotated_text, repeated_text, text_there, texts_after}
+use Rattle.ppdb_tables.specs.{declared.rows.ConstantRow.{ConstantRow}, RawOf.{raw_of}}
+use Rattle.ppdb_verify_rules.{specs.Seen.{HasText}, proofs.ListOwners.{annotated_text, repeated_text, text_there, texts_after}}
 use Rattle.ppdb_verify_rules.proofs.ConstantFaults.{same_text_first, next_0}
 use Rattle.ppdb_verify_rules.proofs.constants.judge_repeat.Goals as goal
 

@@ -2,9 +2,8 @@ use Rattle.std.proofs.Common.{◌≡◌, Some, sym}
 use Rattle.ppdb_heaps.specs.Heaps.{blob_at}
 use Rattle.ppdb_tables.specs.RawOf.{raw_of}
 use Rattle.type_blobs.specs.Constants.{constants}
-use Rattle.ppdb_verify_rules.specs.Blobs.{type_limits}
-use Rattle.ppdb_verify_rules.proofs.BlobFaults.{not_whole, value_there}
-use Rattle.ppdb_verify_rules.proofs.ConstantFaults.{no_signature_first, invalid_signature_first, next_1}
+use Rattle.ppdb_verify_rules.{specs.Blobs.{type_limits}, proofs.BlobFaults.{not_whole, value_there}, proofs.ConstantFaults.{no_signature_first}}
+use Rattle.ppdb_verify_rules.proofs.ConstantFaults.{invalid_signature_first, next_1}
 use Rattle.ppdb_verify_rules.proofs.constants.judge_signature.Goals as goal
 
 pub returns-in_default-clause-err : goal.returns-in_default-clause-err

@@ -1,8 +1,7 @@
 use Rattle.std.proofs.Common.{◌≡◌, Some, sym}
 use Rattle.ppdb_heaps.specs.Heaps.{text_at}
 use Rattle.ppdb_tables.specs.RawOf.{raw_of}
-use Rattle.ppdb_verify_rules.proofs.ListOwners.{constants_from_1, text_there}
-use Rattle.ppdb_verify_rules.proofs.ConstantFaults.{no_text_first, alone_first}
+use Rattle.ppdb_verify_rules.proofs.{ListOwners.{constants_from_1, text_there}, ConstantFaults.{no_text_first, alone_first}}
 use Rattle.ppdb_verify_rules.proofs.constants.judge_there.Goals as goal
 
 pub returns-in_default-clause-err : goal.returns-in_default-clause-err

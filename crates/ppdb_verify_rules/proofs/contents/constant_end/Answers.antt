@@ -1,7 +1,6 @@
 use Rattle.std.proofs.Common.{Option, ap, subst, ◌∙◌}
 use Rattle.ppdb_base.specs.declared.fault.BlobFault.{BlobFault}
-use Rattle.type_blobs.specs.Constants.{constants}
-use Rattle.type_blobs.specs.ConstantReading.{body_answer}
+use Rattle.type_blobs.specs.{Constants.{constants}, ConstantReading.{body_answer}}
 use Rattle.blob_grammar.specs.Places.{HasEnd}
 use Rattle.ppdb_verify_rules.proofs.ConstantEnds.{ends_in_body, ends_in_fault, ends_in_modifier}
 use Rattle.ppdb_verify_rules.proofs.contents.constant_end.Goals as goal

@@ -1,6 +1,5 @@
 use Rattle.std.proofs.Common.{subst}
-use Rattle.type_blobs.specs.Constants.{constants}
-use Rattle.type_blobs.specs.declared.types.TypeLimits.{TypeLimits}
+use Rattle.type_blobs.specs.{Constants.{constants}, declared.types.TypeLimits.{TypeLimits}}
 use Rattle.blob_grammar.specs.Places.{HasEnd}
 use Rattle.ppdb_verify_rules.proofs.contents.constant_fault.Goals as goal
 

@@ -1,7 +1,6 @@
 use Rattle.std.proofs.Common.{Option, sym, subst}
 use Rattle.ppdb_base.specs.declared.fault.BlobFault.{BlobFault}
-use Rattle.ppdb_heaps.specs.Heaps.{blob_at}
-use Rattle.ppdb_heaps.specs.Views.{blobs_of}
+use Rattle.ppdb_heaps.specs.{Heaps.{blob_at}, Views.{blobs_of}}
 use Rattle.type_blobs.specs.Imports.{imports}
 use Rattle.blob_grammar.specs.Places.{HasEnd}
 use Rattle.ppdb_verify_rules.proofs.contents.imports_end.Goals as goal

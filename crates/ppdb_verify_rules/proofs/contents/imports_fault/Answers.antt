@@ -1,8 +1,7 @@
 use Rattle.std.proofs.Common.{subst, ℕ, List}
 use Rattle.ppdb_tables.specs.RawOf.{raw_of}
 use Rattle.ppdb_heaps.specs.Heaps.{blob_at}
-use Rattle.type_blobs.specs.Imports.{imports}
-use Rattle.type_blobs.specs.declared.types.TypeLimits.{TypeLimits}
+use Rattle.type_blobs.specs.{Imports.{imports}, declared.types.TypeLimits.{TypeLimits}}
 use Rattle.blob_grammar.specs.Places.{HasEnd}
 use Rattle.ppdb_verify_rules.proofs.contents.imports_fault.Goals as goal
 

@@ -1,6 +1,5 @@
 use Rattle.std.proofs.Common.{subst}
-use Rattle.sequence_points.specs.Records.{sequence_points}
-use Rattle.sequence_points.specs.declared.point.PointLimits.{PointLimits}
+use Rattle.sequence_points.specs.{Records.{sequence_points}, declared.point.PointLimits.{PointLimits}}
 use Rattle.blob_grammar.specs.Places.{HasEnd}
 use Rattle.ppdb_verify_rules.proofs.contents.points_fault.Goals as goal
 

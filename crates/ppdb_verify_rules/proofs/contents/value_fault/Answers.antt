@@ -1,6 +1,5 @@
 use Rattle.std.proofs.Common.{subst, ℕ}
-use Rattle.custom_info.specs.AsyncStepping.{async_stepping}
-use Rattle.custom_info.specs.TypeDocuments.{type_documents}
+use Rattle.custom_info.specs.{AsyncStepping.{async_stepping}, TypeDocuments.{type_documents}}
 use Rattle.blob_grammar.specs.Places.{HasEnd}
 use Rattle.ppdb_verify_rules.proofs.contents.value_fault.Goals as goal
 

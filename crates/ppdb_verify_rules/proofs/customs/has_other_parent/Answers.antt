@@ -1,9 +1,6 @@
-use Rattle.std.proofs.Common.{◌≡◌, ℕ, IsTrue, not, nat_eq, Some, sym, ◌∙◌, arith}
-use Rattle.std.proofs.lemmas.Bool.Decides.{nat_tests}
-use Rattle.ppdb_tables.specs.RawOf.{raw_of}
-use Rattle.ppdb_tables.specs.Parents.{parent_in}
-use Rattle.ppdb_verify_rules.specs.Customs.{parent_table}
-use Rattle.ppdb_verify_rules.proofs.Parents.{other_parent, same_parent}
+use Rattle.std.proofs.{Common.{◌≡◌, ℕ, IsTrue, not, nat_eq, Some, sym, ◌∙◌, arith}, lemmas.Bool.Decides.{nat_tests}}
+use Rattle.ppdb_tables.specs.{RawOf.{raw_of}, Parents.{parent_in}}
+use Rattle.ppdb_verify_rules.{specs.Customs.{parent_table}, proofs.Parents.{other_parent, same_parent}}
 use Rattle.ppdb_verify_rules.proofs.customs.has_other_parent.Goals as goal
 
 differs : (a b : ℕ) → IsTrue (not (nat_eq a b)) → a ≡ b → ⊥

@@ -1,8 +1,6 @@
-use Rattle.std.proofs.Common.{◌<◌, ◌-◌, ℕ, arith, IsTrue, nat_lt}
-use Rattle.std.proofs.lemmas.Bool.Decides.{nat_tests}
-use Rattle.ppdb_tables.specs.RawOf.{raw_of}
+use Rattle.std.proofs.{Common.{◌<◌, ◌-◌, ℕ, arith, IsTrue, nat_lt}, lemmas.Bool.Decides.{nat_tests}}
+use Rattle.ppdb_tables.{specs.RawOf.{raw_of}, proofs.NumberedRows.{row_within}}
 use Rattle.ppdb_verify_rules.proofs.Order.{custom_before}
-use Rattle.ppdb_tables.proofs.NumberedRows.{row_within}
 use Rattle.ppdb_verify_rules.proofs.customs.is_below_earlier.Goals as goal
 
 test : (a b : ℕ) → IsTrue (nat_lt a b) → a < b

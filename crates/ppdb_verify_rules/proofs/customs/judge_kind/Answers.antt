@@ -1,7 +1,5 @@
 use Rattle.ppdb_tables.specs.RawOf.{raw_of}
-use Rattle.ppdb_verify_rules.proofs.CellFaults.{refuted}
-use Rattle.ppdb_verify_rules.proofs.BlobFaults.{no_guid, guid_there}
-use Rattle.ppdb_verify_rules.proofs.CustomFaults.{no_kind_first, other_parent_first, next_1}
+use Rattle.ppdb_verify_rules.proofs.{CellFaults.{refuted}, BlobFaults.{no_guid, guid_there}, CustomFaults.{no_kind_first, other_parent_first, next_1}}
 use Rattle.ppdb_verify_rules.proofs.customs.judge_kind.Goals as goal
 
 pub returns-in_default-clause-err : goal.returns-in_default-clause-err

@@ -1,7 +1,6 @@
 use Rattle.ppdb_tables.specs.RawOf.{raw_of}
 use Rattle.std.proofs.Common.{arith}
-use Rattle.ppdb_verify_rules.proofs.CellFaults.{refuted}
-use Rattle.ppdb_verify_rules.proofs.CustomFaults.{no_parent_first, no_tag_first, out_of_order_first, next_0}
+use Rattle.ppdb_verify_rules.proofs.{CellFaults.{refuted}, CustomFaults.{no_parent_first, no_tag_first, out_of_order_first, next_0}}
 use Rattle.ppdb_verify_rules.proofs.customs.judge_parent.Goals as goal
 
 pub returns-then-has_no_parent-clause-err : goal.returns-then-has_no_parent-clause-err

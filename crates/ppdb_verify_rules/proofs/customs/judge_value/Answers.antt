@@ -1,7 +1,6 @@
 use Rattle.std.proofs.Common.{sym}
 use Rattle.ppdb_tables.specs.RawOf.{raw_of}
-use Rattle.ppdb_verify_rules.proofs.BlobFaults.{no_invalid_value, value_there}
-use Rattle.ppdb_verify_rules.proofs.CustomFaults.{no_value_first, invalid_value_first, next_2}
+use Rattle.ppdb_verify_rules.proofs.{BlobFaults.{no_invalid_value, value_there}, CustomFaults.{no_value_first, invalid_value_first, next_2}}
 use Rattle.ppdb_verify_rules.proofs.customs.judge_value.Goals as goal
 
 pub returns-in_default-clause-err : goal.returns-in_default-clause-err

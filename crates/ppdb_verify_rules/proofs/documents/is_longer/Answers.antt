@@ -1,6 +1,5 @@
 use Rattle.std.proofs.Common.{◌≡◌, Some, List, ℕ, sym, subst}
-use Rattle.ppdb_heaps.specs.Heaps.{blob_at}
-use Rattle.ppdb_heaps.specs.Names.{IsName}
+use Rattle.ppdb_heaps.specs.{Heaps.{blob_at}, Names.{IsName}}
 use Rattle.ppdb_tables.specs.RawOf.{raw_of}
 use Rattle.ppdb_verify_rules.proofs.BlobFaults.{not_nil}
 use Rattle.ppdb_verify_rules.proofs.documents.is_longer.Goals as goal

@@ -1,9 +1,6 @@
 use Rattle.ppdb_tables.specs.RawOf.{raw_of}
 use Rattle.std.proofs.Common.{◌≡◌, ℕ, subst, arith}
-use Rattle.ppdb_verify_rules.specs.Judged.{ToRow}
-use Rattle.ppdb_verify_rules.specs.SeenNames.{AreNames}
-use Rattle.ppdb_verify_rules.proofs.DocumentFaults.{first_row}
-use Rattle.ppdb_verify_rules.proofs.NameSets.{names_at_first}
+use Rattle.ppdb_verify_rules.{specs.Judged.{ToRow}, specs.SeenNames.{AreNames}, proofs.DocumentFaults.{first_row}, proofs.NameSets.{names_at_first}}
 use Rattle.ppdb_verify_rules.proofs.documents.judge_documents.Goals as goal
 
 pub returns-then-last-eq0-clause-ok : goal.returns-then-last-eq0-clause-ok

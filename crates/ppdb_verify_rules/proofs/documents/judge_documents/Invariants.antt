@@ -1,6 +1,5 @@
 use Rattle.ppdb_tables.specs.RawOf.{raw_of}
-use Rattle.ppdb_verify_rules.specs.Judged.{ToRow}
-use Rattle.ppdb_verify_rules.specs.SeenNames.{AreNames}
+use Rattle.ppdb_verify_rules.specs.{Judged.{ToRow}, SeenNames.{AreNames}}
 use Rattle.ppdb_verify_rules.proofs.documents.judge_documents.Given as goal
 
 abbrev pub invariant-loop-row : goal.invariant-loop-row

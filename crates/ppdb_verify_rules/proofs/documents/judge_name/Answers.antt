@@ -1,7 +1,5 @@
 use Rattle.ppdb_tables.specs.RawOf.{raw_of}
-use Rattle.ppdb_verify_rules.specs.SeenNames.{HasBytes}
-use Rattle.ppdb_verify_rules.proofs.BlobFaults.{name_whole, value_there}
-use Rattle.ppdb_verify_rules.proofs.DocumentFaults.{repeated_first, next_0}
+use Rattle.ppdb_verify_rules.{specs.SeenNames.{HasBytes}, proofs.BlobFaults.{name_whole, value_there}, proofs.DocumentFaults.{repeated_first, next_0}}
 use Rattle.ppdb_verify_rules.proofs.NameSets.{names_after, repeats, repeated}
 use Rattle.ppdb_verify_rules.proofs.documents.judge_name.Goals as goal
 

@@ -1,6 +1,5 @@
 use Rattle.ppdb_tables.specs.RawOf.{raw_of}
-use Rattle.ppdb_verify_rules.proofs.CellFaults.{refuted}
-use Rattle.ppdb_verify_rules.proofs.DocumentFaults.{no_algorithm_first, no_hash_first, no_language_first, next_1, next_2, next_3, past_row}
+use Rattle.ppdb_verify_rules.proofs.{CellFaults.{refuted}, DocumentFaults.{no_algorithm_first, no_hash_first, no_language_first, next_1, next_2, next_3, past_row}}
 use Rattle.ppdb_verify_rules.proofs.documents.judge_rest.Goals as goal
 
 pub returns-then-names_no_guid-clause-err : goal.returns-then-names_no_guid-clause-err

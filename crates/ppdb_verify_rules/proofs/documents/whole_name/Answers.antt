@@ -1,9 +1,7 @@
 use Rattle.std.proofs.Common.{◌≡◌, ◌∙◌, Some, List, ℕ, ap, sym, subst}
-use Rattle.ppdb_heaps.specs.Heaps.{blob_at}
-use Rattle.ppdb_heaps.specs.Names.{IsName}
+use Rattle.ppdb_heaps.specs.{Heaps.{blob_at}, Names.{IsName}}
 use Rattle.ppdb_tables.specs.RawOf.{raw_of}
-use Rattle.ppdb_verify_rules.proofs.BlobFaults.{no_length, not_nil, value_there}
-use Rattle.ppdb_verify_rules.proofs.DocumentFaults.{no_name_first, nil_name_first, invalid_name_first}
+use Rattle.ppdb_verify_rules.proofs.{BlobFaults.{no_length, not_nil, value_there}, DocumentFaults.{no_name_first, nil_name_first, invalid_name_first}}
 use Rattle.ppdb_verify_rules.proofs.documents.whole_name.Goals as goal
 
 pub returns-in_default-clause-err : goal.returns-in_default-clause-err

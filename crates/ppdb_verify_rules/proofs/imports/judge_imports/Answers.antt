@@ -1,8 +1,6 @@
-use Rattle.ppdb_tables.specs.RawOf.{raw_of}
+use Rattle.ppdb_tables.{specs.RawOf.{raw_of}, proofs.Walks.{marks_at_first}}
 use Rattle.std.proofs.Common.{◌∙◌, ap, sym, refl, ℕ, length, replicate}
-use Rattle.ppdb_tables.proofs.Walks.{marks_at_first}
-use Rattle.ppdb_verify_rules.specs.Chains.{parent_in}
-use Rattle.ppdb_verify_rules.proofs.ImportFaults.{first_row}
+use Rattle.ppdb_verify_rules.{specs.Chains.{parent_in}, proofs.ImportFaults.{first_row}}
 use Rattle.ppdb_verify_rules.proofs.imports.judge_imports.Goals as goal
 
 pub loop-row-init : goal.loop-row-init

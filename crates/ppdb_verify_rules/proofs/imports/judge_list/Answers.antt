@@ -2,9 +2,7 @@ use Rattle.std.proofs.Common.{◌≡◌, Some, sym}
 use Rattle.ppdb_heaps.specs.Heaps.{blob_at}
 use Rattle.ppdb_tables.specs.RawOf.{raw_of}
 use Rattle.type_blobs.specs.Imports.{imports}
-use Rattle.ppdb_verify_rules.specs.Blobs.{type_limits}
-use Rattle.ppdb_verify_rules.proofs.BlobFaults.{not_whole, value_there}
-use Rattle.ppdb_verify_rules.proofs.ImportFaults.{no_list_first, invalid_list_first, next_1}
+use Rattle.ppdb_verify_rules.{specs.Blobs.{type_limits}, proofs.BlobFaults.{not_whole, value_there}, proofs.ImportFaults.{no_list_first, invalid_list_first, next_1}}
 use Rattle.ppdb_verify_rules.proofs.imports.judge_list.Goals as goal
 
 pub returns-in_default-clause-err : goal.returns-in_default-clause-err

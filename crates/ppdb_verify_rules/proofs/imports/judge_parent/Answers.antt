@@ -1,7 +1,5 @@
-use Rattle.ppdb_tables.specs.RawOf.{raw_of}
-use Rattle.ppdb_tables.proofs.NumberedRows.{row_within}
-use Rattle.ppdb_verify_rules.proofs.CellFaults.{refuted}
-use Rattle.ppdb_verify_rules.proofs.ImportFaults.{no_parent_first, cycle_first, next_0}
+use Rattle.ppdb_tables.{specs.RawOf.{raw_of}, proofs.NumberedRows.{row_within}}
+use Rattle.ppdb_verify_rules.proofs.{CellFaults.{refuted}, ImportFaults.{no_parent_first, cycle_first, next_0}}
 use Rattle.ppdb_verify_rules.proofs.imports.judge_parent.Goals as goal
 
 pub returns-then-names_no_row-clause-err : goal.returns-then-names_no_row-clause-err

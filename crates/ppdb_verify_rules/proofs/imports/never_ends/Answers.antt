@@ -1,8 +1,6 @@
 use Rattle.std.proofs.Common.{arith, length, refl}
-use Rattle.ppdb_tables.specs.RawOf.{raw_of}
-use Rattle.ppdb_tables.specs.declared.rows.ImportRow.{ImportRow}
-use Rattle.ppdb_tables.proofs.NumberedRows.{row_within}
-use Rattle.ppdb_tables.proofs.Walks.{row_ends, marks_end, walk_cycles, joins_end, walk_on, ends_decides, parent_is, past_end}
+use Rattle.ppdb_tables.{specs.RawOf.{raw_of}, specs.declared.rows.ImportRow.{ImportRow}, proofs.NumberedRows.{row_within}, proofs.Walks.{row_ends, marks_end}}
+use Rattle.ppdb_tables.proofs.Walks.{walk_cycles, joins_end, walk_on, ends_decides, parent_is, past_end}
 use Rattle.ppdb_verify_rules.specs.Chains.{parent_in}
 use Rattle.ppdb_verify_rules.proofs.imports.never_ends.Goals as goal
 

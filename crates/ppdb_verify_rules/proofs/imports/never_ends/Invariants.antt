@@ -1,5 +1,4 @@
-use Rattle.std.proofs.Common.{◌==◌}
-use Rattle.std.specs.List.{count_by}
+use Rattle.std.{proofs.Common.{◌==◌}, specs.List.{count_by}}
 use Rattle.ppdb_tables.specs.RawOf.{raw_of}
 use Rattle.ppdb_verify_rules.specs.Chains.{WalksTo}
 use Rattle.ppdb_verify_rules.proofs.imports.never_ends.Given as goal

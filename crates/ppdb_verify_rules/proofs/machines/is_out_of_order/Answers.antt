@@ -1,8 +1,6 @@
-use Rattle.std.proofs.Common.{◌≤◌, ◌-◌, ℕ, arith, IsTrue, nat_le}
-use Rattle.std.proofs.lemmas.Bool.Decides.{nat_tests}
-use Rattle.ppdb_tables.specs.RawOf.{raw_of}
+use Rattle.std.proofs.{Common.{◌≤◌, ◌-◌, ℕ, arith, IsTrue, nat_le}, lemmas.Bool.Decides.{nat_tests}}
+use Rattle.ppdb_tables.{specs.RawOf.{raw_of}, proofs.NumberedRows.{row_within}}
 use Rattle.ppdb_verify_rules.proofs.Order.{machine_before}
-use Rattle.ppdb_tables.proofs.NumberedRows.{row_within}
 use Rattle.ppdb_verify_rules.proofs.machines.is_out_of_order.Goals as goal
 
 test : (a b : ℕ) → IsTrue (nat_le a b) → a ≤ b

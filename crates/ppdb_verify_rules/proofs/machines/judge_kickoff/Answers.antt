@@ -1,7 +1,5 @@
 use Rattle.ppdb_tables.specs.RawOf.{raw_of}
-use Rattle.ppdb_verify_rules.specs.Seen.{Has}
-use Rattle.ppdb_verify_rules.proofs.CellFaults.{refuted}
-use Rattle.ppdb_verify_rules.proofs.MachineFaults.{no_kickoff_first, same_kickoff_first, next_1}
+use Rattle.ppdb_verify_rules.{specs.Seen.{Has}, proofs.CellFaults.{refuted}, proofs.MachineFaults.{no_kickoff_first, same_kickoff_first, next_1}}
 use Rattle.ppdb_verify_rules.proofs.machines.judge_kickoff.Goals as goal
 
 pub returns-then-names_no_row-clause-err : goal.returns-then-names_no_row-clause-err

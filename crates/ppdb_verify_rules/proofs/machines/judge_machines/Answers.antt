@@ -1,6 +1,5 @@
 use Rattle.ppdb_tables.specs.RawOf.{raw_of}
-use Rattle.ppdb_verify_rules.proofs.SeenSets.{kickoffs_at_first}
-use Rattle.ppdb_verify_rules.proofs.MachineFaults.{first_row}
+use Rattle.ppdb_verify_rules.proofs.{SeenSets.{kickoffs_at_first}, MachineFaults.{first_row}}
 use Rattle.ppdb_verify_rules.proofs.machines.judge_machines.Goals as goal
 
 pub loop-row-init : goal.loop-row-init

@@ -1,6 +1,5 @@
 use Rattle.ppdb_tables.specs.RawOf.{raw_of}
-use Rattle.ppdb_verify_rules.proofs.CellFaults.{refuted}
-use Rattle.ppdb_verify_rules.proofs.MachineFaults.{no_move_next_first, out_of_order_first, next_0}
+use Rattle.ppdb_verify_rules.proofs.{CellFaults.{refuted}, MachineFaults.{no_move_next_first, out_of_order_first, next_0}}
 use Rattle.ppdb_verify_rules.proofs.machines.judge_move_next.Goals as goal
 
 pub returns-then-names_no_row-clause-err : goal.returns-then-names_no_row-clause-err

@@ -1,6 +1,5 @@
 use Rattle.ppdb_tables.specs.RawOf.{raw_of}
-use Rattle.ppdb_verify_rules.proofs.CellFaults.{refuted}
-use Rattle.ppdb_verify_rules.proofs.MethodDebugFaults.{no_document_first, next_0}
+use Rattle.ppdb_verify_rules.proofs.{CellFaults.{refuted}, MethodDebugFaults.{no_document_first, next_0}}
 use Rattle.ppdb_verify_rules.proofs.methods.judge_document.Goals as goal
 
 pub returns-then-names_no_row-clause-err : goal.returns-then-names_no_row-clause-err

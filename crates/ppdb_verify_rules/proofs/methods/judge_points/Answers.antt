@@ -1,11 +1,9 @@
-use Rattle.std.proofs.Common.{sym}
+use Rattle.std.proofs.Common.{sym, ◌≡◌, ◌∙◌, Some, [], ap, refl}
 use Rattle.ppdb_tables.specs.RawOf.{raw_of}
-use Rattle.std.proofs.Common.{◌≡◌, ◌∙◌, Some, [], ap, refl}
 use Rattle.ppdb_heaps.specs.Heaps.{blob_at}
 use Rattle.sequence_points.specs.Records.{sequence_points}
-use Rattle.ppdb_verify_rules.specs.Blobs.{point_limits}
-use Rattle.ppdb_verify_rules.proofs.BlobFaults.{no_length, not_whole, value_there}
-use Rattle.ppdb_verify_rules.proofs.MethodDebugFaults.{no_points_first, invalid_points_first, next_1}
+use Rattle.ppdb_verify_rules.{specs.Blobs.{point_limits}, proofs.BlobFaults.{no_length, not_whole, value_there}, proofs.MethodDebugFaults.{no_points_first}}
+use Rattle.ppdb_verify_rules.proofs.MethodDebugFaults.{invalid_points_first, next_1}
 use Rattle.ppdb_verify_rules.proofs.methods.judge_points.Goals as goal
 
 pub returns-in_default-clause-err : goal.returns-in_default-clause-err

@@ -1,10 +1,7 @@
 use Rattle.std.proofs.Common.{ap, ◌∙◌, List, [], ◌++◌, length, Option, Some, None, is_some, Bool, true, false, not, IsTrue, ◌↔◌, ◌<◌, refl, arith, ℕ, ◌≡◌}
-use Rattle.std.proofs.lemmas.Result.{err_from_is_err_and}
-use Rattle.std.specs.Borrow.{Bor}
-use Rattle.ppdb_verify_rules.specs.SeenNames.{HasRoom}
-use Rattle.ppdb_heaps.specs.Views.{blobs_of}
-use Rattle.ppdb_heaps.proofs.Joins.{answer-is, joining-starts, joining-none, joining-fault}
-use Rattle.ppdb_verify_rules.proofs.NameParts.{joining-end, joining-goes}
+use Rattle.std.{proofs.lemmas.Result.{err_from_is_err_and}, specs.Borrow.{Bor}}
+use Rattle.ppdb_verify_rules.{specs.SeenNames.{HasRoom}, proofs.NameParts.{joining-end, joining-goes}}
+use Rattle.ppdb_heaps.{specs.Views.{blobs_of}, proofs.Joins.{answer-is, joining-starts, joining-none, joining-fault}}
 use Rattle.ppdb_verify_rules.proofs.names.exceeds.Goals as goal
 
 -- where there is no room, there are more bytes

@@ -1,7 +1,5 @@
-use Rattle.std.proofs.Common.{List, length}
-use Rattle.std.proofs.Common.{[], ℕ}
-use Rattle.ppdb_heaps.specs.Views.{blobs_of}
-use Rattle.ppdb_heaps.proofs.Joins.{Joining}
+use Rattle.std.proofs.Common.{List, length, [], ℕ}
+use Rattle.ppdb_heaps.{specs.Views.{blobs_of}, proofs.Joins.{Joining}}
 use Rattle.ppdb_verify_rules.specs.SeenNames.{HasRoom}
 use Rattle.ppdb_verify_rules.proofs.names.exceeds.Given as goal
 

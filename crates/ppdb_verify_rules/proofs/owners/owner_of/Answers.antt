@@ -1,9 +1,6 @@
 use Rattle.std.proofs.Common.{◌<◌, ◌≤◌, ◌+◌, subst, arith}
-use Rattle.ppdb_tables.specs.declared.rows.ScopeRow.{ScopeRow}
-use Rattle.ppdb_tables.specs.RawOf.{raw_of}
-use Rattle.ppdb_verify_rules.specs.Lists.{list_of}
-use Rattle.ppdb_tables.proofs.NumberedRows.{same_row, row_within}
-use Rattle.ppdb_verify_rules.proofs.ListOwners.{before_begun, owner_found}
+use Rattle.ppdb_tables.{specs.declared.rows.ScopeRow.{ScopeRow}, specs.RawOf.{raw_of}, proofs.NumberedRows.{same_row, row_within}}
+use Rattle.ppdb_verify_rules.{specs.Lists.{list_of}, proofs.ListOwners.{before_begun, owner_found}}
 use Rattle.ppdb_verify_rules.proofs.owners.owner_of.Goals as goal
 
 pub loop-owner-init : goal.loop-owner-init

@@ -1,7 +1,5 @@
 use Rattle.std.proofs.Common.{◌≤◌, ◌-◌, ◌≡◌, Some, length}
-use Rattle.ppdb_tables.specs.declared.rows.ScopeRow.{ScopeRow}
-use Rattle.ppdb_tables.specs.RawTables.{row_at}
-use Rattle.ppdb_tables.specs.RawOf.{raw_of}
+use Rattle.ppdb_tables.specs.{declared.rows.ScopeRow.{ScopeRow}, RawTables.{row_at}, RawOf.{raw_of}}
 use Rattle.ppdb_verify_rules.specs.Lists.{list_of}
 use Rattle.ppdb_verify_rules.proofs.owners.owner_of.Given as goal
 

@@ -1,7 +1,6 @@
 use Rattle.std.proofs.Common.{ℕ, ◌+◌, arith, subst}
 use Rattle.ppdb_tables.specs.RawOf.{raw_of}
-use Rattle.ppdb_verify_rules.specs.Judged.{ToRow}
-use Rattle.ppdb_verify_rules.proofs.AllRows.{from_first, past_rows}
+use Rattle.ppdb_verify_rules.{specs.Judged.{ToRow}, proofs.AllRows.{from_first, past_rows}}
 use Rattle.ppdb_verify_rules.proofs.rows.judge_tables_before.Goals as goal
 
 pub loop-table-init : goal.loop-table-init

@@ -1,6 +1,5 @@
 use Rattle.std.proofs.Common.{arith, vec_len}
-use Rattle.ppdb_tables.specs.RawOf.{raw_of}
-use Rattle.ppdb_tables.proofs.NumberedRows.{row_within}
+use Rattle.ppdb_tables.{specs.RawOf.{raw_of}, proofs.NumberedRows.{row_within}}
 use Rattle.ppdb_verify_rules.proofs.Nesting.{at_new_method, at_same_method}
 use Rattle.ppdb_verify_rules.proofs.scopes.go_to.Goals as goal
 

@@ -1,7 +1,6 @@
 use Rattle.std.proofs.Common.{◌-◌, arith}
-use Rattle.ppdb_tables.specs.RawOf.{raw_of}
+use Rattle.ppdb_tables.{specs.RawOf.{raw_of}, proofs.NumberedRows.{row_within}}
 use Rattle.ppdb_verify_rules.proofs.Order.{scope_before}
-use Rattle.ppdb_tables.proofs.NumberedRows.{row_within}
 use Rattle.ppdb_verify_rules.proofs.scopes.is_below_earlier.Goals as goal
 
 pub returns-then-row-gt1 : goal.returns-then-row-gt1

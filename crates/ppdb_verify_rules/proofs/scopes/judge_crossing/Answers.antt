@@ -1,6 +1,5 @@
 use Rattle.ppdb_tables.specs.RawOf.{raw_of}
-use Rattle.ppdb_verify_rules.proofs.CellFaults.{refuted}
-use Rattle.ppdb_verify_rules.proofs.ScopeFaults.{crossing_first, crossing_next}
+use Rattle.ppdb_verify_rules.proofs.{CellFaults.{refuted}, ScopeFaults.{crossing_first, crossing_next}}
 use Rattle.ppdb_verify_rules.proofs.scopes.judge_crossing.Goals as goal
 
 pub returns-then-crosses_earlier-clause-err : goal.returns-then-crosses_earlier-clause-err

@@ -1,6 +1,5 @@
 use Rattle.ppdb_tables.specs.RawOf.{raw_of}
-use Rattle.ppdb_verify_rules.proofs.CellFaults.{refuted}
-use Rattle.ppdb_verify_rules.proofs.ScopeFaults.{import_first, import_next}
+use Rattle.ppdb_verify_rules.proofs.{CellFaults.{refuted}, ScopeFaults.{import_first, import_next}}
 use Rattle.ppdb_verify_rules.proofs.scopes.judge_import.Goals as goal
 
 pub returns-then-names_no_row-clause-err : goal.returns-then-names_no_row-clause-err

@@ -1,6 +1,5 @@
 use Rattle.ppdb_tables.specs.RawOf.{raw_of}
-use Rattle.ppdb_verify_rules.proofs.CellFaults.{refuted}
-use Rattle.ppdb_verify_rules.proofs.ScopeFaults.{list_first, list_next}
+use Rattle.ppdb_verify_rules.proofs.{CellFaults.{refuted}, ScopeFaults.{list_first, list_next}}
 use Rattle.ppdb_verify_rules.proofs.scopes.judge_list.Goals as goal
 
 pub returns-then-is_list_out-clause-err : goal.returns-then-is_list_out-clause-err

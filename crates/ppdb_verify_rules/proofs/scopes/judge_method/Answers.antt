@@ -1,6 +1,5 @@
 use Rattle.ppdb_tables.specs.RawOf.{raw_of}
-use Rattle.ppdb_verify_rules.proofs.CellFaults.{refuted}
-use Rattle.ppdb_verify_rules.proofs.ScopeFaults.{method_first, order_first, method_next}
+use Rattle.ppdb_verify_rules.proofs.{CellFaults.{refuted}, ScopeFaults.{method_first, order_first, method_next}}
 use Rattle.ppdb_verify_rules.proofs.scopes.judge_method.Goals as goal
 
 pub returns-then-names_no_row-clause-err : goal.returns-then-names_no_row-clause-err

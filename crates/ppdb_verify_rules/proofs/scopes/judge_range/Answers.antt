@@ -1,6 +1,5 @@
 use Rattle.ppdb_tables.specs.RawOf.{raw_of}
-use Rattle.ppdb_verify_rules.proofs.CellFaults.{refuted}
-use Rattle.ppdb_verify_rules.proofs.ScopeFaults.{range_first, range_next}
+use Rattle.ppdb_verify_rules.proofs.{CellFaults.{refuted}, ScopeFaults.{range_first, range_next}}
 use Rattle.ppdb_verify_rules.proofs.scopes.judge_range.Goals as goal
 
 pub returns-then-has_no_range-clause-err : goal.returns-then-has_no_range-clause-err

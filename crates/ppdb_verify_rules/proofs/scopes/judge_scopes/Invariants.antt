@@ -1,9 +1,6 @@
 use Rattle.std.proofs.Common.{◌≡◌, ◌-◌, Some}
-use Rattle.ppdb_tables.specs.declared.rows.ScopeRow.{ScopeRow}
-use Rattle.ppdb_tables.specs.RawTables.{row_at}
-use Rattle.ppdb_tables.specs.RawOf.{raw_of}
-use Rattle.ppdb_verify_rules.specs.Judged.{ToRow}
-use Rattle.ppdb_verify_rules.specs.Open.{AreOpen}
+use Rattle.ppdb_tables.specs.{declared.rows.ScopeRow.{ScopeRow}, RawTables.{row_at}, RawOf.{raw_of}}
+use Rattle.ppdb_verify_rules.specs.{Judged.{ToRow}, Open.{AreOpen}}
 use Rattle.ppdb_verify_rules.proofs.scopes.judge_scopes.Given as goal
 
 abbrev pub invariant-loop-row : goal.invariant-loop-row

@@ -1,7 +1,5 @@
 use Rattle.std.proofs.Common.{◌≡◌, ◌*◌, ◌/◌, ◌%◌, ◌^◌, get_or, set, ap, subst, ◌∙◌, sym, arith, w32, bit_or, inl, inr, get_or-set_same, get_or-set_other}
-use Rattle.std.specs.Int.{bit_at}
-use Rattle.std.proofs.lemmas.Nat.Bits.{bit_at_set_same, bit_at_set_other, bit_at_or}
-use Rattle.std.proofs.lemmas.Bool.{cases_eq}
+use Rattle.std.{specs.Int.{bit_at}, proofs.lemmas.Nat.Bits.{bit_at_set_same, bit_at_set_other, bit_at_or}, proofs.lemmas.Bool.{cases_eq}}
 use Rattle.ppdb_verify_rules.proofs.seen.set_bit.Goals as goal
 
 pub returns-clause-added : goal.returns-clause-added

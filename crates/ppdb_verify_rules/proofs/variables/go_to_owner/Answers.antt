@@ -1,6 +1,5 @@
 use Rattle.std.proofs.Common.{arith}
-use Rattle.ppdb_tables.specs.declared.rows.VariableRow.{VariableRow}
-use Rattle.ppdb_tables.specs.RawOf.{raw_of}
+use Rattle.ppdb_tables.specs.{declared.rows.VariableRow.{VariableRow}, RawOf.{raw_of}}
 use Rattle.ppdb_verify_rules.proofs.ListOwners.{texts_at_new}
 use Rattle.ppdb_verify_rules.proofs.variables.go_to_owner.Goals as goal
 

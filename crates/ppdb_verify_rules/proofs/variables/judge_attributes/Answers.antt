@@ -1,6 +1,5 @@
 use Rattle.ppdb_tables.specs.RawOf.{raw_of}
-use Rattle.ppdb_verify_rules.proofs.ListOwners.{variables_from_1}
-use Rattle.ppdb_verify_rules.proofs.VariableFaults.{alone_first, next_0}
+use Rattle.ppdb_verify_rules.proofs.{ListOwners.{variables_from_1}, VariableFaults.{alone_first, next_0}}
 use Rattle.ppdb_verify_rules.proofs.variables.judge_attributes.Goals as goal
 
 pub returns-then-row_count-eq0-clause-err : goal.returns-then-row_count-eq0-clause-err

@@ -1,9 +1,7 @@
 use Rattle.std.proofs.Common.{◌≡◌, Some, sym}
 use Rattle.ppdb_heaps.specs.Heaps.{text_at}
-use Rattle.ppdb_tables.specs.declared.rows.VariableRow.{VariableRow}
-use Rattle.ppdb_tables.specs.RawOf.{raw_of}
-use Rattle.ppdb_verify_rules.specs.Seen.{HasText}
-use Rattle.ppdb_verify_rules.proofs.ListOwners.{annotated_text, repeated_text, text_there, texts_after}
+use Rattle.ppdb_tables.specs.{declared.rows.VariableRow.{VariableRow}, RawOf.{raw_of}}
+use Rattle.ppdb_verify_rules.{specs.Seen.{HasText}, proofs.ListOwners.{annotated_text, repeated_text, text_there, texts_after}}
 use Rattle.ppdb_verify_rules.proofs.VariableFaults.{no_text_first, same_text_first, next_2}
 use Rattle.ppdb_verify_rules.proofs.variables.judge_name.Goals as goal
 

@@ -1,9 +1,6 @@
 use Rattle.std.proofs.Common.{◌≡◌, ◌≢◌, slice_index}
-use Rattle.ppdb_tables.specs.declared.rows.VariableRow.{VariableRow}
-use Rattle.ppdb_tables.specs.RawOf.{raw_of}
-use Rattle.ppdb_tables.proofs.NumberedRows.{row_within}
-use Rattle.ppdb_verify_rules.proofs.ListOwners.{of_owner, of_scope, slots_after}
-use Rattle.ppdb_verify_rules.proofs.VariableFaults.{same_slot_first, next_1}
+use Rattle.ppdb_tables.{specs.declared.rows.VariableRow.{VariableRow}, specs.RawOf.{raw_of}, proofs.NumberedRows.{row_within}}
+use Rattle.ppdb_verify_rules.proofs.{ListOwners.{of_owner, of_scope, slots_after}, VariableFaults.{same_slot_first, next_1}}
 use Rattle.ppdb_verify_rules.proofs.variables.judge_slot.Goals as goal
 
 pub returns-then-not-is_new-clause-err : goal.returns-then-not-is_new-clause-err

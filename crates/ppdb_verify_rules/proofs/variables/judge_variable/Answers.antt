@@ -1,6 +1,5 @@
 use Rattle.ppdb_tables.specs.RawOf.{raw_of}
-use Rattle.ppdb_verify_rules.proofs.ListOwners.{owner_before}
-use Rattle.ppdb_verify_rules.proofs.VariableFaults.{past_row}
+use Rattle.ppdb_verify_rules.proofs.{ListOwners.{owner_before}, VariableFaults.{past_row}}
 use Rattle.ppdb_verify_rules.proofs.variables.judge_variable.Goals as goal
 
 pub returns-clause-ok : goal.returns-clause-ok

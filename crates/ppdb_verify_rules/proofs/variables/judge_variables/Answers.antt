@@ -1,8 +1,6 @@
 use Rattle.std.proofs.Common.{inl, refl}
-use Rattle.ppdb_tables.specs.RawOf.{raw_of}
-use Rattle.ppdb_tables.specs.declared.rows.VariableRow.{VariableRow}
-use Rattle.ppdb_verify_rules.proofs.ListOwners.{lists_of_variables, slots_at_first, texts_at_first}
-use Rattle.ppdb_verify_rules.proofs.VariableFaults.{first_row}
+use Rattle.ppdb_tables.specs.{RawOf.{raw_of}, declared.rows.VariableRow.{VariableRow}}
+use Rattle.ppdb_verify_rules.proofs.{ListOwners.{lists_of_variables, slots_at_first, texts_at_first}, VariableFaults.{first_row}}
 use Rattle.ppdb_verify_rules.proofs.variables.judge_variables.Goals as goal
 
 pub loop-row-init : goal.loop-row-init

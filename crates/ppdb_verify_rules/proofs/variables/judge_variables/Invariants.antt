@@ -1,6 +1,5 @@
 use Rattle.ppdb_tables.specs.RawOf.{raw_of}
-use Rattle.ppdb_verify_rules.specs.Judged.{ToRow}
-use Rattle.ppdb_verify_rules.specs.Seen.{AreSlots, AreVariableNames, OwnsBefore}
+use Rattle.ppdb_verify_rules.specs.{Judged.{ToRow}, Seen.{AreSlots, AreVariableNames, OwnsBefore}}
 use Rattle.ppdb_verify_rules.proofs.variables.judge_variables.Given as goal
 
 abbrev pub invariant-loop-row : goal.invariant-loop-row

@@ -1,12 +1,8 @@
 use Rattle.std.proofs.Common.{List, ap}
-use Rattle.ppdb_heaps.specs.Heaps.{blob_at}
-use Rattle.ppdb_heaps.specs.Views.{blobs_of}
-use Rattle.type_blobs.specs.Imports.{import_indexes, text_index}
-use Rattle.type_blobs.proofs.ImportFieldsAre.{import_indexes-are}
+use Rattle.ppdb_heaps.specs.{Heaps.{blob_at}, Views.{blobs_of}}
+use Rattle.type_blobs.{specs.Imports.{import_indexes, text_index}, proofs.ImportFieldsAre.{import_indexes-are}}
 use Rattle.blob_grammar.specs.declared.places.PlacedIndex.{PlacedIndex}
-use Rattle.ppdb_verify_total.specs.HeapUses.{named_inside}
-use Rattle.ppdb_verify_total.specs.Spans.{spanned}
-use Rattle.ppdb_verify_total.proofs.Walked.{no_items, invalid_items, walk-done, walk-next, walk-over}
+use Rattle.ppdb_verify_total.{specs.HeapUses.{named_inside}, specs.Spans.{spanned}, proofs.Walked.{no_items, invalid_items, walk-done, walk-next, walk-over}}
 use Rattle.ppdb_verify_total.proofs.inside.add_imports.Goals as goal
 
 pub loop-next-init : goal.loop-next-init

@@ -1,6 +1,5 @@
 use Rattle.std.proofs.Common.{◌≤◌, length}
-use Rattle.ppdb_heaps.specs.Heaps.{blob_at}
-use Rattle.ppdb_heaps.specs.Views.{blobs_of}
+use Rattle.ppdb_heaps.specs.{Heaps.{blob_at}, Views.{blobs_of}}
 use Rattle.type_blobs.specs.Imports.{import_indexes, text_index}
 use Rattle.ppdb_base.specs.declared.limits.TheConstants.{MAX_SPAN}
 use Rattle.ppdb_verify_total.proofs.Walked.{GoesOn}

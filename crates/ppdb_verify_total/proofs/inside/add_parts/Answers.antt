@@ -1,12 +1,8 @@
 use Rattle.std.proofs.Common.{◌≡◌, List, [], ◌∷◌, sym, ap, ◌∙◌}
-use Rattle.ppdb_heaps.specs.Names.{name_indexes}
-use Rattle.ppdb_heaps.specs.Views.{blobs_of}
-use Rattle.ppdb_heaps.proofs.Whole.{name_indexes-are}
+use Rattle.ppdb_heaps.{specs.Names.{name_indexes}, specs.Views.{blobs_of}, proofs.Whole.{name_indexes-are}}
 use Rattle.blob_grammar.specs.declared.places.PlacedIndex.{PlacedIndex}
-use Rattle.ppdb_verify_total.specs.HeapUses.{named_inside}
-use Rattle.ppdb_verify_total.specs.Spans.{spanned}
-use Rattle.ppdb_verify_total.proofs.Sums.{none-more}
-use Rattle.ppdb_verify_total.proofs.Walked.{no_items, invalid_items, each_once, walk-done, walk-next, walk-over}
+use Rattle.ppdb_verify_total.{specs.HeapUses.{named_inside}, specs.Spans.{spanned}, proofs.Sums.{none-more}, proofs.Walked.{no_items, invalid_items, each_once}}
+use Rattle.ppdb_verify_total.proofs.Walked.{walk-done, walk-next, walk-over}
 use Rattle.ppdb_verify_total.proofs.inside.add_parts.Goals as goal
 
 pub returns-in_default-clause-sum : goal.returns-in_default-clause-sum

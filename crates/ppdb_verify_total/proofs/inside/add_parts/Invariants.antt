@@ -1,6 +1,5 @@
 use Rattle.std.proofs.Common.{◌≤◌, [], ◌∷◌, length}
-use Rattle.ppdb_heaps.specs.Names.{name_indexes}
-use Rattle.ppdb_heaps.specs.Views.{blobs_of}
+use Rattle.ppdb_heaps.specs.{Names.{name_indexes}, Views.{blobs_of}}
 use Rattle.ppdb_base.specs.declared.limits.TheConstants.{MAX_SPAN}
 use Rattle.ppdb_verify_total.proofs.Walked.{GoesOn}
 use Rattle.ppdb_verify_total.proofs.inside.add_parts.Given as goal

@@ -1,13 +1,9 @@
 use Rattle.std.proofs.Common.{◌≡◌, [], ◌∷◌, length, Option, Some, List, ℕ, Err, sym, subst}
 use Rattle.ppdb_heaps.specs.Heaps.{blob_at}
 use Rattle.ppdb_tables.specs.RawOf.{raw_of}
-use Rattle.type_blobs.specs.Imports.{import_indexes}
-use Rattle.ppdb_verify_rules.specs.Blobs.{type_limits}
-use Rattle.type_blobs.specs.declared.types.TypeLimits.{TypeLimits}
-use Rattle.ppdb_verify_rules.specs.Blobs.{in_blob}
-use Rattle.ppdb_verify_total.specs.HeapUses.{in_imports, len_of, named_inside}
-use Rattle.ppdb_verify_total.specs.Spans.{spanned}
-use Rattle.ppdb_verify_total.proofs.Sums.{cut_short, followed}
+use Rattle.type_blobs.specs.{Imports.{import_indexes}, declared.types.TypeLimits.{TypeLimits}}
+use Rattle.ppdb_verify_rules.specs.Blobs.{type_limits, in_blob}
+use Rattle.ppdb_verify_total.{specs.HeapUses.{in_imports, len_of, named_inside}, specs.Spans.{spanned}, proofs.Sums.{cut_short, followed}}
 use Rattle.ppdb_verify_total.proofs.rows.add_list.Goals as goal
 
 pub returns-in-Ok-clause-sum : goal.returns-in-Ok-clause-sum

@@ -1,11 +1,8 @@
 use Rattle.std.proofs.Common.{◌≡◌, [], ◌∷◌, length, Option, Some, List, ℕ, Err, sym, subst}
-use Rattle.ppdb_heaps.specs.Heaps.{blob_at}
+use Rattle.ppdb_heaps.specs.{Heaps.{blob_at}, Names.{name_indexes}}
 use Rattle.ppdb_tables.specs.RawOf.{raw_of}
-use Rattle.ppdb_heaps.specs.Names.{name_indexes}
 use Rattle.ppdb_verify_rules.specs.Blobs.{in_blob}
-use Rattle.ppdb_verify_total.specs.HeapUses.{in_name, len_of, named_inside}
-use Rattle.ppdb_verify_total.specs.Spans.{spanned}
-use Rattle.ppdb_verify_total.proofs.Sums.{cut_short, followed}
+use Rattle.ppdb_verify_total.{specs.HeapUses.{in_name, len_of, named_inside}, specs.Spans.{spanned}, proofs.Sums.{cut_short, followed}}
 use Rattle.ppdb_verify_total.proofs.rows.add_name.Goals as goal
 
 pub returns-in-Ok-clause-sum : goal.returns-in-Ok-clause-sum

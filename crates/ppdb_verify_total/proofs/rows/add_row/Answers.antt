@@ -1,13 +1,10 @@
 use Rattle.std.proofs.Common.{[], ◌∷◌, ap, sym, ◌∙◌}
 use Rattle.ppdb_heaps.specs.Heaps.{blob_at}
-use Rattle.ppdb_tables.specs.RawTables.{row_at}
-use Rattle.ppdb_tables.specs.RawOf.{raw_of}
+use Rattle.ppdb_tables.specs.{RawTables.{row_at}, RawOf.{raw_of}}
 use Rattle.ppdb_verify_total.specs.HeapUses.{blob_in, text_in, in_name, named_inside, of_document, of_method, of_variable, of_constant, of_import, of_custom}
-use Rattle.ppdb_verify_total.specs.Spans.{spanned}
-use Rattle.ppdb_verify_total.specs.TableRows.{rows_of}
+use Rattle.ppdb_verify_total.specs.{Spans.{spanned}, TableRows.{rows_of}}
 use Rattle.ppdb_verify_total.specs.declared.rows.Table as table
-use Rattle.ppdb_verify_total.proofs.Sums.{cut_short, followed}
-use Rattle.ppdb_verify_total.proofs.RowLists.{names_are}
+use Rattle.ppdb_verify_total.proofs.{Sums.{cut_short, followed}, RowLists.{names_are}}
 use Rattle.ppdb_verify_total.proofs.rows.add_row.Goals as goal
 
 pub returns-in-Ok-clause-sum : goal.returns-in-Ok-clause-sum

@@ -1,12 +1,7 @@
 use Rattle.std.proofs.Common.{◌≡◌, ◌+◌, length, sym, ap, ◌∙◌, arith}
-use Rattle.ppdb_tables.specs.RawTables.{count}
-use Rattle.ppdb_tables.specs.RawOf.{raw_of}
-use Rattle.ppdb_tables.proofs.NumberedRows.{row_there}
-use Rattle.ppdb_verify_total.specs.Spans.{spanned}
-use Rattle.ppdb_verify_total.specs.TableRows.{of_table, rows_of}
-use Rattle.ppdb_verify_total.proofs.RowLists.{from_row, no_rest, row_and_rest}
-use Rattle.ppdb_verify_total.proofs.TableLists.{rows_are, table_is}
-use Rattle.ppdb_verify_total.proofs.Sums.{sum-few, sum-none, sum-past}
+use Rattle.ppdb_tables.{specs.RawTables.{count}, specs.RawOf.{raw_of}, proofs.NumberedRows.{row_there}}
+use Rattle.ppdb_verify_total.{specs.Spans.{spanned}, specs.TableRows.{of_table, rows_of}, proofs.RowLists.{from_row, no_rest, row_and_rest}}
+use Rattle.ppdb_verify_total.proofs.{TableLists.{rows_are, table_is}, Sums.{sum-few, sum-none, sum-past}}
 use Rattle.ppdb_verify_total.proofs.tables.add_table.Goals as goal
 
 pub loop-row-init : goal.loop-row-init

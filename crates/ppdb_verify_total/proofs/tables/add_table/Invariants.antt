@@ -1,9 +1,7 @@
 use Rattle.std.proofs.Common.{◌≡◌, ◌≤◌}
 use Rattle.ppdb_base.specs.declared.limits.TheConstants.{MAX_SPAN}
 use Rattle.ppdb_tables.specs.RawOf.{raw_of}
-use Rattle.ppdb_verify_total.specs.Spans.{spanned}
-use Rattle.ppdb_verify_total.specs.TableRows.{of_table, rows_of}
-use Rattle.ppdb_verify_total.proofs.RowLists.{from_row}
+use Rattle.ppdb_verify_total.{specs.Spans.{spanned}, specs.TableRows.{of_table, rows_of}, proofs.RowLists.{from_row}}
 use Rattle.ppdb_verify_total.proofs.tables.add_table.Given as goal
 
 abbrev pub invariant-loop-row : goal.invariant-loop-row

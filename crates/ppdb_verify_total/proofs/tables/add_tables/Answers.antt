@@ -1,10 +1,7 @@
 use Rattle.std.proofs.Common.{◌++◌, ap, sym, ◌∙◌}
 use Rattle.ppdb_tables.specs.RawOf.{raw_of}
-use Rattle.ppdb_verify_total.specs.HeapUses.{heap_uses}
-use Rattle.ppdb_verify_total.specs.Spans.{spanned}
-use Rattle.ppdb_verify_total.specs.TableRows.{of_table}
-use Rattle.ppdb_verify_total.specs.declared.rows.Table.TheVariants.{Document, MethodDebug, LocalVariable, LocalConstant, ImportScope, Custom}
-use Rattle.ppdb_verify_total.proofs.TableLists.{tables_are}
+use Rattle.ppdb_verify_total.specs.{HeapUses.{heap_uses}, Spans.{spanned}, TableRows.{of_table}, declared.rows.Table.TheVariants.{Document, MethodDebug}}
+use Rattle.ppdb_verify_total.{specs.declared.rows.Table.TheVariants.{LocalVariable, LocalConstant, ImportScope, Custom}, proofs.TableLists.{tables_are}}
 use Rattle.ppdb_verify_total.proofs.Sums.{sum-few, sum-past}
 use Rattle.ppdb_verify_total.proofs.tables.add_tables.Goals as goal
 

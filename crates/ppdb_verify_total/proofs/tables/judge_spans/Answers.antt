@@ -1,7 +1,6 @@
 use Rattle.std.proofs.Common.{sym}
 use Rattle.ppdb_tables.specs.RawOf.{raw_of}
-use Rattle.ppdb_verify_total.proofs.Rising.{rising}
-use Rattle.ppdb_verify_total.proofs.Sums.{span_accepted, span_first}
+use Rattle.ppdb_verify_total.proofs.{Rising.{rising}, Sums.{span_accepted, span_first}}
 use Rattle.ppdb_verify_total.proofs.tables.judge_spans.Goals as goal
 
 pub returns-in-Ok-clause-accepted : goal.returns-in-Ok-clause-accepted

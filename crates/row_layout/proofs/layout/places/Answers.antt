@@ -1,7 +1,5 @@
-use Rattle.std.proofs.Common.{◌<◌, ◌++◌, [], ◌∷◌, length, take, sym, ap, ◌∙◌, arith}
-use Rattle.std.proofs.lemmas.List.{take_more_set, length-set}
-use Rattle.row_layout.specs.Rows.{places_from}
-use Rattle.row_layout.proofs.Cells.{places_more, sum_more, width_below}
+use Rattle.std.proofs.{Common.{◌<◌, ◌++◌, [], ◌∷◌, length, take, sym, ap, ◌∙◌, arith}, lemmas.List.{take_more_set, length-set}}
+use Rattle.row_layout.{specs.Rows.{places_from}, proofs.Cells.{places_more, sum_more, width_below}}
 use Rattle.row_layout.proofs.layout.places.Goals as goal
 
 pub loop-i-preserved : goal.loop-i-preserved

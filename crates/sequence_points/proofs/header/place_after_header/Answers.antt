@@ -1,5 +1,4 @@
-use Rattle.std.proofs.Common.{Some, refl, sym, ap, ◌∙◌}
-use Rattle.std.proofs.lemmas.Result.{err_from_is_err_and}
+use Rattle.std.proofs.{Common.{Some, refl, sym, ap, ◌∙◌}, lemmas.Result.{err_from_is_err_and}}
 use Rattle.blob_grammar.proofs.Steps.{nothing_left}
 use Rattle.sequence_points.proofs.Headers.{given_document, row_none, row_out, row_in}
 use Rattle.sequence_points.proofs.header.place_after_header.Goals as goal

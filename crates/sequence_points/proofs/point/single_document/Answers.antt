@@ -1,6 +1,5 @@
 use Rattle.std.proofs.Common.{rules}
-use Rattle.sequence_points.specs.Points.{IsSingleDocument}
-use Rattle.sequence_points.proofs.Single.{single_is}
+use Rattle.sequence_points.{specs.Points.{IsSingleDocument}, proofs.Single.{single_is}}
 use Rattle.sequence_points.proofs.point.single_document.Goals as goal
 
 pub returns-then-all-clause-value : goal.returns-then-all-clause-value

@@ -1,8 +1,6 @@
-use Rattle.std.proofs.Common.{Some, sym, ap, ◌∙◌, arith}
-use Rattle.std.proofs.lemmas.Result.{err_from_is_err_and}
+use Rattle.std.proofs.{Common.{Some, sym, ap, ◌∙◌, arith}, lemmas.Result.{err_from_is_err_and}}
 use Rattle.blob_grammar.specs.Grammar.{number}
-use Rattle.sequence_points.specs.Places.{no_points}
-use Rattle.sequence_points.proofs.Offsets.{row_none, row_out, row_in, same_row}
+use Rattle.sequence_points.{specs.Places.{no_points}, proofs.Offsets.{row_none, row_out, row_in, same_row}}
 use Rattle.sequence_points.proofs.records.document_at.Goals as goal
 
 pub returns-in_err-row : goal.returns-in_err-row

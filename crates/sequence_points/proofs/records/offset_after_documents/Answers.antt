@@ -1,11 +1,7 @@
-use Rattle.std.proofs.Common.{◌≡◌, ◌+◌, ◌<◌, ◌≤◌, [], ◌∷◌, length, drop, Some, sym, ap, ◌∙◌, arith}
-use Rattle.std.proofs.lemmas.Result.{err_from_is_err_and}
-use Rattle.blob_grammar.specs.Grammar.{number}
-use Rattle.blob_grammar.specs.Reader.{unsigned_at}
-use Rattle.blob_grammar.proofs.Placed.{placed_ok, unsigned_within}
-use Rattle.sequence_points.specs.Records.{Sums, sums}
-use Rattle.sequence_points.specs.Places.{no_points, points_at, entries_of}
-use Rattle.sequence_points.proofs.Offsets.{none_at, first_not_0, at_end, offset_in, offset_out}
+use Rattle.std.proofs.{Common.{◌≡◌, ◌+◌, ◌<◌, ◌≤◌, [], ◌∷◌, length, drop, Some, sym, ap, ◌∙◌, arith}, lemmas.Result.{err_from_is_err_and}}
+use Rattle.blob_grammar.{specs.Grammar.{number}, specs.Reader.{unsigned_at}, proofs.Placed.{placed_ok, unsigned_within}}
+use Rattle.sequence_points.{specs.Records.{Sums, sums}, specs.Places.{no_points, points_at, entries_of}, proofs.Offsets.{none_at, first_not_0, at_end, offset_in}}
+use Rattle.sequence_points.proofs.Offsets.{offset_out}
 use Rattle.sequence_points.proofs.records.offset_after_documents.Goals as goal
 
 pub returns-then-place-blob : goal.returns-then-place-blob

@@ -1,6 +1,5 @@
 use Rattle.std.proofs.Common.{◌≡◌, ◌-◌, ◌<◌, ◌≤◌, length}
-use Rattle.sequence_points.specs.Records.{sums}
-use Rattle.sequence_points.specs.Places.{points_left, entries_of}
+use Rattle.sequence_points.specs.{Records.{sums}, Places.{points_left, entries_of}}
 use Rattle.sequence_points.proofs.records.offset_after_documents.Given as goal
 
 abbrev pub invariant-documents : goal.invariant-documents

@@ -1,15 +1,9 @@
-use Rattle.std.proofs.Common.{◌≡◌, ◌+◌, ◌<◌, ◌≤◌, length, sym, ap, subst, ◌∙◌, arith}
-use Rattle.std.proofs.lemmas.Result.{err_from_is_err_and}
-use Rattle.blob_grammar.specs.Grammar.{number}
-use Rattle.blob_grammar.specs.Reader.{Left, push}
-use Rattle.sequence_points.specs.declared.point.Point.{Point}
-use Rattle.sequence_points.specs.declared.place.Place.{Place}
-use Rattle.sequence_points.specs.declared.point.Span.TheVariants.{Hidden}
-use Rattle.sequence_points.specs.Records.{sums, int_of}
-use Rattle.sequence_points.specs.Places.{points_left, entries_of, PointIs, place_after, start_of}
-use Rattle.sequence_points.proofs.Offsets.{row_none, lines_in, columns_none, columns_in, hidden_read, zero_int, not_zero_int, small}
-use Rattle.sequence_points.proofs.Visible.{passed}
-use Rattle.std.specs.Int.{w64, cast_signed, cast_unsigned}
+use Rattle.std.{proofs.Common.{◌≡◌, ◌+◌, ◌<◌, ◌≤◌, length, sym, ap, subst, ◌∙◌, arith}, proofs.lemmas.Result.{err_from_is_err_and}, specs.Int.{w64, cast_signed}}
+use Rattle.std.specs.Int.{cast_unsigned}
+use Rattle.blob_grammar.specs.{Grammar.{number}, Reader.{Left, push}}
+use Rattle.sequence_points.specs.{declared.point.Point.{Point}, declared.place.Place.{Place}, declared.point.Span.TheVariants.{Hidden}, Records.{sums, int_of}}
+use Rattle.sequence_points.{specs.Places.{points_left, entries_of, PointIs, place_after, start_of}, proofs.Offsets.{row_none, lines_in, columns_none, columns_in}}
+use Rattle.sequence_points.proofs.{Offsets.{hidden_read, zero_int, not_zero_int, small}, Visible.{passed}}
 use Rattle.sequence_points.proofs.records.point_after_offset.Goals as goal
 
 pub returns-in_err-lines : goal.returns-in_err-lines

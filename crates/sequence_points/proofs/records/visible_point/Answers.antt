@@ -1,12 +1,7 @@
-use Rattle.std.proofs.Common.{◌+◌, ◌≤◌, length, Some, None, pos, ◌+ℤ◌, sym, ap, subst, ◌<◌, ◌∙◌, arith}
-use Rattle.blob_grammar.specs.Grammar.{number}
-use Rattle.sequence_points.specs.Places.{no_points, RangeIs, points_left, entries_of, place_after}
-use Rattle.sequence_points.specs.declared.place.Place.{Place}
-use Rattle.blob_grammar.specs.Reader.{push}
-use Rattle.sequence_points.specs.Records.{sums}
-use Rattle.sequence_points.specs.Ranges.{is_line, is_column}
-use Rattle.std.specs.Int.{w64, cast_signed, cast_unsigned}
-use Rattle.sequence_points.proofs.Visible.{passed, no_line, line_out, line_in, no_column, column_out, point_in}
+use Rattle.std.{proofs.Common.{◌+◌, ◌≤◌, length, Some, None, pos, ◌+ℤ◌, sym, ap, subst, ◌<◌, ◌∙◌, arith}, specs.Int.{w64, cast_signed, cast_unsigned}}
+use Rattle.blob_grammar.specs.{Grammar.{number}, Reader.{push}}
+use Rattle.sequence_points.specs.{Places.{no_points, RangeIs, points_left, entries_of, place_after}, declared.place.Place.{Place}, Records.{sums}, Ranges.{is_line}}
+use Rattle.sequence_points.{specs.Ranges.{is_column}, proofs.Visible.{passed, no_line, line_out, line_in, no_column, column_out, point_in}}
 use Rattle.sequence_points.proofs.records.visible_point.Goals as goal
 
 pub returns-in-Err : goal.returns-in-Err

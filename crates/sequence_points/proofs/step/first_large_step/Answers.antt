@@ -1,7 +1,5 @@
-use Rattle.std.proofs.Common.{refl, sym, ap, ◌∙◌, take, arith}
-use Rattle.std.proofs.lemmas.List.{drop_all}
-use Rattle.sequence_points.specs.Written.{first_of, large_steps}
-use Rattle.sequence_points.proofs.Before.{step_none, step_some, start_next}
+use Rattle.std.proofs.{Common.{refl, sym, ap, ◌∙◌, take, arith}, lemmas.List.{drop_all}}
+use Rattle.sequence_points.{specs.Written.{first_of, large_steps}, proofs.Before.{step_none, step_some, start_next}}
 use Rattle.sequence_points.proofs.step.first_large_step.Goals as goal
 
 pub loop-i-init : goal.loop-i-init

@@ -1,7 +1,5 @@
 use Rattle.std.proofs.Common.{◌++◌, ◌∙◌}
-use Rattle.sequence_points.specs.Written.{points_blob}
-use Rattle.sequence_points.proofs.Before.{start_next}
-use Rattle.sequence_points.proofs.Follows.{follow_head, follow_tail, last_next, left_next, begins_next}
+use Rattle.sequence_points.{specs.Written.{points_blob}, proofs.Before.{start_next}, proofs.Follows.{follow_head, follow_tail, last_next, left_next, begins_next}}
 use Rattle.sequence_points.proofs.writer.blob_into.Goals as goal
 
 pub point_into-requires : goal.point_into-requires

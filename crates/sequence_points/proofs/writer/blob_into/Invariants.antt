@@ -1,7 +1,6 @@
 use Rattle.std.proofs.Common.{◌≡◌, ◌++◌, take, drop}
-use Rattle.sequence_points.specs.Written.{last_of, last_start, points_bytes, points_blob}
+use Rattle.sequence_points.specs.{Written.{last_of, last_start, points_bytes, points_blob}, Following.{EachMayFollow}}
 use Rattle.ppdb_base.specs.Written.{BeginsWith}
-use Rattle.sequence_points.specs.Following.{EachMayFollow}
 use Rattle.sequence_points.proofs.writer.blob_into.Given as goal
 
 abbrev pub invariant-loop-point : goal.invariant-loop-point

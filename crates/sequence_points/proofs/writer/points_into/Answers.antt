@@ -1,6 +1,5 @@
 use Rattle.std.proofs.Common.{[], sym, ◌∙◌}
-use Rattle.sequence_points.specs.Written.{large_steps}
-use Rattle.sequence_points.proofs.Follows.{each_follows, few_points, no_first}
+use Rattle.sequence_points.{specs.Written.{large_steps}, proofs.Follows.{each_follows, few_points, no_first}}
 use Rattle.sequence_points.proofs.writer.points_into.Goals as goal
 
 pub first_large_step-requires : goal.first_large_step-requires

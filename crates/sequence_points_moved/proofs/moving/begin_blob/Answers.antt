@@ -1,11 +1,6 @@
-use Rattle.std.proofs.Common.{◌∷◌, subst}
-use Rattle.std.proofs.lemmas.List.Elements.{All-head}
-use Rattle.sequence_points.specs.declared.point.Point.{Point}
-use Rattle.sequence_points.specs.Ranges.{IsDocument}
-use Rattle.sequence_points_moved.specs.MovedBlob.{moved_in}
-use Rattle.sequence_points_moved.specs.Writing.{IsWalked}
-use Rattle.sequence_points_moved.proofs.Blobs.{blob_is}
-use Rattle.sequence_points_moved.proofs.Movable.{writable_head}
+use Rattle.std.proofs.{Common.{◌∷◌, subst}, lemmas.List.Elements.{All-head}}
+use Rattle.sequence_points.specs.{declared.point.Point.{Point}, Ranges.{IsDocument}}
+use Rattle.sequence_points_moved.{specs.MovedBlob.{moved_in}, specs.Writing.{IsWalked}, proofs.Blobs.{blob_is}, proofs.Movable.{writable_head}}
 use Rattle.sequence_points_moved.proofs.moving.begin_blob.Goals as goal
 
 pub header_into-requires-clause-document : goal.header_into-requires-clause-document

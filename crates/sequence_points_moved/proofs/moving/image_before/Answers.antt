@@ -1,5 +1,4 @@
-use Rattle.std.proofs.Common.{subst}
-use Rattle.std.specs.Prelude.{◌↔◌, IsTrue}
+use Rattle.std.{proofs.Common.{subst}, specs.Prelude.{◌↔◌, IsTrue}}
 use Rattle.ppdb_base.specs.Offsets.{KeepsBetween}
 use Rattle.sequence_points_moved.proofs.Until.{at_stop, at_next, at_none}
 use Rattle.sequence_points_moved.proofs.moving.image_before.Goals as goal

@@ -1,11 +1,6 @@
-use Rattle.std.proofs.Common.{◌≡◌, ◌++◌, [], sym, ap, subst, ◌∙◌, true, false}
-use Rattle.std.specs.Prelude.{IfNone}
-use Rattle.std.proofs.lemmas.Result.{err_from_is_err_and}
-use Rattle.sequence_points.specs.Points.{common_document}
-use Rattle.sequence_points.specs.Written.{large_steps}
-use Rattle.sequence_points_moved.specs.MovedBlob.{moved_in, moved_blob, IsFirstStep}
-use Rattle.sequence_points_moved.specs.Writing.{IsBlobIn}
-use Rattle.sequence_points_moved.proofs.Movable.{ready}
+use Rattle.std.{proofs.Common.{◌≡◌, ◌++◌, [], sym, ap, subst, ◌∙◌, true, false}, specs.Prelude.{IfNone}, proofs.lemmas.Result.{err_from_is_err_and}}
+use Rattle.sequence_points.specs.{Points.{common_document}, Written.{large_steps}}
+use Rattle.sequence_points_moved.{specs.MovedBlob.{moved_in, moved_blob, IsFirstStep}, specs.Writing.{IsBlobIn}, proofs.Movable.{ready}}
 use Rattle.sequence_points_moved.proofs.moving.moved_points_into.Goals as goal
 
 pub blob_into-requires-clause-points : goal.blob_into-requires-clause-points

@@ -1,11 +1,6 @@
-use Rattle.std.proofs.Common.{◌≡◌, ◌∷◌, List, sym, ap, subst, ◌∙◌, true, false}
-use Rattle.std.proofs.lemmas.Result.{err_from_is_err_and}
-use Rattle.std.proofs.lemmas.List.Elements.{All-head}
-use Rattle.sequence_points.specs.declared.point.Point.{Point}
-use Rattle.sequence_points.specs.Ranges.{IsDocument}
-use Rattle.sequence_points_moved.specs.MovedBlob.{moved_in}
-use Rattle.sequence_points_moved.specs.Writing.{coming}
-use Rattle.sequence_points_moved.proofs.Walk.{Progress, may_come, onward, refused, walked, stopped}
+use Rattle.std.proofs.{Common.{◌≡◌, ◌∷◌, List, sym, ap, subst, ◌∙◌, true, false}, lemmas.Result.{err_from_is_err_and}, lemmas.List.Elements.{All-head}}
+use Rattle.sequence_points.specs.{declared.point.Point.{Point}, Ranges.{IsDocument}}
+use Rattle.sequence_points_moved.{specs.MovedBlob.{moved_in}, specs.Writing.{coming}, proofs.Walk.{Progress, may_come, onward, refused, walked, stopped}}
 use Rattle.sequence_points_moved.proofs.moving.points_into.Goals as goal
 use Rattle.sequence_points_moved.proofs.moving.points_into.Goals.{else-in_one-via-then-in_one+else-point-first, else-in_one-via-else-in_one}
 

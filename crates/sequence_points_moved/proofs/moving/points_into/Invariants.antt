@@ -1,7 +1,5 @@
 use Rattle.std.proofs.Common.{◌∷◌, length}
-use Rattle.sequence_points_moved.specs.MovedBlob.{moved_in}
-use Rattle.sequence_points_moved.specs.Writing.{CanAllMove, coming}
-use Rattle.sequence_points_moved.proofs.Walk.{Progress}
+use Rattle.sequence_points_moved.{specs.MovedBlob.{moved_in}, specs.Writing.{CanAllMove, coming}, proofs.Walk.{Progress}}
 use Rattle.sequence_points_moved.proofs.moving.points_into.Given as goal
 
 abbrev pub invariant-points : goal.invariant-points

@@ -1,8 +1,6 @@
-use Rattle.std.proofs.Common.{◌≡◌, ◌<◌, ◌++◌, ℕ, List, length, refl, sym, ap, subst, ◌∙◌, arith}
-use Rattle.std.specs.Prelude.{◌^◌}
+use Rattle.std.{proofs.Common.{◌≡◌, ◌<◌, ◌++◌, ℕ, List, length, refl, sym, ap, subst, ◌∙◌, arith}, specs.Prelude.{◌^◌}}
 use Rattle.sequence_points.specs.Written.{points_blob}
-use Rattle.sequence_points_packed.specs.Packed.{IsPacked, points_in}
-use Rattle.sequence_points_packed.proofs.Spelled.{few, is_packed, seen_as}
+use Rattle.sequence_points_packed.{specs.Packed.{IsPacked, points_in}, proofs.Spelled.{few, is_packed, seen_as}}
 use Rattle.sequence_points_packed.proofs.packed.blob_of.Goals as goal
 
 pub overflow_cast-result : goal.overflow_cast-result

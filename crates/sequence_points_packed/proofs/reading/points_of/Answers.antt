@@ -1,6 +1,5 @@
 use Rattle.std.proofs.Common.{[], None, sym}
-use Rattle.sequence_points_packed.specs.Packed.{points_in}
-use Rattle.sequence_points_packed.proofs.Readings.{points_are, fault_is, left_is, no_fault}
+use Rattle.sequence_points_packed.{specs.Packed.{points_in}, proofs.Readings.{points_are, fault_is, left_is, no_fault}}
 use Rattle.sequence_points_packed.proofs.reading.points_of.Goals as goal
 
 pub unreachable-requires : goal.unreachable-requires

@@ -1,5 +1,4 @@
-use Rattle.std.proofs.Common.{◌≡◌, ◌++◌, length}
-use Rattle.std.specs.Prelude.{None}
+use Rattle.std.{proofs.Common.{◌≡◌, ◌++◌, length}, specs.Prelude.{None}}
 use Rattle.sequence_points_packed.specs.Packed.{points_in}
 use Rattle.sequence_points_packed.proofs.reading.unpacked.Given as goal
 

@@ -1,6 +1,5 @@
 use Rattle.std.proofs.Common.{◌++◌, ◌∙◌, ap, sym, append_assoc}
-use Rattle.source_link.specs.Address.{turned}
-use Rattle.source_link.proofs.Texts.{one_star, on_ok}
+use Rattle.source_link.{specs.Address.{turned}, proofs.Texts.{one_star, on_ok}}
 use Rattle.source_link.proofs.address.append_with_rest.Goals as goal
 
 pub stars-preserved : goal.stars-preserved

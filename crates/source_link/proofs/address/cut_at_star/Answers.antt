@@ -1,5 +1,4 @@
-use Rattle.std.proofs.Common.{◌+◌, ◌∙◌, sym}
-use Rattle.std.proofs.lemmas.List.{take_rest}
+use Rattle.std.proofs.{Common.{◌+◌, ◌∙◌, sym}, lemmas.List.{take_rest}}
 use Rattle.source_link.proofs.Texts.{cut_at_star, no_star}
 use Rattle.source_link.proofs.address.cut_at_star.Goals as goal
 

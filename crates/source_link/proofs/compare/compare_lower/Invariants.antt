@@ -1,6 +1,4 @@
-use Rattle.std.proofs.Common.{◌≡◌, ◌≤◌, length, drop}
-use Rattle.std.specs.Cmp.Lexicographic.{slice_cmp}
-use Rattle.std.specs.Ordering.{nat_cmp}
+use Rattle.std.{proofs.Common.{◌≡◌, ◌≤◌, length, drop}, specs.Cmp.Lexicographic.{slice_cmp}, specs.Ordering.{nat_cmp}}
 use Rattle.source_link.specs.Address.{lower}
 use Rattle.source_link.proofs.compare.compare_lower.Given as goal
 

@@ -1,9 +1,7 @@
 use Rattle.std.proofs.Common.{◌≡◌, ◌-◌, ◌∙◌, ap, length, map, sym, arith}
 use Rattle.ppdb_tables.specs.declared.rows.CustomRow.{CustomRow}
 use Rattle.ppdb_verify.specs.Views.{raw_file}
-use Rattle.ppdb_queries.specs.Runs.{customs_at}
-use Rattle.ppdb_queries.proofs.Filters.{forward}
-use Rattle.ppdb_queries.proofs.Views.{rows_many}
+use Rattle.ppdb_queries.{specs.Runs.{customs_at}, proofs.Filters.{forward}, proofs.Views.{rows_many}}
 use Rattle.source_link.proofs.Records.{no_module, link_all}
 use Rattle.source_link.proofs.find.find_link.Goals as goal
 

@@ -1,5 +1,4 @@
-use Rattle.std.proofs.Common.{◌≡◌, ◌∙◌, ap, sym, arith, Some, true, false}
-use Rattle.std.specs.Str.{bytes_eq}
+use Rattle.std.{proofs.Common.{◌≡◌, ◌∙◌, ap, sym, arith, Some, true, false}, specs.Str.{bytes_eq}}
 use Rattle.custom_info.specs.Kinds.{source_link}
 use Rattle.ppdb_values.specs.Customs.{kind_in}
 use Rattle.ppdb_verify.specs.Views.{raw_file}

@@ -1,9 +1,5 @@
-use Rattle.std.proofs.Common.{◌∙◌, ap, sym, is_lt, rules, Ok}
-use Rattle.std.proofs.lemmas.Fn.{always_returns_same}
-use Rattle.std.proofs.lemmas.List.Sorted.{ranks_by}
-use Rattle.source_link.specs.declared.pair.Pair.{Pair}
-use Rattle.source_link.specs.Search.{place_cmp}
-use Rattle.source_link.proofs.Places.{place_total}
+use Rattle.std.proofs.{Common.{◌∙◌, ap, sym, is_lt, rules, Ok}, lemmas.Fn.{always_returns_same}, lemmas.List.Sorted.{ranks_by}}
+use Rattle.source_link.{specs.declared.pair.Pair.{Pair}, specs.Search.{place_cmp}, proofs.Places.{place_total}}
 use Rattle.source_link.proofs.links.read_links.Goals as goal
 
 pub invariant_of-result : goal.invariant_of-result

@@ -1,5 +1,4 @@
-use Rattle.std.proofs.Common.{◌≡◌, ◌++◌}
-use Rattle.std.specs.Option.{option_map}
+use Rattle.std.{proofs.Common.{◌≡◌, ◌++◌}, specs.Option.{option_map}}
 use Rattle.serde_json.specs.View.{members_view}
 use Rattle.source_link.specs.Record.{pairs_in}
 use Rattle.source_link.proofs.record.pairs_in.Given as goal

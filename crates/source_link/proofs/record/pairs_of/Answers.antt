@@ -1,11 +1,8 @@
-use Rattle.std.proofs.Common.{◌≡◌, ◌∙◌, Some, Option, List, ap, inr, subst, sym}
-use Rattle.std.specs.Prelude.{IfOk, ok_or}
-use Rattle.std.specs.Option.{option_map}
+use Rattle.std.{proofs.Common.{◌≡◌, ◌∙◌, Some, Option, List, ap, inr, subst, sym}, specs.Prelude.{IfOk, ok_or}, specs.Option.{option_map}}
 use Rattle.serde_json.specs.View.{view, members_view}
 use Rattle.ppdb_base.specs.declared.link_error.LinkError.TheVariants.{Shape}
-use Rattle.source_link.specs.declared.pair.Pair.{Pair}
-use Rattle.source_link.specs.Record.{IsRefusedBy, documents_in, pairs_in, pairs_of}
-use Rattle.source_link.proofs.Objects.{documents_said, documents_object, documents_none}
+use Rattle.source_link.{specs.declared.pair.Pair.{Pair}, specs.Record.{IsRefusedBy, documents_in, pairs_in, pairs_of}, proofs.Objects.{documents_said}}
+use Rattle.source_link.proofs.Objects.{documents_object, documents_none}
 use Rattle.source_link.proofs.record.pairs_of.Goals as goal
 
 pub returns-in_default-remove-clause-pairs : goal.returns-in_default-remove-clause-pairs

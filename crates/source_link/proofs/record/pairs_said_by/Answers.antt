@@ -1,9 +1,7 @@
 use Rattle.std.proofs.Common.{Some, List, inr, subst, sym, Result}
 use Rattle.ppdb_base.specs.declared.link_error.LinkError.{LinkError}
 use Rattle.serde_json.specs.View.{view}
-use Rattle.source_link.specs.declared.pair.Pair.{Pair}
-use Rattle.source_link.specs.Record.{IsRefusedBy, pairs_of}
-use Rattle.source_link.proofs.Objects.{not_text, text_said, ok_said}
+use Rattle.source_link.{specs.declared.pair.Pair.{Pair}, specs.Record.{IsRefusedBy, pairs_of}, proofs.Objects.{not_text, text_said, ok_said}}
 use Rattle.source_link.proofs.record.pairs_said_by.Goals as goal
 
 pub returns-in_default-clause-refused : goal.returns-in_default-clause-refused

@@ -1,8 +1,6 @@
-use Rattle.std.proofs.Common.{◌≡◌, length, sym, arith, refl, subst}
-use Rattle.std.specs.List.Sorted.{IsNonDecreasingBy}
-use Rattle.source_link.specs.Search.{rank_at}
-use Rattle.source_link.proofs.Places.{read_at, first_place, first_rank, none_there}
-use Rattle.source_link.proofs.Searched.{rising, narrowed_on, first_is_best, found_is_best}
+use Rattle.std.{proofs.Common.{◌≡◌, length, sym, arith, refl, subst}, specs.List.Sorted.{IsNonDecreasingBy}}
+use Rattle.source_link.{specs.Search.{rank_at}, proofs.Places.{read_at, first_place, first_rank, none_there}, proofs.Searched.{rising, narrowed_on, first_is_best}}
+use Rattle.source_link.proofs.Searched.{found_is_best}
 use Rattle.source_link.proofs.search.best.Goals as goal
 
 pub ended-requires-clause-rising : goal.ended-requires-clause-rising

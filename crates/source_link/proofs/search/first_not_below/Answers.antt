@@ -1,6 +1,4 @@
-use Rattle.std.proofs.Common.{ltb, ltb-true, rules}
-use Rattle.std.proofs.lemmas.Bool.{ltb-false}
-use Rattle.std.proofs.lemmas.List.Sorted.{IsPartitionPoint-from_clause, IsPartitionedBy-ltb}
+use Rattle.std.proofs.{Common.{ltb, ltb-true, rules}, lemmas.Bool.{ltb-false}, lemmas.List.Sorted.{IsPartitionPoint-from_clause, IsPartitionedBy-ltb}}
 use Rattle.source_link.specs.Search.{rank_at}
 use Rattle.source_link.proofs.search.first_not_below.Goals as goal
 

@@ -1,11 +1,6 @@
-use Rattle.std.proofs.Common.{◌+◌, ◌≤◌, List, length, take, subst, sym, arith, ◌∙◌}
-use Rattle.std.specs.Prelude.{Contains}
-use Rattle.std.specs.List.{AllWithin}
-use Rattle.std.proofs.lemmas.List.{take_rest}
-use Rattle.std.proofs.lemmas.List.Sorted.{IsNonDecreasingBy-take, IsNonDecreasingBy-drop}
-use Rattle.source_link.specs.declared.pair.Pair.{Pair}
-use Rattle.source_link.specs.Search.{rank_at}
-use Rattle.source_link.proofs.Places.{ranked_kept}
+use Rattle.std.{proofs.Common.{◌+◌, ◌≤◌, List, length, take, subst, sym, arith, ◌∙◌}, specs.Prelude.{Contains}, specs.List.{AllWithin}}
+use Rattle.std.proofs.lemmas.{List.{take_rest}, List.Sorted.{IsNonDecreasingBy-take, IsNonDecreasingBy-drop}}
+use Rattle.source_link.{specs.declared.pair.Pair.{Pair}, specs.Search.{rank_at}, proofs.Places.{ranked_kept}}
 use Rattle.source_link.proofs.search.going_on.Goals as goal
 
 pub first_not_below-requires-2 : goal.first_not_below-requires-2

@@ -1,12 +1,8 @@
-use Rattle.std.proofs.Common.{◌≡◌, List, Ok, refl, sym, ap, subst, ◌∙◌}
-use Rattle.std.specs.Prelude.{All}
+use Rattle.std.{proofs.Common.{◌≡◌, List, Ok, refl, sym, ap, subst, ◌∙◌, None}, specs.Prelude.{All}}
 use Rattle.ppdb_maps.specs.Says.{offsets_of}
 use Rattle.sequence_points.specs.declared.point.Point.{Point}
-use Rattle.sequence_points_moved.specs.Conditions.{IsMovable, Seen}
+use Rattle.sequence_points_moved.{specs.Conditions.{IsMovable, Seen}, proofs.Readings.{same_points}, proofs.SeenPoints.{seen_next, seen_all}}
 use Rattle.blob_grammar.specs.Reader.{answer}
-use Rattle.sequence_points_moved.proofs.Readings.{same_points}
-use Rattle.sequence_points_moved.proofs.SeenPoints.{seen_next, seen_all}
-use Rattle.std.proofs.Common.{None}
 use Rattle.tests_maps.proofs.moving.are_movable.Goals as goal
 
 pub points-preserved : goal.points-preserved

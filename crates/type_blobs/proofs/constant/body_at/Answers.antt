@@ -1,11 +1,8 @@
-use Rattle.std.proofs.Common.{◌≡◌, false, refl, sym, arith}
-use Rattle.std.proofs.lemmas.Result.{err_from_is_err_and}
-use Rattle.type_blobs.specs.Constants.{is_modifier, is_code}
-use Rattle.type_blobs.proofs.Codes.{of_primitive, of_general, general_between, no_code-below, no_code-between, no_code-above}
-use Rattle.type_blobs.proofs.BodiesTaken.{body_is, code_missing, code_other, no_modifier_there}
+use Rattle.std.proofs.{Common.{◌≡◌, false, refl, sym, arith}, lemmas.Result.{err_from_is_err_and}}
+use Rattle.type_blobs.{specs.Constants.{is_modifier, is_code}, proofs.Codes.{of_primitive, of_general, general_between, no_code-below, no_code-between}}
+use Rattle.type_blobs.proofs.{Codes.{no_code-above}, BodiesTaken.{body_is, code_missing, code_other, no_modifier_there}}
 use Rattle.type_blobs.proofs.constant.body_at.Goals as goal
-use Rattle.type_blobs.proofs.constant.body_at.Goals.{in_default-via-then-code-lt2}
-use Rattle.type_blobs.proofs.constant.body_at.Goals.{in_default-via-else-code-lt2+else-code-lt14+then-code-lt17}
+use Rattle.type_blobs.proofs.constant.body_at.Goals.{in_default-via-then-code-lt2, in_default-via-else-code-lt2+else-code-lt14+then-code-lt17}
 use Rattle.type_blobs.proofs.constant.body_at.Goals.{in_default-via-else-code-lt2+else-code-lt14+else-code-lt17+else-code-lt19}
 
 pub returns-in_err-code : goal.returns-in_err-code

@@ -1,5 +1,4 @@
-use Rattle.std.proofs.Common.{sym}
-use Rattle.std.proofs.lemmas.Result.{err_from_is_err_and}
+use Rattle.std.proofs.{Common.{sym}, lemmas.Result.{err_from_is_err_and}}
 use Rattle.type_blobs.proofs.BodiesTaken.{slice-from, general_refused, general_whole}
 use Rattle.type_blobs.proofs.constant.general_at.Goals as goal
 

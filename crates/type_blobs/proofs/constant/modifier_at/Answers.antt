@@ -1,7 +1,5 @@
-use Rattle.std.proofs.Common.{sym}
-use Rattle.std.proofs.lemmas.Result.{err_from_is_err_and}
-use Rattle.type_blobs.proofs.ModifiersTaken.{nothing_there, no_modifier, body_next, a_modifier, no_type}
-use Rattle.type_blobs.proofs.BodiesTaken.{byte_there}
+use Rattle.std.proofs.{Common.{sym}, lemmas.Result.{err_from_is_err_and}}
+use Rattle.type_blobs.proofs.{ModifiersTaken.{nothing_there, no_modifier, body_next, a_modifier, no_type}, BodiesTaken.{byte_there}}
 use Rattle.type_blobs.proofs.constant.modifier_at.Goals as goal
 
 pub returns-in_default : goal.returns-in_default

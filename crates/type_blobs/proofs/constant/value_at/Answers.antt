@@ -1,5 +1,4 @@
-use Rattle.std.proofs.Common.{sym, arith}
-use Rattle.std.proofs.lemmas.Result.{err_from_is_err_and}
+use Rattle.std.proofs.{Common.{sym, arith}, lemmas.Result.{err_from_is_err_and}}
 use Rattle.type_blobs.proofs.BodiesTaken.{value_missing, value_end, value_more, enumerated_refused, enumerated_end, enumerated_more}
 use Rattle.type_blobs.proofs.constant.value_at.Goals as goal
 

@@ -1,5 +1,4 @@
-use Rattle.std.proofs.Common.{◌≡◌, ◌++◌, take}
-use Rattle.std.specs.List.{flat_map}
+use Rattle.std.{proofs.Common.{◌≡◌, ◌++◌, take}, specs.List.{flat_map}}
 use Rattle.type_blobs.specs.Spelling.{modifier_spelling}
 use Rattle.type_blobs.proofs.constant_writer.fields_into.Given as goal
 

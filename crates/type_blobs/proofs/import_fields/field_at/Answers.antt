@@ -1,8 +1,5 @@
-use Rattle.std.proofs.Common.{◌≡◌, ◌⊎◌, inl, inr, length, sym}
-use Rattle.std.specs.Prelude.{◌≢◌}
-use Rattle.std.proofs.lemmas.Result.{err_from_is_err_and}
-use Rattle.type_blobs.specs.ImportReading.{heap_of}
-use Rattle.type_blobs.proofs.FieldsLeft.{fields-end, fields-refused, fields-taken}
+use Rattle.std.{proofs.Common.{◌≡◌, ◌⊎◌, inl, inr, length, sym}, specs.Prelude.{◌≢◌}, proofs.lemmas.Result.{err_from_is_err_and}}
+use Rattle.type_blobs.{specs.ImportReading.{heap_of}, proofs.FieldsLeft.{fields-end, fields-refused, fields-taken}}
 use Rattle.type_blobs.proofs.import_fields.field_at.Goals as goal
 use Rattle.type_blobs.proofs.import_fields.field_at.Goals.{else-place-eq0-via-then-place-eq0+else-place-source, else-place-eq0-via-else-place-eq0}
 

@@ -1,5 +1,4 @@
-use Rattle.std.proofs.Common.{◌≡◌, ◌++◌, take, map}
-use Rattle.std.specs.List.{flat_map}
+use Rattle.std.{proofs.Common.{◌≡◌, ◌++◌, take, map}, specs.List.{flat_map}}
 use Rattle.cli_ints.specs.Shortest.{short_unsigned}
 use Rattle.type_blobs.specs.Spelling.{part_number}
 use Rattle.type_blobs.proofs.import_writer.parts_into.Given as goal

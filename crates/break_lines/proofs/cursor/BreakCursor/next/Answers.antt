@@ -3,8 +3,7 @@ use Rattle.blob_grammar.specs.Reader.{tail}
 use Rattle.sequence_points.specs.Written.{first_of}
 use Rattle.ppdb_tables.specs.RawOf.{raw_of}
 use Rattle.ppdb_verify.specs.Views.{tables_of}
-use Rattle.break_lines.specs.Walks.{breaks_now}
-use Rattle.break_lines.proofs.Methods.{method_next, none_after, none_left}
+use Rattle.break_lines.{specs.Walks.{breaks_now}, proofs.Methods.{method_next, none_after, none_left}}
 use Rattle.break_lines.proofs.cursor.BreakCursor.next.Goals as goal
 
 pub methods-preserved : goal.methods-preserved

@@ -1,5 +1,4 @@
-use Rattle.std.proofs.Common.{sym}
-use Rattle.std.proofs.lemmas.Result.{err_from_is_err_and}
+use Rattle.std.proofs.{Common.{sym}, lemmas.Result.{err_from_is_err_and}}
 use Rattle.custom_info.proofs.StepsLeft.{no_handler, a_handler}
 use Rattle.custom_info.proofs.stepping.AsyncCursor.new.Goals as goal
 

@@ -1,5 +1,4 @@
-use Rattle.map_compose.proofs.Lined.{few_joined}
-use Rattle.map_compose.proofs.Putting.{ok_then}
+use Rattle.map_compose.proofs.{Lined.{few_joined}, Putting.{ok_then}}
 use Rattle.map_compose.proofs.gathered.Gathered.sum_up.Goals as goal
 
 pub sum_up-requires : goal.sum_up-requires

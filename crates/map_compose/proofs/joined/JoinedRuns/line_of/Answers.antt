@@ -1,13 +1,8 @@
-use Rattle.std.proofs.Common.{rules, sym, ap, subst, cond, ◌∙◌, ◌≡◌, true, false, None, Some, Option, Bor}
-use Rattle.std.specs.Prelude.{nat_eq, nat_lt}
-use Rattle.std.specs.List.Sorted.{IsPartitionedBy, IsPartitionPoint}
-use Rattle.std.specs.Option.{option_copied}
-use Rattle.std.specs.Slice.{IsItemAt}
-use Rattle.std.proofs.lemmas.Bool.{eq-eqb, ne_eqb}
+use Rattle.std.{proofs.Common.{rules, sym, ap, subst, cond, ◌∙◌, ◌≡◌, true, false, None, Some, Option, Bor}, specs.Prelude.{nat_eq, nat_lt}}
+use Rattle.std.{specs.List.Sorted.{IsPartitionedBy, IsPartitionPoint}, specs.Option.{option_copied}, specs.Slice.{IsItemAt}, proofs.lemmas.Bool.{eq-eqb, ne_eqb}}
 use Rattle.std.proofs.lemmas.Fn.{always_returns_same}
 use Rattle.ppdb_maps.proofs.Halving.{if_passes}
-use Rattle.map_compose.specs.declared.joined.JoinedLine.{JoinedLine}
-use Rattle.map_compose.proofs.Places.{lent_place}
+use Rattle.map_compose.{specs.declared.joined.JoinedLine.{JoinedLine}, proofs.Places.{lent_place}}
 use Rattle.map_compose.proofs.joined.JoinedRuns.line_of.Goals as goal
 
 pub returns-in_err-line : goal.returns-in_err-line

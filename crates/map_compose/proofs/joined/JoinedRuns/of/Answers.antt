@@ -1,14 +1,7 @@
-use Rattle.std.proofs.Common.{arith, sym, ap, ◌∙◌, ◌≡◌, ◌++◌, ◌∷◌, [], length, subst, ◌<◌, inl}
-use Rattle.std.proofs.lemmas.List.{length-map}
-use Rattle.std.specs.List.{flat_map}
-use Rattle.ppdb_maps.specs.Map.{MethodLine}
-use Rattle.ppdb_maps.specs.Says.{lined_runs}
-use Rattle.map_compose.specs.declared.part.Part.TheVariants.{Methods}
-use Rattle.map_compose.specs.Joining.{AreRuns, places}
-use Rattle.map_compose.specs.Runs.{longest}
-use Rattle.map_compose.proofs.Differing.{line_inside}
-use Rattle.map_compose.proofs.Merging.{few_own}
-use Rattle.map_compose.proofs.Places.{long, offset_runs, own_runs, runs_next, places_next, lines_past}
+use Rattle.std.{proofs.Common.{arith, sym, ap, ◌∙◌, ◌≡◌, ◌++◌, ◌∷◌, [], length, subst, ◌<◌, inl}, proofs.lemmas.List.{length-map}, specs.List.{flat_map}}
+use Rattle.ppdb_maps.specs.{Map.{MethodLine}, Says.{lined_runs}}
+use Rattle.map_compose.{specs.declared.part.Part.TheVariants.{Methods}, specs.Joining.{AreRuns, places}, specs.Runs.{longest}, proofs.Differing.{line_inside}}
+use Rattle.map_compose.proofs.{Merging.{few_own}, Places.{long, offset_runs, own_runs, runs_next, places_next, lines_past}}
 use Rattle.map_compose.proofs.joined.JoinedRuns.of.Goals as goal
 
 pub push_joined-requires : goal.push_joined-requires

@@ -1,7 +1,5 @@
-use Rattle.std.proofs.Common.{◌≡◌, take, length, ◌≤◌, ◌-◌}
-use Rattle.std.specs.List.{flat_map}
-use Rattle.map_compose.specs.Joining.{places}
-use Rattle.map_compose.proofs.Places.{long}
+use Rattle.std.{proofs.Common.{◌≡◌, take, length, ◌≤◌, ◌-◌}, specs.List.{flat_map}}
+use Rattle.map_compose.{specs.Joining.{places}, proofs.Places.{long}}
 use Rattle.map_compose.proofs.joined.JoinedRuns.of.Given as goal
 
 abbrev pub invariant-lines : goal.invariant-lines

@@ -1,6 +1,4 @@
-use Rattle.std.proofs.Common.{sym, ap, subst, ◌∙◌}
-use Rattle.std.specs.Option.{option_copied}
-use Rattle.std.specs.Slice.{IsGetRangeResult}
+use Rattle.std.{proofs.Common.{sym, ap, subst, ◌∙◌}, specs.Option.{option_copied}, specs.Slice.{IsGetRangeResult}}
 use Rattle.map_compose.proofs.Places.{none_lent, range_lent}
 use Rattle.map_compose.proofs.joined.JoinedRuns.of_method.Goals as goal
 

@@ -1,5 +1,4 @@
-use Rattle.std.proofs.Common.{sym, subst, ◌∙◌}
-use Rattle.std.specs.Slice.{IsGetRangeResult}
+use Rattle.std.{proofs.Common.{sym, subst, ◌∙◌}, specs.Slice.{IsGetRangeResult}}
 use Rattle.map_compose.proofs.Places.{sums_lent}
 use Rattle.map_compose.proofs.joined.JoinedRuns.sums_of.Goals as goal
 

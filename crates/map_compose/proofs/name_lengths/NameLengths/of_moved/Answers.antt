@@ -1,7 +1,6 @@
 use Rattle.std.proofs.Common.{arith, ◌∙◌}
-use Rattle.map_compose.proofs.Lengths.{escaped_long}
+use Rattle.map_compose.proofs.{Lengths.{escaped_long}, NameLengths.{counted_name, moved_short}}
 use Rattle.ppdb_maps.specs.Map.{moved_name}
-use Rattle.map_compose.proofs.NameLengths.{counted_name, moved_short}
 use Rattle.map_compose.proofs.name_lengths.NameLengths.of_moved.Goals as goal
 
 pub returns-in-Some-clause-length : goal.returns-in-Some-clause-length

@@ -1,7 +1,6 @@
 use Rattle.std.proofs.Common.{arith, sym, ◌∙◌, length, ◌<◌}
-use Rattle.map_compose.specs.Parts.{part_numbers, other_numbers}
-use Rattle.map_compose.proofs.Putting.{within}
-use Rattle.map_compose.proofs.Merging.{left_none, left_own, left_other, left_less, left_more, left_same, part_up, others_up, few_own, few_others}
+use Rattle.map_compose.{specs.Parts.{part_numbers, other_numbers}, proofs.Putting.{within}, proofs.Merging.{left_none, left_own, left_other, left_less, left_more}}
+use Rattle.map_compose.proofs.Merging.{left_same, part_up, others_up, few_own, few_others}
 use Rattle.map_compose.proofs.part.Part.next.Goals as goal
 
 pub overflow_add-passed : goal.overflow_add-passed

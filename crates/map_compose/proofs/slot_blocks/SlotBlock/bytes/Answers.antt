@@ -1,5 +1,4 @@
-use Rattle.std.proofs.Common.{sym, ap, ◌∙◌, ◌+◌, ◌*◌, length}
-use Rattle.std.specs.Fmt.{decimal}
+use Rattle.std.{proofs.Common.{sym, ap, ◌∙◌, ◌+◌, ◌*◌, length}, specs.Fmt.{decimal}}
 use Rattle.map_compose.proofs.SlotLines.{slots_long}
 use Rattle.map_compose.proofs.slot_blocks.SlotBlock.bytes.Goals as goal
 

@@ -2,8 +2,7 @@ use Rattle.std.proofs.Common.{List, ap, ◌∙◌}
 use Rattle.ppdb_tables.specs.declared.rows.DocumentRow.{DocumentRow}
 use Rattle.ppdb_values.specs.declared.file.DocumentValue.{DocumentValue}
 use Rattle.ppdb_build_items.specs.Making.{interned_of}
-use Rattle.ppdb_build_draft.specs.Draft.{Draft, with_document}
-use Rattle.ppdb_build_draft.proofs.Added.{document_added}
+use Rattle.ppdb_build_draft.{specs.Draft.{Draft, with_document}, proofs.Added.{document_added}}
 use Rattle.ppdb_build_draft.proofs.drafting.Drafting.document.Goals as goal
 
 pub returns : goal.returns

@@ -1,12 +1,8 @@
 use Rattle.std.proofs.Common.{◌≡◌, ℕ, ap, ◌∙◌}
-use Rattle.ppdb_build_heaps.specs.declared.heap.HeapKind.TheVariants.{Texts, Blobs}
-use Rattle.ppdb_build_heaps.specs.Interned.{length_of}
-use Rattle.ppdb_build_heaps.specs.Items.{as_text, as_blob}
+use Rattle.ppdb_build_heaps.specs.{declared.heap.HeapKind.TheVariants.{Texts, Blobs}, Interned.{length_of}, Items.{as_text, as_blob}}
 use Rattle.ppdb_build_layout.specs.Told.{told_lens}
 use Rattle.ppdb_build_items.specs.Making.{interned_of}
-use Rattle.ppdb_build_draft.specs.Draft.{Draft}
-use Rattle.ppdb_build_draft.specs.Heaps.{heap_lens_of}
-use Rattle.ppdb_build_draft.proofs.Lens.{padded_len_is}
+use Rattle.ppdb_build_draft.{specs.Draft.{Draft}, specs.Heaps.{heap_lens_of}, proofs.Lens.{padded_len_is}}
 use Rattle.ppdb_build_draft.proofs.drafting.Drafting.heap_lens.Goals as goal
 
 pub returns : goal.returns

@@ -2,8 +2,7 @@ use Rattle.std.proofs.Common.{ℕ, List, ap, ◌∙◌}
 use Rattle.ppdb_tables.specs.declared.rows.ImportRow.{ImportRow}
 use Rattle.ppdb_values.specs.declared.import.ImportScopeValue.{ImportScopeValue}
 use Rattle.ppdb_build_items.specs.Making.{interned_of}
-use Rattle.ppdb_build_draft.specs.Draft.{Draft, with_import}
-use Rattle.ppdb_build_draft.proofs.Added.{import_added}
+use Rattle.ppdb_build_draft.{specs.Draft.{Draft, with_import}, proofs.Added.{import_added}}
 use Rattle.ppdb_build_draft.proofs.drafting.Drafting.import.Goals as goal
 
 pub returns : goal.returns

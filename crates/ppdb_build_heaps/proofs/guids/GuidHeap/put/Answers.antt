@@ -1,5 +1,4 @@
-use Rattle.std.proofs.Common.{◌++◌, flat_map, ap, ◌∙◌, arith}
-use Rattle.std.proofs.lemmas.List.{take_all}
+use Rattle.std.proofs.{Common.{◌++◌, flat_map, ap, ◌∙◌, arith}, lemmas.List.{take_all}}
 use Rattle.ppdb_build_heaps.proofs.guids.GuidHeap.put.Goals as goal
 
 pub returns : goal.returns

@@ -1,7 +1,6 @@
-use Rattle.std.proofs.Common.{◌≡◌, ◌+◌, false, cond, min, length, bytes_eq, Some, None, ap, sym, subst, ◌∙◌, arith}
-use Rattle.std.specs.{List.list_any, BTreeMap.{get, is_at, Entry.{map_with_value, entry_map_ref}}, Cmp.Lexicographic.slice_cmp, Ordering.nat_cmp}
-use Rattle.ppdb_build_heaps.specs.Guids.{number_of}
-use Rattle.ppdb_build_heaps.proofs.GuidSets.{no_number, number_more, number_new}
+use Rattle.std.{proofs.Common.{◌≡◌, ◌+◌, false, cond, min, length, bytes_eq, Some, None, ap, sym, subst, ◌∙◌, arith}, specs.List.{list_any}, specs.BTreeMap.{get}}
+use Rattle.std.specs.{BTreeMap.{is_at}, BTreeMap.Entry.{map_with_value, entry_map_ref}, Cmp.Lexicographic.{slice_cmp}, Ordering.{nat_cmp}}
+use Rattle.ppdb_build_heaps.{specs.Guids.{number_of}, proofs.GuidSets.{no_number, number_more, number_new}}
 use Rattle.ppdb_build_heaps.proofs.guids.GuidHeap.use_guid.Goals as goal
 
 new : (c : goal.After-self-in-Vacant-2-1) → list_any (bytes_eq c.args.guid.now) c.self.inside.guids.items ≡ false

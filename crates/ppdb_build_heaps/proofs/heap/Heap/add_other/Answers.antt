@@ -1,13 +1,9 @@
-use Rattle.std.proofs.Common.{cond, bytes_eq, Option, Some, None, ℕ, [], ◌∷◌, ◌++◌, ap, sym, ◌∙◌}
-use Rattle.std.proofs.lemmas.Map.Text.{is_eq-slice_cmp}
-use Rattle.std.specs.{List.list_any, Prelude.is_some, BTreeMap.{BTreeMap, get}, Cmp.Lexicographic.slice_cmp, Ordering.nat_cmp}
-use Rattle.std.specs.{declared.vec.Vec.Vec, declared.alloc.Global.Global}
+use Rattle.std.{proofs.Common.{cond, bytes_eq, Option, Some, None, ℕ, [], ◌∷◌, ◌++◌, ap, sym, ◌∙◌}, proofs.lemmas.Map.Text.{is_eq-slice_cmp}, specs.List.{list_any}}
+use Rattle.std.specs.{Prelude.{is_some}, BTreeMap.{BTreeMap, get}, Cmp.Lexicographic.{slice_cmp}, Ordering.{nat_cmp}, declared.vec.Vec.{Vec}}
+use Rattle.std.specs.declared.alloc.Global.{Global}
 use Rattle.ppdb_base.specs.Told.{told}
-use Rattle.ppdb_build_heaps.specs.Interned.{Contents, length_of}
-use Rattle.ppdb_build_heaps.specs.Marks.{mark, has_mark, first_with, is_first, other_index}
-use Rattle.ppdb_build_heaps.proofs.Interned.{index_new}
-use Rattle.ppdb_build_heaps.proofs.Marks.{others_more, firsts_stay, some_found, undone, none_there, new_used}
-use Rattle.ppdb_build_heaps.proofs.Spellings.{on_ok, on_err}
+use Rattle.ppdb_build_heaps.{specs.Interned.{Contents, length_of}, specs.Marks.{mark, has_mark, first_with, is_first, other_index}, proofs.Interned.{index_new}}
+use Rattle.ppdb_build_heaps.proofs.{Marks.{others_more, firsts_stay, some_found, undone, none_there, new_used}, Spellings.{on_ok, on_err}}
 use Rattle.ppdb_build_heaps.proofs.heap.Heap.add_other.Goals as goal
 
 abbrev index_at : BTreeMap (Vec ℕ Global) ℕ → Vec ℕ Global → Option ℕ

@@ -1,12 +1,9 @@
 use Rattle.std.proofs.Common.{◌≡◌, ◌<◌, true, false, cond, length, take, get_or, bytes_eq, nat_eq, Some, None, [], ◌∷◌, ◌++◌, ap, sym, subst, ◌∙◌, arith}
-use Rattle.std.specs.{List.{list_any, position_or_len}, BTreeMap.{get, is_at, Entry.{map_with_value, entry_map_ref}}, Ordering.nat_cmp}
+use Rattle.std.specs.{List.{list_any, position_or_len}, BTreeMap.{get, is_at}, BTreeMap.Entry.{map_with_value, entry_map_ref}, Ordering.{nat_cmp}}
 use Rattle.ppdb_base.specs.Told.{told}
-use Rattle.ppdb_build_heaps.specs.Interned.{Contents, length_of}
-use Rattle.ppdb_build_heaps.specs.Items.{with_use, index_of}
-use Rattle.ppdb_build_heaps.specs.Kinds.{spelled}
-use Rattle.ppdb_build_heaps.specs.Marks.{mark, has_mark, first_with, is_first, other_index}
-use Rattle.ppdb_build_heaps.proofs.Interned.{index_new}
-use Rattle.ppdb_build_heaps.proofs.Marks.{found_at, found_none, not_there, firsts_more, others_first, number_same, new_used, first_used, first_index}
+use Rattle.ppdb_build_heaps.specs.{Interned.{Contents, length_of}, Items.{with_use, index_of}, Kinds.{spelled}, Marks.{mark, has_mark, first_with, is_first}}
+use Rattle.ppdb_build_heaps.{specs.Marks.{other_index}, proofs.Interned.{index_new}, proofs.Marks.{found_at, found_none, not_there, firsts_more, others_first}}
+use Rattle.ppdb_build_heaps.proofs.Marks.{number_same, new_used, first_used, first_index}
 use Rattle.ppdb_build_heaps.proofs.heap.Heap.use_item.Goals as goal
 
 -- no item has the mark of a new one

@@ -1,6 +1,5 @@
 use Rattle.std.proofs.Common.{◌≡◌, length, sym, subst, ◌∙◌}
-use Rattle.ppdb_build_heaps.specs.Interned.{Contents}
-use Rattle.ppdb_build_heaps.proofs.Spellings.{counted}
+use Rattle.ppdb_build_heaps.{specs.Interned.{Contents}, proofs.Spellings.{counted}}
 use Rattle.ppdb_build_heaps.proofs.spelled.Spelled.count.Goals as goal
 
 pub returns : goal.returns

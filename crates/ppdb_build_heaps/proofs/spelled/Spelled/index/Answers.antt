@@ -1,8 +1,6 @@
 use Rattle.std.proofs.Common.{◌≡◌, ◌+◌, ◌<◌, length, take, get_or, ap, sym, subst, ◌∙◌, arith}
 use Rattle.ppdb_base.specs.Told.{told}
-use Rattle.ppdb_build_heaps.specs.Interned.{Contents, length_of}
-use Rattle.ppdb_build_heaps.specs.Spelled.{items_in}
-use Rattle.ppdb_build_heaps.proofs.Spellings.{few, item_at}
+use Rattle.ppdb_build_heaps.{specs.Interned.{Contents, length_of}, specs.Spelled.{items_in}, proofs.Spellings.{few, item_at}}
 use Rattle.ppdb_build_heaps.proofs.spelled.Spelled.index.Goals as goal
 
 pub offset_bounds-as_slice-number : goal.offset_bounds-as_slice-number

@@ -1,9 +1,6 @@
-use Rattle.std.proofs.Common.{◌≡◌, length, ap, subst, ◌∙◌, arith}
-use Rattle.std.proofs.lemmas.List.Concat.{length-flat_map}
+use Rattle.std.proofs.{Common.{◌≡◌, length, ap, subst, ◌∙◌, arith}, lemmas.List.Concat.{length-flat_map}}
 use Rattle.ppdb_base.specs.Told.{told}
-use Rattle.ppdb_build_heaps.specs.Kinds.{spelled}
-use Rattle.ppdb_build_heaps.specs.Interned.{Contents, length_of}
-use Rattle.ppdb_build_heaps.specs.Spelled.{items_in}
+use Rattle.ppdb_build_heaps.specs.{Kinds.{spelled}, Interned.{Contents, length_of}, Spelled.{items_in}}
 use Rattle.ppdb_build_heaps.proofs.spelled.Spelled.len.Goals as goal
 
 pub returns : goal.returns

@@ -1,6 +1,5 @@
 use Rattle.std.proofs.Common.{[], ◌∷◌, ◌++◌, ap, sym, ◌∙◌}
-use Rattle.ppdb_build_heaps.specs.Interned.{Contents}
-use Rattle.ppdb_build_heaps.proofs.Spellings.{on_ok, push_invariant, push_items}
+use Rattle.ppdb_build_heaps.{specs.Interned.{Contents}, proofs.Spellings.{on_ok, push_invariant, push_items}}
 use Rattle.ppdb_build_heaps.proofs.spelled.Spelled.push.Goals as goal
 
 pub invariant_of-self-else-is_err : goal.invariant_of-self-else-is_err

@@ -1,10 +1,7 @@
 use Rattle.std.proofs.Common.{◌≡◌, ◌++◌, ap, ◌∙◌, ℕ, List}
 use Rattle.ppdb_build_heaps.specs.Uses.{octets, plain}
-use Rattle.type_blobs.specs.ConstantReading.{shown}
-use Rattle.type_blobs.specs.Spelling.{constant_spelling}
-use Rattle.ppdb_build_items.specs.Making.{Making, with_piece, begun}
-use Rattle.ppdb_build_items.specs.Interned.{cell}
-use Rattle.ppdb_build_items.proofs.Made.{interned-is}
+use Rattle.type_blobs.specs.{ConstantReading.{shown}, Spelling.{constant_spelling}}
+use Rattle.ppdb_build_items.{specs.Making.{Making, with_piece, begun}, specs.Interned.{cell}, proofs.Made.{interned-is}}
 use Rattle.ppdb_build_items.proofs.blobs.BlobHeap.note_constant.Goals as goal
 
 pub returns-clause-interned : goal.returns-clause-interned

@@ -1,8 +1,7 @@
 use Rattle.std.proofs.Common.{ap, ◌∙◌}
 use Rattle.ppdb_build_heaps.specs.Uses.{plain}
 use Rattle.ppdb_build_canon.specs.Uses.{body_spelling}
-use Rattle.ppdb_build_items.specs.Interned.{cell}
-use Rattle.ppdb_build_items.proofs.Made.{interned-is}
+use Rattle.ppdb_build_items.{specs.Interned.{cell}, proofs.Made.{interned-is}}
 use Rattle.ppdb_build_items.proofs.blobs.BlobHeap.note_custom.Goals as goal
 
 pub returns-clause-interned : goal.returns-clause-interned

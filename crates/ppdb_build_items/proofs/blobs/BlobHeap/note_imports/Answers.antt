@@ -1,8 +1,6 @@
 use Rattle.std.proofs.Common.{ap, ◌∙◌, fold, flat_map}
 use Rattle.ppdb_build_canon.specs.Uses.{import_pieces}
-use Rattle.ppdb_build_items.specs.Making.{with_piece}
-use Rattle.ppdb_build_items.specs.Interned.{cell}
-use Rattle.ppdb_build_items.proofs.Made.{interned-is}
+use Rattle.ppdb_build_items.{specs.Making.{with_piece}, specs.Interned.{cell}, proofs.Made.{interned-is}}
 use Rattle.ppdb_build_items.proofs.blobs.BlobHeap.note_imports.Goals as goal
 
 pub returns-clause-interned : goal.returns-clause-interned

@@ -1,9 +1,7 @@
 use Rattle.std.proofs.Common.{◌≡◌, ℕ, List, [], ◌∷◌, Bor, map, fold, ap, ◌∙◌}
 use Rattle.ppdb_build_heaps.specs.Uses.{octets, index}
 use Rattle.ppdb_build_canon.specs.Uses.{name_pieces, parts_of}
-use Rattle.ppdb_build_items.specs.Making.{with_piece, begun}
-use Rattle.ppdb_build_items.specs.Interned.{cell}
-use Rattle.ppdb_build_items.proofs.Made.{interned-is}
+use Rattle.ppdb_build_items.{specs.Making.{with_piece, begun}, specs.Interned.{cell}, proofs.Made.{interned-is}}
 use Rattle.ppdb_build_items.proofs.blobs.BlobHeap.note_name.Goals as goal
 
 pub returns-clause-interned : goal.returns-clause-interned

@@ -1,9 +1,7 @@
 use Rattle.std.proofs.Common.{◌≡◌, ◌++◌, ap, ◌∙◌, ℕ, List}
 use Rattle.ppdb_build_heaps.specs.Uses.{octets, plain}
 use Rattle.sequence_points.specs.Written.{points_blob}
-use Rattle.ppdb_build_items.specs.Making.{Making, with_piece, begun}
-use Rattle.ppdb_build_items.specs.Interned.{cell}
-use Rattle.ppdb_build_items.proofs.Made.{interned-is}
+use Rattle.ppdb_build_items.{specs.Making.{Making, with_piece, begun}, specs.Interned.{cell}, proofs.Made.{interned-is}}
 use Rattle.ppdb_build_items.proofs.blobs.BlobHeap.note_points.Goals as goal
 
 pub returns-in-Ok-clause-interned : goal.returns-in-Ok-clause-interned

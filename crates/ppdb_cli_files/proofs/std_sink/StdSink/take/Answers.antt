@@ -1,5 +1,4 @@
-use Rattle.std.proofs.Common.{◌≡◌, ◌∙◌, ap, ℕ, List, ◌++◌, take, append-nil, Option, None, Some, Result, Ok, Err, OnOk}
-use Rattle.std.specs.Io.KnownBytes.{Appends, Keeps}
+use Rattle.std.{proofs.Common.{◌≡◌, ◌∙◌, ap, ℕ, List, ◌++◌, take, append-nil, Option, None, Some, Result, Ok, Err, OnOk}, specs.Io.KnownBytes.{Appends, Keeps}}
 use Rattle.ppdb_cli_files.specs.Kept.{kept_after}
 use Rattle.ppdb_cli_files.proofs.std_sink.StdSink.take.Goals as goal
 

@@ -1,7 +1,5 @@
-use Rattle.std.proofs.Common.{length}
-use Rattle.std.proofs.lemmas.Result.{err_from_is_err_and}
-use Rattle.ppdb_heaps.specs.Views.{blobs_of}
-use Rattle.ppdb_heaps.proofs.Names.{separator-missing, separator-there}
+use Rattle.std.proofs.{Common.{length}, lemmas.Result.{err_from_is_err_and}}
+use Rattle.ppdb_heaps.{specs.Views.{blobs_of}, proofs.Names.{separator-missing, separator-there}}
 use Rattle.ppdb_heaps.proofs.name.NameCursor.new.Goals as goal
 
 pub returns-in_err-start-clause-fault : goal.returns-in_err-start-clause-fault

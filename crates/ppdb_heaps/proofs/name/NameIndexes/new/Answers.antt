@@ -1,7 +1,5 @@
-use Rattle.std.proofs.Common.{length}
-use Rattle.std.proofs.lemmas.Result.{err_from_is_err_and}
-use Rattle.ppdb_heaps.specs.Views.{blobs_of}
-use Rattle.ppdb_heaps.proofs.Names.{indexes-there, indexes-end, indexes-none, indexes-fault}
+use Rattle.std.proofs.{Common.{length}, lemmas.Result.{err_from_is_err_and}}
+use Rattle.ppdb_heaps.{specs.Views.{blobs_of}, proofs.Names.{indexes-there, indexes-end, indexes-none, indexes-fault}}
 use Rattle.ppdb_heaps.proofs.name.NameIndexes.new.Goals as goal
 
 pub returns-in_err-start-clause-none : goal.returns-in_err-start-clause-none

@@ -1,9 +1,6 @@
-use Rattle.std.proofs.Common.{◌≡◌, ◌∙◌, Some, ap}
-use Rattle.std.specs.FinMap.{get}
+use Rattle.std.{proofs.Common.{◌≡◌, ◌∙◌, Some, ap}, specs.FinMap.{get}}
 use Rattle.ppdb_base.specs.Steady.{SteadyValue}
-use Rattle.ppdb_library.specs.Folder.{with_made}
-use Rattle.ppdb_library.specs.Pieces.{files_in}
-use Rattle.ppdb_library.proofs.Made.{lent_alone, lent_other, made_here}
+use Rattle.ppdb_library.{specs.Folder.{with_made}, specs.Pieces.{files_in}, proofs.Made.{lent_alone, lent_other, made_here}}
 use Rattle.ppdb_library.proofs.folder.LentFolder.get.Goals as goal
 use Rattle.ppdb_library.proofs.folder.LentFolder.get.Goals.{in_default-via-in-Some+else-eq, in_default-via-in_default}
 

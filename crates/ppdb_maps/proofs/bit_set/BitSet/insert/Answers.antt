@@ -1,6 +1,4 @@
-use Rattle.std.proofs.Common.{◌∙◌, ap, ◌||◌}
-use Rattle.std.specs.Prelude.{nat_eq}
-use Rattle.std.proofs.lemmas.List.{get_or_default}
+use Rattle.std.{proofs.Common.{◌∙◌, ap, ◌||◌}, specs.Prelude.{nat_eq}, proofs.lemmas.List.{get_or_default}}
 use Rattle.ppdb_maps.proofs.Bits.{set_bits}
 use Rattle.ppdb_maps.proofs.bit_set.BitSet.insert.Goals as goal
 

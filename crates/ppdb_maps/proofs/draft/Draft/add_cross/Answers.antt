@@ -1,8 +1,5 @@
-use Rattle.std.proofs.Common.{sym, ap, ◌∙◌}
-use Rattle.std.specs.Prelude.{is_some}
-use Rattle.ppdb_maps.specs.Rules.{second_cross}
-use Rattle.ppdb_maps.proofs.Refusing.{repeated, cross_undeclared, cross_keeps}
-use Rattle.ppdb_maps.proofs.Adding.{cross_added}
+use Rattle.std.{proofs.Common.{sym, ap, ◌∙◌}, specs.Prelude.{is_some}}
+use Rattle.ppdb_maps.{specs.Rules.{second_cross}, proofs.Refusing.{repeated, cross_undeclared, cross_keeps}, proofs.Adding.{cross_added}}
 use Rattle.ppdb_maps.proofs.draft.Draft.add_cross.Goals as goal
 
 pub returns-then-contains : goal.returns-then-contains

@@ -1,14 +1,7 @@
-use Rattle.std.proofs.Common.{◌≡◌, cond, Some, true, false, sym, ap, subst, ◌∙◌}
-use Rattle.std.specs.Prelude.{is_some, bytes_eq}
+use Rattle.std.{proofs.Common.{◌≡◌, cond, Some, true, false, sym, ap, subst, ◌∙◌}, specs.Prelude.{is_some, bytes_eq}}
 use Rattle.std.specs.BTreeMap as tree
-use Rattle.std.specs.BTreeMap.{is_at}
-use Rattle.std.specs.Cmp.Lexicographic.{slice_cmp}
-use Rattle.std.specs.Map.{lookup}
-use Rattle.std.specs.Ordering.{nat_cmp}
-use Rattle.ppdb_maps.specs.Rules.{second_document}
-use Rattle.ppdb_maps.proofs.Refusing.{repeated, document_keeps}
-use Rattle.ppdb_maps.proofs.Adding.{document_added}
-use Rattle.ppdb_maps.proofs.Named.{found_after}
+use Rattle.std.specs.{BTreeMap.{is_at}, Cmp.Lexicographic.{slice_cmp}, Map.{lookup}, Ordering.{nat_cmp}}
+use Rattle.ppdb_maps.{specs.Rules.{second_document}, proofs.Refusing.{repeated, document_keeps}, proofs.Adding.{document_added}, proofs.Named.{found_after}}
 use Rattle.ppdb_maps.proofs.draft.Draft.add_document.Goals as goal
 
 pub returns-then-contains_key : goal.returns-then-contains_key

@@ -1,7 +1,5 @@
-use Rattle.std.proofs.Common.{rules, sym, ◌∙◌}
-use Rattle.std.proofs.lemmas.Bool.{false≢true}
-use Rattle.ppdb_maps.specs.Rules.{second_drop}
-use Rattle.ppdb_maps.proofs.Refusing.{repeated, drop_of_named, drop_keeps}
+use Rattle.std.proofs.{Common.{rules, sym, ◌∙◌}, lemmas.Bool.{false≢true}}
+use Rattle.ppdb_maps.{specs.Rules.{second_drop}, proofs.Refusing.{repeated, drop_of_named, drop_keeps}}
 use Rattle.ppdb_maps.proofs.draft.Draft.add_drop.Goals as goal
 
 pub returns-then-contains : goal.returns-then-contains

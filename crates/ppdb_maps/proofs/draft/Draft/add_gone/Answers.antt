@@ -1,8 +1,5 @@
-use Rattle.std.proofs.Common.{sym, ap, ◌∙◌}
-use Rattle.std.specs.Prelude.{is_some}
-use Rattle.ppdb_maps.specs.Rules.{second_gone}
-use Rattle.ppdb_maps.proofs.Refusing.{repeated, gone_undeclared, gone_keeps}
-use Rattle.ppdb_maps.proofs.Adding.{gone_added}
+use Rattle.std.{proofs.Common.{sym, ap, ◌∙◌}, specs.Prelude.{is_some}}
+use Rattle.ppdb_maps.{specs.Rules.{second_gone}, proofs.Refusing.{repeated, gone_undeclared, gone_keeps}, proofs.Adding.{gone_added}}
 use Rattle.ppdb_maps.proofs.draft.Draft.add_gone.Goals as goal
 
 pub returns-then-contains : goal.returns-then-contains

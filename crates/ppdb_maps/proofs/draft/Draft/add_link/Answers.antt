@@ -1,8 +1,5 @@
-use Rattle.std.proofs.Common.{sym, ap, ◌∙◌}
-use Rattle.std.specs.Prelude.{is_some}
-use Rattle.ppdb_maps.specs.Rules.{second_link}
-use Rattle.ppdb_maps.proofs.Refusing.{repeated, link_keeps}
-use Rattle.ppdb_maps.proofs.Adding.{link_added}
+use Rattle.std.{proofs.Common.{sym, ap, ◌∙◌}, specs.Prelude.{is_some}}
+use Rattle.ppdb_maps.{specs.Rules.{second_link}, proofs.Refusing.{repeated, link_keeps}, proofs.Adding.{link_added}}
 use Rattle.ppdb_maps.proofs.draft.Draft.add_link.Goals as goal
 
 pub returns-then-is_some : goal.returns-then-is_some

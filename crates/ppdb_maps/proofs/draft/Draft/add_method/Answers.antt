@@ -1,7 +1,5 @@
 use Rattle.std.proofs.Common.{sym, ◌∙◌}
-use Rattle.ppdb_maps.specs.Rules.{second_method}
-use Rattle.ppdb_maps.proofs.Refusing.{repeated, method_dropped, method_keeps}
-use Rattle.ppdb_maps.proofs.Adding.{method_added}
+use Rattle.ppdb_maps.{specs.Rules.{second_method}, proofs.Refusing.{repeated, method_dropped, method_keeps}, proofs.Adding.{method_added}}
 use Rattle.ppdb_maps.proofs.draft.Draft.add_method.Goals as goal
 
 pub returns-then-contains : goal.returns-then-contains

@@ -1,9 +1,5 @@
-use Rattle.std.proofs.Common.{sym, ap, ◌∙◌}
-use Rattle.std.specs.Prelude.{is_some}
-use Rattle.std.proofs.lemmas.Bool.{false≢true}
-use Rattle.ppdb_maps.specs.Rules.{second_row}
-use Rattle.ppdb_maps.proofs.Refusing.{repeated, row_undeclared, row_dropped, row_keeps}
-use Rattle.ppdb_maps.proofs.Adding.{row_added}
+use Rattle.std.{proofs.Common.{sym, ap, ◌∙◌}, specs.Prelude.{is_some}, proofs.lemmas.Bool.{false≢true}}
+use Rattle.ppdb_maps.{specs.Rules.{second_row}, proofs.Refusing.{repeated, row_undeclared, row_dropped, row_keeps}, proofs.Adding.{row_added}}
 use Rattle.ppdb_maps.proofs.draft.Draft.add_row.Goals as goal
 use Rattle.ppdb_maps.proofs.draft.Draft.add_row.Goals.{else-table-eq6-via-then-table-eq6+else-contains-2, else-table-eq6-via-else-table-eq6}
 

@@ -1,7 +1,5 @@
-use Rattle.std.proofs.Common.{sym, ap, ◌∙◌}
-use Rattle.std.specs.Prelude.{is_some}
-use Rattle.ppdb_maps.specs.Rules.{second_rows}
-use Rattle.ppdb_maps.proofs.Refusing.{repeated}
+use Rattle.std.{proofs.Common.{sym, ap, ◌∙◌}, specs.Prelude.{is_some}}
+use Rattle.ppdb_maps.{specs.Rules.{second_rows}, proofs.Refusing.{repeated}}
 use Rattle.ppdb_maps.proofs.draft.Draft.add_rows.Goals as goal
 
 pub returns-then-contains_key : goal.returns-then-contains_key

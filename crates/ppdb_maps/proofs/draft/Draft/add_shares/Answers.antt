@@ -1,7 +1,5 @@
 use Rattle.std.proofs.Common.{sym, ◌∙◌}
-use Rattle.ppdb_maps.specs.Rules.{second_shares}
-use Rattle.ppdb_maps.proofs.Refusing.{repeated, shares_keeps}
-use Rattle.ppdb_maps.proofs.Adding.{shares_added}
+use Rattle.ppdb_maps.{specs.Rules.{second_shares}, proofs.Refusing.{repeated, shares_keeps}, proofs.Adding.{shares_added}}
 use Rattle.ppdb_maps.proofs.draft.Draft.add_shares.Goals as goal
 
 pub returns-then-self : goal.returns-then-self

@@ -1,7 +1,5 @@
 use Rattle.std.proofs.Common.{sym, ◌∙◌}
-use Rattle.ppdb_maps.specs.Rules.{second_signature}
-use Rattle.ppdb_maps.proofs.Refusing.{repeated, signature_dropped, signature_keeps}
-use Rattle.ppdb_maps.proofs.Adding.{signature_added}
+use Rattle.ppdb_maps.{specs.Rules.{second_signature}, proofs.Refusing.{repeated, signature_dropped, signature_keeps}, proofs.Adding.{signature_added}}
 use Rattle.ppdb_maps.proofs.draft.Draft.add_signature.Goals as goal
 
 pub returns-then-contains : goal.returns-then-contains

@@ -1,8 +1,5 @@
-use Rattle.std.proofs.Common.{sym, ap, ◌∙◌}
-use Rattle.std.specs.Prelude.{is_some}
-use Rattle.ppdb_maps.specs.Rules.{second_slot}
-use Rattle.ppdb_maps.proofs.Refusing.{repeated, slot_undeclared, slot_keeps}
-use Rattle.ppdb_maps.proofs.Adding.{slot_added}
+use Rattle.std.{proofs.Common.{sym, ap, ◌∙◌}, specs.Prelude.{is_some}}
+use Rattle.ppdb_maps.{specs.Rules.{second_slot}, proofs.Refusing.{repeated, slot_undeclared, slot_keeps}, proofs.Adding.{slot_added}}
 use Rattle.ppdb_maps.proofs.draft.Draft.add_slot.Goals as goal
 
 pub returns-then-contains_key : goal.returns-then-contains_key

@@ -1,6 +1,5 @@
 use Rattle.std.proofs.Common.{sym, ◌∙◌}
-use Rattle.ppdb_maps.specs.Rules.{second_slots}
-use Rattle.ppdb_maps.proofs.Refusing.{repeated, slots_dropped}
+use Rattle.ppdb_maps.{specs.Rules.{second_slots}, proofs.Refusing.{repeated, slots_dropped}}
 use Rattle.ppdb_maps.proofs.draft.Draft.add_slots.Goals as goal
 
 pub returns-then-contains : goal.returns-then-contains

@@ -1,7 +1,5 @@
-use Rattle.std.proofs.Common.{◌≡◌, ◌||◌, Some, ap, ◌∙◌}
-use Rattle.std.specs.Prelude.{nat_eq}
-use Rattle.ppdb_maps.specs.BitSets.{has_number}
-use Rattle.ppdb_maps.proofs.Adding.{method_closed}
+use Rattle.std.{proofs.Common.{◌≡◌, ◌||◌, Some, ap, ◌∙◌}, specs.Prelude.{nat_eq}}
+use Rattle.ppdb_maps.{specs.BitSets.{has_number}, proofs.Adding.{method_closed}}
 use Rattle.ppdb_maps.proofs.draft.Draft.close.Goals as goal
 
 pub returns-in_ok-push : goal.returns-in_ok-push

@@ -1,6 +1,5 @@
 use Rattle.std.proofs.Common.{refl}
-use Rattle.ppdb_maps.proofs.Finishing.{made_holds}
-use Rattle.ppdb_maps.proofs.Readable.{read_readable}
+use Rattle.ppdb_maps.proofs.{Finishing.{made_holds}, Readable.{read_readable}}
 use Rattle.ppdb_maps.proofs.draft.Draft.finish.Goals as goal
 
 pub new-requires : goal.new-requires

@@ -1,9 +1,6 @@
-use Rattle.std.proofs.Common.{List, ◌<◌, inl, inr, subst, sym, ◌∙◌, arith}
-use Rattle.std.proofs.lemmas.Bool.{false≢true}
-use Rattle.ppdb_base.specs.declared.offsets.Run.{Run}
-use Rattle.ppdb_base.specs.Offsets.{end_of, new_end_of}
-use Rattle.ppdb_maps.specs.Rules.{BeginsEarly}
-use Rattle.ppdb_maps.proofs.Rising.{rise_with, not_less}
+use Rattle.std.proofs.{Common.{List, ◌<◌, inl, inr, subst, sym, ◌∙◌, arith}, lemmas.Bool.{false≢true}}
+use Rattle.ppdb_base.specs.{declared.offsets.Run.{Run}, Offsets.{end_of, new_end_of}}
+use Rattle.ppdb_maps.{specs.Rules.{BeginsEarly}, proofs.Rising.{rise_with, not_less}}
 use Rattle.ppdb_maps.proofs.method.Method.add.Goals as goal
 
 pub invariant_of-self-2 : goal.invariant_of-self-2

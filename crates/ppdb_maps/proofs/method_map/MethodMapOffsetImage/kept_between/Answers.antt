@@ -1,5 +1,4 @@
-use Rattle.std.proofs.Common.{arith, ltb-true}
-use Rattle.std.proofs.lemmas.Bool.{lt-ltb}
+use Rattle.std.proofs.{Common.{arith, ltb-true}, lemmas.Bool.{lt-ltb}}
 use Rattle.ppdb_maps.proofs.Lines.{every_between, line_rises}
 use Rattle.ppdb_maps.proofs.method_map.MethodMapOffsetImage.kept_between.Goals as goal
 

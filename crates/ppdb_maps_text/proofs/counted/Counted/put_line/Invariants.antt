@@ -1,7 +1,5 @@
-use Rattle.std.proofs.Common.{map, take}
-use Rattle.std.specs.Fmt.{decimal}
-use Rattle.ppdb_maps_text.specs.MapTexts.{spaced}
-use Rattle.ppdb_maps_text.specs.Putting.{Puts}
+use Rattle.std.{proofs.Common.{map, take}, specs.Fmt.{decimal}}
+use Rattle.ppdb_maps_text.specs.{MapTexts.{spaced}, Putting.{Puts}}
 use Rattle.ppdb_maps_text.proofs.counted.Counted.put_line.Given as goal
 
 abbrev pub invariant-loop-number : goal.invariant-loop-number

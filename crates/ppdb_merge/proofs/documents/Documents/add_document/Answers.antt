@@ -1,11 +1,8 @@
-use Rattle.std.proofs.Common.{sym, ap, subst, ◌∙◌, ◌≡◌, cond, Some, true, false}
-use Rattle.std.specs.Prelude.{is_some, bytes_eq}
+use Rattle.std.{proofs.Common.{sym, ap, subst, ◌∙◌, ◌≡◌, cond, Some, true, false}, specs.Prelude.{is_some, bytes_eq}}
 use Rattle.std.specs.BTreeMap as tree
-use Rattle.std.specs.Cmp.Lexicographic.{slice_cmp}
-use Rattle.std.specs.Ordering.{nat_cmp}
-use Rattle.ppdb_merge.specs.declared.documents.Documents.{Documents}
-use Rattle.ppdb_merge.specs.declared.documents.Standing.{Standing}
-use Rattle.ppdb_merge.proofs.Names.{kept_document, added_document, inserted_document}
+use Rattle.std.specs.{Cmp.Lexicographic.{slice_cmp}, Ordering.{nat_cmp}}
+use Rattle.ppdb_merge.{specs.declared.documents.Documents.{Documents}, specs.declared.documents.Standing.{Standing}, proofs.Names.{kept_document, added_document}}
+use Rattle.ppdb_merge.proofs.Names.{inserted_document}
 use Rattle.ppdb_merge.proofs.documents.Documents.add_document.Goals as goal
 
 pub returns-then-contains_key : goal.returns-then-contains_key

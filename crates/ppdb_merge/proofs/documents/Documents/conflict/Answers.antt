@@ -1,5 +1,4 @@
-use Rattle.std.proofs.Common.{sym, ap, ◌∙◌, cond, None, Some}
-use Rattle.std.specs.Option.{option_copied}
+use Rattle.std.{proofs.Common.{sym, ap, ◌∙◌, cond, None, Some}, specs.Option.{option_copied}}
 use Rattle.ppdb_base.specs.declared.merge_error.MergeError.TheVariants.{DocumentConflict}
 use Rattle.ppdb_maps.specs.Map.{moved_name}
 use Rattle.ppdb_merge_moved.specs.Moved.{moved_document}

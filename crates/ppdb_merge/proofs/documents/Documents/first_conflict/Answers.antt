@@ -1,6 +1,5 @@
 use Rattle.std.proofs.Common.{sym, ap, ◌∙◌, arith}
-use Rattle.ppdb_merge.specs.Refusals.{moved_conflict}
-use Rattle.ppdb_merge.proofs.Told.{numbered_told, numbered_past}
+use Rattle.ppdb_merge.{specs.Refusals.{moved_conflict}, proofs.Told.{numbered_told, numbered_past}}
 use Rattle.ppdb_merge.proofs.documents.Documents.first_conflict.Goals as goal
 
 pub returns-then-is_some : goal.returns-then-is_some

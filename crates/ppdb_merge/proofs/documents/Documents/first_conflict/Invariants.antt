@@ -1,9 +1,7 @@
-use Rattle.std.proofs.Common.{◌≡◌, ◌+◌, List, [], take}
-use Rattle.std.specs.List.{filter_map}
+use Rattle.std.{proofs.Common.{◌≡◌, ◌+◌, List, [], take}, specs.List.{filter_map}}
 use Rattle.ppdb_tables.specs.RawTables.{numbered}
 use Rattle.ppdb_values.specs.declared.file.DocumentValue.{DocumentValue}
-use Rattle.ppdb_merge.specs.Indexes.{HoldsDocuments}
-use Rattle.ppdb_merge.specs.Refusals.{moved_conflict}
+use Rattle.ppdb_merge.specs.{Indexes.{HoldsDocuments}, Refusals.{moved_conflict}}
 use Rattle.ppdb_merge.proofs.documents.Documents.first_conflict.Given as goal
 
 abbrev pub invariant-loop-document : goal.invariant-loop-document

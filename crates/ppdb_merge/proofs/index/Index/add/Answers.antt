@@ -1,8 +1,7 @@
 use Rattle.std.proofs.Common.{refl, subst, [], ◌+◌, ◌++◌}
 use Rattle.ppdb_merge_joined.specs.Joined.{firsts}
 use Rattle.ppdb_merge_items.specs.Annotated.{items_of}
-use Rattle.ppdb_merge.specs.Indexes.{HoldsMethods, HoldsDocuments, claims_of}
-use Rattle.ppdb_merge.proofs.Indexing.{index_more}
+use Rattle.ppdb_merge.{specs.Indexes.{HoldsMethods, HoldsDocuments, claims_of}, proofs.Indexing.{index_more}}
 use Rattle.ppdb_merge.proofs.index.Index.add.Goals as goal
 
 pub returns-clause-holds : goal.returns-clause-holds

@@ -1,7 +1,5 @@
 use Rattle.std.proofs.Common.{sym, subst, take, [], ◌∷◌, ◌++◌}
-use Rattle.ppdb_merge.specs.Indexes.{Indexes}
-use Rattle.ppdb_merge.specs.Sound.{SoundTraces}
-use Rattle.ppdb_merge.proofs.Adding.{grown}
+use Rattle.ppdb_merge.{specs.Indexes.{Indexes}, specs.Sound.{SoundTraces}, proofs.Adding.{grown}}
 use Rattle.ppdb_merge.proofs.merger.Merger.add.Goals as goal
 
 pub invariant_of-self-2 : goal.invariant_of-self-2

@@ -1,6 +1,5 @@
 use Rattle.std.proofs.Common.{◌++◌, take}
-use Rattle.ppdb_merge.specs.Indexes.{claims_of}
-use Rattle.ppdb_merge.proofs.Taken.{methods_next}
+use Rattle.ppdb_merge.{specs.Indexes.{claims_of}, proofs.Taken.{methods_next}}
 use Rattle.ppdb_merge.proofs.methods.Methods.add.Goals as goal
 
 pub loop-imaged-preserved : goal.loop-imaged-preserved

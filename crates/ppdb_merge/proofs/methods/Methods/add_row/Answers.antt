@@ -1,5 +1,4 @@
-use Rattle.std.proofs.Common.{sym, ◌∙◌}
-use Rattle.std.proofs.lemmas.Bool.{eq-eqb}
+use Rattle.std.proofs.{Common.{sym, ◌∙◌}, lemmas.Bool.{eq-eqb}}
 use Rattle.ppdb_merge.proofs.Taken.{kept_method, added_method}
 use Rattle.ppdb_merge.proofs.methods.Methods.add_row.Goals as goal
 

@@ -1,8 +1,5 @@
-use Rattle.std.proofs.Common.{sym, ap, ◌∙◌, ◌≡◌, arith}
-use Rattle.std.specs.Option.{option_and_then}
-use Rattle.ppdb_merge.specs.Indexes.{lesser}
-use Rattle.ppdb_merge.specs.Refusals.{taken}
-use Rattle.ppdb_merge.proofs.Taken.{least_next, told_least}
+use Rattle.std.{proofs.Common.{sym, ap, ◌∙◌, ◌≡◌, arith}, specs.Option.{option_and_then}}
+use Rattle.ppdb_merge.{specs.Indexes.{lesser}, specs.Refusals.{taken}, proofs.Taken.{least_next, told_least}}
 use Rattle.ppdb_merge.proofs.methods.Methods.first_taken.Goals as goal
 
 pub rows-preserved : goal.rows-preserved

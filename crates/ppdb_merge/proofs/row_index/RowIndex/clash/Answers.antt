@@ -2,11 +2,8 @@ use Rattle.std.proofs.Common.{◌++◌, ◌∙◌, subst, sym}
 use Rattle.ppdb_values.specs.Value.{value_of}
 use Rattle.ppdb_verify.specs.Views.{raw_file}
 use Rattle.ppdb_merge_joined.specs.Joined.{joined_documents}
-use Rattle.ppdb_merge.specs.Merged.{moved_files}
-use Rattle.ppdb_merge.specs.Refusals.{claims, documents_differ, links_differ, methods_taken}
-use Rattle.ppdb_merge.specs.Rows.{HoldsLinks}
-use Rattle.ppdb_merge.proofs.RowIndexing.{none_before}
-use Rattle.ppdb_merge.proofs.Told.{first_told, second_told}
+use Rattle.ppdb_merge.specs.{Merged.{moved_files}, Refusals.{claims, documents_differ, links_differ, methods_taken}, Rows.{HoldsLinks}}
+use Rattle.ppdb_merge.proofs.{RowIndexing.{none_before}, Told.{first_told, second_told}}
 use Rattle.ppdb_merge.proofs.row_index.RowIndex.clash.Goals as goal
 
 pub returns-then-self-eq0 : goal.returns-then-self-eq0

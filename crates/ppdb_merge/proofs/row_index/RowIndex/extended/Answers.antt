@@ -1,8 +1,5 @@
-use Rattle.std.proofs.Common.{arith, subst, sym, take}
-use Rattle.std.specs.Prelude.{get_or}
-use Rattle.std.proofs.lemmas.List.{take_all}
-use Rattle.ppdb_merge.specs.Rows.{IndexesRows, traces_in}
-use Rattle.ppdb_merge.proofs.RowIndexing.{many_kept, many_traces, named_by, traced_by}
+use Rattle.std.{proofs.Common.{arith, subst, sym, take}, specs.Prelude.{get_or}, proofs.lemmas.List.{take_all}}
+use Rattle.ppdb_merge.{specs.Rows.{IndexesRows, traces_in}, proofs.RowIndexing.{many_kept, many_traces, named_by, traced_by}}
 use Rattle.ppdb_merge.proofs.row_index.RowIndex.extended.Goals as goal
 
 pub bounds-traces-place : goal.bounds-traces-place

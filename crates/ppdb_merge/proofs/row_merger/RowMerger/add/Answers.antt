@@ -1,12 +1,7 @@
-use Rattle.std.proofs.Common.{◌≡◌, ◌++◌, ◌∷◌, [], None, ap, arith, length, subst}
-use Rattle.std.specs.Prelude.{Ok}
+use Rattle.std.{proofs.Common.{◌≡◌, ◌++◌, ◌∷◌, [], None, ap, arith, length, subst}, specs.Prelude.{Ok}}
 use Rattle.ppdb_verify.specs.Views.{raw_file}
-use Rattle.ppdb_merge.specs.Inputs.{AreFitting}
-use Rattle.ppdb_merge.specs.Merged.{is_first, trace_of}
-use Rattle.ppdb_merge.specs.Refusals.{added, refusal_of}
-use Rattle.ppdb_merge.specs.Rows.{IsIndexOf, RowMerged, read_input, read_inputs, row_trace, traces_in}
-use Rattle.ppdb_merge.proofs.RowAdding.{added_rows, grown_rows}
-use Rattle.ppdb_merge.proofs.RowIndexing.{many_traces}
+use Rattle.ppdb_merge.specs.{Inputs.{AreFitting}, Merged.{is_first, trace_of}, Refusals.{added, refusal_of}, Rows.{IsIndexOf, RowMerged, read_input, read_inputs}}
+use Rattle.ppdb_merge.{specs.Rows.{row_trace, traces_in}, proofs.RowAdding.{added_rows, grown_rows}, proofs.RowIndexing.{many_traces}}
 use Rattle.ppdb_merge.proofs.row_merger.RowMerger.add.Goals as goal
 
 pub read_rows-requires-clause-few : goal.read_rows-requires-clause-few

@@ -1,12 +1,8 @@
-use Rattle.std.proofs.Common.{◌∙◌, List, Option, ap, inr, sym}
-use Rattle.std.specs.Prelude.{Ok}
+use Rattle.std.{proofs.Common.{◌∙◌, List, Option, ap, inr, sym}, specs.Prelude.{Ok}}
 use Rattle.ppdb_base.specs.declared.merge_error.MergeError.{MergeError}
 use Rattle.ppdb_merge_items.specs.Unannotated.{value_of_annotated}
 use Rattle.ppdb_merge_joined.specs.Joined.{joined}
-use Rattle.ppdb_merge.specs.declared.trace.Trace.{Trace}
-use Rattle.ppdb_merge.specs.Merged.{moved_files, unless}
-use Rattle.ppdb_merge.specs.Rows.{RowMerged, traces_in}
-use Rattle.ppdb_merge.specs.Together.{joined_of, misfit_of}
+use Rattle.ppdb_merge.specs.{declared.trace.Trace.{Trace}, Merged.{moved_files, unless}, Rows.{RowMerged, traces_in}, Together.{joined_of, misfit_of}}
 use Rattle.ppdb_merge.proofs.Counting.{misfit_counted}
 use Rattle.ppdb_merge.proofs.row_merger.RowMerger.finish.Goals as goal
 

@@ -1,11 +1,8 @@
-use Rattle.std.proofs.Common.{◌≡◌, ◌≤◌, None, length, subst}
-use Rattle.std.specs.Prelude.{Ok}
+use Rattle.std.{proofs.Common.{◌≡◌, ◌≤◌, None, length, subst}, specs.Prelude.{Ok}}
 use Rattle.ppdb_values_sound_laws.specs.Sound.{IsSound}
 use Rattle.ppdb_merge_meaning_laws.specs.Kept.{joined_inputs}
-use Rattle.ppdb_merge.specs.Kept.{AreInputs}
-use Rattle.ppdb_merge.specs.Rows.{RowMerged}
-use Rattle.ppdb_merge.specs.Together.{joined_of, misfit_of}
-use Rattle.ppdb_merge.proofs.RowAdding.{rows_are_inputs, rows_joined, rows_sound}
+use Rattle.ppdb_merge.{specs.Kept.{AreInputs}, specs.Rows.{RowMerged}, specs.Together.{joined_of, misfit_of}, proofs.RowAdding.{rows_are_inputs, rows_joined}}
+use Rattle.ppdb_merge.proofs.RowAdding.{rows_sound}
 use Rattle.ppdb_merge.proofs.row_merger.RowMerger.inputs.Goals as goal
 
 pub returns-clause-fit : goal.returns-clause-fit

@@ -1,7 +1,5 @@
 use Rattle.std.proofs.Common.{◌∙◌, ap}
-use Rattle.ppdb_merge.specs.Rows.{RowMerged, traces_in}
-use Rattle.ppdb_merge.specs.Together.{misfit_of}
-use Rattle.ppdb_merge.proofs.Counting.{misfit_counted}
+use Rattle.ppdb_merge.{specs.Rows.{RowMerged, traces_in}, specs.Together.{misfit_of}, proofs.Counting.{misfit_counted}}
 use Rattle.ppdb_merge.proofs.row_merger.RowMerger.misfit.Goals as goal
 
 pub returns : goal.returns

@@ -1,7 +1,4 @@
-use Rattle.std.proofs.Common.{◌∙◌, ap, cond, Some}
-use Rattle.std.specs.Prelude.{bytes_eq}
-use Rattle.std.specs.BTreeMap.{is_at}
-use Rattle.std.specs.Map.{lookup}
+use Rattle.std.{proofs.Common.{◌∙◌, ap, cond, Some}, specs.Prelude.{bytes_eq}, specs.BTreeMap.{is_at}, specs.Map.{lookup}}
 use Rattle.ppdb_merge_fits.specs.Names.{row_of}
 use Rattle.ppdb_merge_fits.proofs.documents.Names.add.Goals as goal
 use Rattle.ppdb_maps.proofs.Named.{Name, names, found_after}

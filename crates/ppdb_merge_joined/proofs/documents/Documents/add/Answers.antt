@@ -1,10 +1,7 @@
-use Rattle.std.proofs.Common.{◌≡◌, ◌+◌, ◌-◌, ◌∷◌, [], ◌++◌, List, length, ap, sym, ◌∙◌, arith}
-use Rattle.std.proofs.lemmas.Result.{IfOk-weaker}
-use Rattle.ppdb_values.specs.declared.file.DocumentValue.{DocumentValue}
-use Rattle.ppdb_values.specs.declared.annotation.Annotation.{Annotation}
-use Rattle.ppdb_merge_joined.specs.Gathered.{Holds, row_after}
-use Rattle.ppdb_merge_joined.proofs.Gathering.{add_row_new, add_holds_new, add_row_old, add_holds_old, row_inside, annotated_length}
-use Rattle.ppdb_merge_joined.proofs.OnOks.{on_ok_both}
+use Rattle.std.proofs.{Common.{◌≡◌, ◌+◌, ◌-◌, ◌∷◌, [], ◌++◌, List, length, ap, sym, ◌∙◌, arith}, lemmas.Result.{IfOk-weaker}}
+use Rattle.ppdb_values.specs.declared.{file.DocumentValue.{DocumentValue}, annotation.Annotation.{Annotation}}
+use Rattle.ppdb_merge_joined.{specs.Gathered.{Holds, row_after}, proofs.Gathering.{add_row_new, add_holds_new, add_row_old, add_holds_old, row_inside}}
+use Rattle.ppdb_merge_joined.proofs.{Gathering.{annotated_length}, OnOks.{on_ok_both}}
 use Rattle.ppdb_merge_joined.proofs.documents.Documents.add.Goals as goal
 
 pub returns-then-row-eq0-clause-row : goal.returns-then-row-eq0-clause-row

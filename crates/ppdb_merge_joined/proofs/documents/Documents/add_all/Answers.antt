@@ -1,10 +1,6 @@
-use Rattle.std.proofs.Common.{◌∷◌, [], ◌++◌, map, ap, subst, ◌∙◌, arith, append_assoc}
-use Rattle.std.proofs.lemmas.List.{length-append}
-use Rattle.ppdb_values.specs.declared.file.DocumentValue.{DocumentValue}
-use Rattle.ppdb_values.specs.declared.annotation.Annotation.{Annotation}
-use Rattle.ppdb_merge_joined.specs.Gathered.{Holds, row_after}
-use Rattle.ppdb_merge_joined.proofs.Gathering.{rows_push}
-use Rattle.ppdb_merge_joined.proofs.PutFiles.{named_behind, own_named}
+use Rattle.std.proofs.{Common.{◌∷◌, [], ◌++◌, map, ap, subst, ◌∙◌, arith, append_assoc}, lemmas.List.{length-append}}
+use Rattle.ppdb_values.specs.declared.{file.DocumentValue.{DocumentValue}, annotation.Annotation.{Annotation}}
+use Rattle.ppdb_merge_joined.{specs.Gathered.{Holds, row_after}, proofs.Gathering.{rows_push}, proofs.PutFiles.{named_behind, own_named}}
 use Rattle.ppdb_merge_joined.proofs.documents.Documents.add_all.Goals as goal
 
 pub loop-document-preserved : goal.loop-document-preserved

@@ -1,6 +1,5 @@
 use Rattle.std.proofs.Common.{◌++◌, subst, sym}
-use Rattle.ppdb_merge_joined.specs.Gathered.{Holds}
-use Rattle.ppdb_merge_joined.proofs.PutFiles.{docs, put_more}
+use Rattle.ppdb_merge_joined.{specs.Gathered.{Holds}, proofs.PutFiles.{docs, put_more}}
 use Rattle.ppdb_merge_joined.proofs.joining.Parts.add.Goals as goal
 
 pub returns-clause-put : goal.returns-clause-put

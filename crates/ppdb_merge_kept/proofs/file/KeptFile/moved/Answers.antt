@@ -1,12 +1,9 @@
-use Rattle.std.proofs.Common.{sym, ap, subst, ◌∙◌}
-use Rattle.std.specs.Prelude.{All}
-use Rattle.std.specs.List.{filter_map}
+use Rattle.std.{proofs.Common.{sym, ap, subst, ◌∙◌}, specs.Prelude.{All}, specs.List.{filter_map}}
 use Rattle.sequence_points_packed.specs.Packed.{MayBeWritten}
 use Rattle.ppdb_values.specs.declared.file.MethodValue.{MethodValue}
 use Rattle.ppdb_merge_items.specs.Annotated.{annotated_file}
 use Rattle.ppdb_merge_moved.specs.Moved.{moved_file, moved_method}
-use Rattle.ppdb_merge_kept.proofs.Parts.{moved_parts}
-use Rattle.ppdb_merge_kept.proofs.Writable.{methods_written}
+use Rattle.ppdb_merge_kept.proofs.{Parts.{moved_parts}, Writable.{methods_written}}
 use Rattle.ppdb_merge_kept.proofs.file.KeptFile.moved.Goals as goal
 
 pub packed-requires : goal.packed-requires

@@ -1,7 +1,5 @@
 use Rattle.std.proofs.Common.{sym, ap, ◌∙◌, [], ◌∷◌, ◌++◌}
-use Rattle.ppdb_merge_names.specs.References.{names}
-use Rattle.ppdb_merge_names.specs.Imaging.{Imaging}
-use Rattle.ppdb_merge_names.proofs.Going.{one-none, one-is}
+use Rattle.ppdb_merge_names.{specs.References.{names}, specs.Imaging.{Imaging}, proofs.Going.{one-none, one-is}}
 use Rattle.ppdb_merge_names.proofs.imager.Imager.add.Goals as goal
 
 pub returns-in_default : goal.returns-in_default

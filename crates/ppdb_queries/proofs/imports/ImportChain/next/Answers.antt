@@ -1,8 +1,7 @@
 use Rattle.std.proofs.Common.{sym, ◌∙◌, arith}
 use Rattle.ppdb_tables.specs.RawOf.{raw_of}
 use Rattle.ppdb_verify.specs.Views.{tables_of}
-use Rattle.ppdb_queries.specs.Chains.{links_from}
-use Rattle.ppdb_queries.proofs.Chained.{links_zero, links_next, answer_none, left_none, answer_some, left_some, cost_some}
+use Rattle.ppdb_queries.{specs.Chains.{links_from}, proofs.Chained.{links_zero, links_next, answer_none, left_none, answer_some, left_some, cost_some}}
 use Rattle.ppdb_queries.proofs.imports.ImportChain.next.Goals as goal
 
 pub returns-then-self-eq0-clause-answer : goal.returns-then-self-eq0-clause-answer

@@ -1,6 +1,5 @@
 use Rattle.std.proofs.Common.{◌≡◌, ◌++◌, length}
-use Rattle.ppdb_run_words.specs.Task.{marks_in}
-use Rattle.ppdb_run_words.specs.Words.{texts}
+use Rattle.ppdb_run_words.specs.{Task.{marks_in}, Words.{texts}}
 use Rattle.ppdb_run_words.proofs.options.Options.marks.Given as goal
 
 abbrev pub invariant-loop-word : goal.invariant-loop-word

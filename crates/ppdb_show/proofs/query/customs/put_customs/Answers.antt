@@ -1,11 +1,8 @@
 use Rattle.std.proofs.Common.{refl, arith}
-use Rattle.ppdb_tables.specs.Parents.{coded_in}
-use Rattle.ppdb_tables.specs.RawOf.{raw_of}
+use Rattle.ppdb_tables.specs.{Parents.{coded_in}, RawOf.{raw_of}}
 use Rattle.ppdb_verify.specs.Views.{tables_of}
 use Rattle.ppdb_queries.proofs.Views.{run_step}
-use Rattle.ppdb_show.proofs.Added.{walk_none, walk_next, walk_cut, walk_done, walk_cost}
-use Rattle.ppdb_show.proofs.Runs.{bounds, run_done}
-use Rattle.ppdb_show.proofs.Shown.{customs_all, customs_many}
+use Rattle.ppdb_show.proofs.{Added.{walk_none, walk_next, walk_cut, walk_done, walk_cost}, Runs.{bounds, run_done}, Shown.{customs_all, customs_many}}
 use Rattle.ppdb_show.proofs.query.customs.put_customs.Goals as goal
 
 pub customs-init : goal.customs-init

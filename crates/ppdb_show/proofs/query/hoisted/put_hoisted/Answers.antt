@@ -1,10 +1,8 @@
 use Rattle.std.proofs.Common.{arith}
 use Rattle.ppdb_tables.specs.RawOf.{raw_of}
 use Rattle.ppdb_verify.specs.Views.{tables_of}
-use Rattle.ppdb_queries.specs.Hoisted.{hoisted_at}
-use Rattle.ppdb_queries.proofs.Slots.{none_left}
-use Rattle.ppdb_show.specs.Query.{hoisted_line}
-use Rattle.ppdb_show.proofs.Added.{walk_none, walk_next, walk_done, walk_cost, adds_same, lines_each, none_each}
+use Rattle.ppdb_queries.{specs.Hoisted.{hoisted_at}, proofs.Slots.{none_left}}
+use Rattle.ppdb_show.{specs.Query.{hoisted_line}, proofs.Added.{walk_none, walk_next, walk_done, walk_cost, adds_same, lines_each, none_each}}
 use Rattle.ppdb_show.proofs.Given.{given_next}
 use Rattle.ppdb_show.proofs.query.hoisted.put_hoisted.Goals as goal
 

@@ -2,8 +2,7 @@ use Rattle.std.proofs.Common.{◌+◌, [], ◌∷◌, length}
 use Rattle.ppdb_tables.specs.RawOf.{raw_of}
 use Rattle.ppdb_verify.specs.Views.{tables_of}
 use Rattle.ppdb_queries.specs.Hoisted.{hoisted_at}
-use Rattle.ppdb_show.specs.Query.{hoisted_line}
-use Rattle.ppdb_show.specs.QueryWalk.{Walked, customs_reads}
+use Rattle.ppdb_show.specs.{Query.{hoisted_line}, QueryWalk.{Walked, customs_reads}}
 use Rattle.ppdb_show.proofs.query.hoisted.put_hoisted.Given as goal
 
 abbrev pub invariant-locals : goal.invariant-locals

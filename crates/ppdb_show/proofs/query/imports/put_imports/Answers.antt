@@ -2,8 +2,7 @@ use Rattle.std.proofs.Common.{arith, ap, length}
 use Rattle.ppdb_tables.specs.RawOf.{raw_of}
 use Rattle.ppdb_values.specs.Chains.{chain_of}
 use Rattle.ppdb_verify.specs.Views.{tables_of}
-use Rattle.ppdb_show.proofs.Added.{walk_none, walk_next, walk_cut, walk_done, walk_cost, adds_same}
-use Rattle.ppdb_show.proofs.Chains.{IsLink, links_there, lines_of_links, reads_of_links}
+use Rattle.ppdb_show.proofs.{Added.{walk_none, walk_next, walk_cut, walk_done, walk_cost, adds_same}, Chains.{IsLink, links_there, lines_of_links, reads_of_links}}
 use Rattle.ppdb_show.proofs.Given.{each_first, each_rest, given_next}
 use Rattle.ppdb_show.proofs.query.imports.put_imports.Goals as goal
 use Rattle.ppdb_queries.proofs.Slots.{none_left}

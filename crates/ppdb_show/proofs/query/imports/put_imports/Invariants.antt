@@ -2,9 +2,7 @@ use Rattle.std.proofs.Common.{◌≤◌, length}
 use Rattle.ppdb_tables.specs.RawOf.{raw_of}
 use Rattle.ppdb_verify.specs.Views.{tables_of}
 use Rattle.ppdb_queries.specs.Chains.{links_from}
-use Rattle.ppdb_show.specs.QueryWalk.{Walked, lines_of_link}
-use Rattle.ppdb_show.proofs.Given.{Each}
-use Rattle.ppdb_show.proofs.Chains.{IsLink, link_reads}
+use Rattle.ppdb_show.{specs.QueryWalk.{Walked, lines_of_link}, proofs.Given.{Each}, proofs.Chains.{IsLink, link_reads}}
 use Rattle.ppdb_show.proofs.query.imports.put_imports.Given as goal
 
 abbrev pub invariant-chain : goal.invariant-chain

@@ -1,11 +1,7 @@
-use Rattle.std.proofs.Common.{refl, arith, ◌∙◌, ap, sym}
-use Rattle.std.specs.Prelude.{Option, Ok}
+use Rattle.std.{proofs.Common.{refl, arith, ◌∙◌, ap, sym}, specs.Prelude.{Option, Ok}}
 use Rattle.blob_grammar.specs.Reader.{Left}
-use Rattle.type_blobs.specs.declared.import.Import.{Import}
-use Rattle.type_blobs.specs.Imports.{ImportItem}
-use Rattle.type_blobs.specs.ImportReading.{shown, shown_answer}
-use Rattle.ppdb_show.proofs.Added.{walk_none, walk_next, walk_done, adds_same, uses_each}
-use Rattle.ppdb_show.proofs.Given.{answer_next, answer_end, answer_never}
+use Rattle.type_blobs.specs.{declared.import.Import.{Import}, Imports.{ImportItem}, ImportReading.{shown, shown_answer}}
+use Rattle.ppdb_show.proofs.{Added.{walk_none, walk_next, walk_done, adds_same, uses_each}, Given.{answer_next, answer_end, answer_never}}
 use Rattle.ppdb_show.proofs.query.imports.put_uses.Goals as goal
 
 pub imports-init : goal.imports-init

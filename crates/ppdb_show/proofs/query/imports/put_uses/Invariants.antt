@@ -1,5 +1,4 @@
-use Rattle.std.proofs.Common.{◌≡◌, [], ◌∷◌, length}
-use Rattle.std.specs.Prelude.{None}
+use Rattle.std.{proofs.Common.{◌≡◌, [], ◌∷◌, length}, specs.Prelude.{None}}
 use Rattle.ppdb_values.specs.Imports.{import_value}
 use Rattle.ppdb_show_lines.specs.Uses.{use_line}
 use Rattle.ppdb_show.specs.QueryWalk.{Walked}

@@ -1,6 +1,5 @@
 use Rattle.std.proofs.Common.{arith}
-use Rattle.ppdb_tables.specs.RawOf.{raw_of}
-use Rattle.ppdb_tables.proofs.NumberedRows.{row_within}
+use Rattle.ppdb_tables.{specs.RawOf.{raw_of}, proofs.NumberedRows.{row_within}}
 use Rattle.ppdb_verify.specs.Views.{tables_of}
 use Rattle.ppdb_show.proofs.Added.{then_ok}
 use Rattle.ppdb_show.proofs.query.items.put_constant.Goals as goal

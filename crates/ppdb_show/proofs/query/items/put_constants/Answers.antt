@@ -2,8 +2,7 @@ use Rattle.std.proofs.Common.{refl, arith}
 use Rattle.ppdb_tables.specs.RawOf.{raw_of}
 use Rattle.ppdb_verify.specs.Views.{tables_of}
 use Rattle.ppdb_queries.proofs.Views.{run_step}
-use Rattle.ppdb_show.proofs.Added.{walk_none, walk_next, walk_cut, walk_done, walk_cost}
-use Rattle.ppdb_show.proofs.Runs.{run_done}
+use Rattle.ppdb_show.proofs.{Added.{walk_none, walk_next, walk_cut, walk_done, walk_cost}, Runs.{run_done}}
 use Rattle.ppdb_show.proofs.query.items.put_constants.Goals as goal
 
 pub constants-init : goal.constants-init

@@ -1,10 +1,8 @@
 use Rattle.std.proofs.Common.{◌-◌, ◌+◌, ◌≤◌, length, slice_range}
-use Rattle.ppdb_tables.specs.RawOf.{raw_of}
-use Rattle.ppdb_tables.specs.RawTables.{numbered}
+use Rattle.ppdb_tables.specs.{RawOf.{raw_of}, RawTables.{numbered}}
 use Rattle.ppdb_verify.specs.Views.{tables_of}
 use Rattle.ppdb_queries.specs.Runs.{rows_in}
-use Rattle.ppdb_show.specs.Query.{variable_answer}
-use Rattle.ppdb_show.specs.QueryWalk.{Walked, item_reads}
+use Rattle.ppdb_show.specs.{Query.{variable_answer}, QueryWalk.{Walked, item_reads}}
 use Rattle.ppdb_show.proofs.query.items.put_variables.Given as goal
 
 abbrev pub invariant-variables : goal.invariant-variables

@@ -1,5 +1,4 @@
-use Rattle.std.proofs.Common.{ap, ◌==◌, [], ◌∷◌}
-use Rattle.std.specs.Prelude.{if◌then◌else◌}
+use Rattle.std.{proofs.Common.{ap, ◌==◌, [], ◌∷◌}, specs.Prelude.{if◌then◌else◌}}
 use Rattle.ppdb_tables.specs.declared.head.PdbHead.{PdbHead}
 use Rattle.ppdb_show_lines.specs.Lines.{line_with}
 use Rattle.ppdb_show.proofs.Added.{then_ok, adds_same}

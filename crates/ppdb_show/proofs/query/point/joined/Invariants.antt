@@ -1,6 +1,4 @@
-use Rattle.std.proofs.Common.{◌≡◌, ◌++◌, length}
-use Rattle.std.specs.Prelude.{None}
-use Rattle.std.specs.List.{join_by}
+use Rattle.std.{proofs.Common.{◌≡◌, ◌++◌, length}, specs.Prelude.{None}, specs.List.{join_by}}
 use Rattle.ppdb_show.proofs.Names.{parts_after}
 use Rattle.ppdb_show.proofs.query.point.joined.Given as goal
 

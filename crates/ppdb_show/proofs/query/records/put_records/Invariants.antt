@@ -1,11 +1,8 @@
 use Rattle.std.proofs.Common.{◌-◌, ◌+◌, ◌*◌, ◌≤◌, length, slice_range}
-use Rattle.ppdb_tables.specs.RawOf.{raw_of}
-use Rattle.ppdb_tables.specs.RawTables.{numbered}
+use Rattle.ppdb_tables.specs.{RawOf.{raw_of}, RawTables.{numbered}}
 use Rattle.ppdb_verify.specs.Views.{tables_of}
-use Rattle.ppdb_queries.specs.Digits.{digits}
-use Rattle.ppdb_queries.specs.Runs.{rows_in}
-use Rattle.ppdb_show.specs.Query.{lines_of_record}
-use Rattle.ppdb_show.specs.QueryWalk.{Walked}
+use Rattle.ppdb_queries.specs.{Digits.{digits}, Runs.{rows_in}}
+use Rattle.ppdb_show.specs.{Query.{lines_of_record}, QueryWalk.{Walked}}
 use Rattle.ppdb_show.proofs.query.records.put_records.Given as goal
 
 abbrev pub invariant-records : goal.invariant-records

@@ -1,10 +1,6 @@
-use Rattle.std.proofs.Common.{arith, ◌∙◌, ap, sym}
-use Rattle.std.specs.Prelude.{Option, Ok}
-use Rattle.custom_info.specs.declared.stepping.AsyncStep.{AsyncStep}
-use Rattle.custom_info.specs.AsyncStepping.{Stepping}
-use Rattle.ppdb_show.specs.Query.{step_line}
-use Rattle.ppdb_show.proofs.Added.{walk_next, walk_done, adds_same, lines_each}
-use Rattle.ppdb_show.proofs.Given.{answer_next, answer_end}
+use Rattle.std.{proofs.Common.{arith, ◌∙◌, ap, sym}, specs.Prelude.{Option, Ok}}
+use Rattle.custom_info.specs.{declared.stepping.AsyncStep.{AsyncStep}, AsyncStepping.{Stepping}}
+use Rattle.ppdb_show.{specs.Query.{step_line}, proofs.Added.{walk_next, walk_done, adds_same, lines_each}, proofs.Given.{answer_next, answer_end}}
 use Rattle.ppdb_show.proofs.query.records.put_steps.Goals as goal
 
 pub steps-preserved : goal.steps-preserved

@@ -1,7 +1,5 @@
-use Rattle.std.proofs.Common.{◌≡◌, [], ◌∷◌, length}
-use Rattle.std.specs.Prelude.{None}
-use Rattle.ppdb_show.specs.Query.{step_line}
-use Rattle.ppdb_show.specs.QueryWalk.{Walked}
+use Rattle.std.{proofs.Common.{◌≡◌, [], ◌∷◌, length}, specs.Prelude.{None}}
+use Rattle.ppdb_show.specs.{Query.{step_line}, QueryWalk.{Walked}}
 use Rattle.ppdb_show.proofs.query.records.put_steps.Given as goal
 
 abbrev pub invariant-steps : goal.invariant-steps

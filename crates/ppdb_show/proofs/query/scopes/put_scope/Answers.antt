@@ -1,11 +1,7 @@
-use Rattle.std.proofs.Common.{arith, ap}
-use Rattle.std.specs.List.{flat_map}
-use Rattle.ppdb_tables.specs.RawOf.{raw_of}
-use Rattle.ppdb_tables.proofs.NumberedRows.{row_within}
+use Rattle.std.{proofs.Common.{arith, ap}, specs.List.{flat_map}}
+use Rattle.ppdb_tables.{specs.RawOf.{raw_of}, proofs.NumberedRows.{row_within}}
 use Rattle.ppdb_verify.specs.Views.{tables_of}
-use Rattle.ppdb_show.specs.Query.{variable_answer, constant_answer}
-use Rattle.ppdb_show.specs.QueryWalk.{items_reads}
-use Rattle.ppdb_show.proofs.Added.{then_ok, adds_same}
+use Rattle.ppdb_show.{specs.Query.{variable_answer, constant_answer}, specs.QueryWalk.{items_reads}, proofs.Added.{then_ok, adds_same}}
 use Rattle.ppdb_show.proofs.Views.{variables_bounds, constants_bounds, variables_owned, constants_owned, import_there}
 use Rattle.ppdb_show.proofs.query.scopes.put_scope.Goals as goal
 

@@ -1,10 +1,8 @@
 use Rattle.std.proofs.Common.{arith}
 use Rattle.ppdb_tables.specs.RawOf.{raw_of}
 use Rattle.ppdb_verify.specs.Views.{tables_of}
-use Rattle.ppdb_show.specs.QueryWalk.{IsViewOf}
-use Rattle.ppdb_show.proofs.Added.{walk_none, walk_next, walk_cut, walk_done, walk_cost}
-use Rattle.ppdb_show.proofs.Given.{each_first, each_rest, given_next}
-use Rattle.ppdb_show.proofs.Views.{views_there}
+use Rattle.ppdb_show.{specs.QueryWalk.{IsViewOf}, proofs.Added.{walk_none, walk_next, walk_cut, walk_done, walk_cost}, proofs.Given.{each_first, each_rest}}
+use Rattle.ppdb_show.proofs.{Given.{given_next}, Views.{views_there}}
 use Rattle.ppdb_show.proofs.query.scopes.put_scopes.Goals as goal
 use Rattle.ppdb_queries.proofs.Slots.{none_left}
 

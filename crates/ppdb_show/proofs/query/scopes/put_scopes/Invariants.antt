@@ -1,12 +1,8 @@
 use Rattle.std.proofs.Common.{◌+◌, ◌*◌, ◌≤◌, length}
 use Rattle.ppdb_tables.specs.RawOf.{raw_of}
 use Rattle.ppdb_verify.specs.Views.{tables_of}
-use Rattle.ppdb_queries.specs.Digits.{digits}
-use Rattle.ppdb_queries.specs.Scopes.{scopes_at, scope_count}
-use Rattle.ppdb_show.specs.Noted.{IsNotedText}
-use Rattle.ppdb_show.specs.Query.{scope_answer}
-use Rattle.ppdb_show.specs.QueryWalk.{IsViewOf, Walked, scope_reads}
-use Rattle.ppdb_show.proofs.Given.{Each}
+use Rattle.ppdb_queries.specs.{Digits.{digits}, Scopes.{scopes_at, scope_count}}
+use Rattle.ppdb_show.{specs.Noted.{IsNotedText}, specs.Query.{scope_answer}, specs.QueryWalk.{IsViewOf, Walked, scope_reads}, proofs.Given.{Each}}
 use Rattle.ppdb_show.proofs.query.scopes.put_scopes.Given as goal
 
 abbrev pub invariant-scopes : goal.invariant-scopes

@@ -1,8 +1,7 @@
 use Rattle.std.proofs.Common.{arith}
 use Rattle.ppdb_tables.specs.RawOf.{raw_of}
 use Rattle.ppdb_show_lines.proofs.Putting.{put_none, put_piece, put_prefix, put_whole}
-use Rattle.ppdb_show.specs.Show.{count_lines_of}
-use Rattle.ppdb_show.proofs.Lines.{counts_between, next_row, last_row}
+use Rattle.ppdb_show.{specs.Show.{count_lines_of}, proofs.Lines.{counts_between, next_row, last_row}}
 use Rattle.ppdb_show.proofs.show.head.put_counts.Goals as goal
 
 pub counts-init : goal.counts-init

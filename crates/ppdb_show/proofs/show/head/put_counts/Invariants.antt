@@ -1,9 +1,7 @@
 use Rattle.std.proofs.Common.{◌-◌, ◌≤◌}
 use Rattle.ppdb_tables.specs.RawOf.{raw_of}
-use Rattle.ppdb_show_lines.proofs.Putting.{Putting}
-use Rattle.ppdb_show_lines.specs.Forms.{lines_as}
-use Rattle.ppdb_show.specs.Show.{count_lines, count_lines_of}
-use Rattle.ppdb_show.specs.ShowWalk.{between}
+use Rattle.ppdb_show_lines.{proofs.Putting.{Putting}, specs.Forms.{lines_as}}
+use Rattle.ppdb_show.specs.{Show.{count_lines, count_lines_of}, ShowWalk.{between}}
 use Rattle.ppdb_show.proofs.show.head.put_counts.Given as goal
 
 abbrev pub invariant-counts : goal.invariant-counts

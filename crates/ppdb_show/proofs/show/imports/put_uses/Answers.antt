@@ -1,11 +1,8 @@
-use Rattle.std.proofs.Common.{◌≡◌, sym, ◌∙◌, ap}
-use Rattle.std.specs.Prelude.{Option, Result, Ok, Some, None}
+use Rattle.std.{proofs.Common.{◌≡◌, sym, ◌∙◌, ap}, specs.Prelude.{Option, Result, Ok, Some, None}}
 use Rattle.ppdb_base.specs.declared.BlobFault.{BlobFault}
-use Rattle.type_blobs.specs.declared.import.Import.{Import}
-use Rattle.type_blobs.specs.ImportReading.{shown, shown_answer}
+use Rattle.type_blobs.specs.{declared.import.Import.{Import}, ImportReading.{shown, shown_answer}}
 use Rattle.ppdb_show_lines.proofs.Putting.{put_piece, put_prefix, put_whole}
-use Rattle.ppdb_show.proofs.Lines.{uses_step, uses_done}
-use Rattle.ppdb_show.proofs.Whole.{answers_some, answers_none}
+use Rattle.ppdb_show.proofs.{Lines.{uses_step, uses_done}, Whole.{answers_some, answers_none}}
 use Rattle.ppdb_show.proofs.show.imports.put_uses.Goals as goal
 
 -- what an answer shows

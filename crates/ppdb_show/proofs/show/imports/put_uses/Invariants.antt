@@ -1,9 +1,6 @@
-use Rattle.std.proofs.Common.{◌≡◌, length, map}
-use Rattle.std.specs.Prelude.{None}
-use Rattle.ppdb_show_lines.proofs.Putting.{Putting}
+use Rattle.std.{proofs.Common.{◌≡◌, length, map}, specs.Prelude.{None}}
+use Rattle.ppdb_show_lines.{proofs.Putting.{Putting}, specs.Forms.{lines_as}, specs.Uses.{use_line}}
 use Rattle.ppdb_values.specs.Imports.{import_value}
-use Rattle.ppdb_show_lines.specs.Forms.{lines_as}
-use Rattle.ppdb_show_lines.specs.Uses.{use_line}
 use Rattle.ppdb_show.proofs.show.imports.put_uses.Given as goal
 
 abbrev pub invariant-imports : goal.invariant-imports

@@ -1,7 +1,5 @@
 use Rattle.ppdb_show_lines.proofs.Putting.{put_piece, put_prefix, put_whole}
-use Rattle.ppdb_show.specs.Show.{point_line}
-use Rattle.ppdb_show.proofs.Lines.{mapped_step, mapped_done}
-use Rattle.ppdb_show.proofs.Whole.{answered, ended}
+use Rattle.ppdb_show.{specs.Show.{point_line}, proofs.Lines.{mapped_step, mapped_done}, proofs.Whole.{answered, ended}}
 use Rattle.ppdb_show.proofs.show.methods.put_points.Goals as goal
 
 pub points-preserved : goal.points-preserved

@@ -1,7 +1,5 @@
-use Rattle.std.proofs.Common.{◌≡◌, length, map}
-use Rattle.std.specs.Prelude.{None}
-use Rattle.ppdb_show_lines.proofs.Putting.{Putting}
-use Rattle.ppdb_show_lines.specs.Forms.{lines_as}
+use Rattle.std.{proofs.Common.{◌≡◌, length, map}, specs.Prelude.{None}}
+use Rattle.ppdb_show_lines.{proofs.Putting.{Putting}, specs.Forms.{lines_as}}
 use Rattle.ppdb_show.specs.Show.{point_line}
 use Rattle.ppdb_show.proofs.show.methods.put_points.Given as goal
 

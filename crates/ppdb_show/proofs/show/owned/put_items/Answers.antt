@@ -1,9 +1,7 @@
 use Rattle.std.proofs.Common.{arith}
 use Rattle.ppdb_show_lines.proofs.Putting.{put_none, put_piece, put_prefix, put_whole}
 use Rattle.ppdb_verify.specs.Views.{raw_file}
-use Rattle.ppdb_show.specs.ShowWalk.{lines_of_item}
-use Rattle.ppdb_show.proofs.Lines.{next_row, last_row}
-use Rattle.ppdb_show.proofs.Numbered.{items_counted}
+use Rattle.ppdb_show.{specs.ShowWalk.{lines_of_item}, proofs.Lines.{next_row, last_row}, proofs.Numbered.{items_counted}}
 use Rattle.ppdb_show.proofs.show.owned.put_items.Goals as goal
 
 pub put_item-requires-clause-there : goal.put_item-requires-clause-there

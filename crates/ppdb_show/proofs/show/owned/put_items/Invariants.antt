@@ -1,7 +1,6 @@
 use Rattle.std.proofs.Common.{◌-◌, ◌≤◌}
-use Rattle.ppdb_show_lines.proofs.Putting.{Putting}
+use Rattle.ppdb_show_lines.{proofs.Putting.{Putting}, specs.Forms.{lines_as}}
 use Rattle.ppdb_verify.specs.Views.{raw_file}
-use Rattle.ppdb_show_lines.specs.Forms.{lines_as}
 use Rattle.ppdb_show.specs.ShowWalk.{lines_between}
 use Rattle.ppdb_show.proofs.show.owned.put_items.Given as goal
 

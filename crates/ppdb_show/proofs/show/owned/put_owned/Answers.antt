@@ -2,9 +2,7 @@ use Rattle.std.proofs.Common.{◌≡◌, ◌≤◌, ◌+◌, arith, sym, ◌∙�
 use Rattle.ppdb_show_lines.proofs.Putting.{put_none, put_piece, put_prefix, put_whole}
 use Rattle.ppdb_verify.specs.Views.{raw_file}
 use Rattle.ppdb_values.specs.Owners.{list_end}
-use Rattle.ppdb_show.specs.ShowWalk.{list_by, items_of, lines_of_item}
-use Rattle.ppdb_show.proofs.Lines.{last_row}
-use Rattle.ppdb_show.proofs.Numbered.{items_between, split_lines}
+use Rattle.ppdb_show.{specs.ShowWalk.{list_by, items_of, lines_of_item}, proofs.Lines.{last_row}, proofs.Numbered.{items_between, split_lines}}
 use Rattle.ppdb_show.proofs.ScopeLists.{keeps_lists, begins_first, begins_last, ends_after, ends_within, ends_where_next_begins, owns_between}
 use Rattle.ppdb_show.proofs.show.owned.put_owned.Goals as goal
 

@@ -1,9 +1,7 @@
 use Rattle.std.proofs.Common.{◌+◌, ◌-◌, ◌≡◌, ◌≤◌}
-use Rattle.ppdb_show_lines.proofs.Putting.{Putting}
+use Rattle.ppdb_show_lines.{proofs.Putting.{Putting}, specs.Forms.{lines_as}}
 use Rattle.ppdb_verify.specs.Views.{raw_file}
-use Rattle.ppdb_show_lines.specs.Forms.{lines_as}
-use Rattle.ppdb_show.specs.ShowWalk.{lines_between, lines_of_items, list_by, items_of}
-use Rattle.ppdb_show.proofs.ScopeLists.{begin_of}
+use Rattle.ppdb_show.{specs.ShowWalk.{lines_between, lines_of_items, list_by, items_of}, proofs.ScopeLists.{begin_of}}
 use Rattle.ppdb_show.proofs.show.owned.put_owned.Given as goal
 
 abbrev pub invariant-lists : goal.invariant-lists

@@ -2,9 +2,7 @@ use Rattle.std.proofs.Common.{arith, ◌+◌, ◌≡◌}
 use Rattle.ppdb_tables.specs.RawTables.{count}
 use Rattle.ppdb_show_lines.proofs.Putting.{put_none, put_piece, put_prefix, put_whole}
 use Rattle.ppdb_verify.specs.Views.{raw_file}
-use Rattle.ppdb_show.specs.ShowWalk.{number_of, lines_of_row}
-use Rattle.ppdb_show.proofs.Lines.{next_row, last_row}
-use Rattle.ppdb_show.proofs.Numbered.{table_between}
+use Rattle.ppdb_show.{specs.ShowWalk.{number_of, lines_of_row}, proofs.Lines.{next_row, last_row}, proofs.Numbered.{table_between}}
 use Rattle.ppdb_show.proofs.show.rows.put_rows.Goals as goal
 
 pub rows-init : goal.rows-init

@@ -1,7 +1,6 @@
 use Rattle.std.proofs.Common.{◌+◌, ◌-◌, ◌≤◌}
-use Rattle.ppdb_show_lines.proofs.Putting.{Putting}
+use Rattle.ppdb_show_lines.{proofs.Putting.{Putting}, specs.Forms.{lines_as}}
 use Rattle.ppdb_verify.specs.Views.{raw_file}
-use Rattle.ppdb_show_lines.specs.Forms.{lines_as}
 use Rattle.ppdb_show.specs.ShowWalk.{between, lines_of_row, lines_of_table}
 use Rattle.ppdb_show.proofs.show.rows.put_rows.Given as goal
 

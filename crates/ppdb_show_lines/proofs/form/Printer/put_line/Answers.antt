@@ -1,6 +1,4 @@
-use Rattle.ppdb_show_lines.specs.Views.{line_of}
-use Rattle.ppdb_show_lines.specs.declared.form.Form.TheVariants.{Text, Json}
-use Rattle.ppdb_show_lines.proofs.Texts.{one_line}
+use Rattle.ppdb_show_lines.{specs.Views.{line_of}, specs.declared.form.Form.TheVariants.{Text, Json}, proofs.Texts.{one_line}}
 use Rattle.ppdb_show_lines.proofs.form.Printer.put_line.Goals as goal
 
 pub returns-in-Text : goal.returns-in-Text

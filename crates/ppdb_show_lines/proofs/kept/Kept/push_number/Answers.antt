@@ -1,6 +1,4 @@
-use Rattle.std.proofs.Common.{ℕ, arith, ap, ◌+◌}
-use Rattle.std.proofs.lemmas.Fmt.{length-decimal-le}
-use Rattle.std.proofs.lemmas.List.{length-take-le}
+use Rattle.std.proofs.{Common.{ℕ, arith, ap, ◌+◌}, lemmas.Fmt.{length-decimal-le}, lemmas.List.{length-take-le}}
 use Rattle.ppdb_show_lines.proofs.Counted.{digits_put}
 use Rattle.ppdb_show_lines.proofs.kept.Kept.push_number.Goals as goal
 

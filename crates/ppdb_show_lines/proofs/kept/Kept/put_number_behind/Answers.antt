@@ -1,5 +1,4 @@
-use Rattle.std.proofs.Common.{arith, ◌∙◌, ap, ◌++◌, List, ℕ}
-use Rattle.std.specs.Fmt.{decimal}
+use Rattle.std.{proofs.Common.{arith, ◌∙◌, ap, ◌++◌, List, ℕ}, specs.Fmt.{decimal}}
 use Rattle.ppdb_show_lines.proofs.Keeping.{keeps_cut, keeps_text, keeps_then}
 use Rattle.ppdb_show_lines.proofs.kept.Kept.put_number_behind.Goals as goal
 

@@ -1,5 +1,4 @@
-use Rattle.std.proofs.Common.{◌<◌, length, take, sum, ap, ◌∙◌, arith}
-use Rattle.std.proofs.lemmas.Result.{err_from_is_err_and}
+use Rattle.std.proofs.{Common.{◌<◌, length, take, sum, ap, ◌∙◌, arith}, lemmas.Result.{err_from_is_err_and}}
 use Rattle.ppdb_base.specs.Place.{at_byte}
 use Rattle.ppdb_tables.proofs.FieldLists.{field_at}
 use Rattle.ppdb_tables.proofs.counts.Part.fields_end.Goals as goal

@@ -1,6 +1,5 @@
 use Rattle.std.proofs.Common.{arith}
-use Rattle.ppdb_tables.specs.Layouts.{import_row}
-use Rattle.ppdb_tables.proofs.RowsRead.{row_read}
+use Rattle.ppdb_tables.{specs.Layouts.{import_row}, proofs.RowsRead.{row_read}}
 use Rattle.ppdb_tables.proofs.tables.Tables.import.Goals as goal
 
 pub returns-clause-row : goal.returns-clause-row

@@ -1,5 +1,4 @@
-use Rattle.std.proofs.Common.{◌∙◌}
-use Rattle.std.proofs.lemmas.List.FromFn.{length-map-range_with_len}
+use Rattle.std.proofs.{Common.{◌∙◌}, lemmas.List.FromFn.{length-map-range_with_len}}
 use Rattle.ppdb_tables.proofs.tables.Tables.shape.Goals as goal
 
 pub returns : goal.returns

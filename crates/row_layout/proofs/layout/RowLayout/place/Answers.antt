@@ -1,6 +1,5 @@
 use Rattle.std.proofs.Common.{◌≡◌, ◌+◌, ◌<◌, ◌≤◌, length, sum, get_or, subst, ap, ◌∙◌, arith}
-use Rattle.row_layout.specs.Rows.{cell_place}
-use Rattle.row_layout.proofs.Cells.{place_is, place_fits}
+use Rattle.row_layout.{specs.Rows.{cell_place}, proofs.Cells.{place_is, place_fits}}
 use Rattle.row_layout.proofs.layout.RowLayout.place.Goals as goal
 
 pub returns-clause-place : goal.returns-clause-place

@@ -1,9 +1,7 @@
-use Rattle.std.proofs.Common.{[], Some, sym, subst}
-use Rattle.std.proofs.lemmas.Result.{err_from_is_err_and}
+use Rattle.std.proofs.{Common.{[], Some, sym, subst}, lemmas.Result.{err_from_is_err_and}}
 use Rattle.ppdb_base.specs.declared.BlobFault.{BlobFault}
 use Rattle.blob_grammar.specs.Reading.{Reading}
-use Rattle.sequence_points.specs.Records.{sequence_points}
-use Rattle.sequence_points.proofs.Headers.{no_signature, signature_out, no_header, header_read}
+use Rattle.sequence_points.{specs.Records.{sequence_points}, proofs.Headers.{no_signature, signature_out, no_header, header_read}}
 use Rattle.sequence_points.proofs.cursor.PointCursor.new.Goals as goal
 
 pub returns-in_err-signature-clause-err : goal.returns-in_err-signature-clause-err

@@ -1,8 +1,5 @@
 use Rattle.std.proofs.Common.{◌≡◌, ◌++◌, ◌∙◌, List, Some, None, ap, refl, subst}
-use Rattle.source_link.specs.declared.pair.Pair.{Pair}
-use Rattle.source_link.specs.Address.{address_of, filled}
-use Rattle.source_link.specs.Laws.{IsBest}
-use Rattle.source_link.proofs.Free.{address_found, address_none}
+use Rattle.source_link.{specs.declared.pair.Pair.{Pair}, specs.Address.{address_of, filled}, specs.Laws.{IsBest}, proofs.Free.{address_found, address_none}}
 use Rattle.source_link.proofs.links.Links.address.Goals as goal
 
 pub returns-in_default-clause-found : goal.returns-in_default-clause-found

@@ -1,5 +1,4 @@
-use Rattle.type_blobs.specs.ImportReading.{heap_of}
-use Rattle.type_blobs.proofs.ImportsTaken.{imports_left-reads}
+use Rattle.type_blobs.{specs.ImportReading.{heap_of}, proofs.ImportsTaken.{imports_left-reads}}
 use Rattle.type_blobs.proofs.import.ImportCursor.new.Goals as goal
 
 pub returns : goal.returns

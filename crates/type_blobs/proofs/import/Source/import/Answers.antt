@@ -1,9 +1,6 @@
-use Rattle.std.proofs.Common.{◌≡◌, ◌≤◌, ◌&&◌, false, sym, arith, ◌∙◌, ap}
-use Rattle.std.proofs.lemmas.Result.{err_from_is_err_and}
-use Rattle.std.specs.Prelude.{nat_le, Some}
+use Rattle.std.{proofs.Common.{◌≡◌, ◌≤◌, ◌&&◌, false, sym, arith, ◌∙◌, ap}, proofs.lemmas.Result.{err_from_is_err_and}, specs.Prelude.{nat_le, Some}}
 use Rattle.blob_grammar.proofs.Steps.{nothing_left}
-use Rattle.type_blobs.specs.ImportReading.{heap_of}
-use Rattle.type_blobs.proofs.ImportsTaken.{at_end, no_kind, a_kind, other_kind, no_kind_below, no_kind_above}
+use Rattle.type_blobs.{specs.ImportReading.{heap_of}, proofs.ImportsTaken.{at_end, no_kind, a_kind, other_kind, no_kind_below, no_kind_above}}
 use Rattle.type_blobs.proofs.import.Source.import.Goals as goal
 use Rattle.type_blobs.proofs.import.Source.import.Goals.{in_default-via-then-kind-lt1, in_default-via-else-kind-lt1+else-this-lt4+else-this-lt10}
 

@@ -1,11 +1,6 @@
-use Rattle.std.proofs.Common.{◌≡◌, refl, sym, arith}
-use Rattle.std.proofs.lemmas.Result.{err_from_is_err_and}
-use Rattle.type_blobs.specs.Types.{token_of}
-use Rattle.type_blobs.specs.Imports.{text_of}
-use Rattle.type_blobs.specs.declared.import_part.ImportPart.TheVariants.{Namespace, Assembly, Target}
-use Rattle.type_blobs.specs.ImportReading.{heap_of}
-use Rattle.type_blobs.proofs.ImportsTaken.{of_kind_is, no_alias, no_second, no_text_8, an_import_4, an_import_5, an_import_6}
-use Rattle.type_blobs.proofs.ImportsTaken.{an_import_7, an_import_8, an_import_9}
+use Rattle.std.proofs.{Common.{◌≡◌, refl, sym, arith}, lemmas.Result.{err_from_is_err_and}}
+use Rattle.type_blobs.specs.{Types.{token_of}, Imports.{text_of}, declared.import_part.ImportPart.TheVariants.{Namespace, Assembly, Target}, ImportReading.{heap_of}}
+use Rattle.type_blobs.proofs.ImportsTaken.{of_kind_is, no_alias, no_second, no_text_8, an_import_4, an_import_5, an_import_6, an_import_7, an_import_8, an_import_9}
 use Rattle.type_blobs.proofs.import.Source.named.Goals as goal
 
 pub returns-in_err-alias : goal.returns-in_err-alias

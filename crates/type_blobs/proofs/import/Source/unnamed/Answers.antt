@@ -1,9 +1,5 @@
-use Rattle.std.proofs.Common.{◌≡◌, refl, sym, arith}
-use Rattle.std.proofs.lemmas.Result.{err_from_is_err_and}
-use Rattle.type_blobs.specs.Types.{token_of}
-use Rattle.type_blobs.specs.Imports.{text_of}
-use Rattle.type_blobs.specs.declared.import_part.ImportPart.TheVariants.{Namespace, Assembly, Target}
-use Rattle.type_blobs.specs.ImportReading.{heap_of}
+use Rattle.std.proofs.{Common.{◌≡◌, refl, sym, arith}, lemmas.Result.{err_from_is_err_and}}
+use Rattle.type_blobs.specs.{Types.{token_of}, Imports.{text_of}, declared.import_part.ImportPart.TheVariants.{Namespace, Assembly, Target}, ImportReading.{heap_of}}
 use Rattle.type_blobs.proofs.ImportsTaken.{of_kind_is, no_first, no_text_2, an_import_1, an_import_2, an_import_3}
 use Rattle.type_blobs.proofs.import.Source.unnamed.Goals as goal
 

@@ -1,5 +1,4 @@
-use Rattle.type_blobs.specs.ImportReading.{heap_of}
-use Rattle.type_blobs.proofs.FieldsLeft.{whole-fields, whole-end}
+use Rattle.type_blobs.{specs.ImportReading.{heap_of}, proofs.FieldsLeft.{whole-fields, whole-end}}
 use Rattle.type_blobs.proofs.import_fields.ImportFields.new.Goals as goal
 
 pub returns-clause-fields : goal.returns-clause-fields

@@ -1,9 +1,7 @@
 use Rattle.std.proofs.Common.{ap, sym, ◌∙◌}
-use Rattle.ppdb_heaps.specs.Heaps.{blob_at}
-use Rattle.ppdb_heaps.specs.Views.{blobs_of}
+use Rattle.ppdb_heaps.specs.{Heaps.{blob_at}, Views.{blobs_of}}
 use Rattle.type_blobs.proofs.ImportFieldsAre.{import_fields-are}
-use Rattle.type_blobs_rows.specs.Left.{imported_left}
-use Rattle.type_blobs_rows.proofs.ImportsWalked.{rows_left}
+use Rattle.type_blobs_rows.{specs.Left.{imported_left}, proofs.ImportsWalked.{rows_left}}
 use Rattle.type_blobs_rows.proofs.import.ImportRows.new.Goals as goal
 
 pub returns : goal.returns

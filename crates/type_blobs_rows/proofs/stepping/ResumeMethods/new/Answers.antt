@@ -1,6 +1,5 @@
 use Rattle.std.proofs.Common.{ap, ◌∙◌, ℕ}
-use Rattle.type_blobs_rows.specs.Left.{methods_left}
-use Rattle.type_blobs_rows.proofs.StepsTaken.{methods-all}
+use Rattle.type_blobs_rows.{specs.Left.{methods_left}, proofs.StepsTaken.{methods-all}}
 use Rattle.type_blobs_rows.proofs.stepping.ResumeMethods.new.Goals as goal
 
 pub returns : goal.returns
