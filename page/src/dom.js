@@ -32,5 +32,8 @@ export function put(to, ...children) {
 /** @param {string} id @param {...any} children */
 export function fill(id, ...children) { const it = $(id); it.replaceChildren(); put(it, children); }
 
+/** A text whose end says more than its start: the style cuts it in front where there is no room. @param {string} kind @param {any} words */
+export const cutInFront = (kind, words, title = "") => make("span", {class: `${kind} front`, title}, make("bdi", {dir: "ltr"}, words));
+
 /** A button. @param {any} words @param {() => void} does @param {Record<string, any>} given */
 export const button = (words, does, given = {}) => make("button", {type: "button", ...given, on: {click: does}}, words);

@@ -1,5 +1,5 @@
 /** The list on the left: methods by type or document, documents, and what a search finds in names and sources. */
-import {$, button, fill, isThere, make} from "./dom.js";
+import {$, button, cutInFront, fill, isThere, make} from "./dom.js";
 import {addressOf, go} from "./place.js";
 import {rawName, sourceOf, state} from "./state.js";
 import {bodyOf, documentOf, isNamed, placeOf, sideOf, subjectAt, textOf, titleAt, titleWords, totals} from "./subjects.js";
@@ -7,6 +7,8 @@ import {baseName, cutFront, folderOf, plural, spelled, tokenOf} from "./text.js"
 import {VirtualList} from "./virtual.js";
 
 const ENTRY_TALL = 28;
+/** How many characters of a folder or a namespace are drawn: more than a list is wide. */
+const MOST_DRAWN = 200;
 /** The most methods that the list has: a search finds the others. */
 const MOST_LISTED = 100000;
 /** Which methods the list has. */
@@ -168,7 +170,7 @@ function entryOf(entry, index) {
   if (entry.head) {
     const name = entry.place ? make("a", {href: addressOf(entry.place), tabindex: -1}, marked(entry.head)) : marked(entry.head);
     return make("div", {class: "entry head", role: "presentation", title: [entry.head, entry.dim]},
-      make("strong", {}, name), make("span", {class: "dim"}, cutFront(entry.dim, 60)));
+      make("strong", {}, name), cutInFront("dim", cutFront(entry.dim, MOST_DRAWN)));
   }
   const [body, title] = entry.subject ? methodBody(entry) : entry.hit ? hitBody(entry) : documentBody(entry), on = isOn(entry);
   return make("a", {class: `entry${on ? " on" : ""}${entry.subject?.change.kind === "dropped" ? " dropped" : ""}`, role: "option", tabindex: -1,
@@ -191,7 +193,7 @@ function hitBody({hit}) {
 }
 function documentBody({document, side, name, folder, count}) {
   const source = sourceOf(side, document.row);
-  return [[make("span", {class: "name"}, marked(name)), make("span", {class: "dim folder"}, marked(cutFront(folder, 34))),
+  return [[make("span", {class: "name"}, marked(name)), cutInFront("dim folder", marked(cutFront(folder, MOST_DRAWN))),
     source?.state === "agrees" && make("span", {class: "good", title: "its hash agrees"}, "\u2713"), side === "after" && make("span", {class: "tag added"},
       "new"),
     make("span", {class: "at", title: plural(count, "method")}, count || "")], textOf(document)];

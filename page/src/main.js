@@ -215,7 +215,7 @@ function firstMethod() {
   const {before} = state, entry = before.methods.get(before.entry), main = entry?.count ? entry : before.methods.get(entry?.move);
   const lost = state.rewriting && state.subjects.filter(it => it.old && it.now && it.change.lost > 0)
     .reduce((most, it) => most && most.change.lost >= it.change.lost ? most : it, null), changed = state.rewriting && 
-    state.subjects.find(it => it.old && it.change.kind !== "same");
+    state.subjects.find(it => it.old?.count && it.change.kind !== "same");
   return lost?.old.row ?? changed?.old.row ?? (main?.count ? main.row : earliest()?.old.row ?? null);
 }
 /** The method whose code comes first in the first document: the list has it on top. */

@@ -1,5 +1,5 @@
 /** The source of a document. A line is cut where a point begins or ends; each piece knows the points that cover it. */
-import {$, button, fill, isThere, make} from "./dom.js";
+import {$, button, cutInFront, fill, isThere, make} from "./dom.js";
 import {colour, isColoured} from "./colours.js";
 import {LANGUAGES} from "./kinds.js";
 import {breaksAt, DocumentPoints, isVisible, pointAt} from "./model.js";
@@ -145,7 +145,7 @@ function drawBar(side, row, source) {
   const web = address && (/^https?:[/][/]/.test(address) ? make("a", {href: address, rel: "noreferrer noopener", target: "_blank", title: address},
     "Source Link")
     : make("span", {class: "dim", title: address}, "Source Link"));
-  fill("bar", make("strong", {class: "doc", title: name}, baseName(name)), make("span", {class: "dim folder", title: name}, cutFront(folderOf(name), 48)),
+  fill("bar", make("strong", {class: "doc", title: name}, baseName(name)), cutInFront("dim folder", cutFront(folderOf(name), 200), name),
     make("span", {class: "dim"}, LANGUAGES[it.language] ?? ""), make("span", {class: `mark ${mood}`, title: sentence}, word), web);
   $("notice").hidden = !(mood === "bad" || !source?.lines);
   if ($("notice").hidden) return;

@@ -66,18 +66,31 @@ def keeping_toolchain(folder: Path, kept: Path) -> Path:
     return folder
 
 
-def proved(part: str, target: str, folder: Path) -> Module:
-    """Proves the program's or the library's crate for a target, over the libraries below it, and builds it. Fails if it is not proved."""
+def archive(log: Path, *words: str | Path) -> tuple[bool, list[str]]:
+    """Runs scripts/making/archive; whether it ended well, and the lines that it printed."""
+    ran = subprocess.run([ROOT / "scripts/making/archive", *words], stdout=subprocess.PIPE, stderr=subprocess.STDOUT, text=True, errors="replace")
+    with log.open("a") as out:
+        out.write(ran.stdout)
+    return ran.returncode == 0, ran.stdout.splitlines()
+
+
+def proved(part: str, target: str, folder: Path, checked: Path) -> Module:
+    """Proves the program's or the library's crate for a target, over the libraries below it, if `checked` does not say that this is done, and
+    builds it. Fails if it is not proved."""
     crate, made = CRATES[part], folder / ("program.o" if part == "program" else "library.a")
     shutil.rmtree(folder, ignore_errors=True)
     folder.mkdir(parents=True)
-    toolchain = keeping_toolchain(folder / "toolchain", folder)
-    words = [ROOT / "scripts/making/archive", crate, made, toolchain, "--target", target, "--cpu", PROCESSORS[target]]
-    ran = subprocess.run(words, stdout=subprocess.PIPE, stderr=subprocess.STDOUT, text=True, errors="replace")
-    (folder / "log").write_text(ran.stdout)
-    verdict = [line for line in ran.stdout.splitlines() if line.startswith("logic=proved ")]
-    if ran.returncode or not verdict or not made.is_file():
-        said = "; ".join(ran.stdout.splitlines()[-2:])
-        raise Failed(f"{crate} was not proved and built for {target} (status {ran.returncode}): {said}")
+    log, flags = folder / "log", ("--target", target, "--cpu", PROCESSORS[target])
+    building = ("--of", checked, crate, made, keeping_toolchain(folder / "toolchain", folder), *flags)
+    # What was checked earlier may be of other sources; then rattle says so, and it is proved again.
+    done, said = archive(log, *building) if checked.is_dir() else (False, [])
+    if not done:
+        shutil.rmtree(checked, ignore_errors=True)
+        checked.parent.mkdir(parents=True, exist_ok=True)
+        done, said = archive(log, "--check", checked, crate, *flags)
+        done, said = archive(log, *building) if done else (done, said)
+    verdict = [line for line in said if line.startswith("logic=proved ")]
+    if not done or not verdict or not made.is_file():
+        raise Failed(f"{crate} was not proved and built for {target}: {'; '.join(said[-2:])}")
     shutil.rmtree(folder / "toolchain")
     return Module(folder / "module.bc", optimizing((folder / "words").read_text().splitlines()), made, f"{crate} {verdict[-1]}")
