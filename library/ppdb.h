@@ -91,6 +91,25 @@ typedef struct ppdb_line {
     uint32_t end_column;
 } ppdb_line;
 
+/* A file that ppdb_open has verified: 48 bytes of the caller, with no pointer, so there is nothing to close. It may be copied and moved,
+   and any number of threads may use it at the same time. Change no field, and keep the bytes of the file: each call over a view is given
+   the same bytes again, which may be at another address. A struct of zeros is no view. */
+typedef struct ppdb_view {
+    uint32_t form;      /* which form of this struct it is: 1 */
+    uint32_t documents; /* how many documents the file has */
+    uint32_t methods;   /* how many methods the module has: the rows of MethodDef */
+    uint32_t entry;     /* the row of MethodDef that is the entry point, or 0 */
+    uint64_t length;    /* how many bytes the file has */
+    uint8_t id[20];     /* the identity of the debug file, as `ppdb id` prints it */
+    uint32_t unused;    /* 0 */
+} ppdb_view;
+
+/* The sequence points of a frame: the last one at or before its offset, and the last of these that is not hidden. 56 bytes. */
+typedef struct ppdb_view_line {
+    ppdb_line last;  /* as ppdb_lines writes it */
+    ppdb_line shown; /* what .NET reports in a stack trace; its kind is never PPDB_LINE_HIDDEN */
+} ppdb_view_line;
+
 /* Returns the version of the library, in the form of PPDB_VERSION, the version of the header. The first of its three numbers is
    also in the soname. */
 uint32_t ppdb_version(void);
@@ -144,6 +163,61 @@ uint8_t ppdb_run(const uint8_t *words, size_t words_length, const uint8_t *files
 
    Unless the call returns PPDB_DONE, all lines are unchanged. */
 uint8_t ppdb_lines(const uint8_t *file, size_t length, const ppdb_frame *frames, size_t count, ppdb_line *lines, size_t lines_count);
+
+/* Verifies a file, and makes its view. This is the only call over a view that costs as much as ppdb_verify: each other call reads the
+   headers of the file, which takes about a microsecond, and then only what it needs.
+
+   file, length   the bytes of the file
+   view           gets the view; unchanged unless the call returns PPDB_DONE
+   fault          gets the first fault; unchanged unless the call returns PPDB_REFUSED
+
+   PPDB_DONE       the file breaks none of F1 to F40
+   PPDB_REFUSED    it breaks at least one, as ppdb_verify reports it
+   PPDB_MEMORY, PPDB_TOO_LONG */
+uint8_t ppdb_open(const uint8_t *file, size_t length, ppdb_view *view, ppdb_fault *fault);
+
+/* The calls over a view have the file and its view as their first parameters. The caller owes that the view was opened from the same
+   bytes. If it is no view, or the file has another length, a call returns PPDB_USAGE; it cannot see other changes. */
+
+/* Finds the sequence points of each frame. It takes no memory.
+
+   frames, count         the frames, in any order
+   lines, lines_count    get the line of each frame, in the order of the frames; lines after the first `count` are unchanged
+
+   PPDB_DONE       the first `count` lines are written
+   PPDB_USAGE      the view is not that of the file, or lines_count is less than count; all lines are unchanged */
+uint8_t ppdb_view_lines(const uint8_t *file, size_t length, const ppdb_view *view, const ppdb_frame *frames, size_t count,
+                        ppdb_view_line *lines, size_t lines_count);
+
+/* Returns how many documents the file of a view has. Their rows are 1 to this number. */
+uint32_t ppdb_view_documents(const ppdb_view *view);
+
+/* Gives the name and the hash of a document.
+
+   row                          the row of the document, from 1, as in ppdb_line
+   name, name_room, name_needed   get the name, its parts joined, and its length; no zero byte ends it, and it may be no UTF-8
+   hash, hash_room, hash_needed   get the hash of the source and its length; 0 if there is none. 20 bytes are SHA-1, and 32 are SHA-256
+
+   PPDB_DONE          what is longer than its room is not written: call again with rooms of the needed lengths
+   PPDB_NO_DOCUMENT   the file has no such document
+   PPDB_USAGE         the view is not that of the file
+   PPDB_MEMORY
+
+   Unless the call returns PPDB_DONE, nothing is written and both lengths are 0. */
+uint8_t ppdb_view_document(const uint8_t *file, size_t length, const ppdb_view *view, uint32_t row, uint8_t *name, size_t name_room,
+                           size_t *name_needed, uint8_t *hash, size_t hash_room, size_t *hash_needed);
+
+/* Finds the methods of a state machine: its kickoff method, which the source names, by the MoveNext method that runs it; and MoveNext by
+   the kickoff method. They take no memory.
+
+   method    the row of MethodDef
+   kickoff, move_next   gets the row of the other method, or 0 if there is no such state machine
+
+   PPDB_DONE        *kickoff or *move_next is written; otherwise it is unchanged
+   PPDB_NO_METHOD   the file has no such method
+   PPDB_USAGE       the view is not that of the file */
+uint8_t ppdb_view_kickoff(const uint8_t *file, size_t length, const ppdb_view *view, uint32_t method, uint32_t *kickoff);
+uint8_t ppdb_view_move_next(const uint8_t *file, size_t length, const ppdb_view *view, uint32_t method, uint32_t *move_next);
 
 /* Say in words what a status means (0 to 14, as the program ends), and which rule has a code (1 to 40): the sentence that the program
    prints, as "F3: a field extends past the end of the file". No zero byte ends the text.

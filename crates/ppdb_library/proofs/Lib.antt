@@ -1,4 +1,5 @@
 mod Ends
+mod Documents
 mod Made
 mod NoCalls
 mod OneList

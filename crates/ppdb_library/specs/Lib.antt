@@ -1,8 +1,11 @@
 pub mod Calls
+pub mod Documents
 pub mod Ended
 pub mod Faults
 pub mod Folder
 pub mod Lines
 pub mod Pieces
 pub mod Room
+pub mod Shown
+pub mod Views
 pub mod Words

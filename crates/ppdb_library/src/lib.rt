@@ -13,11 +13,17 @@ mod texts;
 mod there;
 mod verify;
 mod version;
+mod view;
+mod view_document;
+mod view_lines;
+mod view_machines;
 mod words;
 
 pub use fault::PpdbFault;
 pub use lines::{PpdbFrame, PpdbLine};
 pub use piece::PpdbPiece;
+pub use view::PpdbView;
+pub use view_lines::PpdbViewLine;
 
 #[cfg(test)]
 mod tests;

@@ -129,7 +129,11 @@ fn put_lines<L: Ledger>(
 }
 
 /// The line of a frame.
-fn line<L: Ledger>(file: &Verified<'_>, frame: &PpdbFrame, steps: &mut Steps<L>) -> PpdbLine
+pub(crate) fn line<L: Ledger>(
+    file: &Verified<'_>,
+    frame: &PpdbFrame,
+    steps: &mut Steps<L>,
+) -> PpdbLine
     ensures { result ≡ line_of (raw_file file.now) frame.now }
 {
     match point_at(file, frame.method, frame.offset, steps) {
@@ -139,7 +143,7 @@ fn line<L: Ledger>(file: &Verified<'_>, frame: &PpdbFrame, steps: &mut Steps<L>)
     }
 }
 
-fn of_point(point: Point) -> PpdbLine
+pub(crate) fn of_point(point: Point) -> PpdbLine
     ensures { result ≡ point_line point }
 {
     match point.span {
@@ -166,7 +170,7 @@ fn of_point(point: Point) -> PpdbLine
 }
 
 /// A line of this kind, all else 0.
-fn bare(kind: u32) -> PpdbLine
+pub(crate) fn bare(kind: u32) -> PpdbLine
     ensures { result ≡ record { kind = kind; document = 0; offset = 0; start_line = 0; start_column = 0; end_line = 0; end_column = 0 } }
 {
     PpdbLine {

@@ -14,3 +14,9 @@ pub(crate) const MEMORY: u8 = 5;
 
 /// The file is longer than 134217728 bytes.
 pub(crate) const TOO_LONG: u8 = 7;
+
+/// The file has no such method.
+pub(crate) const NO_METHOD: u8 = 10;
+
+/// The file has no such document.
+pub(crate) const NO_DOCUMENT: u8 = 12;
