@@ -219,6 +219,21 @@ uint8_t ppdb_view_document(const uint8_t *file, size_t length, const ppdb_view *
 uint8_t ppdb_view_kickoff(const uint8_t *file, size_t length, const ppdb_view *view, uint32_t method, uint32_t *kickoff);
 uint8_t ppdb_view_move_next(const uint8_t *file, size_t length, const ppdb_view *view, uint32_t method, uint32_t *move_next);
 
+/* Runs a command that asks about one file over a view, without verifying it again: id, verify, show, query, links, breaks and lookup.
+
+   words, words_length   as for ppdb_run. FILE may be any name; it is in the line of a refusal alone
+   list, list_length     the bytes of LIST of lookup; other commands do not read them
+   text, text_room, text_needed   get what the program prints to standard output, and its length
+
+   The call returns the exit status of the program, as ppdb_run does.
+
+   PPDB_USAGE       the view is not that of the file, the words are not UTF-8 or their last byte is not zero: the length is 0; or they
+                    are none of these commands, and the text is "usage\n"
+   PPDB_TOO_LONG    the list has more than 134217728 bytes; the length is 0
+   PPDB_MEMORY      nothing is written, and the length is 0 */
+uint8_t ppdb_view_run(const uint8_t *file, size_t length, const ppdb_view *view, const uint8_t *words, size_t words_length,
+                      const uint8_t *list, size_t list_length, uint8_t *text, size_t text_room, size_t *text_needed);
+
 /* Say in words what a status means (0 to 14, as the program ends), and which rule has a code (1 to 40): the sentence that the program
    prints, as "F3: a field extends past the end of the file". No zero byte ends the text.
 

@@ -1,4 +1,5 @@
 mod Ends
+mod Asked
 mod Documents
 mod Made
 mod NoCalls

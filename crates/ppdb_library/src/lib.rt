@@ -17,6 +17,7 @@ mod view;
 mod view_document;
 mod view_lines;
 mod view_machines;
+mod view_run;
 mod words;
 
 pub use fault::PpdbFault;

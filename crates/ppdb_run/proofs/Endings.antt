@@ -31,7 +31,7 @@ prefix_at OutOfMemory writes old new h = h
 module _ (cause : Cause) (status : Status) (faults faults' : ℕ) (mid new : Option (List ℕ)) (is : Refuses cause)
     (tells : Tells cause status faults faults' mid new) where
   -- what a stop comes to holds of the status of the run
-  by_status : (P : Type 0) → (status ≡ status_of cause → new ≡ appended mid (line_of cause) → UnlessFault (status_of cause) P) → UnlessFault status P
+  pub by_status : (P : Type 0) → (status ≡ status_of cause → new ≡ appended mid (line_of cause) → UnlessFault (status_of cause) P) → UnlessFault status P
   by_status P h = elim tells [
     | Told s w l ↦ subst (λ x. UnlessFault x P) (sym s) (h s w)
     | Failed s r w ↦ subst (λ x. UnlessFault x P) (sym s) tt
@@ -50,7 +50,7 @@ module _ (cause : Cause) (status : Status) (faults faults' : ℕ) (mid new : Opt
   found OutOfMemory is Due h = tt
 
   -- it has the status of the outcome
-  due_status : (cause : Cause) → Refuses cause → (due : Outcome) → IfSome (refusal_of cause) (λ refusal. due ≡ refusal) → status ≡ status_of cause
+  pub due_status : (cause : Cause) → Refuses cause → (due : Outcome) → IfSome (refusal_of cause) (λ refusal. due ≡ refusal) → status ≡ status_of cause
       → UnlessFault (status_of cause) (status ≡ due.status)
   due_status (Refusal outcome) is due e s =
       let same : status ≡ due.status = s ∙ sym (ap (λ (o : Outcome). o.status) e) in
@@ -61,7 +61,7 @@ module _ (cause : Cause) (status : Status) (faults faults' : ℕ) (mid new : Opt
   due_status OutOfMemory is due e s = tt
 
   -- its line is the text of the outcome
-  due_text : (cause : Cause) → Refuses cause → (due : Outcome) (old : Option (List ℕ)) → IfSome (refusal_of cause) (λ refusal. due ≡ refusal)
+  pub due_text : (cause : Cause) → Refuses cause → (due : Outcome) (old : Option (List ℕ)) → IfSome (refusal_of cause) (λ refusal. due ≡ refusal)
       → OnUntold cause (mid ≡ old) → new ≡ appended mid (line_of cause) → UnlessFault (status_of cause) (new ≡ appended old due.text)
   due_text (Refusal outcome) is due old e silent w =
       let same : new ≡ appended old due.text =

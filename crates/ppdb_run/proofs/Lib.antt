@@ -29,3 +29,4 @@ pub mod Keeping
 pub mod KnownKinds
 pub mod MovedKinds
 pub mod Images
+pub mod Viewed

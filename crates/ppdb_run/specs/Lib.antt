@@ -8,4 +8,5 @@ pub mod Sample
 pub mod SampleLaws
 pub mod Sampled
 pub mod Stops
+pub mod Viewed
 pub mod Writes

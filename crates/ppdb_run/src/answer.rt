@@ -64,7 +64,7 @@ pub fn answer<'a, F: Folder, O: Sink, K: Ledger, L: Ledger>(
 }
 
 /// Puts the answer to a question about a verified file.
-fn put_answer<'a, O: Sink, L: Ledger>(
+pub(crate) fn put_answer<'a, O: Sink, L: Ledger>(
     alloc: Global,
     question: Question<'a>,
     name: &'a str,

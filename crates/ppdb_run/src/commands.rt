@@ -81,7 +81,7 @@ pub fn run<F: Folder, O: Sink, K: Ledger, L: Ledger>(
 }
 
 /// Puts the line that says why a run stopped, and answers its status, or that of a failed put.
-fn tell<O: Sink>(stop: Stop<'_>, out: &mut O) -> Status
+pub(crate) fn tell<O: Sink>(stop: Stop<'_>, out: &mut O) -> Status
     ensures { Tells (cause_of stop.entry) result (O.faults out.old) (O.faults out.new) (O.written out.old) (O.written out.new) }
 {
     match stop.put(out) {

@@ -22,9 +22,11 @@ mod sample;
 pub mod sample_laws;
 mod sources;
 mod verified;
+mod viewed;
 
 pub use commands::run;
 pub use ppdb_build::BuildError;
 pub use ppdb_run_stops::Status;
 pub use ppdb_run_words::{Command, Options, Usage, read_words};
 pub use report::{SampleReport, sampled};
+pub use viewed::run_viewed;

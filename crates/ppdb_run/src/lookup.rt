@@ -74,7 +74,7 @@ pub fn lookup<'a, F: Folder, O: Sink, K: Ledger, L: Ledger>(
 }
 
 /// Puts the answers to all that a list asks of a verified file; nothing where it has a line that a list cannot have.
-fn answer_list<'a, O: Sink, L: Ledger>(
+pub(crate) fn answer_list<'a, O: Sink, L: Ledger>(
     alloc: Global,
     json: bool,
     name: &'a str,
