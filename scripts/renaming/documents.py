@@ -36,8 +36,8 @@ TEXTS: list[tuple[str, str, str]] = [
         "scripts/checks/check-tidy",
         """lines of code above 166 columns, of proofs above 176 and imports of specs/ above 200 (a clause of a contract counts without its head, as `rt fmt`
 lays it out, and a literal or an attribute cannot be broken), and of documents above 120""",
-        """lines of src/ and specs/ above 120 columns, of proofs above 165 and of scripts above 166 (a literal or an attribute cannot be broken;
-scripts/renaming/wrap.py broke most lines at 100), and of documents above 120""",
+        """lines of src/ and specs/ above 120 columns, of proofs above 165 and of scripts above 166 (a literal or an attribute cannot be broken), and of
+documents above 120""",
     ),
     (
         "scripts/checks/check-tidy",

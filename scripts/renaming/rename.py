@@ -105,9 +105,6 @@ COMMENTS: list[tuple[str, list[tuple[str, str]]]] = [
     ]),
 ]
 
-# Names in documents.
-SPANS: Names = {"RowMerger": "InputMerger"}
-
 
 # ---- words
 
@@ -165,10 +162,11 @@ def parts(text: str, form: re.Pattern[str]) -> Iterator[tuple[str, str]]:
     yield "code", text[at:]
 
 
+A_CRATE = re.compile(rf"(?<![A-Za-z0-9_])(?:{'|'.join(CRATES)})(?![A-Za-z0-9_])")
+
+
 def crates_in(text: str) -> str:
-    for old, new in CRATES.items():
-        text = re.sub(rf"(?<![A-Za-z0-9_]){old}(?![A-Za-z0-9_])", new, text)
-    return text
+    return A_CRATE.sub(lambda found: CRATES[found[0]], text)
 
 
 def comment_of(text: str, crate: str) -> str:
@@ -231,9 +229,26 @@ def document(text: str) -> str:
     for old, new in CALLS:
         text = re.sub(old, new, text)
     text = re.sub(r"`keeps`", "`facts`", text)
-    for old, new in SPANS.items():
-        text = re.sub(rf"(?<![A-Za-z0-9_]){old}(?![A-Za-z0-9_])", new, text)
-    return text
+    return re.sub(r"`[^`\n]+`", in_span, text)
+
+
+def in_span(span: re.Match[str]) -> str:
+    """A code span: a name alone, and names that no sentence has."""
+    return NAME.sub(lambda found: found[0] if " " in span[0] and re.fullmatch("[a-z]+", found[0]) else renamer("")(found[0]), span[0])
+
+
+def calls(text: str) -> str:
+    """docs/promises/calls.txt: below the name of a crate, names of its functions, and what is said of them after a colon."""
+    out, crate = [], ""
+    for line in text.split("\n"):
+        if line.startswith("### "):
+            crate = line.removeprefix("### ")
+        names = re.match(r"[\w:, ]+?(?=: |$)", line)
+        if names and not line.startswith(("#", ">")):
+            of = renamer(f"{crate}/")
+            line = NAME.sub(lambda found: of(found[0]), names[0]) + line[names.end():]
+        out.append(line)
+    return document("\n".join(out))
 
 
 # ---- the tree
@@ -253,7 +268,9 @@ def new_text(name: str, text: str) -> str:
         return wrong_bodies(text, rest.split("/")[0])
     if top == "mistakes" and name.endswith(".edits"):
         return wrong_bodies(text, Path(name).stem)
-    if name.endswith((".md", "promises/calls.txt")):
+    if name.endswith("promises/calls.txt"):
+        return calls(text)
+    if name.endswith(".md"):
         return document(text)
     return crates_in(text)
 
@@ -288,11 +305,11 @@ def main() -> int:
             if after.exists():
                 sys.exit(f"rename: {after} is there already")
             after.parent.mkdir(parents=True, exist_ok=True)
-            subprocess.run(["git", "mv", name, str(after.relative_to(tree))], cwd=tree, check=True)
-    for crate in CRATES:
-        for folder in sorted((tree / "crates" / crate).rglob("*"), reverse=True) if (tree / "crates" / crate).is_dir() else ():
-            if folder.is_dir() and "out" not in folder.parts and not any(folder.iterdir()):
-                folder.rmdir()
+            path.rename(after)
+    for folder in sorted((tree / "crates").rglob("*"), reverse=True):
+        if folder.is_dir() and "out" not in folder.parts and not any(folder.iterdir()):
+            folder.rmdir()
+    subprocess.run(["git", "add", "-A", "crates", "mistakes"], cwd=tree, check=True)
     print(f"rename: {texts} texts changed, {files} files moved")
     return 0
 

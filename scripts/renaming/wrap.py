@@ -30,7 +30,7 @@ BEFORE = {
     **dict.fromkeys(["≡", "≢", "≤", "<", "≥", ">", "+", "-", "*", "==", "∸"], 4),
     **dict.fromkeys([":", "=", "↦", ".", "as", "where", "in"], 40),
 }
-DEEPER, A_LINE, TORN = 5, 4, 60
+DEEPER, A_LINE, TORN = 5, 2, 60
 
 
 # ---- comments
@@ -132,8 +132,9 @@ def is_list(text: str, at: int) -> bool:
 
 def places(text: str, begin: int) -> list[Place]:
     """The spaces of a line from a column on, outside of texts."""
-    found, open_at, in_text = [], [], False
-    least = 0
+    found: list[Place] = []
+    open_at: list[int] = []
+    in_text, least, outermost = False, 0, len(text)
     for at in range(begin, len(text)):
         letter = text[at]
         if letter == '"' and text[at - 1] != "\\":
@@ -149,10 +150,12 @@ def places(text: str, begin: int) -> list[Place]:
                 least -= 1
         elif letter == " " and at > begin:
             lists = [it for it in open_at if is_list(text, it)]
-            cost = break_cost(text, at) + DEEPER * (len(open_at) + least) + TORN * len(lists)
+            depth = len(open_at) + least
+            outermost = min(outermost, depth)
+            cost = break_cost(text, at) + DEEPER * depth + TORN * len(lists)
             found.append(Place(at, cost, lists[0] if lists else None))
     for it in found:
-        it.cost -= DEEPER * least
+        it.cost -= DEEPER * outermost
     return found
 
 
@@ -168,7 +171,7 @@ def break_cost(text: str, at: int) -> int:
         return 5
     if before.endswith((",", ";")):
         return 6
-    return 6 if after.startswith("(") else 9
+    return 8 if after.startswith("(") else 11
 
 
 def broken(text: str, begin: int, indent: int, limit: int) -> list[str]:
