@@ -7,6 +7,7 @@ import re
 import sys
 from collections import Counter, defaultdict
 from functools import cache
+from itertools import groupby
 from pathlib import Path
 
 sys.path.insert(0, str(Path(__file__).resolve().parent))
@@ -52,7 +53,9 @@ def logical(code: str) -> list[str]:
             head = indent
             found.append(bare)
         depth += sum(line.count(it) for it in OPEN) - sum(line.count(it) for it in CLOSE)
-    return found
+    # `rt fmt` sorts modules by their names.
+    modules = re.compile(r"(?:pub(?:\(crate\))?)?mod\w+")
+    return [it for is_module, run in groupby(found, lambda it: bool(modules.fullmatch(it))) for it in (sorted(run) if is_module else run)]
 
 
 def said(text: str, path: Path) -> tuple[list[str], list[str], Counter[object]]:

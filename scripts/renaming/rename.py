@@ -101,7 +101,7 @@ COMMENTS: list[tuple[str, list[tuple[str, str]]]] = [
     ("ppdb_show_lines", [(r"\bnone for a mark\b", "none for a literal")]),
     ("ppdb_merge", [(r"\bthe traces `there`", "the summaries `there`"), (r"\bthese traces\b", "these summaries")]),
     ("ppdb_run", [
-        (r"^-- this is the file that the words have written$", "-- the words have a command write this file"),
+        (r"^-- this is the file that the words have written$", "-- this is the file that the command of the words writes; its write failed"),
     ]),
 ]
 
