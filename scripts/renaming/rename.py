@@ -148,7 +148,7 @@ def renamer(place: str) -> Callable[[str], str]:
 
 NAME = re.compile(r"[A-Za-z_][A-Za-z0-9_']*")
 # Texts and comments of code, and of definitions and proofs.
-RUST_PARTS = re.compile(r"""(?P<text>b?"(?:[^"\\]|\\.)*"|b?'(?:[^'\\\n]|\\.)')|(?P<comment>//[^\n]*)""")
+RUST_PARTS = re.compile(r"""(?P<text>b?"(?:[^"\\]|\\[\s\S])*"|b?'(?:[^'\\\n]|\\.)')|(?P<comment>//[^\n]*)""")
 ANTT_PARTS = re.compile(r"""(?P<text>"(?:[^"\\\n]|\\.)*")|(?P<comment>(?<![^\s])--(?=[ \n-])[^\n]*)""")
 
 
