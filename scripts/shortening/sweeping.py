@@ -9,12 +9,12 @@ from .lemmas import Lemma, answer_files, has_mutual, lemma_files, lemmas, read_l
 WORD = re.compile(r"[^\s()\[\]{},;.:]+")
 
 
-def words_of(crates: Path) -> Iterator[tuple[Path, list[str]]]:
-    """The words of each file of the sources in a folder of crates."""
-    for crate in sorted(crates.iterdir()):
-        for path in (it for folder in sorted(crate.iterdir()) if folder.is_dir() and folder.name != "out" for it in folder.rglob("*")):
+def sources_of(crates: Path) -> Iterator[tuple[Path, str]]:
+    """The sources in a folder of crates, and what each says."""
+    for folder in sorted(it for crate in crates.iterdir() if crate.is_dir() for it in crate.iterdir() if it.is_dir() and it.name != "out"):
+        for path in folder.rglob("*"):
             if path.suffix in (".antt", ".rt", ".edit") and path.is_file():
-                yield path, WORD.findall(path.read_text(encoding="utf-8"))
+                yield path, path.read_text(encoding="utf-8")
 
 
 class Words:
@@ -23,14 +23,17 @@ class Words:
     def __init__(self, crates: Path, beside: list[Path]) -> None:
         self.by_file: dict[Path, Counter[str]] = {}
         self.all: Counter[str] = Counter()
-        for path, words in words_of(crates):
-            self.by_file[path] = Counter(words)
-            self.all.update(words)
+        texts = dict(sources_of(crates))
+        for path, text in texts.items():
+            self.by_file[path] = Counter(WORD.findall(text))
+            self.all.update(self.by_file[path])
         self.elsewhere: set[str] = set()
         for checkout in beside:
-            for path, words in words_of(checkout / "crates"):
-                here = self.by_file.get(crates / path.relative_to(checkout / "crates"), Counter())
-                self.elsewhere.update(it for it, count in Counter(words).items() if count > here[it])
+            for path, text in sources_of(checkout / "crates"):
+                here = crates / path.relative_to(checkout / "crates")
+                if text != texts.get(here):
+                    known = self.by_file.get(here, Counter())
+                    self.elsewhere.update(it for it, count in Counter(WORD.findall(text)).items() if count > known[it])
 
     def take_out(self, path: Path, text: str) -> None:
         words = Counter(WORD.findall(text))
