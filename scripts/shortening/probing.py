@@ -10,6 +10,8 @@ from typing import NamedTuple
 from .lemmas import Kind, items, read_lines, write_lines
 from .places import Place, with_tactic
 
+# A call that takes more steps is refused as a probe, so that what is written is found soon; a search that ends below is the same without the bound.
+STEPS = 500_000
 NEEDED = (("arith", "Rattle.std.proofs.Common"), ("rules", "Rattle.std.proofs.Common"), ("common_steps", "Rattle.std.proofs.lemmas.Grind"))
 PROBED = re.compile(r"`(\S+-probe(\d+)x(\d+))`")
 MESSAGE = re.compile(r"\S+:\d+:\d+: (.*)$")
@@ -76,6 +78,11 @@ def declaring_file(crate: Path, path: Path) -> Path | None:
     return None
 
 
+def bounded(tactic: str) -> str:
+    """The tactic with few steps."""
+    return f"{tactic} steps {STEPS}" if tactic.startswith("search ") else tactic
+
+
 def probes_of(lines: list[str], number: int, place: Place) -> list[str]:
     """Copies of the lemma, one a tactic."""
     lemma = place.lemma
@@ -84,7 +91,7 @@ def probes_of(lines: list[str], number: int, place: Place) -> list[str]:
     found: list[str] = []
     for at, tactic in enumerate(place.tactics):
         name = f"{lemma.name}-probe{number}x{at}"
-        clauses = [start + name + it[lemma.indent + len(lemma.name):] for it in with_tactic(lines, place, "{! " + tactic + " !}")]
+        clauses = [start + name + it[lemma.indent + len(lemma.name):] for it in with_tactic(lines, place, "{! " + bounded(tactic) + " !}")]
         found += ["", signature.replace(lemma.name, name, 1), *(lemma.unfolding.of(lines) if lemma.unfolding else []), *clauses]
     return found
 
