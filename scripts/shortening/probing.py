@@ -11,7 +11,7 @@ from .lemmas import Kind, items, read_lines, write_lines
 from .places import Place, with_tactic
 
 # A call that takes more steps is refused as a probe, so that what is written is found soon; a search that ends below is the same without the bound.
-STEPS = 500_000
+STEPS = 150_000
 NEEDED = (("arith", "Rattle.std.proofs.Common"), ("rules", "Rattle.std.proofs.Common"), ("common_steps", "Rattle.std.proofs.lemmas.Grind"))
 PROBED = re.compile(r"`(\S+-probe(\d+)x(\d+))`")
 MESSAGE = re.compile(r"\S+:\d+:\d+: (.*)$")

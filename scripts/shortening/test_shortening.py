@@ -103,7 +103,7 @@ class Probing(unittest.TestCase):
         place = Finder(PROOFS, False).places(Round.WHOLE, None, False)[0]
         probed = with_probes(PROOFS, [(7, place)])
         self.assertIn("sums-probe7x1 : (n m : ℕ) → {k : ℕ} → n ≡ m → twice n ≡ twice m", probed)
-        self.assertIn("sums-probe7x1 n m h = {! search rules steps 500000 !}", probed)
+        self.assertIn("sums-probe7x1 n m h = {! search rules steps 150000 !}", probed)
         self.assertEqual(len(missing_imports(PROOFS)), 3)
 
     def test_the_first_that_fits(self) -> None:
