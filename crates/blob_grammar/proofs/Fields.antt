@@ -1,8 +1,8 @@
 -- A field at the start of some bytes: what field_at finds is one, and each one is found.
 use Rattle.std.proofs.Common.{rules, ◌≡◌, ◌≢◌, ℕ, zero, suc, ◌+◌, ◌-◌, ◌*◌, ◌^◌, ◌<◌, ◌≤◌, Bool, true, false, ◌&&◌, ltb, if◌then◌else◌, List, [], ◌∷◌, ◌++◌, length}
-use Rattle.std.proofs.Common.{take, drop, Some, Result, Ok, Err, refl, sym, ap, subst, ◌∙◌, append-nil, arith, inl, inr, ℤ, length-append}
-use Rattle.std.{proofs.lemmas.List.{length-take, take-append-drop}, proofs.Math.Seq.{drop-length, take-append_seam}, specs.Int.{w32, from_le_bytes}}
-use Rattle.std.{specs.Result.{result_map_both}, proofs.lemmas.Bool.{cases_lt, ltb-true, and_parts}}
+use Rattle.std.proofs.{Common.{take, drop, Some, Result, Ok, Err, refl, sym, ap, subst, append-nil, arith, inl, inr, ℤ, length-append}, lemmas.Grind.{common_steps}}
+use Rattle.std.{proofs.lemmas.List.{length-take}, proofs.Math.Seq.{take-append_seam}, specs.Int.{w32, from_le_bytes}, specs.Result.{result_map_both}}
+use Rattle.std.proofs.lemmas.Bool.{cases_lt, ltb-true, and_parts}
 use Rattle.cli_ints.specs.{declared.IntFault.{IntFault}, declared.IntFault.TheVariants.{End, Form as NoForm}, Compressed.{SpellsUnsigned, SpellsSigned, bits_of}}
 use Rattle.cli_ints.specs.Compressed.{unrotated}
 use Rattle.blob_grammar.{proofs.Characters.{CharacterAt, character-at, character-all}, specs.Grammar.{Value, number, integer, octets, Form, unsigned, signed, byte}}
@@ -131,12 +131,7 @@ word-is (a ∷ b ∷ c ∷ d ∷ bs) =
     (λ n. n, record { text = a ∷ b ∷ c ∷ d ∷ []; parts = refl; spelled = (refl, refl); len_is = refl; positive = omega arith; within = omega arith })
 
 word-all : (text : List ℕ) (v : ℕ) (after : List ℕ) → IsWord text v → word_at (text ++ after) ≡ Ok (v, length text)
-word-all [] v after h = absurd (omega arith)
-word-all (a ∷ []) v after h = absurd (omega arith)
-word-all (a ∷ b ∷ []) v after h = absurd (omega arith)
-word-all (a ∷ b ∷ c ∷ []) v after h = absurd (omega arith)
-word-all (a ∷ b ∷ c ∷ d ∷ []) v after h = rw (h.1) refl
-word-all (a ∷ b ∷ c ∷ d ∷ e ∷ es) v after h = absurd (omega arith)
+word-all text v after h = grind (arith, common_steps)
 
 number-from : (bytes : List ℕ) (r : Result (ℕ × ℕ) IntFault) → IntFound SpellsUnsigned bytes r → FieldFound unsigned bytes (as_value number r)
 number-from bytes r f = search rules
@@ -152,7 +147,7 @@ taken : (len : ℕ) (bytes : List ℕ) → len < length bytes → length (take (
 taken len bytes h = omega (arith, length-take (suc len) bytes)
 
 character-is : (bytes : List ℕ) (len : ℕ) → CharacterAt bytes len → FieldFound character bytes (character_of bytes len)
-character-is bytes len f = search (rules, length-take)
+character-is bytes len f = search rules
 
 -- what field_at finds stands there, and its code is the fault's
 pub field-is : (form : Form) (bytes : List ℕ) → FieldFound form bytes (field_at form bytes)
@@ -162,27 +157,9 @@ field-is byte [] = (λ n. n, λ e. absurd cc)
 field-is byte (b ∷ bytes) = record { text = b ∷ []; parts = refl; spelled = refl; len_is = refl; positive = omega arith; within = omega arith }
 field-is word bytes = (word-is bytes).1
 field-is (fixed zero) bytes = (no_begin (fixed zero) bytes (λ n. n) (λ b bs n. n), λ e. absurd cc)
-field-is (fixed (suc len)) bytes =
-    elim (cases_lt len (length bytes)) [
-      | inl there ↦ rw (lt-true len (length bytes) there) (record {
-        text = take (suc len) bytes;
-        parts = sym (take-append-drop (suc len) bytes);
-        spelled = (refl, taken len bytes there, omega arith);
-        len_is = taken len bytes there;
-        positive = omega arith;
-        within = omega arith;
-      })
-      | inr short ↦ rw (ge-false len (length bytes) short) (no_begin (fixed (suc len)) bytes (λ n. n) (λ b bs n. n), λ e. absurd cc)
-    ]
+field-is (fixed (suc len)) bytes = grind (arith, common_steps, lt-true, taken, ge-false, no_begin)
 field-is rest [] = (λ n. n, λ e. absurd cc)
-field-is rest (b ∷ bytes) = record {
-  text = b ∷ bytes;
-  parts = sym (append-nil (b ∷ bytes)) ∙ ap (λ t. (b ∷ bytes) ++ t) (sym (drop-length (b ∷ bytes)));
-  spelled = (refl, omega arith, drop-length (b ∷ bytes));
-  len_is = refl;
-  positive = omega arith;
-  within = omega arith;
-}
+field-is rest (b ∷ bytes) = grind (arith, common_steps, append-nil)
 field-is character bytes = character-is bytes (character_len bytes) (character-at bytes)
 
 character_of-some : (text after : List ℕ) → is_character text ≡ true → character_of (text ++ after) (length text) ≡ Ok (octets text, length text)

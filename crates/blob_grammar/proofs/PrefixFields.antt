@@ -1,12 +1,12 @@
 -- The fields that the plain reader takes are those of the longest valid prefix.
-use Rattle.std.proofs.Common.{rules, ◌≡◌, ℕ, zero, suc, ◌+◌, ◌<◌, List, [], ◌∷◌, ◌++◌, length, take, drop, Option, None, Result, refl, sym, ap, subst, ◌∙◌}
-use Rattle.std.{proofs.Common.{append_assoc, append-nil, arith, length-append}, specs.Prelude.{◌↔◌}, specs.List.{flat_map}, specs.Option.{option_map_or}}
-use Rattle.std.{specs.Option.{option_and_then}, proofs.Math.Seq.{take-append_seam}, proofs.lemmas.List.{length-drop}}
-use Rattle.ppdb_base.specs.declared.{Code.{Code}, BlobFault.{BlobFault}}
+use Rattle.std.proofs.Common.{rules, ◌≡◌, ℕ, zero, suc, ◌+◌, ◌<◌, List, [], ◌∷◌, ◌++◌, length, take, drop, Option, refl, sym, ap, subst, ◌∙◌, append-nil, arith}
+use Rattle.std.{proofs.Common.{length-append}, proofs.lemmas.Grind.{common_steps}, specs.Prelude.{◌↔◌}, specs.List.{flat_map}, specs.Option.{option_map_or}}
+use Rattle.std.{specs.Option.{option_and_then}, proofs.Math.Seq.{take-append_seam}}
+use Rattle.ppdb_base.specs.declared.BlobFault.{BlobFault}
 use Rattle.blob_grammar.specs.{Grammar.{Value, Form, Field, Grammar, Cut, with_value, cut, MayFollow, AtStart}, Reading.{IsLongestPrefix, Reading}}
-use Rattle.blob_grammar.specs.{Places.{PlacedField, placed_of, HasFields}, Reader.{field_at, Step, field, stop, invalid, step_at, step_in, step, allowed_at}}
-use Rattle.blob_grammar.{specs.Reader.{next_field, fields_for, fields_from, prefix_of, read_from}, proofs.Prefixes.{cut-push, prefix-push, longest_where_stuck}}
-use Rattle.blob_grammar.proofs.{Prefixes.{prefix-unique}, Readers.{whole_of, begun_of, StepIs, step-is, read_from-reads}, Steps.{Takes, takes_in}}
+use Rattle.blob_grammar.specs.{Places.{PlacedField, placed_of, HasFields}, Reader.{field_at, Step, field, stop, invalid, step_in, step, allowed_at, next_field}}
+use Rattle.blob_grammar.{specs.Reader.{fields_for, fields_from, prefix_of, read_from}, proofs.Prefixes.{prefix-push, longest_where_stuck, prefix-unique}}
+use Rattle.blob_grammar.proofs.{Readers.{whole_of, begun_of, StepIs, step-is, read_from-reads}, Steps.{Takes, takes_in}}
 
 abbrev IsPrefix : {R : Type 0} → Grammar R → List ℕ → List Field → Type 0
 IsPrefix g blob fields = (after : List ℕ) × IsLongestPrefix g blob fields after
@@ -25,16 +25,9 @@ module _ {R : Type 0} (g : Grammar R) (h : ℕ → List R → List Value → Lis
   abbrev taken : Option (Value × ℕ) → List Field
   taken o = option_map_or (λ (x : Value × ℕ). take_field g h (place whole begun) bytes (field x.0 x.1)) o []
 
-  by_found : (r : Result (Value × ℕ) Code)
-      → taken (allowed_at g (place whole begun) r) ≡ take_field g h (place whole begun) bytes (step_at g whole begun bytes r)
-  by_found r = search rules
-
-  by_none : (left : List ℕ) → [] ≡ take_field g h (place whole begun) bytes (step_in g whole begun left None)
-  by_none left = search rules
-
   by_form : (o : Option Form) → taken (option_and_then (λ form. allowed_at g (place whole begun) (field_at form bytes)) o)
       ≡ take_field g h (place whole begun) bytes (step_in g whole begun bytes o)
-  by_form o = search (rules, by_none, by_found)
+  by_form o = search rules
 
   -- The next field is that of the next step, if there is one.
   next_field-step : taken (next_field g (place whole begun) bytes) ≡ take_field g h (place whole begun) bytes (step g whole begun bytes)
@@ -64,12 +57,7 @@ step_fields g blob turns fs bytes again few prefix (field value len) h =
     let sum : length (f.bytes ++ drop len bytes) ≡ length f.bytes + length (drop len bytes) = length-append f.bytes (drop len bytes) in
     let fewer : length (drop len bytes) < turns = omega (arith, h.prefix.len_is, h.prefix.positive) in
     let r = again (fs ++ f ∷ []) (drop len bytes) fewer next in
-    let r' : IsPrefix g blob ((fs ++ f ∷ []) ++ fields_for turns g (with_value g (cut g fs) value) (drop len bytes))
-    = subst (λ c. IsPrefix g blob ((fs ++ f ∷ []) ++ fields_for turns g c (drop len bytes))) (cut-push g fs f) r in
-    let taken : take len bytes ≡ h.prefix.text = seam h.prefix.text len bytes h.prefix.len_is h.prefix.parts in
-    subst (λ t. IsPrefix g blob (fs ++ (record { bytes = t; value = value } ∷ fields_for turns g (with_value g (cut g fs) value) (drop len bytes)))) (sym taken)
-    (subst (λ l. IsPrefix g blob l) (append_assoc fs (f ∷ [])
-    (fields_for turns g (with_value g (cut g fs) value) (drop len bytes))) r')
+    grind (arith, common_steps)
   where
     seam : (text : List ℕ) (len : ℕ) (bytes : List ℕ) → length text ≡ len → bytes ≡ text ++ drop len bytes → take len bytes ≡ text
     seam text len bytes n e = ap (take len) e ∙ subst (λ (k : ℕ). take k (text ++ drop len bytes) ≡ text) n (take-append_seam text (drop len bytes))
@@ -126,10 +114,7 @@ are-fields {X = X} g tell blob items = (
 same_take : {R : Type 0} (g : Grammar R) (h k : ℕ → List R → List Value → List Field) (place : Cut R) (bytes : List ℕ) (s : Step) → Takes bytes s
     → ((len : ℕ) → length (drop len bytes) < length bytes → (w : List R) (b : List Value) → h len w b ≡ k len w b)
     → take_field g h place bytes s ≡ take_field g k place bytes s
-same_take g h k place bytes (field value len) less e = ap (λ (l : List Field). record { bytes = take len bytes; value = value } ∷ l)
-    (e len (omega (arith, less.0, less.1, length-drop len bytes)) (with_value g place value).whole (with_value g place value).begun)
-same_take g h k place bytes stop less e = refl
-same_take g h k place bytes (invalid code) less e = refl
+same_take g h k place bytes s less e = grind (arith, common_steps)
 
 fields-enough : {R : Type 0} (g : Grammar R) (m n : ℕ) (whole : List R) (begun : List Value) (bytes : List ℕ) → length bytes < m → length bytes < n
     → fields_for m g (place whole begun) bytes ≡ fields_for n g (place whole begun) bytes

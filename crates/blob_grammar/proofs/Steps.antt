@@ -107,8 +107,7 @@ takes g whole begun blob at s = take_step g (λ len w b. read_from g w b (at + l
 
 to_step : {R : Type 0} (g : Grammar R) (whole : List R) (begun : List Value) (blob : List ℕ) (at : ℕ) (o : Option Form) (s : Step)
     → g.form whole begun ≡ o → step_in g whole begun (drop at blob) o ≡ s → left_at g whole begun blob at ≡ takes g whole begun blob at s
-to_step g whole begun blob at o s e f =
-    read_from-step g whole begun at (drop at blob) ∙ ap (λ x. takes g whole begun blob at x) (ap (step_in g whole begun (drop at blob)) e ∙ f)
+to_step g whole begun blob at o s e f = search (rules, read_from-step)
 
 -- A field that is there and allowed: the record goes on, or is whole.
 pub left-field : {R : Type 0} (g : Grammar R) (whole : List R) (begun : List Value) (blob : List ℕ) (at : ℕ) (form : Form) (value : Value) (len : ℕ)
@@ -154,6 +153,4 @@ pub left-end : {R : Type 0} (g : Grammar R) (whole : List R) (begun : List Value
     → g.form whole begun ≡ Some form → at ≡ length blob → g.may_stop whole begun ≡ true → left_at g whole begun blob at ≡ nothing_left None
 left-end g whole begun blob at form expected ends stops =
     let none = no_field form in
-    let bytes : drop at blob ≡ [] = drop_all at blob (omega arith) in
-    to_step g whole begun blob at (Some form) stop expected (ap (λ b. step_at g whole begun b (field_at form b)) bytes ∙ ap (step_at g whole begun []) none.1
-    ∙ ap (λ b. stop_or b none.0) stops)
+    search (rules, drop_all, to_step)

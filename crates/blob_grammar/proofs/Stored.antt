@@ -1,7 +1,7 @@
 -- What is known of a compressed number at a place of a blob, as what stands at the start of the bytes from there.
-use Rattle.std.proofs.Common.{rules, ◌≡◌, ℕ, suc, ◌+◌, ◌<◌, ◌≤◌, true, false, ltb, List, [], ◌∷◌, ◌++◌, length, take, drop, Result, Ok, Err, refl, sym, ap, ◌∙◌}
-use Rattle.std.{proofs.Common.{arith, ℤ}, specs.Prelude.{◌↔◌, slice_index}, proofs.Math.Seq.{drop-cons}, proofs.lemmas.List.{take-append-drop, length-take-le}}
-use Rattle.std.proofs.lemmas.{List.{length-drop, drop_all}, Bool.{cases_lt}}
+use Rattle.std.proofs.Common.{rules, ◌≡◌, ℕ, suc, ◌+◌, ◌<◌, ◌≤◌, true, false, ltb, List, [], ◌∷◌, ◌++◌, length, take, drop, Result, Ok, Err, refl, ap, ◌∙◌, arith, ℤ}
+use Rattle.std.{proofs.lemmas.Grind.{common_steps}, specs.Prelude.{◌↔◌, slice_index}, proofs.Math.Seq.{drop-cons}, proofs.lemmas.List.{length-drop, drop_all}}
+use Rattle.std.proofs.lemmas.Bool.{cases_lt}
 use Rattle.cli_ints.specs.{declared.IntFault.{IntFault}, declared.IntFault.TheVariants.{End, Form as NoForm}, Compressed.{SpellsUnsigned, SpellsSigned, StandsAt}}
 use Rattle.cli_ints.specs.Compressed.{HasNoForm, IsCutOff, len_named}
 use Rattle.blob_grammar.{specs.Reader.{unsigned_at, two_at, four_at, signed_at}, proofs.Fields.{unsigned-all, signed-all, signed_of}}
@@ -15,9 +15,7 @@ ge-false a b h = grind arith
 -- the bytes of a number that stands at a place, and those after it
 parts : {V : Type 0} (Spells : List ℕ → V → Type 0) (bytes : List ℕ) (at : ℕ) (v : V) (len : ℕ) → StandsAt Spells bytes at v len
     → (drop at bytes ≡ take len (drop at bytes) ++ drop len (drop at bytes)) × (length (take len (drop at bytes)) ≡ len)
-parts Spells bytes at v len h =
-    let there : len ≤ length (drop at bytes) = omega (arith, h.within, length-drop at bytes) in
-    (sym (take-append-drop len (drop at bytes)), length-take-le len (drop at bytes) there)
+parts Spells bytes at v len h = grind (arith, common_steps, length-drop)
 
 pub unsigned-stands : (bytes : List ℕ) (at : ℕ) (v len : ℕ) → StandsAt SpellsUnsigned bytes at v len → unsigned_at (drop at bytes) ≡ Ok (v, len)
 unsigned-stands bytes at v len h =
@@ -56,10 +54,7 @@ unsigned-no_form bytes at h = ap unsigned_at (drop-cons bytes at 0 h.0) ∙ form
 
 cut-left : (bytes : List ℕ) (at : ℕ) → at < length bytes → slice_index bytes at < 0xE0 → length bytes < at + len_named (slice_index bytes at)
     → unsigned_at (drop at bytes) ≡ Err End
-cut-left bytes at there low short =
-    let e : drop at bytes ≡ slice_index bytes at ∷ drop (suc at) bytes = drop-cons bytes at 0 there in
-    let n : length (slice_index bytes at ∷ drop (suc at) bytes) < len_named (slice_index bytes at) = omega (arith, length-drop at bytes, ap length e) in
-    ap unsigned_at e ∙ cut-prefix (slice_index bytes at) (drop (suc at) bytes) low n
+cut-left bytes at there low short = grind (arith, common_steps, length-drop, cut-prefix)
 
 unsigned-cut_off : (bytes : List ℕ) (at : ℕ) → IsCutOff bytes at → unsigned_at (drop at bytes) ≡ Err End
 unsigned-cut_off bytes at hyp1 = search (rules, drop_all, none-prefix, cases_lt, cut-left)
