@@ -12,6 +12,7 @@ use ppdb_base::{CounterPermit, Folder, Sink, Steps};
 use ppdb_cli_files::{RealFolder, StdSink};
 use ppdb_run::{Status, read_words, run};
 use reasons::{Failure, Refusal};
+use std::hash::RandomState;
 use std::io::ErrorKind;
 use std::marker::Brand;
 use std::process::ExitCode;
@@ -143,5 +144,6 @@ fn run_counted<F: Folder, O: Sink, K: Ledger, L: Ledger>(
 {
     let mut checks = Steps::<K>::new(CounterPermit::new(rt), checks);
     let mut steps = Steps::<L>::new(CounterPermit::new(rt), steps);
+    steps.set_key(RandomState::new(rt).ok());
     run(rt.alloc(), words, folder, out, &mut checks, &mut steps)
 }

@@ -4,7 +4,7 @@ use Rattle.std.specs.declared.alloc.Global.{Global}
 use Rattle.ppdb_base.specs.Told.{told}
 use Rattle.ppdb_build_heaps.{specs.Interned.{Contents, length_of}, specs.Marks.{mark, has_mark, first_with, is_first, other_index}, proofs.Interned.{index_new}}
 use Rattle.ppdb_build_heaps.proofs.{Marks.{others_more, firsts_stay, some_found, undone, none_there, new_used}, Spellings.{on_ok, on_err}}
-use Rattle.ppdb_build_heaps.proofs.heap.Heap.add_other.Goals as goal
+use Rattle.ppdb_build_heaps.proofs.ordered.Ordered.add_other.Goals as goal
 
 abbrev index_at : BTreeMap (Vec ℕ Global) ℕ → Vec ℕ Global → Option ℕ
 index_at others key = get (λ (x y : Vec ℕ Global). slice_cmp nat_cmp x.items y.items) others key

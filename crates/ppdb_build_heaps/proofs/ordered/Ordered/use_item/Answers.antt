@@ -4,7 +4,7 @@ use Rattle.ppdb_base.specs.Told.{told}
 use Rattle.ppdb_build_heaps.specs.{Interned.{Contents, length_of}, Items.{with_use, index_of}, Kinds.{spelled}, Marks.{mark, has_mark, first_with, is_first}}
 use Rattle.ppdb_build_heaps.{specs.Marks.{other_index}, proofs.Interned.{index_new}, proofs.Marks.{found_at, found_none, not_there, firsts_more, others_first}}
 use Rattle.ppdb_build_heaps.proofs.Marks.{number_same, new_used, first_used, first_index}
-use Rattle.ppdb_build_heaps.proofs.heap.Heap.use_item.Goals as goal
+use Rattle.ppdb_build_heaps.proofs.ordered.Ordered.use_item.Goals as goal
 
 -- no item has the mark of a new one
 place : (c : goal.After-self-in-Vacant-2-1) → position_or_len (has_mark (mark c.args.item.now)) c.self.inside.items.items ≡ length c.self.inside.items.items
