@@ -5,3 +5,4 @@ pub mod Places
 pub mod Written
 pub mod Following
 pub mod MovedPoints
+pub mod HiddenPoints
