@@ -18,3 +18,5 @@ pub mod MovedPoints
 pub mod Stretches
 pub mod HiddenRise
 pub mod HiddenAll
+pub mod HiddenAt
+pub mod HiddenHides

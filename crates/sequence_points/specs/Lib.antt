@@ -6,3 +6,4 @@ pub mod Written
 pub mod Following
 pub mod MovedPoints
 pub mod HiddenPoints
+pub mod HiddenLaws
