@@ -14,6 +14,6 @@ pub mod NoSlots
 pub mod Nothing
 pub mod OneName
 pub mod Rows
-pub mod SlotLists
+pub mod ScopeLists
 pub mod Told
 pub mod Parts
