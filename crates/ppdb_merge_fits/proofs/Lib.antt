@@ -13,6 +13,7 @@ pub mod Methods
 pub mod NoSlots
 pub mod Nothing
 pub mod OneName
+pub mod Owned
 pub mod Rows
 pub mod ScopeLists
 pub mod Told

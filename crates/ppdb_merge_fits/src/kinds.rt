@@ -1,15 +1,12 @@
 // Custom records of unknown kinds.
-ghost use Rattle.std.specs.Prelude.{◌≡◌, ◌++◌, Some, IfOk, OnOk, map, slice_get};
+ghost use Rattle.std.specs.Prelude.{◌≡◌, ◌++◌, IfOk, OnOk, map, slice_get};
 ghost use Rattle.ppdb_tables.specs.RawTables.{row_at};
-ghost use Rattle.ppdb_values.specs.Rules.{HasRow};
 ghost use Rattle.ppdb_values.specs.Value.{value_of};
-ghost use Rattle.ppdb_values.specs.declared.scope.ConstantValue.{ConstantValue};
 ghost use Rattle.ppdb_values.specs.declared.scope.ScopeValue.{ScopeValue};
-ghost use Rattle.ppdb_values_reading.specs.Lent.{constants_of, custom_shown};
+ghost use Rattle.ppdb_values_reading.specs.Lent.{custom_shown};
 ghost use Rattle.ppdb_values_reading.specs.Scopes.{HasLists, scope_with};
 ghost use Rattle.ppdb_verify.specs.Views.{raw_file};
 ghost use Rattle.ppdb_merge_fits.specs.Clashes.{method_at, is_at_dropped, is_at_gone, is_at_gone_constant, is_unknown};
-ghost use Rattle.ppdb_merge_items.specs.NamedRows.{goes_constant};
 ghost use Rattle.ppdb_merge_fits.specs.Clashes.{if_unknown, unknown_kinds};
 ghost use Rattle.ppdb_merge_fits.specs.Owned.{owned_constants, scope_constants};
 ghost use Rattle.ppdb_merge_fits.specs.Walks.{has_unknown};
@@ -19,32 +16,17 @@ use crate::used::{MethodSlot, OwnedConstant};
 use custom_info::{Kind, Marks, kind_of};
 use ppdb_base::{List, Memory, MergeError, Steps};
 use ppdb_maps::MapText;
-use ppdb_merge_moved::is_gone_row;
-use ppdb_merge_rows::moved_constant;
+use ppdb_merge_moved::{constant_goes, is_gone_row};
 use ppdb_tables::{CUSTOM, LOCAL_CONSTANT, LOCAL_SCOPE, LOCAL_VARIABLE, METHOD_DEF, Parent};
-use ppdb_values_reading::{LentCustom, Scope, ScopeCursor, read_custom, scopes_own_their_lists};
+use ppdb_values_reading::{
+    LentCustom, Scope, ScopeCursor, read_constant, read_custom, scopes_own_their_lists,
+};
 use ppdb_verify::Verified;
 use ppdb_verify_rows::{copy_of, count, custom, guid_of_kind, scope};
 use std::alloc::Global;
 use std::marker::Model;
 use std::sync::ledger::Ledger;
 use type_blobs::Modifier;
-
-/// Whether the constant of a row is removed.
-fn constant_goes<L: Ledger>(
-    file: &Verified<'_>,
-    map: &MapText,
-    row: u32,
-    modifiers: &mut List<Modifier>,
-    steps: &mut Steps<L>,
-) -> Result<bool, Memory>
-    requires { HasRow (raw_file file.now).tables 0x34 row }
-    ensures { IfOk result (λ goes. (constant : ConstantValue) → row_at (constants_of (raw_file file.now).tables) row ≡ Some constant
-        → goes ≡ goes_constant map.now constant) }
-{
-    let moved = moved_constant(file, map, row, modifiers, steps)?;
-    Ok(moved.is_none())
-}
 
 /// Adds the constants of a scope.
 fn add_constants<L: Ledger>(
@@ -61,10 +43,10 @@ fn add_constants<L: Ledger>(
     let _ = file.keeps();
     let mut row = scope.constants.first;
     'rows: while row < scope.constants.end {
-        let goes = constant_goes(file, map, row, modifiers, steps)?;
+        let lent = read_constant(file, row, modifiers, steps)?;
         constants.push(OwnedConstant {
             method: scope.method,
-            goes,
+            goes: constant_goes(map, modifiers.as_slice(), &lent.body),
         })?;
         row += 1;
     }
@@ -140,6 +122,11 @@ impl<'m, 'a> Model for Rows<'m, 'a> {
 }
 
 impl<'m, 'a> Rows<'m, 'a> {
+    ghost use Rattle.std.specs.Prelude.{◌≡◌, map, flat_map, option_to_list, IfOk};
+    ghost use Rattle.std.specs.List.{list_any};
+    ghost use Rattle.ppdb_values.specs.declared.scope.ScopeValue.{ScopeValue as scope_value};
+    ghost use Rattle.ppdb_merge_items.specs.NamedRows.{goes_constant};
+
     fn new<L: Ledger>(
         alloc: Global,
         map: &'m MapText,
@@ -156,6 +143,36 @@ impl<'m, 'a> Rows<'m, 'a> {
         })
     }
 
+    /// The method of the variable of a row; none past the last.
+    fn variable_method(&self, row: u32) -> Option<u32>
+        ensures { result ≡ row_at (flat_map (λ (s : scope_value). map (λ v. s.method) s.variables) self.now.1.scopes) row }
+    {
+        match entry(self.variables.as_slice(), row) {
+            Some(variable) => Some(variable.method),
+            None => None,
+        }
+    }
+
+    /// The method of the constant of a row; none past the last.
+    fn constant_method(&self, row: u32) -> Option<u32>
+        ensures { result ≡ row_at (flat_map (λ (s : scope_value). map (λ c. s.method) s.constants) self.now.1.scopes) row }
+    {
+        match entry(self.constants.as_slice(), row) {
+            Some(constant) => Some(constant.method),
+            None => None,
+        }
+    }
+
+    /// Whether the constant of a row is removed.
+    fn is_gone_constant(&self, row: u32) -> bool
+        ensures { result ≡ list_any (goes_constant self.now.0) (option_to_list (row_at (flat_map (λ (s : scope_value). s.constants) self.now.1.scopes) row)) }
+    {
+        match entry(self.constants.as_slice(), row) {
+            Some(constant) => constant.goes,
+            None => false,
+        }
+    }
+
     /// The method at which a row stands.
     fn method_at<L: Ledger>(&self, parent: Parent, steps: &mut Steps<L>) -> Option<u32>
         ensures { result ≡ method_at self.now.1 parent }
@@ -163,8 +180,8 @@ impl<'m, 'a> Rows<'m, 'a> {
         match parent.table {
             METHOD_DEF => Some(parent.row),
             LOCAL_SCOPE => scope_method(&self.file, parent.row, steps),
-            LOCAL_VARIABLE => Some(entry(self.variables.as_slice(), parent.row)?.method),
-            LOCAL_CONSTANT => Some(entry(self.constants.as_slice(), parent.row)?.method),
+            LOCAL_VARIABLE => self.variable_method(parent.row),
+            LOCAL_CONSTANT => self.constant_method(parent.row),
             _ => None,
         }
     }
@@ -183,13 +200,7 @@ impl<'m, 'a> Rows<'m, 'a> {
     fn is_at_gone_constant(&self, parent: Parent) -> bool
         ensures { result ≡ is_at_gone_constant self.now.0 self.now.1 parent }
     {
-        if parent.table != LOCAL_CONSTANT {
-            return false;
-        }
-        match entry(self.constants.as_slice(), parent.row) {
-            Some(constant) => constant.goes,
-            None => false,
-        }
+        parent.table == LOCAL_CONSTANT && self.is_gone_constant(parent.row)
     }
 
     /// Whether the custom records on a row are removed.
@@ -203,7 +214,7 @@ impl<'m, 'a> Rows<'m, 'a> {
 }
 
 /// Whether records of the kind are neither read nor passed on.
-pub fn is_unknown(kind: Kind) -> bool
+fn is_unknown(kind: Kind) -> bool
     ensures { result ≡ is_unknown kind }
 {
     matches!(kind, Kind::Unknown)
@@ -259,7 +270,7 @@ fn first_in<L: Ledger>(
     let _ = file.keeps();
     let count = count(file, CUSTOM);
     let mut row: u32 = 0;
-    'rows: while row < count {
+    'customs: while row < count {
         row += 1;
         let custom = read_custom(alloc, file, row, steps);
         if let Some(error) = kind_unknown(marks, rows, row, &custom, steps) {
@@ -271,7 +282,7 @@ fn first_in<L: Ledger>(
 
 /// What is reported of the first record of an unknown kind that is not on what is removed. Only in a file that has a record of an unknown kind
 /// are the methods of rows asked for.
-pub(crate) fn first_unknown<L: Ledger>(
+pub fn first_unknown<L: Ledger>(
     alloc: Global,
     marks: &Marks,
     map: &MapText,
