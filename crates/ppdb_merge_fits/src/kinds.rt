@@ -1,11 +1,13 @@
 // Custom records of unknown kinds.
-ghost use Rattle.std.specs.Prelude.{◌≡◌, ◌++◌, IfOk, OnOk, map, slice_get};
+ghost use Rattle.std.specs.Prelude.{◌≡◌, ◌++◌, IfOk, OnOk, map, flat_map, option_to_list, slice_get};
+ghost use Rattle.std.specs.List.{list_any};
 ghost use Rattle.ppdb_tables.specs.RawTables.{row_at};
 ghost use Rattle.ppdb_values.specs.Value.{value_of};
 ghost use Rattle.ppdb_values.specs.declared.scope.ScopeValue.{ScopeValue};
 ghost use Rattle.ppdb_values_reading.specs.Lent.{custom_shown};
 ghost use Rattle.ppdb_values_reading.specs.Scopes.{HasLists, scope_with};
 ghost use Rattle.ppdb_verify.specs.Views.{raw_file};
+ghost use Rattle.ppdb_merge_items.specs.NamedRows.{goes_constant};
 ghost use Rattle.ppdb_merge_fits.specs.Clashes.{method_at, is_at_dropped, is_at_gone, is_at_gone_constant, is_unknown};
 ghost use Rattle.ppdb_merge_fits.specs.Clashes.{if_unknown, unknown_kinds};
 ghost use Rattle.ppdb_merge_fits.specs.Owned.{owned_constants, scope_constants};
@@ -122,11 +124,6 @@ impl<'m, 'a> Model for Rows<'m, 'a> {
 }
 
 impl<'m, 'a> Rows<'m, 'a> {
-    ghost use Rattle.std.specs.Prelude.{◌≡◌, map, flat_map, option_to_list, IfOk};
-    ghost use Rattle.std.specs.List.{list_any};
-    ghost use Rattle.ppdb_values.specs.declared.scope.ScopeValue.{ScopeValue as scope_value};
-    ghost use Rattle.ppdb_merge_items.specs.NamedRows.{goes_constant};
-
     fn new<L: Ledger>(
         alloc: Global,
         map: &'m MapText,
@@ -145,7 +142,7 @@ impl<'m, 'a> Rows<'m, 'a> {
 
     /// The method of the variable of a row; none past the last.
     fn variable_method(&self, row: u32) -> Option<u32>
-        ensures { result ≡ row_at (flat_map (λ (s : scope_value). map (λ v. s.method) s.variables) self.now.1.scopes) row }
+        ensures { result ≡ row_at (flat_map (λ (s : ScopeValue). map (λ v. s.method) s.variables) self.now.1.scopes) row }
     {
         match entry(self.variables.as_slice(), row) {
             Some(variable) => Some(variable.method),
@@ -155,7 +152,7 @@ impl<'m, 'a> Rows<'m, 'a> {
 
     /// The method of the constant of a row; none past the last.
     fn constant_method(&self, row: u32) -> Option<u32>
-        ensures { result ≡ row_at (flat_map (λ (s : scope_value). map (λ c. s.method) s.constants) self.now.1.scopes) row }
+        ensures { result ≡ row_at (flat_map (λ (s : ScopeValue). map (λ c. s.method) s.constants) self.now.1.scopes) row }
     {
         match entry(self.constants.as_slice(), row) {
             Some(constant) => Some(constant.method),
@@ -165,7 +162,7 @@ impl<'m, 'a> Rows<'m, 'a> {
 
     /// Whether the constant of a row is removed.
     fn is_gone_constant(&self, row: u32) -> bool
-        ensures { result ≡ list_any (goes_constant self.now.0) (option_to_list (row_at (flat_map (λ (s : scope_value). s.constants) self.now.1.scopes) row)) }
+        ensures { result ≡ list_any (goes_constant self.now.0) (option_to_list (row_at (flat_map (λ (s : ScopeValue). s.constants) self.now.1.scopes) row)) }
     {
         match entry(self.constants.as_slice(), row) {
             Some(constant) => constant.goes,

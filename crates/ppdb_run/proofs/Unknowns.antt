@@ -7,7 +7,7 @@ use Rattle.ppdb_base.specs.declared.merge_error.MergeError.{MergeError}
 use Rattle.ppdb_base.specs.declared.merge_error.MergeError.TheVariants.{KindUnknown}
 use Rattle.ppdb_maps.specs.Map.{is_dropped, is_gone_row, no_lines}
 use Rattle.ppdb_tables.specs.RawTables.{numbered, row_at}
-use Rattle.ppdb_tables.specs.declared.parents.Parent.{Parent}
+use Rattle.ppdb_values.specs.Names.{Parent}
 use Rattle.ppdb_values.specs.declared.custom.CustomValue.{CustomValue}
 use Rattle.ppdb_values.specs.declared.file.FileValue.{FileValue}
 use Rattle.ppdb_values.specs.declared.scope.ConstantValue.{ConstantValue}

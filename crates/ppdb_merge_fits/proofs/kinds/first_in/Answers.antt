@@ -15,9 +15,9 @@ pub returns-in-Some : goal.returns-in-Some
 returns-in-Some g c =
     let value = c.args.rows.now.1 in
     let row = c.customs.row in
-    let custom = custom_shown c.read_custom.result in
+    let custom = custom_shown c.read_custom-custom.result in
     let there : row_at value.customs (row + 1) ≡ Some custom =
-    ap (λ (v : FileValue). row_at v.customs (row + 1)) c.requires ∙ c.read_custom.ensures.custom in
+    ap (λ (v : FileValue). row_at v.customs (row + 1)) c.requires ∙ c.read_custom-custom.ensures.custom in
     sym (row_hit (if_unknown c.args.marks.now c.args.rows.now.0 value) (numbered value.customs) row (row + 1, custom) c.in-Some.error c.customs.invariant
     (numbered_row value.customs (row + 1) custom there) (sym c.kind_unknown.ensures ∙ c.in-Some.is))
 
@@ -25,9 +25,9 @@ pub customs-preserved : goal.customs-preserved
 customs-preserved g c =
     let value = c.args.rows.now.1 in
     let row = c.customs.row in
-    let custom = custom_shown c.read_custom.result in
+    let custom = custom_shown c.read_custom-custom.result in
     let there : row_at value.customs (row + 1) ≡ Some custom =
-    ap (λ (v : FileValue). row_at v.customs (row + 1)) c.requires ∙ c.read_custom.ensures.custom in
+    ap (λ (v : FileValue). row_at v.customs (row + 1)) c.requires ∙ c.read_custom-custom.ensures.custom in
     row_miss (if_unknown c.args.marks.now c.args.rows.now.0 value) (numbered value.customs) row (row + 1, custom) c.customs.invariant
     (numbered_row value.customs (row + 1) custom there) (sym c.kind_unknown.ensures ∙ c.in_default.is)
 
