@@ -1,21 +1,13 @@
 -- The methods of variables and constants by their rows, and the constants that are removed.
 use Rattle.std.proofs.Common.{◌≡◌, ℕ, ◌||◌, ◌++◌, Bool, true, false, List, [], ◌∷◌, Option, Some, None, map, flat_map, refl, sym, ◌∙◌, ap}
-use Rattle.std.specs.Prelude.{option_map, option_to_list, unwrap_or}
-use Rattle.std.specs.List.{list_any}
-use Rattle.std.proofs.lemmas.List.{map-append}
+use Rattle.std.{specs.Prelude.{option_map, option_to_list, unwrap_or}, specs.List.{list_any}, proofs.lemmas.List.{map-append}}
 use Rattle.ppdb_maps.specs.Map.{Map}
 use Rattle.ppdb_tables.specs.RawTables.{row_at}
-use Rattle.ppdb_values.specs.declared.file.FileValue.{FileValue}
-use Rattle.ppdb_values.specs.declared.scope.ConstantValue.{ConstantValue}
-use Rattle.ppdb_values.specs.declared.scope.ScopeValue.{ScopeValue}
-use Rattle.ppdb_values.specs.declared.scope.VariableValue.{VariableValue}
-use Rattle.ppdb_values.proofs.Mapped.{row_map}
+use Rattle.ppdb_values.specs.declared.{file.FileValue.{FileValue}, scope.ConstantValue.{ConstantValue}, scope.ScopeValue.{ScopeValue}}
+use Rattle.ppdb_values.{specs.declared.scope.VariableValue.{VariableValue}, proofs.Mapped.{row_map}}
 use Rattle.ppdb_merge_items.specs.NamedRows.{goes_constant}
-use Rattle.ppdb_merge_fits.specs.declared.used.MethodSlot.{MethodSlot}
-use Rattle.ppdb_merge_fits.specs.declared.used.OwnedConstant.{OwnedConstant}
-use Rattle.ppdb_merge_fits.specs.Owned.{owned_by, owned_constants}
-use Rattle.ppdb_merge_fits.specs.Slots.{variable_slots}
-use Rattle.ppdb_merge_fits.proofs.ScopeLists.{of_row}
+use Rattle.ppdb_merge_fits.specs.{declared.used.MethodSlot.{MethodSlot}, declared.used.OwnedConstant.{OwnedConstant}, Owned.{owned_by, owned_constants}}
+use Rattle.ppdb_merge_fits.{specs.Slots.{variable_slots}, proofs.ScopeLists.{of_row}}
 
 -- what is made of each item of all scopes
 made_of_all : {X Z : Type 0} (g : X → Z) (items : ScopeValue → List X) (scopes : List ScopeValue)

@@ -1,12 +1,9 @@
 -- What is made of variables or constants, row after row and scope after scope.
 use Rattle.std.proofs.Common.{◌≡◌, ℕ, ◌+◌, ◌-◌, ◌≤◌, ◌++◌, List, [], ◌∷◌, Some, map, flat_map, append-nil, append_assoc, refl, sym, ◌∙◌, ap, arith}
-use Rattle.std.specs.Prelude.{slice_range, option_map}
-use Rattle.std.proofs.lemmas.List.{map-append}
+use Rattle.std.{specs.Prelude.{slice_range, option_map}, proofs.lemmas.List.{map-append}}
 use Rattle.ppdb_tables.specs.RawTables.{row_at}
-use Rattle.ppdb_values.specs.declared.scope.ScopeValue.{ScopeValue}
-use Rattle.ppdb_values.proofs.Mapped.{row_map}
-use Rattle.ppdb_values_reading.specs.declared.scopes.Scope.{Scope}
-use Rattle.ppdb_values_reading.proofs.Lists.{slice_more, slice_none}
+use Rattle.ppdb_values.{specs.declared.scope.ScopeValue.{ScopeValue}, proofs.Mapped.{row_map}}
+use Rattle.ppdb_values_reading.{specs.declared.scopes.Scope.{Scope}, proofs.Lists.{slice_more, slice_none}}
 
 -- ---- the rows of a list
 

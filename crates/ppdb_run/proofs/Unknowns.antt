@@ -1,17 +1,12 @@
 -- A map without lines removes nothing, so each record of a kind that is neither read nor passed on is reported.
 use Rattle.std.proofs.Common.{◌≡◌, ℕ, ◌&&◌, ◌||◌, ◌++◌, Bool, true, false, cond, List, [], ◌∷◌, Option, Some, None, flat_map, slice_get, refl, ◌∙◌, ap}
-use Rattle.std.specs.Prelude.{◌==◌, not, if◌then◌else◌, option_map, option_to_list}
-use Rattle.std.specs.List.{find, list_any}
+use Rattle.std.specs.{Prelude.{◌==◌, not, if◌then◌else◌, option_map, option_to_list}, List.{find, list_any}}
 use Rattle.custom_info.specs.Kinds.{kind_of}
-use Rattle.ppdb_base.specs.declared.merge_error.MergeError.{MergeError}
-use Rattle.ppdb_base.specs.declared.merge_error.MergeError.TheVariants.{KindUnknown}
+use Rattle.ppdb_base.specs.declared.merge_error.{MergeError.{MergeError}, MergeError.TheVariants.{KindUnknown}}
 use Rattle.ppdb_maps.specs.Map.{is_dropped, is_gone_row, no_lines}
 use Rattle.ppdb_tables.specs.RawTables.{numbered, row_at}
-use Rattle.ppdb_values.specs.Names.{Parent}
-use Rattle.ppdb_values.specs.declared.custom.CustomValue.{CustomValue}
-use Rattle.ppdb_values.specs.declared.file.FileValue.{FileValue}
-use Rattle.ppdb_values.specs.declared.scope.ConstantValue.{ConstantValue}
-use Rattle.ppdb_values.specs.declared.scope.ScopeValue.{ScopeValue}
+use Rattle.ppdb_values.specs.{Names.{Parent}, declared.custom.CustomValue.{CustomValue}, declared.file.FileValue.{FileValue}}
+use Rattle.ppdb_values.specs.declared.scope.{ConstantValue.{ConstantValue}, ScopeValue.{ScopeValue}}
 use Rattle.ppdb_merge_items.specs.NamedRows.{goes_constant}
 use Rattle.ppdb_merge_unmoved_laws.proofs.Staying.{never_gone, no_constant_goes}
 use Rattle.ppdb_merge_fits.specs.Clashes.{if_unknown, is_at_gone, is_at_gone_constant, is_unknown, method_at, unknown_kinds}

@@ -1,14 +1,10 @@
-use Rattle.std.proofs.Common.{◌≡◌, ◌||◌, ◌-◌, ◌++◌, Bool, List, [], ◌∷◌, arith, ap, ◌∙◌}
-use Rattle.std.specs.List.{list_any}
-use Rattle.type_blobs.specs.declared.types.Modifier.{Modifier}
-use Rattle.type_blobs.specs.ConstantReading.{shown}
+use Rattle.std.{proofs.Common.{◌≡◌, ◌||◌, ◌-◌, ◌++◌, Bool, List, [], ◌∷◌, arith, ap, ◌∙◌}, specs.List.{list_any}}
+use Rattle.type_blobs.specs.{declared.types.Modifier.{Modifier}, ConstantReading.{shown}}
 use Rattle.ppdb_values.specs.Constants.{body_value}
 use Rattle.ppdb_verify.specs.Views.{raw_file}
 use Rattle.ppdb_values_reading.specs.Lent.{constant_value_shown, constants_of}
 use Rattle.ppdb_merge_items.specs.NamedRows.{goes_constant, is_gone_type, names_gone_class}
-use Rattle.ppdb_merge_fits.specs.declared.used.OwnedConstant.{OwnedConstant}
-use Rattle.ppdb_merge_fits.specs.Owned.{owned_by}
-use Rattle.ppdb_merge_fits.proofs.ScopeLists.{list_none, list_more, list_all}
+use Rattle.ppdb_merge_fits.{specs.declared.used.OwnedConstant.{OwnedConstant}, specs.Owned.{owned_by}, proofs.ScopeLists.{list_none, list_more, list_all}}
 use Rattle.ppdb_merge_fits.proofs.kinds.add_constants.Goals as goal
 
 pub rows-init : goal.rows-init

@@ -1,5 +1,4 @@
-use Rattle.std.proofs.Common.{◌≡◌, ◌-◌, ◌≤◌, ◌++◌, map}
-use Rattle.std.specs.Prelude.{slice_range}
+use Rattle.std.{proofs.Common.{◌≡◌, ◌-◌, ◌≤◌, ◌++◌, map}, specs.Prelude.{slice_range}}
 use Rattle.ppdb_verify.specs.Views.{raw_file}
 use Rattle.ppdb_values_reading.specs.Lent.{constants_of}
 use Rattle.ppdb_merge_fits.specs.Owned.{owned_by}

@@ -2,11 +2,9 @@ use Rattle.std.proofs.Common.{List, sym, subst, All, ◌∙◌}
 use Rattle.blob_grammar.specs.Reader.{tail}
 use Rattle.ppdb_values.specs.Value.{value_of}
 use Rattle.ppdb_verify.specs.Views.{raw_file}
-use Rattle.ppdb_values_reading.specs.declared.scopes.Scope.{Scope}
-use Rattle.ppdb_values_reading.specs.Scopes.{scope_with, HasLists}
-use Rattle.ppdb_values_reading.proofs.Answered.{next_first, next_none, all_first, all_rest}
-use Rattle.ppdb_merge_fits.specs.Owned.{scope_constants}
-use Rattle.ppdb_merge_fits.proofs.ScopeLists.{scopes_begun, scopes_on, scopes_made}
+use Rattle.ppdb_values_reading.{specs.declared.scopes.Scope.{Scope}, specs.Scopes.{scope_with, HasLists}, proofs.Answered.{next_first, next_none, all_first}}
+use Rattle.ppdb_values_reading.proofs.Answered.{all_rest}
+use Rattle.ppdb_merge_fits.{specs.Owned.{scope_constants}, proofs.ScopeLists.{scopes_begun, scopes_on, scopes_made}}
 use Rattle.ppdb_merge_fits.proofs.kinds.all_constants.Goals as goal
 
 pub scopes-init : goal.scopes-init

@@ -1,14 +1,9 @@
-use Rattle.std.proofs.Common.{◌≡◌, ◌+◌, Some, length, sym, ◌∙◌, ap, arith}
-use Rattle.std.proofs.lemmas.List.FromFn.{length-enumerate_from}
+use Rattle.std.proofs.{Common.{◌≡◌, ◌+◌, Some, length, sym, ◌∙◌, ap, arith}, lemmas.List.FromFn.{length-enumerate_from}}
 use Rattle.ppdb_tables.specs.RawTables.{numbered, row_at}
 use Rattle.ppdb_values.specs.declared.file.FileValue.{FileValue}
 use Rattle.ppdb_verify.specs.Views.{raw_file}
-use Rattle.ppdb_values_reading.specs.Lent.{custom_shown}
-use Rattle.ppdb_values_reading.proofs.Rows.{numbered_row}
-use Rattle.ppdb_merge_fits.specs.Clashes.{if_unknown}
-use Rattle.ppdb_merge_fits.proofs.CustomRows.{customs_many}
-use Rattle.ppdb_merge_fits.proofs.First.{none_left}
-use Rattle.ppdb_merge_fits.proofs.Rows.{row_hit, row_miss}
+use Rattle.ppdb_values_reading.{specs.Lent.{custom_shown}, proofs.Rows.{numbered_row}}
+use Rattle.ppdb_merge_fits.{specs.Clashes.{if_unknown}, proofs.CustomRows.{customs_many}, proofs.First.{none_left}, proofs.Rows.{row_hit, row_miss}}
 use Rattle.ppdb_merge_fits.proofs.kinds.first_in.Goals as goal
 
 pub returns-in-Some : goal.returns-in-Some

@@ -1,12 +1,9 @@
-use Rattle.std.proofs.Common.{sym, ◌∙◌, ap, cond, [], ◌∷◌, ◌&&◌, slice_get}
-use Rattle.std.specs.Prelude.{not}
+use Rattle.std.{proofs.Common.{sym, ◌∙◌, ap, cond, [], ◌∷◌, ◌&&◌, slice_get}, specs.Prelude.{not}}
 use Rattle.custom_info.specs.Kinds.{kind_of}
 use Rattle.ppdb_base.specs.declared.merge_error.MergeError.TheVariants.{KindUnknown}
-use Rattle.ppdb_values.specs.Value.{value_of}
-use Rattle.ppdb_values.specs.declared.custom.CustomValue.{CustomValue}
+use Rattle.ppdb_values.specs.{Value.{value_of}, declared.custom.CustomValue.{CustomValue}}
 use Rattle.ppdb_verify.specs.Views.{raw_file}
-use Rattle.ppdb_merge_fits.specs.Clashes.{is_unknown, is_at_gone, if_unknown}
-use Rattle.ppdb_merge_fits.proofs.First.{none_told}
+use Rattle.ppdb_merge_fits.{specs.Clashes.{is_unknown, is_at_gone, if_unknown}, proofs.First.{none_told}}
 use Rattle.ppdb_merge_fits.proofs.kinds.first_unknown.Goals as goal
 
 pub returns-then-not-any_unknown : goal.returns-then-not-any_unknown

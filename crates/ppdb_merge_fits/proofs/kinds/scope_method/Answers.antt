@@ -1,8 +1,5 @@
-use Rattle.std.proofs.Common.{inl, inr, sym, ap, ◌∙◌, arith}
-use Rattle.std.specs.Prelude.{option_map}
-use Rattle.ppdb_values.proofs.Mapped.{row_map}
-use Rattle.ppdb_values.specs.Value.{scope_of, value_of}
-use Rattle.ppdb_values.specs.declared.scope.ScopeValue.{ScopeValue}
+use Rattle.std.{proofs.Common.{inl, inr, sym, ap, ◌∙◌, arith}, specs.Prelude.{option_map}}
+use Rattle.ppdb_values.{proofs.Mapped.{row_map}, specs.Value.{scope_of, value_of}, specs.declared.scope.ScopeValue.{ScopeValue}}
 use Rattle.ppdb_verify.specs.Views.{raw_file}
 use Rattle.ppdb_values_reading.proofs.Rows.{row_made}
 use Rattle.ppdb_merge_fits.proofs.CustomRows.{no_row, scope_there, scopes_many}

@@ -1,8 +1,7 @@
 use Rattle.std.proofs.Common.{arith, ◌-◌}
 use Rattle.ppdb_values.specs.{Value.{variable_of}, declared.scope.VariableValue.{VariableValue}}
 use Rattle.ppdb_verify.specs.Views.{raw_file}
-use Rattle.ppdb_values_reading.specs.Lent.{variables_of}
-use Rattle.ppdb_values_reading.proofs.Rows.{row_made}
+use Rattle.ppdb_values_reading.{specs.Lent.{variables_of}, proofs.Rows.{row_made}}
 use Rattle.ppdb_merge_fits.proofs.ScopeLists.{list_none, list_more, list_all}
 use Rattle.ppdb_merge_fits.proofs.slots.add_slots.Goals as goal
 

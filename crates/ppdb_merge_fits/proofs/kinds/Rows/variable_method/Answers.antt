@@ -1,9 +1,7 @@
 use Rattle.std.proofs.Common.{◌≡◌, Option, Some, None, map, flat_map, sym, ap, ◌∙◌, subst}
 use Rattle.ppdb_maps.specs.Map.{Map}
 use Rattle.ppdb_tables.specs.RawTables.{row_at}
-use Rattle.ppdb_values.specs.Value.{value_of}
-use Rattle.ppdb_values.specs.declared.file.FileValue.{FileValue}
-use Rattle.ppdb_values.specs.declared.scope.ScopeValue.{ScopeValue}
+use Rattle.ppdb_values.specs.{Value.{value_of}, declared.file.FileValue.{FileValue}, declared.scope.ScopeValue.{ScopeValue}}
 use Rattle.ppdb_verify.specs.Views.{raw_file}
 use Rattle.ppdb_merge_fits.proofs.Owned.{variable_of_row}
 use Rattle.ppdb_merge_fits.proofs.kinds.Rows.variable_method.Goals as goal
