@@ -1,103 +1,64 @@
 // What each code of a fault, of a map that does not fit and of a limit means, and what to do about it.
+use crate::rules::RULES;
 
-/// The rules of the format, F1 to F40. The first line says what is wrong.
-const FAULTS: [&str; 40] = [
-    "F1: the file is not metadata: it does not begin with BSJB
-It may be an assembly (.dll, .exe): `ppdb-tools extract` writes the debug file that is embedded in
+/// What the program says of each rule of the format after its sentence, from F1.
+const ADVICE: [&str; 40] = [
+    "It may be an assembly (.dll, .exe): `ppdb-tools extract` writes the debug file that is embedded in
 one. Fewer than four bytes are a file that was cut off.
 ",
-    "F2: the file is a Windows PDB, the format of older compilers
-Build with portable debug files (DebugType portable), or convert the file.
+    "Build with portable debug files (DebugType portable), or convert the file.
 ",
-    "F3: a field extends past the end of the file
-Usually the file was cut off: fetch or build it again.
+    "Usually the file was cut off: fetch or build it again.
 ",
-    "F4: the name of a stream is empty, not ASCII or too long
+    "",
+    "Delta files of Edit and Continue have such streams.
 ",
-    "F5: a stream has a name that no Portable PDB uses
-Delta files of Edit and Continue have such streams.
+    "",
+    "Usually the file was cut off: fetch or build it again.
 ",
-    "F6: two streams have the same name
-",
-    "F7: a stream extends past the end of the file
-Usually the file was cut off: fetch or build it again.
-",
-    "F8: the stream #Pdb or #~ is missing: the file has metadata, but is not a debug file
-",
-    "F9: a field of the stream #Pdb extends past its end
-",
-    "F10: the stream #Pdb has a row count of a table that no module has
-",
-    "F11: a row count of the module is above 16777215
-",
-    "F12: the entry point is not a method of the module
-",
-    "F13: a field before the tables extends past the end of the stream #~
-",
-    "F14: the widths of heap indexes (HeapSizes) have an unknown bit
-",
-    "F15: the stream #~ has tables that no debug file has
-",
-    "F16: a row count is above 16777215
-",
-    "F17: a row extends past the end of the stream #~
-",
-    "F18: MethodDebugInformation has not as many rows as #Pdb gives for MethodDef
-The tool that wrote the file made a mistake. To see whether a file belongs to a module, compare
+    "",
+    "",
+    "",
+    "",
+    "",
+    "",
+    "",
+    "",
+    "",
+    "",
+    "The tool that wrote the file made a mistake. To see whether a file belongs to a module, compare
 `ppdb id` with the debug directory of the module.
 ",
-    "F19: the file refers to a string (#Strings) that does not exist
+    "",
+    "",
+    "",
+    "A reference is above the row count of its table, or 0 where 0 is not allowed.
 ",
-    "F20: the file refers to a blob (#Blob) that does not exist
+    "",
+    "",
+    "",
+    "The order is by method, then by start, and of two with one start the longer comes first.
 ",
-    "F21: the file refers to a GUID (#GUID) that does not exist, or a custom record has no kind
-",
-    "F22: a row does not exist
-A reference is above the row count of its table, or 0 where 0 is not allowed.
-",
-    "F23: the parent of a custom record is in no table
-",
-    "F24: a document has no name
-",
-    "F25: two documents have the same name
-",
-    "F26: the scopes are not in order
-The order is by method, then by start, and of two with one start the longer comes first.
-",
-    "F27: a scope is empty, or ends at 2147483648 or later
-",
-    "F28: two scopes of a method cross: their ranges meet, and neither contains the other
-",
-    "F29: the lists of variables or constants of the scopes are not in order
-Or items belong to no scope. The F# compiler writes such files, and `ppdb-tools repair` repairs
+    "",
+    "",
+    "Or items belong to no scope. The F# compiler writes such files, and `ppdb-tools repair` repairs
 them.
 ",
-    "F30: two variables of a scope have the same slot
+    "",
+    "",
+    "",
+    "",
+    "",
+    "",
+    "A record of async stepping or hoisted scopes belongs to a method, one of type documents to a type.
 ",
-    "F31: two variables, or two constants, of a scope have the same name
-",
-    "F32: the chain of parents of an import scope never ends
-",
-    "F33: the state machines are not in strictly ascending order of MoveNext
-",
-    "F34: two state machines have the same kickoff method
-",
-    "F35: the custom records are not in order of their parents
-",
-    "F36: a custom record is on a row of a table where its kind has no meaning
-A record of async stepping or hoisted scopes belongs to a method, one of type documents to a type.
-",
-    "F37: a blob ends inside a field
-",
-    "F38: a compressed number begins with e0 or a greater byte
-",
-    "F39: a field of a blob has a value that is not allowed, or bytes follow the last field
-The table in the place says what the blob is: 30 the name of a document, 31 points, 34 a constant,
+    "",
+    "",
+    "The table in the place says what the blob is: 30 the name of a document, 31 points, 34 a constant,
 35 imports, 37 a custom record. The F# compiler (31) and Mono.Cecil (34, a null constant of the type
 object) write such files, and `ppdb-tools repair` repairs them.
 ",
-    "F40: the strings and blobs that the file refers to have more than 268435456 bytes in total
-The file was made to be large, or refers to one blob very often.
+    "The file was made to be large, or refers to one blob very often.
 ",
 ];
 
@@ -198,15 +159,32 @@ Counted once for each reference, they would have more than 268435456 bytes.
 ];
 
 /// What the program says of a code.
-pub fn code_text(code: &str) -> Option<&'static str> {
+#[derive(Clone, Copy)]
+pub struct CodeText {
+    /// The sentence that says what is wrong, with the code.
+    pub sentence: &'static str,
+    /// What else it says, in whole lines.
+    pub advice: &'static str,
+}
+
+/// What the program says of a code.
+pub fn code_text(code: &str) -> Option<CodeText> {
     let (letter, number) = code.split_at_checked(1)?;
     let texts = match letter {
-        "F" => FAULTS.as_slice(),
+        "F" => return rule_text(place(number)?),
         "M" => MISFITS.as_slice(),
         "L" => LIMITS.as_slice(),
         _ => return None,
     };
-    texts.get(place(number)?).copied()
+    let (sentence, advice) = texts.get(place(number)?)?.split_once('\n')?;
+    Some(CodeText { sentence, advice })
+}
+
+/// What the program says of a rule, by its place from 0.
+fn rule_text(place: usize) -> Option<CodeText> {
+    let sentence = *RULES.as_slice().get(place)?;
+    let advice = *ADVICE.as_slice().get(place)?;
+    Some(CodeText { sentence, advice })
 }
 
 /// The place of a number from 1 on, without zeros before it or a sign.
@@ -215,10 +193,4 @@ fn place(number: &str) -> Option<usize> {
         return None;
     }
     number.parse::<usize>().ok()?.checked_sub(1)
-}
-
-/// The sentence that says what is wrong, with its code.
-pub fn sentence(code: &str) -> Option<&'static str> {
-    let (line, _) = code_text(code)?.split_once('\n')?;
-    Some(line)
 }
