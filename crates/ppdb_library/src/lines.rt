@@ -8,6 +8,7 @@ ghost use Rattle.ppdb_queries.specs.Known.{IsKnown};
 ghost use Rattle.ppdb_library.specs.Lines.{line_of, point_line};
 
 use crate::status::{DONE, MEMORY, REFUSED, TOO_LONG, USAGE};
+use crate::there::there;
 use ppdb_base::{CounterPermit, MAX_FILE_BYTES, Steps};
 use ppdb_queries::{KnownPoints, NoMethod, point_by};
 use ppdb_verify::{Verified, verify};
@@ -74,6 +75,7 @@ pub extern "C" fn ppdb_lines(
     ensures too_long { (result ≡ TOO_LONG) ↔ (length frames.now ≤ length lines.old) × (MAX_FILE_BYTES < length file.now) }
     ensures kept { result ≢ DONE → lines.new ≡ lines.old }
 {
+    let (file, frames) = (there(file), there(frames));
     verified_lines::<Brand>(alloc, permit, file, frames, lines, Blank::new(1))
 }
 
