@@ -6,6 +6,7 @@ from typing import NamedTuple
 USE = re.compile(r"^[ \t]*(pub )?(?:ghost )?use ([\w.]+?)(?:\.\{|(?: as (\w+))?;?$)", re.M)
 TREE = re.compile(r"([\w.]+)\.\{(.*)\}", re.S)
 NAMED = re.compile(r"([\w.]+)\.([^.]+)")
+WORD = r"[\w'⁺⁻₀-₉-]"
 
 
 class Import(NamedTuple):
@@ -68,3 +69,18 @@ def without_imports(text: str) -> str:
             kept.append(text[at:use.start()])
             at = closing(text, use.end())
     return "".join(kept) + text[at:]
+
+
+def is_used(name: str, rest: str) -> bool:
+    """Whether a name stands in a text; of an operator all its parts."""
+    if "◌" not in name:
+        return re.search(rf"(?<!{WORD}){re.escape(name)}(?!{WORD})", rest) is not None
+    return all(part in rest for part in name.split("◌") if part)
+
+
+def unused(text: str) -> list[str]:
+    """The names that a file imports, from whatever module, and does not use."""
+    rest = re.sub(r"^\s*--.*$|^\s*//.*$", "", without_imports(text), flags=re.M)
+    # the steps of a `do` are joined by an operator that they do not name
+    rest += " >>=" if re.search(r"\bdo$", rest, re.M) else ""
+    return [it.here for it in imports(text) if it.name and not it.is_passed_on and not is_used(it.here, rest)]

@@ -1,4 +1,5 @@
-"""The lemmas of a proof file, by its layout: an item begins in the first column, and what is indented or closes a bracket goes on with it."""
+"""The lemmas of a proof file, by its layout: an item begins in the first column, and what is indented or closes a bracket goes on with it.
+The items of a `module _ .. where` begin in the column of its first one."""
 import re
 from dataclasses import dataclass
 from enum import Enum, auto
@@ -42,20 +43,22 @@ class Lines(NamedTuple):
 
 
 class Item(NamedTuple):
-    """An item: its lines, its first word after `pub` and the like, and these."""
+    """An item: its lines, its first word after `pub` and the like, these, and the column where it begins."""
 
     kind: Kind
     lines: Lines
     name: str
     visibility: str
+    indent: int
 
 
 @dataclass
 class Lemma:
-    """A statement with the clauses that prove it."""
+    """A statement with the clauses that prove it, all from a column on."""
 
     name: str
     visibility: str
+    indent: int
     signature: Lines
     unfolding: Lines | None
     clauses: list[Lines]
@@ -80,25 +83,58 @@ def kind_of(text: str, word: str) -> Kind:
     return Kind.SIGNATURE if SIGNATURE.match(text) else Kind.CLAUSE
 
 
-def items(lines: list[str]) -> list[Item]:
+def indent_of(line: str) -> int:
+    return len(line) - len(line.lstrip(" "))
+
+
+def item_end(lines: list[str], at: int, indent: int) -> int:
+    """The end of the item that begins here, behind its last line: what follows is indented more, or closes a bracket."""
+    end = at + 1
+    for next_at in range(at + 1, len(lines)):
+        line = lines[next_at]
+        if not line.strip():
+            continue
+        if indent_of(line) <= indent and line[indent:indent + 1] not in (")", "}", "]"):
+            break
+        end = next_at + 1
+    return end
+
+
+def inside_of(lines: list[str], head: Lines, indent: int) -> Lines:
+    """The lines of a module below its head, which ends in `where`."""
+    first = next((it + 1 for it in range(head.first, head.end) if lines[it].endswith(" where")), head.end)
+    end = last = first
+    while end < len(lines) and (not lines[end].strip() or indent_of(lines[end]) > indent):
+        end += 1
+        last = end if lines[end - 1].strip() else last
+    return Lines(first, last)
+
+
+def items(lines: list[str], inside: Lines | None = None, indent: int = 0) -> list[Item]:
+    """The items of a file, those inside of its modules too."""
     found: list[Item] = []
-    at = 0
-    while at < len(lines):
-        line = lines[at]
+    at, last = inside or Lines(0, len(lines))
+    while at < last:
+        line = lines[at][indent:]
         if not line.strip() or line.startswith("--"):
             kind = Kind.COMMENT if line.strip() else Kind.BLANK
-            found.append(Item(kind, Lines(at, at + 1), "", ""))
+            found.append(Item(kind, Lines(at, at + 1), "", "", indent))
             at += 1
             continue
-        end = at + 1
-        while end < len(lines) and lines[end][:1] in (" ", ")", "}", "]"):
-            end += 1
+        all_of = Lines(at, item_end(lines, at, indent))
         shown = VISIBILITY.match(line)
         visibility = shown[0] if shown else ""
         text = line[len(visibility):]
         word = (text.split() or [""])[0]
-        found.append(Item(kind_of(text, word), Lines(at, end), word, visibility))
-        at = end
+        if word == "module":
+            inner = inside_of(lines, all_of, indent)
+            found.append(Item(Kind.HEAD, Lines(at, inner.first), word, visibility, indent))
+            column = next((indent_of(it) for it in inner.of(lines) if it.strip()), indent)
+            found += items(lines, inner, column)
+            at = max(inner.end, all_of.first + 1)
+            continue
+        found.append(Item(kind_of(text, word), all_of, word, visibility, indent))
+        at = all_of.end
     return found
 
 
@@ -117,9 +153,11 @@ def lemmas(lines: list[str]) -> list[Lemma]:
         at += 1
         if head.kind is not Kind.SIGNATURE:
             continue
-        lemma = Lemma(head.name, head.visibility, head.lines, None, [], head.lines.end)
+        lemma = Lemma(head.name, head.visibility, head.indent, head.lines, None, [], head.lines.end)
         while at < len(found):
             it = found[at]
+            if it.indent != lemma.indent:
+                break
             if it.kind is Kind.UNFOLDING:
                 lemma.unfolding = it.lines
             elif it.kind is Kind.CLAUSE and it.name == lemma.name:

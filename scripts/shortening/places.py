@@ -11,7 +11,7 @@ MOST_NAMES = 14
 
 
 class Round(Enum):
-    """What is tried: whole lemmas and clauses first, then the parts of what is left."""
+    """What is tried: whole lemmas first, then the clauses of what is left and their parts."""
 
     WHOLE = auto()
     PARTS = auto()
@@ -33,14 +33,14 @@ def tactics(names: list[str], is_fast: bool) -> list[str]:
     found.append("search rules")
     if names:
         found.append(f"search (rules{given})")
-    return found + [f"grind (arith, common_steps{given})"]
+    return found if is_fast else found + [f"grind (arith, common_steps{given})"]
 
 
 def with_tactic(lines: list[str], place: Place, tactic: str) -> list[str]:
     """The clauses of the lemma with the tactic at the place, each a text."""
     lemma = place.lemma
     if place.clause is None:
-        return [" ".join([lemma.name, *clause_variables(lines, lemma), "=", tactic])]
+        return [" " * lemma.indent + " ".join([lemma.name, *clause_variables(lines, lemma), "=", tactic])]
     found = [it.text(lines) for it in lemma.clauses]
     text = found[place.clause]
     if place.part is None:
@@ -90,6 +90,8 @@ class Finder:
         if found and (lemma.body_lines() > 1 or is_answer):
             gone = lemma.end - lemma.signature.first + 1 if is_answer and lemma.is_public() else lemma.body_lines() - 1
             yield Place(lemma, None, None, found, gone)
+
+    def clauses(self, lemma: Lemma) -> Iterator[Place]:
         for at, clause, text, start in self.right_sides(lemma):
             if len(lemma.clauses) > 1 or any(it in text[:start] for it in "(,∷") or lemma.name in text[start:].split():
                 by_calls = self.tactics_for(text[start:], lemma, True)
@@ -97,6 +99,7 @@ class Finder:
                     yield Place(lemma, at, None, by_calls, clause.count() - 1)
 
     def parts(self, lemma: Lemma) -> Iterator[Place]:
+        yield from self.clauses(lemma)
         for at, clause in enumerate(lemma.clauses):
             text = clause.text(self.lines)
             start = right_side(text)

@@ -2,12 +2,16 @@
 lets goals open answers, and only the copies are checked."""
 import re
 import subprocess
+from collections.abc import Iterable, Iterator
+from contextlib import contextmanager
 from pathlib import Path
 from typing import NamedTuple
 
 from .lemmas import Kind, items, read_lines, write_lines
 from .places import Place, with_tactic
 
+# A call that takes more steps is refused as a probe, so that what is written is found soon; a search that ends below is the same without the bound.
+STEPS = 150_000
 NEEDED = (("arith", "Rattle.std.proofs.Common"), ("rules", "Rattle.std.proofs.Common"), ("common_steps", "Rattle.std.proofs.lemmas.Grind"))
 PROBED = re.compile(r"`(\S+-probe(\d+)x(\d+))`")
 MESSAGE = re.compile(r"\S+:\d+:\d+: (.*)$")
@@ -39,6 +43,31 @@ def first_item(lines: list[str]) -> int:
     return next((it.lines.first for it in items(lines) if it.kind not in (Kind.BLANK, Kind.COMMENT, Kind.MODULE)), 0)
 
 
+class Reach(NamedTuple):
+    """How a check comes to the lemmas of a crate: by all of its functions, or by the answers of one, which import them as long as it runs."""
+
+    crate: Path
+    function: str | None = None
+
+    @contextmanager
+    def flags(self, paths: Iterable[Path]) -> Iterator[list[str]]:
+        """The flags of a check that reads these files of lemmas."""
+        if self.function is None:
+            yield []
+            return
+        answers = self.crate / "proofs" / self.function / "Answers.antt"
+        before = answers.read_text(encoding="utf-8")
+        lines = before.split("\n")
+        at = first_item(lines)
+        modules = [".".join(it.relative_to(self.crate / "proofs").with_suffix("").parts) for it in paths if it.name != "Answers.antt"]
+        lines[at:at] = [f"use Rattle.{self.crate.name}.proofs.{it} as read{number}" for number, it in enumerate(modules)]
+        write_lines(answers, lines)
+        try:
+            yield ["--only", self.function.replace("/", "::")]
+        finally:
+            answers.write_text(before, encoding="utf-8")
+
+
 def declaring_file(crate: Path, path: Path) -> Path | None:
     """The file whose `mod` line declares the module of a file."""
     line = re.compile(r"^(?:pub )?mod " + re.escape(path.stem) + "$", re.MULTILINE)
@@ -49,14 +78,20 @@ def declaring_file(crate: Path, path: Path) -> Path | None:
     return None
 
 
+def bounded(tactic: str) -> str:
+    """The tactic with few steps."""
+    return f"{tactic} steps {STEPS}" if tactic.startswith("search ") else tactic
+
+
 def probes_of(lines: list[str], number: int, place: Place) -> list[str]:
     """Copies of the lemma, one a tactic."""
     lemma = place.lemma
-    signature = lemma.signature.text(lines).removeprefix("pub ")
+    start = " " * lemma.indent
+    signature = start + lemma.signature.text(lines)[lemma.indent + len(lemma.visibility):]
     found: list[str] = []
     for at, tactic in enumerate(place.tactics):
         name = f"{lemma.name}-probe{number}x{at}"
-        clauses = [name + it[len(lemma.name):] for it in with_tactic(lines, place, "{! " + tactic + " !}")]
+        clauses = [start + name + it[lemma.indent + len(lemma.name):] for it in with_tactic(lines, place, "{! " + bounded(tactic) + " !}")]
         found += ["", signature.replace(lemma.name, name, 1), *(lemma.unfolding.of(lines) if lemma.unfolding else []), *clauses]
     return found
 
@@ -114,32 +149,33 @@ class Probing:
     def keep(self, path: Path) -> None:
         self.kept.setdefault(path, path.read_text(encoding="utf-8"))
 
-    def add(self, path: Path, numbered: list[tuple[int, Place]]) -> None:
-        """Puts the probes beside a file of lemmas, or into one of answers."""
+    def add(self, path: Path, numbered: list[tuple[int, Place]]) -> Path | None:
+        """Puts the probes beside a file of lemmas, or into one of answers, and answers where they stand."""
         probed = with_probes(read_lines(path), numbered)
         if path.name == "Answers.antt":
             self.keep(path)
             write_lines(path, probed)
-            return
+            return path
         declaring = declaring_file(self.crate, path)
         if declaring is None:
-            return
+            return None
         self.keep(declaring)
         copy = path.with_name(path.stem + "Probe.antt")
         self.made.append(copy)
         write_lines(copy, probed)
         with declaring.open("a", encoding="utf-8") as file:
             file.write(f"mod {copy.stem}\n")
+        return copy
 
 
-def probe(crate: Path, work: dict[Path, list[Place]]) -> list[Found]:
+def probe(reach: Reach, work: dict[Path, list[Place]]) -> list[Found]:
     """Which places of these files a tactic closes. Raises RuntimeError where the check does not come to the probes."""
     numbered = [(path, place) for path, places in work.items() for place in places]
-    with Probing(crate) as probing:
-        for path in work:
-            probing.add(path, [(number, place) for number, (of, place) in enumerate(numbered) if of == path])
-        _, said = check(crate, "--allow-holes")
+    with Probing(reach.crate) as probing:
+        added = [probing.add(path, [(number, place) for number, (of, place) in enumerate(numbered) if of == path]) for path in work]
+        with reach.flags(it for it in added if it) as flags:
+            _, said = check(reach.crate, "--allow-holes", *flags)
     first = fitting(said)
     if numbered and "-probe" not in said:
-        raise RuntimeError(f"the check of {crate.name} came to no probe:\n{said[-2000:]}")
+        raise RuntimeError(f"the check of {reach.crate.name} came to no probe:\n{said[-2000:]}")
     return [Found(*numbered[number], numbered[number][1].tactics[tactic]) for number, tactic in first.items()]

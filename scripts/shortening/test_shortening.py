@@ -4,8 +4,8 @@ import unittest
 from pathlib import Path
 
 from .lemmas import has_mutual, lemmas
-from .places import Finder, Round, with_tactic
-from .probing import Found, fitting, missing_imports, with_probes
+from .places import Finder, Place, Round, with_tactic
+from .probing import Found, Reach, fitting, missing_imports, probes_of, with_probes
 from .sweeping import sweep
 from .terms import Part, cited, clause_variables, inner_parts, known_lemmas, premise_names, recursive_calls, right_side
 from .writing import chosen, write
@@ -52,6 +52,19 @@ class Reading(unittest.TestCase):
         lines = ["f : ℕ → ℕ", "f zero = zero", "-- then", "f (suc n) = n", "", "-- of g", "g : ℕ", "g = zero"]
         self.assertEqual([(it.name, len(it.clauses), it.end) for it in lemmas(lines)], [("f", 2, 4), ("g", 1, 8)])
 
+    def test_lemmas_of_a_module(self) -> None:
+        lines = [
+            "module _ (n : ℕ)", "    (m : ℕ) where", "  pub f : ℕ → ℕ", "  f zero =", "    n", "  f (suc k) = k", "", "  module _ (l : ℕ) where",
+            "    g : ℕ", "    g = l", "", "  -- of h", "  h : ℕ", "  h = n", "", "last : ℕ", "last = zero", "  where", "    a : ℕ", "", "    b : ℕ", "",
+        ]
+        found = lemmas(lines)
+        self.assertEqual([(it.name, it.indent, it.signature.first, it.end) for it in found], [("f", 2, 2, 6), ("g", 4, 8, 10), ("h", 2, 12, 14), ("last", 0, 15, 21)])
+        place = Place(found[0], None, None, ["T"], 2)
+        self.assertEqual(with_tactic(lines, place, "T"), ["  f hyp1 = T"])
+        self.assertEqual(probes_of(lines, 3, place), ["", "  f-probe3x0 : ℕ → ℕ", "  f-probe3x0 hyp1 = {! T !}"])
+        clause = Place(found[0], 0, None, ["T"], 1)
+        self.assertEqual(probes_of(lines, 4, clause)[2:], ["  f-probe4x0 zero = {! T !}", "  f-probe4x0 (suc k) = k"])
+
     def test_mutual(self) -> None:
         self.assertTrue(has_mutual(["mutual", "  f : ℕ"]))
         self.assertFalse(has_mutual(PROOFS))
@@ -80,7 +93,9 @@ class Reading(unittest.TestCase):
 class Probing(unittest.TestCase):
     def test_each_place_is_tried(self) -> None:
         places = Finder(PROOFS, False).places(Round.WHOLE, None, False)
-        self.assertEqual([(it.clause, it.saved) for it in places], [(None, 6), (0, 1), (1, 4)])
+        self.assertEqual([(it.clause, it.saved) for it in places], [(None, 6)])
+        inner = Finder(PROOFS, False).places(Round.PARTS, None, False)
+        self.assertEqual([(it.clause, it.saved) for it in inner if it.part is None], [(0, 1), (1, 4)])
         self.assertEqual(places[0].tactics, ["omega arith", "search rules", "search (rules, length-map)", "grind (arith, common_steps, length-map)"])
         self.assertEqual(with_tactic(PROOFS, places[0], "T"), ["sums n m h = T"])
 
@@ -88,7 +103,7 @@ class Probing(unittest.TestCase):
         place = Finder(PROOFS, False).places(Round.WHOLE, None, False)[0]
         probed = with_probes(PROOFS, [(7, place)])
         self.assertIn("sums-probe7x1 : (n m : ℕ) → {k : ℕ} → n ≡ m → twice n ≡ twice m", probed)
-        self.assertIn("sums-probe7x1 n m h = {! search rules !}", probed)
+        self.assertIn("sums-probe7x1 n m h = {! search rules steps 150000 !}", probed)
         self.assertEqual(len(missing_imports(PROOFS)), 3)
 
     def test_the_first_that_fits(self) -> None:
@@ -102,10 +117,22 @@ class Probing(unittest.TestCase):
         self.assertEqual(fitting(said), {7: 1})
 
 
+    def test_a_check_through_one_function(self) -> None:
+        crate = file_of("").parent / "one"
+        answers = crate / "proofs/laws/sums/Answers.antt"
+        answers.parent.mkdir(parents=True)
+        answers.write_text("use Rattle.low.proofs.Low.{low}\n", encoding="utf-8")
+        with Reach(crate, "laws/sums").flags([crate / "proofs/inner/Sums.antt"]) as flags:
+            self.assertEqual(flags, ["--only", "laws::sums"])
+            self.assertEqual(answers.read_text(encoding="utf-8"), "use Rattle.one.proofs.inner.Sums as read0\nuse Rattle.low.proofs.Low.{low}\n")
+        self.assertEqual(answers.read_text(encoding="utf-8"), "use Rattle.low.proofs.Low.{low}\n")
+
+
 class Writing(unittest.TestCase):
     def test_what_overlaps_is_written_once(self) -> None:
         path = file_of("\n".join(PROOFS))
-        whole, first, _ = Finder(PROOFS, True).places(Round.WHOLE, None, False)
+        [whole] = Finder(PROOFS, True).places(Round.WHOLE, None, False)
+        first = Finder(PROOFS, True).places(Round.PARTS, None, False)[0]
         found = [Found(path, first, "search rules"), Found(path, whole, "search rules")]
         self.assertEqual([it.place for it in chosen(PROOFS, found)], [whole])
         write(found)
@@ -116,7 +143,7 @@ class Writing(unittest.TestCase):
 
     def test_two_clauses(self) -> None:
         path = file_of("\n".join(PROOFS))
-        _, first, second = Finder(PROOFS, True).places(Round.WHOLE, None, False)
+        first, second = Finder(PROOFS, True).places(Round.PARTS, None, False)[:2]
         write([Found(path, first, "A"), Found(path, second, "B")])
         lines = path.read_text(encoding="utf-8").split("\n")
         at = lines.index("sums zero m h = A")
@@ -129,8 +156,19 @@ class Writing(unittest.TestCase):
         gone = "-- of its own\nalone : ℕ\nalone = low\n\nlow : ℕ\nlow = zero\n\n"
         (crate / "proofs/Sums.antt").write_text(gone + kept, encoding="utf-8")
         (crate / "proofs/Lib.antt").write_text("mod Sums\nuse Sums.{used}\n", encoding="utf-8")
-        self.assertEqual(sweep(crate), 2)
+        self.assertEqual(sweep(crate, []), 2)
         self.assertEqual((crate / "proofs/Sums.antt").read_text(encoding="utf-8"), kept)
+
+    def test_what_another_checkout_names_stays(self) -> None:
+        both = [file_of("").parent / "crates/one/proofs" for _ in range(2)]
+        lemma, user = "pub alone : ℕ\nalone = zero\n", "use Rattle.one.proofs.Sums.{alone}\n"
+        for proofs, others in zip(both, ("", user)):
+            proofs.mkdir(parents=True)
+            (proofs / "Sums.antt").write_text(lemma, encoding="utf-8")
+            (proofs / "Other.antt").write_text(others, encoding="utf-8")
+        here, there = both[0].parent, both[1].parents[2]
+        self.assertEqual(sweep(here, [there]), 0)
+        self.assertEqual(sweep(here, []), 1)
 
 
 if __name__ == "__main__":

@@ -4,7 +4,7 @@ from pathlib import Path
 
 from .lemmas import Lines, lemmas, read_lines, write_lines
 from .places import Place, region, with_tactic
-from .probing import Found, check, first_item, missing_imports
+from .probing import Found, Reach, check, first_item, missing_imports
 
 # An answer that one of these closes is not needed: the check finds it by itself.
 FOUND_ALONE = ("search rules", "grind (arith, common_steps)", "omega arith")
@@ -79,15 +79,16 @@ def put_back(path: Path, names: set[str], before: str) -> None:
     write_lines(path, lines)
 
 
-def settle(crate: Path, before: dict[Path, str], written: list[Found]) -> int:
+def settle(reach: Reach, before: dict[Path, str], written: list[Found]) -> int:
     """Checks the crate, and puts back what is refused until it passes; answers how many times."""
     for turn in range(6):
-        status, said = check(crate)
+        with reach.flags(before) as flags:
+            status, said = check(reach.crate, *flags)
         if status == 0:
             return turn
         refused: dict[Path, set[str]] = {}
         for name, lemma in REFUSED.findall(said):
-            refused.setdefault(crate / name, set()).add(lemma)
+            refused.setdefault(reach.crate / name, set()).add(lemma)
         hit = {path: names for path, names in refused.items() if path in before}
         for path, names in hit.items():
             put_back(path, names & {it.place.lemma.name for it in written if it.path == path}, before[path])
@@ -95,4 +96,4 @@ def settle(crate: Path, before: dict[Path, str], written: list[Found]) -> int:
             break
     for path, text in before.items():
         path.write_text(text, encoding="utf-8")
-    raise RuntimeError(f"{crate.name} is refused for another reason; its files are as they were")
+    raise RuntimeError(f"{reach.crate.name} is refused for another reason; its files are as they were")
