@@ -89,7 +89,7 @@ targets:
 	scripts/making/targets
 
 clean:
-	rm -rf build crates/ppdb_cli/out/ppdb_cli crates/tests_blobs_program/out/tests_blobs_program
+	rm -rf build crates/ppdb_cli/out/ppdb_cli crates/tests_blobs_program/out/tests_blobs_program crates/tests_cases/out/tests_cases
 	rm -f crates/ppdb_library/out/libppdb_library.a
 
 help:

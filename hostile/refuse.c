@@ -1,5 +1,6 @@
 // Calls of the C library, of which one is refused: the one with the number, from 1, that the variable of its kind has: REFUSE_MEMORY
-// of the allocator, REFUSE_OPEN, REFUSE_READ and REFUSE_WRITE of files. Loaded before a program by LD_PRELOAD; hostile/refuse builds it.
+// of the allocator, REFUSE_OPEN, REFUSE_READ and REFUSE_WRITE of files, REFUSE_RANDOM of random bytes. Loaded before a program by
+// LD_PRELOAD; hostile/refuse builds it.
 #define _GNU_SOURCE
 #include <errno.h>
 #include <fcntl.h>
@@ -14,7 +15,7 @@ extern void *__libc_calloc(size_t, size_t);
 extern void *__libc_realloc(void *, size_t);
 extern void *__libc_memalign(size_t, size_t);
 
-static long memory, opens, reads, writes;
+static long memory, opens, reads, writes, randoms;
 
 static long number_of(const char *name) {
     const char *text = getenv(name);
@@ -26,6 +27,7 @@ __attribute__((constructor)) static void begin(void) {
     opens = number_of("REFUSE_OPEN");
     reads = number_of("REFUSE_READ");
     writes = number_of("REFUSE_WRITE");
+    randoms = number_of("REFUSE_RANDOM");
 }
 
 // Whether this call is the one to refuse, of which so many calls are left.
@@ -68,4 +70,8 @@ ssize_t read(int file, void *into, size_t size) { return refused(&reads, EIO) ? 
 
 ssize_t write(int file, const void *from, size_t size) {
     return refused(&writes, ENOSPC) ? -1 : syscall(SYS_write, file, from, size);
+}
+
+int getentropy(void *into, size_t size) {
+    return refused(&randoms, EIO) || syscall(SYS_getrandom, into, size, 0) != (long)size ? -1 : 0;
 }

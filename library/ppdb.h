@@ -4,8 +4,8 @@
 
    - Lengths and rooms are numbers of bytes, counts are numbers of items. Each may be 0. A room is the capacity, in bytes, of a
      buffer of the caller.
-   - A pointer points to as many bytes or items as the length, room or count after it says, and has the alignment of its type. It is
-     not null, even if that number is 0: then pass any other address, since nothing is read or written there.
+   - A pointer points to as many bytes or items as the length, room or count after it says, and has the alignment of its type. If that
+     number is 0, it may be null or any other address: nothing is read or written there. No other pointer is null.
    - What a call writes to (a pointer without const) shares no byte with any other argument. While the call runs, no other thread
      reads or writes it, and no thread writes what the call only reads.
    - The caller owns all memory. A call keeps no pointer after it returns, has no state, calls nothing back, opens no file, prints
@@ -144,6 +144,16 @@ uint8_t ppdb_run(const uint8_t *words, size_t words_length, const uint8_t *files
 
    Unless the call returns PPDB_DONE, all lines are unchanged. */
 uint8_t ppdb_lines(const uint8_t *file, size_t length, const ppdb_frame *frames, size_t count, ppdb_line *lines, size_t lines_count);
+
+/* Say in words what a status means (0 to 14, as the program ends), and which rule has a code (1 to 40): the sentence that the program
+   prints, as "F3: a field extends past the end of the file". No zero byte ends the text.
+
+   text, text_room, text_needed   get the text and its length
+
+   PPDB_DONE    a text that is longer than its room is not written
+   PPDB_USAGE   there is no such status or rule: nothing is written, and the length is 0 */
+uint8_t ppdb_status_text(uint8_t status, uint8_t *text, size_t text_room, size_t *text_needed);
+uint8_t ppdb_fault_text(uint8_t code, uint8_t *text, size_t text_room, size_t *text_needed);
 
 #ifdef __cplusplus
 }

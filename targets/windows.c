@@ -303,6 +303,14 @@ int ppdb_flock(int descriptor, int how) { (void)descriptor, (void)how; return fa
 
 int ppdb_getpid(void) { return (int)GetCurrentProcessId(); }
 
+/* RtlGenRandom, which Windows has under this name alone. */
+BOOLEAN NTAPI SystemFunction036(void *bytes, ULONG length);
+
+int getentropy(void *bytes, size64 length)
+{
+    return SystemFunction036(bytes, (ULONG)length) ? 0 : failed(IS_IO);
+}
+
 /* Gives the new file the name of OUT, by one call: OUT is the old file before it and the new one after it. ReplaceFileW would do it in
    steps, and may leave neither. Windows replaces no file that is open, so what the program still has open of OUT is closed first: it
    only closes it afterwards. */

@@ -1,6 +1,7 @@
 #!/usr/bin/env node
 // The program ppdb in node, on every system. ppdb-program.wasm is the proved program; it speaks to the functions of this file as it would to
 // Linux, with Linux's numbers of errors, flags and kinds of files.
+import { randomFillSync } from "node:crypto";
 import fs from "node:fs";
 
 const FOR_WRITING = 3, MAY_MAKE = 0o100, MUST_MAKE = 0o200, CUTS = 0o1000, APPENDS = 0o2000, NO_FOLLOW = 0x100, LINK = 0o120777;
@@ -142,6 +143,7 @@ const env = {
   unlink: (path) => tried(() => fs.unlinkSync(nameAt(path))),
   unlinkat: (folder, path) => tried(() => fs.unlinkSync(nameAt(path))),
   getpid: () => process.pid,
+  getentropy: (to, length) => tried(() => void randomFillSync(bytes(to, length))),
   rattle_arg: word,
   rattle_arg_count: () => BigInt(words.length),
   rattle_env: () => -1n,

@@ -32,7 +32,6 @@ class Run:
     status: int = 0
     is_end: bool = False
     begin: list[bytes] | None = None
-    failing_put: bool = False
     cut: tuple[int, int, str] | None = None
     checks: list[Check] = field(default_factory=list)
 
@@ -43,12 +42,9 @@ class Case:
     title: str
     files: dict[str, bytes] = field(default_factory=dict)
     since: tuple[int, ...] = ()
+    is_outside: bool = False
     has_failing_call: bool = False
     runs: list[Run] = field(default_factory=list)
-
-    def is_planned_to_fail(self) -> bool:
-        """Whether a read, a write or a put fails that only folders and sinks in memory can have fail."""
-        return self.has_failing_call or any(run.failing_put for run in self.runs)
 
 
 @dataclass
@@ -73,6 +69,12 @@ def number(text: str) -> int:
     return int(text)
 
 
+def status(text: str) -> int:
+    if not text.isascii() or not text.isdigit() or int(text) > 255:
+        raise Misspelled("no status")
+    return int(text)
+
+
 def number_and_rest(text: str) -> tuple[int, str]:
     first, _, rest = text.partition(" ")
     return number(first), rest
@@ -80,8 +82,11 @@ def number_and_rest(text: str) -> tuple[int, str]:
 
 def hex_bytes(text: str) -> bytes:
     words = text.split()
-    if any(len(word) % 2 or not HEX_DIGITS.issuperset(word.encode()) for word in words):
-        raise Misspelled("no hexadecimal digits")
+    for word in words:
+        if len(word) % 2:
+            raise Misspelled("no two hexadecimal digits")
+        if not HEX_DIGITS.issuperset(word.encode()):
+            raise Misspelled("no hexadecimal digit")
     return bytes.fromhex("".join(words))
 
 
@@ -164,6 +169,7 @@ class Reader:
     def __init__(self, name: str, shared: Mapping[str, bytes]) -> None:
         self.file, self.shared = CaseFile(name), shared
         self.head: tuple[int, str, str] | None = None
+        self.line = 0
         self.told = bytearray()
         self.debug_file: DebugFile | None = None
 
@@ -173,6 +179,8 @@ class Reader:
             return
         word, _, rest = text.partition(" ")
         if self.put_part(word, rest):
+            if not self.head:
+                raise Misspelled("bytes of nothing")
             return
         self.close()
         if word not in SECTIONS:
@@ -217,6 +225,8 @@ class Reader:
         raise Misspelled("no such file")
 
     def put_file(self, name: str, told: bytes) -> None:
+        if self.file.cases and self.file.cases[-1].runs:
+            raise Misspelled("a file after a run")
         (self.file.cases[-1].files if self.file.cases else self.file.files)[name] = told
 
     def close_debug_file(self) -> None:
@@ -227,11 +237,9 @@ class Reader:
     def close(self) -> None:
         told, self.told = bytes(self.told), bytearray()
         if not self.head:
-            if told:
-                raise Misspelled("bytes of nothing")
             return
         line, word, rest = self.head
-        self.head = None
+        self.head, self.line = None, line
         try:
             self.close_head(line, word, rest, told)
         except Misspelled as error:
@@ -244,7 +252,7 @@ class Reader:
             self.debug_file.put(word, rest, told)
         elif word == "run":
             self.last_case().runs.append(Run(line, rest.split(), told))
-        elif word in ("use", "pdb", "case", "since", "outside", "fail"):
+        elif word in ("use", "pdb", "case", "since", "outside", "fail", "puts"):
             if told:
                 raise Misspelled("bytes of a line that has none")
             self.close_silent(word, rest)
@@ -252,16 +260,31 @@ class Reader:
             self.close_of_run(word, rest, told)
 
     def close_silent(self, word: str, rest: str) -> None:
-        """Ends a line that has no bytes. `use` and `outside` say nothing to a program that runs the cases from outside."""
+        """Ends a line that has no bytes. `use` says nothing more: the files are read before the cases."""
         if word == "pdb":
             self.debug_file = DebugFile(rest)
         elif word == "case":
+            self.end_case()
             self.file.cases.append(Case(rest))
-        elif word == "since":
-            self.last_case().since = version_of(rest)
+        elif word != "use":
+            self.close_of_case(word, rest)
+
+    def close_of_case(self, word: str, rest: str) -> None:
+        """Ends a line that says more of the last case. In no program from outside puts can be had fail, which `puts` is for."""
+        case = self.last_case()
+        if case.runs:
+            raise Misspelled("after a run")
+        if word == "since":
+            case.since = version_of(rest)
+        elif word == "outside":
+            case.is_outside = True
         elif word == "fail":
             number(rest)
-            self.last_case().has_failing_call = True
+            case.has_failing_call = True
+
+    def end_case(self) -> None:
+        if self.file.cases and not self.file.cases[-1].runs:
+            raise Misspelled("a case without a run")
 
     def last_case(self) -> Case:
         if not self.file.cases:
@@ -269,33 +292,31 @@ class Reader:
         return self.file.cases[-1]
 
     def last_run(self) -> Run:
-        case = self.last_case()
-        if not case.runs:
+        if not self.file.cases or not self.file.cases[-1].runs:
             raise Misspelled("no run")
-        return case.runs[-1]
+        return self.file.cases[-1].runs[-1]
 
     def close_of_run(self, word: str, rest: str, told: bytes) -> None:
         """Ends a line that says more of the last command."""
         if word in ("holds", "ends", "has", "size", "same", "differ", "absent"):
             self.last_run().checks.append(check(word, rest, told))
             return
-        if word not in ("word", "words", "status", "end", "begin", "put", "puts", "cut"):
+        if word not in ("word", "words", "status", "end", "begin", "cut"):
             raise Misspelled("unknown word")
         run = self.last_run()
+        if run.checks:
+            raise Misspelled("no run")
         if word == "word":
             run.words.append(rest)
         elif word == "words":
             times, text = number_and_rest(rest)
             run.words += [text] * times
         elif word == "status":
-            run.status = number(rest)
+            run.status = status(rest)
         elif word == "end":
             run.is_end = True
         elif word == "begin":
             run.begin = [first.encode() for first in rest.split()]
-        elif word == "put":
-            number(rest)
-            run.failing_put = True
         elif word == "cut":
             start, text = number_and_rest(rest)
             end, name = number_and_rest(text)
@@ -305,13 +326,16 @@ class Reader:
     def finish(self) -> CaseFile:
         self.close()
         self.close_debug_file()
-        for case in self.file.cases:
-            if not case.runs:
-                raise Misspelled(f"a case without a run: {case.title}")
+        try:
+            self.end_case()
+        except Misspelled as error:
+            raise Misspelled(f"line {self.line}: {error}") from None
         return self.file
 
 
 def check(word: str, rest: str, told: bytes) -> Check:
+    if word != "holds" and bool(told) != (word in ("ends", "has")):
+        raise Misspelled("unknown word")
     if word in ("holds", "ends"):
         return Check(word, rest, told)
     if word in ("same", "differ"):

@@ -1,17 +1,12 @@
 -- A UTF-8 character at the start of some bytes: what character_len finds is one, and each one is found.
-use Rattle.std.proofs.Common.{◌≡◌, ℕ, zero, suc, ◌<◌, ◌≤◌, Bool, true, false, List, [], ◌∷◌, ◌++◌, length, take, refl, sym, ap, subst, arith, if◌then◌else◌, Result}
-use Rattle.std.proofs.{Common.{Ok}, lemmas.List.{length-take}}
-use Rattle.ppdb_base.specs.declared.Code.{Code}
-use Rattle.blob_grammar.specs.{Grammar.{Value, octets, is_character}, Reader.{character_len, character_of}}
+use Rattle.std.proofs.Common.{rules, ◌≡◌, ℕ, zero, suc, ◌<◌, ◌≤◌, Bool, true, false, List, [], ◌∷◌, ◌++◌, length, take, refl, arith, if◌then◌else◌, Ok}
+use Rattle.std.proofs.lemmas.List.{length-take}
+use Rattle.blob_grammar.specs.{Grammar.{octets, is_character}, Reader.{character_len, character_of}}
 
 -- the first of four tests that holds
 chosen : (t u v w : Bool) (P : ℕ → Type 0) → P 0 → (t ≡ true → P 1) → (t ≡ false → u ≡ true → P 2) → (u ≡ false → v ≡ true → P 3) → (v ≡ false → w ≡ true → P 4)
     → P (if t then 1 else (if u then 2 else (if v then 3 else (if w then 4 else 0))))
-chosen true u v w P none one two three four = one refl
-chosen false true v w P none one two three four = two refl refl
-chosen false false true w P none one two three four = three refl refl
-chosen false false false true P none one two three four = four refl refl
-chosen false false false false P none one two three four = none
+chosen t u v w P none one two three four = search rules
 
 -- So many bytes at the start are a character; nothing is said of none.
 abbrev pub CharacterAt : List ℕ → ℕ → Type 0
@@ -60,20 +55,11 @@ character-all (a ∷ b ∷ c ∷ d ∷ []) after h =
 character-all (a ∷ b ∷ c ∷ d ∷ e ∷ es) after h = absurd cc
 
 pub character_len-within : (bytes : List ℕ) → character_len bytes ≤ length bytes
-character_len-within bytes = within (character_len bytes) (character-at bytes)
-  where
-    within : (len : ℕ) → CharacterAt bytes len → len ≤ length bytes
-    within zero f = omega arith
-    within (suc len) f = omega (arith, length-take (suc len) bytes, f.1)
+character_len-within bytes = search (rules, character-at, length-take)
 
 -- A character that was found is the field.
 pub character-there : (bytes : List ℕ) (len : ℕ) → len ≡ character_len bytes → 0 < len → character_of bytes (character_len bytes) ≡ Ok (
   octets (take len bytes),
   length (take len bytes),
 )
-character-there bytes len e some = rw (← e) (there bytes len some (subst (λ n. CharacterAt bytes n) (sym e) (character-at bytes)))
-  where
-    there : (bytes : List ℕ) (len : ℕ) → 0 < len → CharacterAt bytes len → character_of bytes len ≡ Ok (octets (take len bytes), length (take len bytes))
-    there bytes zero some f = absurd (omega arith)
-    there [] (suc len) some f = absurd (omega (arith, f.1))
-    there (b ∷ bs) (suc len) some f = ap (λ (n : ℕ). let r : Result (Value × ℕ) Code = Ok (octets (take (suc len) (b ∷ bs)), n) in r) (sym f.1)
+character-there bytes len e some = search (rules, character-at)

@@ -1,7 +1,7 @@
 -- Where BlobEnd is reported, the bytes end inside a field or before it.
-use Rattle.std.proofs.Common.{◌≡◌, ◌≢◌, ℕ, zero, suc, ◌+◌, ◌-◌, ◌*◌, ◌^◌, ◌<◌, ◌≤◌, List, [], ◌∷◌, ◌++◌, length, take, drop, replicate, append-nil, Some, None, refl}
-use Rattle.std.{proofs.Common.{sym, arith, ◌⊎◌, inl, inr, length-append}, specs.Prelude.{All}, specs.Int.{w32, from_le_bytes}, proofs.lemmas.List.{length-replicate}}
-use Rattle.std.proofs.lemmas.{List.{length-take-le, take-append-drop}, Bool.{cases_lt}}
+use Rattle.std.proofs.Common.{rules, ◌≡◌, ◌≢◌, ℕ, zero, suc, ◌+◌, ◌-◌, ◌*◌, ◌^◌, ◌<◌, ◌≤◌, List, [], ◌∷◌, ◌++◌, length, take, drop, replicate, append-nil, Some}
+use Rattle.std.{proofs.Common.{None, refl, sym, arith, ◌⊎◌, inl, inr, length-append}, specs.Prelude.{All}, specs.Int.{w32, from_le_bytes}}
+use Rattle.std.proofs.lemmas.{List.{length-replicate, length-take-le, take-append-drop}, Bool.{cases_lt}}
 use Rattle.cli_ints.specs.Compressed.{SpellsUnsigned, bits_of, unrotated}
 use Rattle.ppdb_base.specs.declared.Code.TheVariants.{BlobEnd}
 use Rattle.blob_grammar.specs.{Grammar.{number, integer, octets, Form, unsigned, signed, byte, word, fixed, rest, character}, Reading.{IsFieldThere, IsFaultOf}}
@@ -94,8 +94,7 @@ abbrev zeros : ℕ → List ℕ
 zeros n = replicate n 0
 
 no_more : (n : ℕ) → 0 < n → zeros n ≢ []
-no_more zero h e = omega arith
-no_more (suc n) h e = cc
+no_more n h = search rules
 
 word-inside : (bytes more : List ℕ) → more ≢ [] → length (bytes ++ more) ≡ 4 → EndsInside word bytes
 word-inside bytes more some_more len = record { more = more; some_more = some_more; value = number (from_le_bytes w32 (bytes ++ more)); spelled = (len, refl) }

@@ -1,7 +1,7 @@
 -- A field at the start of some bytes: what field_at finds is one, and each one is found.
-use Rattle.std.proofs.Common.{◌≡◌, ◌≢◌, ℕ, zero, suc, ◌+◌, ◌-◌, ◌*◌, ◌^◌, ◌<◌, ◌≤◌, Bool, true, false, ◌&&◌, ltb, if◌then◌else◌, List, [], ◌∷◌, ◌++◌, length, take}
-use Rattle.std.proofs.{Common.{drop, Some, Result, Ok, Err, refl, sym, ap, subst, ◌∙◌, append-nil, arith, inl, inr, ℤ, length-append}, lemmas.List.{length-take}}
-use Rattle.std.{proofs.lemmas.List.{take-append-drop}, proofs.Math.Seq.{drop-length, take-append_seam}, specs.Int.{w32, from_le_bytes}}
+use Rattle.std.proofs.Common.{rules, ◌≡◌, ◌≢◌, ℕ, zero, suc, ◌+◌, ◌-◌, ◌*◌, ◌^◌, ◌<◌, ◌≤◌, Bool, true, false, ◌&&◌, ltb, if◌then◌else◌, List, [], ◌∷◌, ◌++◌, length}
+use Rattle.std.proofs.Common.{take, drop, Some, Result, Ok, Err, refl, sym, ap, subst, ◌∙◌, append-nil, arith, inl, inr, ℤ, length-append}
+use Rattle.std.{proofs.lemmas.List.{length-take, take-append-drop}, proofs.Math.Seq.{drop-length, take-append_seam}, specs.Int.{w32, from_le_bytes}}
 use Rattle.std.{specs.Result.{result_map_both}, proofs.lemmas.Bool.{cases_lt, ltb-true, and_parts}}
 use Rattle.cli_ints.specs.{declared.IntFault.{IntFault}, declared.IntFault.TheVariants.{End, Form as NoForm}, Compressed.{SpellsUnsigned, SpellsSigned, bits_of}}
 use Rattle.cli_ints.specs.Compressed.{unrotated}
@@ -28,13 +28,7 @@ ge-false a b h = grind arith
 -- each number is found
 pub unsigned-all : (text : List ℕ) (v : ℕ) (after : List ℕ) → SpellsUnsigned text v → unsigned_at (text ++ after) ≡ Ok (v, length text)
 unfolding unsigned_at two_at four_at
-unsigned-all [] v after h = absurd h
-unsigned-all (b ∷ []) v after h = rw (lt-true b 0x80 h.0, sym h.1) refl
-unsigned-all (b ∷ c ∷ []) v after h = rw (ge-false b 0x80 h.0, lt-true b 0xC0 h.1, lt-true c 256 h.2, sym h.3) refl
-unsigned-all (b ∷ c ∷ d ∷ []) v after h = absurd h
-unsigned-all (b ∷ c ∷ d ∷ e ∷ []) v after h =
-    rw (ge-false b 0x80 (omega arith), ge-false b 0xC0 h.0, lt-true b 0xE0 h.1, lt-true c 256 h.2, lt-true d 256 h.3, lt-true e 256 h.4, sym h.5) refl
-unsigned-all (b ∷ c ∷ d ∷ e ∷ f ∷ fs) v after h = absurd h
+unsigned-all text v after h = search rules
 
 -- the first byte begins no number
 abbrev pub BeginsNone : List ℕ → Type 0
@@ -108,16 +102,7 @@ abbrev pub signed_of : Result (ℕ × ℕ) IntFault → Result (ℤ × ℕ) IntF
 signed_of = result_map_both (λ x. (unrotated (2 ^ (bits_of x.1 - 1)) x.0, x.1)) (λ fault. fault)
 
 signed-from : (bytes : List ℕ) (r : Result (ℕ × ℕ) IntFault) → IntFound SpellsUnsigned bytes r → IntFound SpellsSigned bytes (signed_of r)
-signed-from bytes (Ok x) f = record {
-  text = f.text;
-  parts = f.parts;
-  spelled = (x.0, f.spelled, ap (λ n. unrotated (2 ^ (bits_of n - 1)) x.0) (sym f.len_is));
-  len_is = f.len_is;
-  positive = f.positive;
-  within = f.within;
-}
-signed-from bytes (Err End) f = f
-signed-from bytes (Err NoForm) f = f
+signed-from bytes r f = search rules
 
 pub signed-is : (bytes : List ℕ) → IntFound SpellsSigned bytes (signed_at bytes)
 unfolding signed_at
@@ -154,40 +139,20 @@ word-all (a ∷ b ∷ c ∷ d ∷ []) v after h = rw (h.1) refl
 word-all (a ∷ b ∷ c ∷ d ∷ e ∷ es) v after h = absurd (omega arith)
 
 number-from : (bytes : List ℕ) (r : Result (ℕ × ℕ) IntFault) → IntFound SpellsUnsigned bytes r → FieldFound unsigned bytes (as_value number r)
-number-from bytes (Ok x) f = record { text = f.text; parts = f.parts; spelled = f.spelled; len_is = f.len_is; positive = f.positive; within = f.within }
-number-from [] (Err End) f = (λ n. n, λ e. absurd cc)
-number-from (b ∷ bs) (Err End) f = (f, λ e. absurd cc)
-number-from [] (Err NoForm) f = f
-number-from (b ∷ bs) (Err NoForm) f = f
+number-from bytes r f = search rules
 
 integer-from : (bytes : List ℕ) (r : Result (ℤ × ℕ) IntFault) → IntFound SpellsSigned bytes r → FieldFound signed bytes (as_value integer r)
-integer-from bytes (Ok x) f = record { text = f.text; parts = f.parts; spelled = f.spelled; len_is = f.len_is; positive = f.positive; within = f.within }
-integer-from [] (Err End) f = (λ n. n, λ e. absurd cc)
-integer-from (b ∷ bs) (Err End) f = (f, λ e. absurd cc)
-integer-from [] (Err NoForm) f = f
-integer-from (b ∷ bs) (Err NoForm) f = f
+integer-from bytes r f = search rules
 
 no_begin : (form : Form) (bytes : List ℕ) → ¬ (BeginsNoNumber (Some form) []) → ((b : ℕ) (bs : List ℕ) → ¬ (BeginsNoNumber (Some form) (b ∷ bs)))
     → ¬ (BeginsNoNumber (Some form) bytes)
-no_begin form [] p q = p
-no_begin form (b ∷ bs) p q = q b bs
+no_begin form bytes p q = search rules
 
 taken : (len : ℕ) (bytes : List ℕ) → len < length bytes → length (take (suc len) bytes) ≡ suc len
 taken len bytes h = omega (arith, length-take (suc len) bytes)
 
 character-is : (bytes : List ℕ) (len : ℕ) → CharacterAt bytes len → FieldFound character bytes (character_of bytes len)
-character-is [] len f = (λ n. n, λ e. refl)
-character-is (b ∷ bs) zero f = (refl, λ e. cc, λ n. n)
-character-is (b ∷ bs) (suc len) f =
-    let whole : length (take (suc len) (b ∷ bs)) ≡ suc len = f.1 in
-    record {
-      text = take (suc len) (b ∷ bs);
-      parts = sym (take-append-drop (suc len) (b ∷ bs));
-      spelled = (refl, f.0);
-      len_is = whole;
-      positive = omega arith;
-      within = omega (arith, length-take (suc len) (b ∷ bs));
-    }
+character-is bytes len f = search (rules, length-take)
 
 -- what field_at finds stands there, and its code is the fault's
 pub field-is : (form : Form) (bytes : List ℕ) → FieldFound form bytes (field_at form bytes)
@@ -221,9 +186,7 @@ field-is rest (b ∷ bytes) = record {
 field-is character bytes = character-is bytes (character_len bytes) (character-at bytes)
 
 character_of-some : (text after : List ℕ) → is_character text ≡ true → character_of (text ++ after) (length text) ≡ Ok (octets text, length text)
-character_of-some [] after h = absurd cc
-character_of-some (a ∷ text) after h =
-    ap (λ (xs : List ℕ). let r : Result (Value × ℕ) Code = Ok (octets xs, length (a ∷ text)) in r) (take-append_seam (a ∷ text) after)
+character_of-some text after h = search rules
 
 character-found : (text xs after : List ℕ) → xs ≡ text → is_character text ≡ true
     → character_of (text ++ after) (character_len (text ++ after)) ≡ Ok (octets xs, length text)
@@ -270,7 +233,4 @@ found x y e = cc
 -- two fields of one form at one place are one
 pub field-unique : (form : Form) (a b : List ℕ) (v w : Value) (x y : List ℕ) → Spells form a v x → Spells form b w y → a ++ x ≡ b ++ y
     → (v ≡ w) × (length a ≡ length b)
-field-unique form a b v w x y p q e =
-    let r : field_at form (a ++ x) ≡ Ok (w, length b) = rw e (field-all form b w y q) in
-    let s : (v, length a) ≡ (w, length b) = found (v, length a) (w, length b) (sym (field-all form a v x p) ∙ r) in
-    (ap (λ (p : Value × ℕ). p.0) s, ap (λ (p : Value × ℕ). p.1) s)
+field-unique form a b v w x y p q e = search (rules, field-all, found)

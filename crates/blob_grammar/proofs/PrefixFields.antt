@@ -1,13 +1,12 @@
 -- The fields that the plain reader takes are those of the longest valid prefix.
-use Rattle.std.proofs.Common.{◌≡◌, ℕ, zero, suc, ◌+◌, ◌<◌, Bool, true, false, ◌&&◌, List, [], ◌∷◌, ◌++◌, length, take, drop, Option, Some, None, Result, Ok, Err}
-use Rattle.std.{proofs.Common.{refl, sym, ap, subst, ◌∙◌, append_assoc, append-nil, arith, length-append}, specs.Prelude.{◌↔◌, if◌then◌else◌}, specs.List.{flat_map}}
-use Rattle.std.{specs.Option.{option_map_or, option_and_then}, proofs.Math.Seq.{take-append_seam}, proofs.lemmas.List.{length-drop}}
-use Rattle.ppdb_base.specs.declared.{Code.{Code}, Code.TheVariants.{BlobEnd}, BlobFault.{BlobFault}}
+use Rattle.std.proofs.Common.{rules, ◌≡◌, ℕ, zero, suc, ◌+◌, ◌<◌, List, [], ◌∷◌, ◌++◌, length, take, drop, Option, None, Result, refl, sym, ap, subst, ◌∙◌}
+use Rattle.std.{proofs.Common.{append_assoc, append-nil, arith, length-append}, specs.Prelude.{◌↔◌}, specs.List.{flat_map}, specs.Option.{option_map_or}}
+use Rattle.std.{specs.Option.{option_and_then}, proofs.Math.Seq.{take-append_seam}, proofs.lemmas.List.{length-drop}}
+use Rattle.ppdb_base.specs.declared.{Code.{Code}, BlobFault.{BlobFault}}
 use Rattle.blob_grammar.specs.{Grammar.{Value, Form, Field, Grammar, Cut, with_value, cut, MayFollow, AtStart}, Reading.{IsLongestPrefix, Reading}}
-use Rattle.blob_grammar.specs.{Places.{PlacedField, placed_of, HasFields}, Reader.{field_at, is_empty, Step, field, stop, invalid, stop_or, if_allowed, step_at}}
-use Rattle.blob_grammar.{specs.Reader.{step_in, step, allowed_at, next_field, fields_for, fields_from, prefix_of, read_from, begun_from}, proofs.Prefixes.{cut-push}}
-use Rattle.blob_grammar.proofs.{Prefixes.{prefix-push, longest_where_stuck, prefix-unique}, Readers.{whole_of, begun_of, StepIs, step-is, read_from-reads}}
-use Rattle.blob_grammar.proofs.Steps.{Takes, takes_in}
+use Rattle.blob_grammar.specs.{Places.{PlacedField, placed_of, HasFields}, Reader.{field_at, Step, field, stop, invalid, step_at, step_in, step, allowed_at}}
+use Rattle.blob_grammar.{specs.Reader.{next_field, fields_for, fields_from, prefix_of, read_from}, proofs.Prefixes.{cut-push, prefix-push, longest_where_stuck}}
+use Rattle.blob_grammar.proofs.{Prefixes.{prefix-unique}, Readers.{whole_of, begun_of, StepIs, step-is, read_from-reads}, Steps.{Takes, takes_in}}
 
 abbrev IsPrefix : {R : Type 0} → Grammar R → List ℕ → List Field → Type 0
 IsPrefix g blob fields = (after : List ℕ) × IsLongestPrefix g blob fields after
@@ -22,32 +21,20 @@ take_field g goes_on c bytes (field value len) =
 take_field g goes_on c bytes stop = []
 take_field g goes_on c bytes (invalid code) = []
 
-no_step : {R : Type 0} (g : Grammar R) (goes_on : ℕ → List R → List Value → List Field) (c : Cut R) (bytes : List ℕ) (b : Bool) (code : Code)
-    → take_field g goes_on c bytes (stop_or b code) ≡ []
-no_step g goes_on c bytes true code = refl
-no_step g goes_on c bytes false code = refl
-
 module _ {R : Type 0} (g : Grammar R) (h : ℕ → List R → List Value → List Field) (whole : List R) (begun : List Value) (bytes : List ℕ) where
   abbrev taken : Option (Value × ℕ) → List Field
   taken o = option_map_or (λ (x : Value × ℕ). take_field g h (place whole begun) bytes (field x.0 x.1)) o []
 
-  by_allowed : (x : Value × ℕ) (b : Bool) → taken (if b then Some x else None) ≡ take_field g h (place whole begun) bytes (if_allowed b x.0 x.1)
-  by_allowed x true = refl
-  by_allowed x false = refl
-
   by_found : (r : Result (Value × ℕ) Code)
       → taken (allowed_at g (place whole begun) r) ≡ take_field g h (place whole begun) bytes (step_at g whole begun bytes r)
-  by_found (Ok x) = by_allowed x (g.allows whole begun x.0)
-  by_found (Err code) = sym (no_step g h (place whole begun) bytes (is_empty bytes && g.may_stop whole begun) code)
+  by_found r = search rules
 
   by_none : (left : List ℕ) → [] ≡ take_field g h (place whole begun) bytes (step_in g whole begun left None)
-  by_none [] = sym (no_step g h (place whole begun) bytes (g.may_stop whole begun) BlobEnd)
-  by_none (b ∷ left) = refl
+  by_none left = search rules
 
   by_form : (o : Option Form) → taken (option_and_then (λ form. allowed_at g (place whole begun) (field_at form bytes)) o)
       ≡ take_field g h (place whole begun) bytes (step_in g whole begun bytes o)
-  by_form None = by_none bytes
-  by_form (Some form) = by_found (field_at form bytes)
+  by_form o = search (rules, by_none, by_found)
 
   -- The next field is that of the next step, if there is one.
   next_field-step : taken (next_field g (place whole begun) bytes) ≡ take_field g h (place whole begun) bytes (step g whole begun bytes)
@@ -116,10 +103,6 @@ pub records_read : {R : Type 0} (g : Grammar R) (blob : List ℕ) → (cut g (pr
 records_read g blob =
     let left = read_from g [] [] 0 blob in sym (records_are_cut g blob left.items left.fault (read_from-reads g blob))
 
-pub values_read : {R : Type 0} (g : Grammar R) (blob : List ℕ) → (cut g (prefix_of g blob)).begun ≡ begun_from g [] [] blob
-unfolding begun_from
-values_read g blob = refl
-
 -- What a walk reports of the fields that the plain reader takes.
 pub prefix_of-fields : {R X : Type 0} (g : Grammar R) (tell : PlacedField → List X) (blob : List ℕ)
     → HasFields g tell blob (flat_map tell (placed_of g (prefix_of g blob)))
@@ -165,9 +148,4 @@ pub fields_from-step : {R : Type 0} (g : Grammar R) (whole : List R) (begun : Li
     → fields_from g (place whole begun) bytes ≡ take_field g (λ len w b. fields_from g (place w b) (drop len bytes))
     (place whole begun) bytes (step g whole begun bytes)
 unfolding fields_from
-fields_from-step g whole begun bytes =
-    fields_for-step g (length bytes) whole begun bytes
-    ∙ same_take g (λ len w b. fields_for (length bytes) g (place w b) (drop len bytes))
-    (λ len w b. fields_for (suc (length (drop len bytes))) g (place w b) (drop len bytes)) (place whole begun) bytes (step g whole begun bytes)
-    (takes_in g whole begun bytes (g.form whole begun))
-    (λ len less w b. fields-enough g (length bytes) (suc (length (drop len bytes))) w b (drop len bytes) less (omega arith))
+fields_from-step g whole begun bytes = search (rules, fields_for-step, same_take, takes_in, fields-enough)

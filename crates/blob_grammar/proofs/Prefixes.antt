@@ -1,7 +1,7 @@
 -- Lists of fields at a blob's prefix: of two, one is a prefix of the other, so that the longest is one.
-use Rattle.std.proofs.Common.{◌≡◌, ℕ, ◌<◌, ◌≤◌, List, [], ◌∷◌, ◌++◌, length, Option, Some, refl, sym, ap, subst, ◌∙◌, append_assoc, append-nil, arith, inl, inr}
-use Rattle.std.proofs.{Common.{length-append}, lemmas.List.Sums.{fold-append}, lemmas.Grind.{flat_map-append}, lemmas.Bool.{cases_lt}}
-use Rattle.blob_grammar.specs.{Grammar.{Value, Form, Spells, Field, Grammar, with_value, cut, bytes_of, MayFollow, EachFollows, AtStart}, Reading.{IsLongestPrefix}}
+use Rattle.std.proofs.Common.{rules, ◌≡◌, ℕ, ◌<◌, ◌≤◌, List, [], ◌∷◌, ◌++◌, length, refl, sym, ap, subst, ◌∙◌, append_assoc, append-nil, arith, inl, inr}
+use Rattle.std.proofs.{Common.{length-append}, lemmas.Grind.{flat_map-append}, lemmas.List.Sums.{fold-append}, lemmas.Bool.{cases_lt}}
+use Rattle.blob_grammar.specs.{Grammar.{Field, Grammar, with_value, cut, bytes_of, MayFollow, EachFollows, AtStart}, Reading.{IsLongestPrefix}}
 use Rattle.blob_grammar.proofs.Fields.{field-unique}
 
 -- ---- one more field
@@ -25,10 +25,7 @@ follows-push g before (x ∷ fs) f left each one = (
 
 pub prefix-push : {R : Type 0} (g : Grammar R) (blob : List ℕ) (fs : List Field) (f : Field) (left : List ℕ)
     → AtStart g blob fs (f.bytes ++ left) → MayFollow g fs f left → AtStart g blob (fs ++ f ∷ []) left
-prefix-push g blob fs f left prefix one = record {
-  bytes = prefix.bytes ∙ sym (append_assoc (bytes_of fs) f.bytes left) ∙ ap (λ b. b ++ left) (sym (bytes-push fs f));
-  each = follows-push g [] fs f left prefix.each one;
-}
+prefix-push g blob fs f left prefix one = search (rules, append_assoc, bytes-push, follows-push)
 
 -- ---- two lists
 
@@ -49,18 +46,7 @@ pub record IsPrefixOf (fs gs : List Field) (x y : List ℕ) : Type 0 where
 
 same_form : {R : Type 0} (g : Grammar R) (before : List Field) (f h : Field) (x y : List ℕ) → MayFollow g before f x → MayFollow g before h y
     → f.bytes ++ x ≡ h.bytes ++ y → (f ≡ h) × (x ≡ y)
-same_form g before f h x y p q e =
-    let some_form : Form → Option Form = λ a. Some a in
-    let s : some_form p.form ≡ some_form q.form = sym p.expected ∙ q.expected in
-    let s' : p.form ≡ q.form = cc in
-    let spelled : Spells p.form h.bytes h.value y = subst (λ a. Spells a h.bytes h.value y) (sym s') q.spelled in
-    let u : (f.value ≡ h.value) × (length f.bytes ≡ length h.bytes) = field-unique p.form f.bytes h.bytes f.value h.value x y p.spelled spelled e in
-    let b : (f.bytes ≡ h.bytes) × (x ≡ y) = same_after f.bytes h.bytes x y u.1 e in (
-      let bytes : f.bytes ≡ h.bytes = b.0 in let value : f.value ≡ h.value = u.0 in
-          ap (λ (t : List ℕ × Value). let r : Field = record { bytes = t.0; value = t.1 } in r) (let pair : (f.bytes, f.value) ≡ (h.bytes, h.value) = cc in
-          pair),
-      b.1,
-    )
+same_form g before f h x y p q e = search (rules, field-unique, same_after)
 
 pub compare : {R : Type 0} (g : Grammar R) (before fs gs : List Field) (x y : List ℕ) → EachFollows g before fs x → EachFollows g before gs y
     → bytes_of fs ++ x ≡ bytes_of gs ++ y → length fs ≤ length gs → IsPrefixOf fs gs x y

@@ -1,6 +1,6 @@
 -- The plain reader gives the reading of a blob, and there is one.
-use Rattle.std.proofs.Common.{◌≡◌, ℕ, zero, suc, ◌+◌, ◌<◌, Bool, true, false, ◌&&◌, List, [], ◌∷◌, ◌++◌, length, drop, Option, Some, None, Result, Ok, Err, refl}
-use Rattle.std.proofs.Common.{sym, ap, subst, ◌∙◌, append_assoc, append-nil, arith, length-append, inl, inr}
+use Rattle.std.proofs.Common.{rules, ◌≡◌, ℕ, zero, suc, ◌+◌, ◌<◌, Bool, true, false, ◌&&◌, List, [], ◌∷◌, ◌++◌, length, drop, Option, Some, None, Result, Ok, Err}
+use Rattle.std.proofs.Common.{refl, ap, subst, ◌∙◌, append_assoc, append-nil, arith, length-append, inl, inr}
 use Rattle.ppdb_base.specs.declared.{Code.{Code}, Code.TheVariants.{BlobEnd, IntegerForm, ValueRange}}
 use Rattle.blob_grammar.specs.Grammar.{Value, Form, character, Spells, Field, Grammar, Cut, closed, with_value, cut, bytes_of, MayFollow, AtStart}
 use Rattle.blob_grammar.specs.{Reading.{IsFaultOf, IsOutOfRange, EndsWhole, Reading}, Reader.{Left, field_at, is_empty, Step, field, stop, invalid, stop_or}}
@@ -28,29 +28,16 @@ StepIs g fs bytes o (invalid code) = ¬ (EndsWhole g fs bytes) × IsFaultOf code
 -- where a form may come, only a field of that form is allowed
 form_of : {R : Type 0} (g : Grammar R) (fs : List Field) (form : Form) (f : Field) (left : List ℕ) → g.form (whole_of g fs) (begun_of g fs) ≡ Some form
     → MayFollow g fs f left → Spells form f.bytes f.value left
-form_of g fs form f left e m =
-    let some_form : Form → Option Form = λ a. Some a in
-    let s : some_form m.form ≡ some_form form = sym m.expected ∙ e in
-    let t : m.form ≡ form = cc in
-    subst (λ a. Spells a f.bytes f.value left) t m.spelled
+form_of g fs form f left e m = search rules
 
 stuck_at_err : {R : Type 0} (g : Grammar R) (fs : List Field) (form : Form) (bytes : List ℕ) (code : Code)
     → g.form (whole_of g fs) (begun_of g fs) ≡ Some form → field_at form bytes ≡ Err code → IsStuck g fs bytes
-stuck_at_err g fs form bytes code e err f left parts m =
-    let there : field_at form bytes ≡ Ok (f.value, length f.bytes) =
-    ap (field_at form) parts ∙ field-all form f.bytes f.value left (form_of g fs form f left e m) in
-    cc
+stuck_at_err g fs form bytes code e err f left parts m = search (rules, field-all, form_of)
 
 stuck_at_value : {R : Type 0} (g : Grammar R) (fs : List Field) (form : Form) (bytes : List ℕ) (x : Value × ℕ)
     → g.form (whole_of g fs) (begun_of g fs) ≡ Some form → field_at form bytes ≡ Ok x → g.allows (whole_of g fs) (begun_of g fs) x.0 ≡ false
     → IsStuck g fs bytes
-stuck_at_value g fs form bytes x e ok not f left parts m =
-    let there : field_at form bytes ≡ Ok (f.value, length f.bytes) =
-    ap (field_at form) parts ∙ field-all form f.bytes f.value left (form_of g fs form f left e m) in
-    let same : x ≡ (f.value, length f.bytes) = cc in
-    let value : x.0 ≡ f.value = ap (λ (p : Value × ℕ). p.0) same in
-    let yes : g.allows (whole_of g fs) (begun_of g fs) f.value ≡ true = m.allowed in
-    cc
+stuck_at_value g fs form bytes x e ok not f left parts m = search (rules, field-all, form_of)
 
 value_step : {R : Type 0} (g : Grammar R) (fs : List Field) (form : Form) (bytes : List ℕ) (x : Value × ℕ) (b : Bool)
     → g.form (whole_of g fs) (begun_of g fs) ≡ Some form → field_at form bytes ≡ Ok x → Prefix (λ text. Spells form text x.0 (drop x.1 bytes)) bytes x.1
@@ -63,21 +50,16 @@ value_step g fs form bytes x false e ok prefix allowed = (
 )
 
 both : (a b : Bool) → (a && b) ≡ true → (a ≡ true) × (b ≡ true)
-both true b e = (refl, e)
-both false b e = absurd cc
+both a b e = search rules
 
 empty_is : (bytes : List ℕ) → is_empty bytes ≡ true → bytes ≡ []
-empty_is [] e = refl
-empty_is (b ∷ bs) e = absurd cc
+empty_is bytes e = search rules
 
 not_whole : (bytes : List ℕ) (m : Bool) → (is_empty bytes && m) ≡ false → (bytes ≡ []) × (m ≡ true) → ⊥
-not_whole [] m e w = let t : m ≡ true = w.1 in cc
-not_whole (b ∷ bs) m e w = let t : b ∷ bs ≡ [] = w.0 in cc
+not_whole bytes m e w = search rules
 
 ends_at : (form : Form) (bytes : List ℕ) → field_at form bytes ≡ Err BlobEnd → ((form ≡ character) → bytes ≡ []) → ¬ (IsOutOfRange (Some form) bytes)
-ends_at form bytes e empty (inl (f, left, parts, spelled)) =
-    let there : field_at form bytes ≡ Ok (f.value, length f.bytes) = ap (field_at form) parts ∙ field-all form f.bytes f.value left spelled in cc
-ends_at form bytes e empty (inr r) = r.1 (empty r.0)
+ends_at form bytes e empty = search (rules, field-all)
 
 fault_of : (form : Form) (bytes : List ℕ) (code : Code) → field_at form bytes ≡ Err code → FieldFound form bytes (Err code) → IsFaultOf code (Some form) bytes
 fault_of form bytes BlobEnd e found = (found.0, ends_at form bytes e found.1)
@@ -97,8 +79,7 @@ err_step g fs form bytes code false e err found b =
 form_step : {R : Type 0} (g : Grammar R) (fs : List Field) (form : Form) (bytes : List ℕ) (r : Result (Value × ℕ) Code)
     → g.form (whole_of g fs) (begun_of g fs) ≡ Some form → field_at form bytes ≡ r → FieldFound form bytes r
     → StepIs g fs bytes (Some form) (step_at g (whole_of g fs) (begun_of g fs) bytes r)
-form_step g fs form bytes (Ok x) e is found = value_step g fs form bytes x (g.allows (whole_of g fs) (begun_of g fs) x.0) e is found refl
-form_step g fs form bytes (Err code) e is found = err_step g fs form bytes code (is_empty bytes && g.may_stop (whole_of g fs) (begun_of g fs)) e is found refl
+form_step g fs form bytes r e is found = search (rules, value_step, err_step)
 
 none_stuck : {R : Type 0} (g : Grammar R) (fs : List Field) (bytes : List ℕ) → g.form (whole_of g fs) (begun_of g fs) ≡ None → IsStuck g fs bytes
 none_stuck g fs bytes e f left parts m = let s : g.form (whole_of g fs) (begun_of g fs) ≡ Some m.form = m.expected in cc
@@ -106,8 +87,7 @@ none_stuck g fs bytes e f left parts m = let s : g.form (whole_of g fs) (begun_o
 stop_step : {R : Type 0} (g : Grammar R) (fs : List Field) (b : Bool) → g.form (whole_of g fs) (begun_of g fs) ≡ None
     → g.may_stop (whole_of g fs) (begun_of g fs) ≡ b
     → StepIs g fs [] None (stop_or b BlobEnd)
-stop_step g fs true e m = ((refl, m), none_stuck g fs [] e)
-stop_step g fs false e m = (λ w. let t : g.may_stop (whole_of g fs) (begun_of g fs) ≡ true = w.1 in cc, (λ n. n, λ n. n refl), none_stuck g fs [] e)
+stop_step g fs b e m = search rules
 
 some_step : {R : Type 0} (g : Grammar R) (fs : List Field) (bytes : List ℕ) (o : Option Form) → g.form (whole_of g fs) (begun_of g fs) ≡ o
     → StepIs g fs bytes o (step_in g (whole_of g fs) (begun_of g fs) bytes o)
@@ -125,10 +105,7 @@ pub closed_reads : {R : Type 0} (g : Grammar R) (blob : List ℕ) (k : List R �
     → Reading g blob ((closed o whole begun).whole ++ (k (closed o whole begun).whole (closed o whole begun).begun).items)
     (k (closed o whole begun).whole (closed o whole begun).begun).fault
     → Reading g blob (whole ++ (close_and k whole begun o).items) (close_and k whole begun o).fault
-closed_reads g blob k whole begun None h = h
-closed_reads g blob k whole begun (Some r) h =
-    let left = k (whole ++ r ∷ []) [] in
-    subst (λ xs. Reading g blob xs left.fault) (append_assoc whole (r ∷ []) left.items) h
+closed_reads g blob k whole begun o h = search (rules, append_assoc)
 
 abbrev Reads : {R : Type 0} → Grammar R → List ℕ → Cut R → Left R → Type 0
 Reads g blob c left = Reading g blob (c.whole ++ left.items) left.fault

@@ -1,10 +1,10 @@
 -- The plain reader a step at a time, and the records before a place seen through what the grammar asks of them.
-use Rattle.std.proofs.Common.{◌≡◌, ℕ, zero, suc, ◌+◌, ◌<◌, ◌≤◌, Bool, true, false, ◌&&◌, List, [], ◌∷◌, ◌++◌, length, drop, Option, Some, None, Result, Ok, Err, ltb}
-use Rattle.std.proofs.{Common.{refl, ap, ◌∙◌, arith}, lemmas.List.{length-drop, drop-drop, drop_all}}
+use Rattle.std.proofs.Common.{rules, ◌≡◌, ℕ, zero, suc, ◌+◌, ◌<◌, ◌≤◌, Bool, true, false, ◌&&◌, List, [], ◌∷◌, ◌++◌, length, drop, Option, Some, None, Result, Ok}
+use Rattle.std.proofs.{Common.{Err, ltb, refl, ap, ◌∙◌, arith}, lemmas.List.{length-drop, drop-drop, drop_all}}
 use Rattle.ppdb_base.specs.declared.{Code.{Code}, Code.TheVariants.{BlobEnd, ValueRange}, BlobFault.{BlobFault}}
 use Rattle.blob_grammar.specs.{Grammar.{Value, Form, unsigned, signed, byte, word, fixed, rest, character, Grammar}, Reader.{Left, field_at, unsigned_at, signed_at}}
-use Rattle.blob_grammar.specs.Reader.{is_empty, Step, field, stop, invalid, stop_or, if_allowed, step_at, step_in, step, push, close_and, take_step, read_for}
-use Rattle.blob_grammar.{specs.Reader.{read_from}, proofs.Fields.{Prefix, FieldFound, field-is}}
+use Rattle.blob_grammar.specs.Reader.{is_empty, Step, field, stop, invalid, stop_or, step_at, step_in, step, push, close_and, take_step, read_for, read_from}
+use Rattle.blob_grammar.proofs.Fields.{FieldFound, field-is}
 
 -- ---- the turns do not matter, if there are enough
 
@@ -14,26 +14,12 @@ Takes bytes (field value len) = (1 ≤ len) × (len ≤ length bytes)
 Takes bytes stop = Unit {0}
 Takes bytes (invalid code) = Unit {0}
 
-takes_value : (bytes : List ℕ) (form : Form) (x : Value × ℕ) (b : Bool) → Prefix (λ text. Unit {0}) bytes x.1 → Takes bytes (if_allowed b x.0 x.1)
-takes_value bytes form x true f = (omega (arith, f.len_is, f.positive), omega (arith, f.within))
-takes_value bytes form x false f = tt
-
 takes_stop : (bytes : List ℕ) (b : Bool) (code : Code) → Takes bytes (stop_or b code)
-takes_stop bytes true code = tt
-takes_stop bytes false code = tt
+takes_stop bytes b code = search rules
 
 takes_form : {R : Type 0} (g : Grammar R) (whole : List R) (begun : List Value) (bytes : List ℕ) (form : Form) (r : Result (Value × ℕ) Code)
     → FieldFound form bytes r → Takes bytes (step_at g whole begun bytes r)
-takes_form g whole begun bytes form (Ok x) f =
-    takes_value bytes form x (g.allows whole begun x.0) (record {
-      text = f.text;
-      parts = f.parts;
-      spelled = tt;
-      len_is = f.len_is;
-      positive = f.positive;
-      within = f.within;
-    })
-takes_form g whole begun bytes form (Err code) f = takes_stop bytes (is_empty bytes && g.may_stop whole begun) code
+takes_form g whole begun bytes form r f = search rules
 
 pub takes_in : {R : Type 0} (g : Grammar R) (whole : List R) (begun : List Value) (bytes : List ℕ) (o : Option Form)
     → Takes bytes (step_in g whole begun bytes o)
@@ -44,17 +30,13 @@ takes_in g whole begun (b ∷ bytes) None = tt
 -- the reader goes on alike by two continuations that agree after the field
 same_close : {R : Type 0} (h k : List R → List Value → Left R) (whole : List R) (begun : List Value) (o : Option R)
     → ((w : List R) (b : List Value) → h w b ≡ k w b) → close_and h whole begun o ≡ close_and k whole begun o
-same_close h k whole begun None e = e whole begun
-same_close h k whole begun (Some r) e = ap (λ left. push r left) (e (whole ++ r ∷ []) [])
+same_close h k whole begun o e = search rules
 
 same_take : {R : Type 0} (g : Grammar R) (h k : ℕ → List R → List Value → Left R) (whole : List R) (begun : List Value) (at : ℕ) (bytes : List ℕ) (s : Step)
     → Takes bytes s
     → ((len : ℕ) → length (drop len bytes) < length bytes → (w : List R) (b : List Value) → h len w b ≡ k len w b)
     → take_step g h whole begun at s ≡ take_step g k whole begun at s
-same_take g h k whole begun at bytes (field value len) less e = same_close (h len) (k len) whole (begun ++ value ∷ []) (g.record_of whole (begun ++ value ∷ []))
-    (e len (omega (arith, less.0, less.1, length-drop len bytes)))
-same_take g h k whole begun at bytes stop less e = refl
-same_take g h k whole begun at bytes (invalid code) less e = refl
+same_take g h k whole begun at bytes s less e = search (rules, same_close, length-drop)
 
 pub enough : {R : Type 0} (g : Grammar R) (m n : ℕ) (whole : List R) (begun : List Value) (at : ℕ) (bytes : List ℕ) → length bytes < m → length bytes < n
     → read_for m g whole begun at bytes ≡ read_for n g whole begun at bytes
@@ -70,10 +52,7 @@ enough g (suc m) (suc n) whole begun at bytes p q =
 pub read_from-step : {R : Type 0} (g : Grammar R) (whole : List R) (begun : List Value) (at : ℕ) (bytes : List ℕ)
     → read_from g whole begun at bytes ≡ take_step g (λ len w b. read_from g w b (at + len) (drop len bytes)) whole begun at (step g whole begun bytes)
 unfolding read_for read_from
-read_from-step g whole begun at bytes =
-    same_take g (λ len w b. read_for (length bytes) g w b (at + len) (drop len bytes)) (λ len w b. read_for (suc (length (drop len bytes))) g w b (at + len)
-    (drop len bytes)) whole begun at bytes (step g whole begun bytes) (takes_in g whole begun bytes (g.form whole begun))
-    (λ len less w b. enough g (length bytes) (suc (length (drop len bytes))) w b (at + len) (drop len bytes) less (omega arith))
+read_from-step g whole begun at bytes = search (rules, same_take, takes_in, enough)
 
 -- ---- what came before, seen through what the grammar asks of it
 
@@ -87,26 +66,16 @@ pub record Alike {R : Type 0} (g h : Grammar R) (E : List R → List R → Type 
 
 step_at-alike : {R : Type 0} (g h : Grammar R) (E : List R → List R → Type 0) → Alike g h E → (a b : List R) (vs : List Value) (bytes : List ℕ)
     (r : Result (Value × ℕ) Code) → E a b → step_at g a vs bytes r ≡ step_at h b vs bytes r
-step_at-alike g h E k a b vs bytes (Ok x) e = ap (λ t. if_allowed t x.0 x.1) (k.allows a b vs x.0 e)
-step_at-alike g h E k a b vs bytes (Err code) e = ap (λ t. stop_or (is_empty bytes && t) code) (k.may_stop a b vs e)
+step_at-alike g h E k a b vs bytes r e = search rules
 
 step_in-alike : {R : Type 0} (g h : Grammar R) (E : List R → List R → Type 0) → Alike g h E → (a b : List R) (vs : List Value) (bytes : List ℕ)
     (o : Option Form) → E a b → step_in g a vs bytes o ≡ step_in h b vs bytes o
-step_in-alike g h E k a b vs bytes (Some form) e = step_at-alike g h E k a b vs bytes (field_at form bytes) e
-step_in-alike g h E k a b vs [] None e = ap (λ t. stop_or t BlobEnd) (k.may_stop a b vs e)
-step_in-alike g h E k a b vs (x ∷ bytes) None e = refl
+step_in-alike g h E k a b vs bytes o e = search (rules, step_at-alike)
 
 take-alike : {R : Type 0} (g h : Grammar R) (E : List R → List R → Type 0) → Alike g h E → (on_g on_h : ℕ → List R → List Value → Left R) (a b : List R)
     (vs : List Value) (at : ℕ) (s : Step) → E a b
     → ((len : ℕ) (c d : List R) (ws : List Value) → E c d → on_g len c ws ≡ on_h len d ws) → take_step g on_g a vs at s ≡ take_step h on_h b vs at s
-take-alike g h E k on_g on_h a b vs at stop e again = refl
-take-alike g h E k on_g on_h a b vs at (invalid code) e again = refl
-take-alike {R = R} g h E k on_g on_h a b vs at (field value len) e again =
-    ap (close_and (on_g len) a (vs ++ value ∷ [])) (k.record_of a b (vs ++ value ∷ []) e) ∙ close-alike (h.record_of b (vs ++ value ∷ []))
-  where
-    close-alike : (o : Option R) → close_and (on_g len) a (vs ++ value ∷ []) o ≡ close_and (on_h len) b (vs ++ value ∷ []) o
-    close-alike None = again len a b (vs ++ value ∷ []) e
-    close-alike (Some r) = ap (push r) (again len (a ++ r ∷ []) (b ++ r ∷ []) [] (k.push a b r e))
+take-alike g h E k on_g on_h a b vs at s e again = search rules
 
 read_for-alike : {R : Type 0} (g h : Grammar R) (E : List R → List R → Type 0) → Alike g h E → (turns : ℕ) (a b : List R) (vs : List Value) (at : ℕ)
     (bytes : List ℕ) → E a b → read_for turns g a vs at bytes ≡ read_for turns h b vs at bytes
@@ -145,23 +114,13 @@ to_step g whole begun blob at o s e f =
 pub left-field : {R : Type 0} (g : Grammar R) (whole : List R) (begun : List Value) (blob : List ℕ) (at : ℕ) (form : Form) (value : Value) (len : ℕ)
     → g.form whole begun ≡ Some form → field_at form (drop at blob) ≡ Ok (value, len) → g.allows whole begun value ≡ true
     → left_at g whole begun blob at ≡ close_and (λ w b. left_at g w b blob (at + len)) whole (begun ++ value ∷ []) (g.record_of whole (begun ++ value ∷ []))
-left-field {R = R} g whole begun blob at form value len expected found allowed =
-    to_step g whole begun blob at (Some form) (field value len) expected (ap (step_at g whole begun (drop at blob)) found
-    ∙ ap (λ b. if_allowed b value len) allowed)
-    ∙ goes_on (g.record_of whole (begun ++ value ∷ []))
-  where
-    goes_on : (o : Option R) → close_and (λ w b. read_from g w b (at + len) (drop len (drop at blob))) whole (begun ++ value ∷ []) o
-        ≡ close_and (λ w b. left_at g w b blob (at + len)) whole (begun ++ value ∷ []) o
-    goes_on None = ap (read_from g whole (begun ++ value ∷ []) (at + len)) (drop-drop len at blob)
-    goes_on (Some r) = ap (λ bytes. push r (read_from g (whole ++ r ∷ []) [] (at + len) bytes)) (drop-drop len at blob)
+left-field {R = R} g whole begun blob at form value len expected found allowed = search (rules, to_step, drop-drop)
 
 -- A field that is there and not allowed.
 pub left-out : {R : Type 0} (g : Grammar R) (whole : List R) (begun : List Value) (blob : List ℕ) (at : ℕ) (form : Form) (value : Value) (len : ℕ)
     → g.form whole begun ≡ Some form → field_at form (drop at blob) ≡ Ok (value, len) → g.allows whole begun value ≡ false
     → left_at g whole begun blob at ≡ nothing_left (Some (record { code = ValueRange; byte = at }))
-left-out g whole begun blob at form value len expected found allowed =
-    to_step g whole begun blob at (Some form) (invalid ValueRange) expected (ap (step_at g whole begun (drop at blob)) found
-    ∙ ap (λ b. if_allowed b value len) allowed)
+left-out g whole begun blob at form value len expected found allowed = search (rules, to_step)
 
 pub not_empty : (blob : List ℕ) (at : ℕ) → at < length blob → is_empty (drop at blob) ≡ false
 not_empty blob at less = some (drop at blob) (omega (arith, length-drop at blob))
@@ -174,8 +133,7 @@ not_empty blob at less = some (drop at blob) (omega (arith, length-drop at blob)
 pub left-none : {R : Type 0} (g : Grammar R) (whole : List R) (begun : List Value) (blob : List ℕ) (at : ℕ) (form : Form) (code : Code)
     → g.form whole begun ≡ Some form → field_at form (drop at blob) ≡ Err code → (is_empty (drop at blob) && g.may_stop whole begun) ≡ false
     → left_at g whole begun blob at ≡ nothing_left (Some (record { code = code; byte = at }))
-left-none g whole begun blob at form code expected none goes_on =
-    to_step g whole begun blob at (Some form) (invalid code) expected (ap (step_at g whole begun (drop at blob)) none ∙ ap (λ b. stop_or b code) goes_on)
+left-none g whole begun blob at form code expected none goes_on = search (rules, to_step)
 
 ge-false : (a b : ℕ) → b ≤ a → ltb a b ≡ false
 ge-false a b h = grind arith

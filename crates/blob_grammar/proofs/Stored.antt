@@ -1,6 +1,6 @@
 -- What is known of a compressed number at a place of a blob, as what stands at the start of the bytes from there.
-use Rattle.std.proofs.Common.{◌≡◌, ℕ, suc, ◌+◌, ◌<◌, ◌≤◌, true, false, ltb, List, [], ◌∷◌, ◌++◌, length, take, drop, Result, Ok, Err, refl, sym, ap, ◌∙◌, arith, ℤ}
-use Rattle.std.{proofs.Common.{inl, inr}, specs.Prelude.{◌↔◌, slice_index}, proofs.Math.Seq.{drop-cons}, proofs.lemmas.List.{take-append-drop, length-take-le}}
+use Rattle.std.proofs.Common.{rules, ◌≡◌, ℕ, suc, ◌+◌, ◌<◌, ◌≤◌, true, false, ltb, List, [], ◌∷◌, ◌++◌, length, take, drop, Result, Ok, Err, refl, sym, ap, ◌∙◌}
+use Rattle.std.{proofs.Common.{arith, ℤ}, specs.Prelude.{◌↔◌, slice_index}, proofs.Math.Seq.{drop-cons}, proofs.lemmas.List.{take-append-drop, length-take-le}}
 use Rattle.std.proofs.lemmas.{List.{length-drop, drop_all}, Bool.{cases_lt}}
 use Rattle.cli_ints.specs.{declared.IntFault.{IntFault}, declared.IntFault.TheVariants.{End, Form as NoForm}, Compressed.{SpellsUnsigned, SpellsSigned, StandsAt}}
 use Rattle.cli_ints.specs.Compressed.{HasNoForm, IsCutOff, len_named}
@@ -37,27 +37,15 @@ form-prefix b bs h = rw (ge-false b 0x80 (omega arith), ge-false b 0xC0 (omega a
 
 two-short : (b : ℕ) (bs : List ℕ) → length (b ∷ bs) < 2 → two_at b bs ≡ Err End
 unfolding two_at
-two-short b [] h = refl
-two-short b (c ∷ bs) h = absurd (omega arith)
+two-short b bs h = search rules
 
 four-short : (b : ℕ) (bs : List ℕ) → length (b ∷ bs) < 4 → four_at b bs ≡ Err End
 unfolding four_at
-four-short b [] h = refl
-four-short b (c ∷ []) h = refl
-four-short b (c ∷ d ∷ []) h = refl
-four-short b (c ∷ d ∷ e ∷ bs) h = absurd (omega arith)
+four-short b bs h = search rules
 
 cut-prefix : (b : ℕ) (bs : List ℕ) → b < 0xE0 → length (b ∷ bs) < len_named b → unsigned_at (b ∷ bs) ≡ Err End
 unfolding unsigned_at
-cut-prefix b bs low short =
-    elim (cases_lt b 0x80) [
-      | inl one ↦ absurd (let s : length (b ∷ bs) < 1 = (rw (lt-true b 0x80 one) at short) in omega arith)
-      | inr two ↦ rw (ge-false b 0x80 two)
-          (elim (cases_lt b 0xC0) [
-            | inl less ↦ rw (lt-true b 0xC0 less) (two-short b bs (rw (ge-false b 0x80 two, lt-true b 0xC0 less) at short))
-            | inr more ↦ rw (ge-false b 0xC0 more, lt-true b 0xE0 low) (four-short b bs (rw (ge-false b 0x80 two, ge-false b 0xC0 more) at short))
-          ])
-    ]
+cut-prefix b bs low short = search (rules, cases_lt, lt-true, ge-false, two-short, four-short)
 
 none-prefix : unsigned_at [] ≡ Err End
 unfolding unsigned_at
@@ -74,12 +62,7 @@ cut-left bytes at there low short =
     ap unsigned_at e ∙ cut-prefix (slice_index bytes at) (drop (suc at) bytes) low n
 
 unsigned-cut_off : (bytes : List ℕ) (at : ℕ) → IsCutOff bytes at → unsigned_at (drop at bytes) ≡ Err End
-unsigned-cut_off bytes at (inl past) = ap unsigned_at (drop_all at bytes past) ∙ none-prefix
-unsigned-cut_off bytes at (inr h) =
-    elim (cases_lt at (length bytes)) [
-      | inl there ↦ cut-left bytes at there h.0 h.1
-      | inr past ↦ ap unsigned_at (drop_all at bytes past) ∙ none-prefix
-    ]
+unsigned-cut_off bytes at hyp1 = search (rules, drop_all, none-prefix, cases_lt, cut-left)
 
 -- Why no number stands there.
 abbrev pub IsRefusal : List ℕ → ℕ → IntFault → Type 0
@@ -87,8 +70,7 @@ IsRefusal bytes at End = IsCutOff bytes at
 IsRefusal bytes at NoForm = HasNoForm bytes at
 
 pub unsigned-refused : (bytes : List ℕ) (at : ℕ) (fault : IntFault) → IsRefusal bytes at fault → unsigned_at (drop at bytes) ≡ Err fault
-unsigned-refused bytes at End h = unsigned-cut_off bytes at h
-unsigned-refused bytes at NoForm h = unsigned-no_form bytes at h
+unsigned-refused bytes at fault h = search (rules, unsigned-cut_off, unsigned-no_form)
 
 pub signed-refused : (bytes : List ℕ) (at : ℕ) (fault : IntFault) → IsRefusal bytes at fault → signed_at (drop at bytes) ≡ Err fault
 unfolding signed_at

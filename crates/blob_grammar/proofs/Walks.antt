@@ -1,11 +1,11 @@
 -- A walk over the fields of a blob, a field at a time.
-use Rattle.std.proofs.Common.{◌≡◌, ℕ, zero, suc, ◌+◌, ◌<◌, Bool, true, false, ◌&&◌, List, [], ◌∷◌, ◌++◌, length, take, drop, Option, Some, None, Result, Ok, Err}
-use Rattle.std.{proofs.Common.{refl, sym, ap, subst, ◌∙◌, arith}, specs.List.{flat_map}, proofs.lemmas.List.{length-drop, length-take-le}}
-use Rattle.ppdb_base.specs.declared.{Code.{Code}, Code.TheVariants.{ValueRange, BlobEnd}}
-use Rattle.blob_grammar.specs.{Grammar.{Value, Form, Grammar, Cut, closed, with_value}, Places.{PlacedField, placed_from, HasFields, HasEnd}, Reader.{Left}}
-use Rattle.blob_grammar.specs.Reader.{field_at, is_empty, Step, field, stop, invalid, stop_or, if_allowed, step_at, step_in, step, close_and, take_step, read_from}
-use Rattle.blob_grammar.{specs.Reader.{fields_from, fields_left}, proofs.PrefixFields.{take_field, fields_from-step, prefix_of-fields}}
-use Rattle.blob_grammar.proofs.{Readers.{read_from-reads}, Steps.{Takes, takes_in, read_from-step, nothing_left, Alike}}
+use Rattle.std.proofs.Common.{rules, ◌≡◌, ℕ, zero, suc, ◌+◌, ◌<◌, Bool, true, false, ◌&&◌, List, [], ◌++◌, length, drop, Option, Some, None, Ok, Err, refl, sym, ap}
+use Rattle.std.{proofs.Common.{◌∙◌, arith}, specs.List.{flat_map}, proofs.lemmas.List.{length-drop}}
+use Rattle.ppdb_base.specs.declared.{Code.{Code}, Code.TheVariants.{ValueRange}}
+use Rattle.blob_grammar.specs.{Grammar.{Value, Form, Grammar, Cut, with_value}, Places.{PlacedField, placed_from, HasFields, HasEnd}, Reader.{Left, field_at}}
+use Rattle.blob_grammar.specs.Reader.{is_empty, Step, field, stop, invalid, stop_or, if_allowed, step_in, step, take_step, read_from, fields_from, fields_left}
+use Rattle.blob_grammar.proofs.{PrefixFields.{take_field, fields_from-step, prefix_of-fields}, Readers.{read_from-reads}, Steps.{Takes, takes_in, read_from-step}}
+use Rattle.blob_grammar.proofs.Steps.{nothing_left, Alike}
 
 -- some items more
 abbrev pub push_all : {X : Type 0} → List X → Left X → Left X
@@ -25,11 +25,6 @@ module _ {R X : Type 0} (g : Grammar R) (tell : PlacedField → List X) where
   abbrev goes_on : ℕ → List ℕ → ℕ → List R → List Value → Left R
   goes_on at bytes len w b = read_from g w b (at + len) (drop len bytes)
 
-  closes : (at : ℕ) (bytes : List ℕ) (len : ℕ) (whole : List R) (begun : List Value) (o : Option R)
-      → (close_and (goes_on at bytes len) whole begun o).fault ≡ (goes_on at bytes len (closed o whole begun).whole (closed o whole begun).begun).fault
-  closes at bytes len whole begun None = refl
-  closes at bytes len whole begun (Some r) = refl
-
   abbrev walked : Cut R → ℕ → List ℕ → Step → Left X
   walked place at bytes s = record {
     items = flat_map tell (placed_from g place at (take_field g (λ len w b. fields_from g (record { whole = w; begun = b }) (drop len bytes)) place bytes s));
@@ -38,13 +33,7 @@ module _ {R X : Type 0} (g : Grammar R) (tell : PlacedField → List X) where
 
   walked-is : (place : Cut R) (at : ℕ) (bytes : List ℕ) (s : Step) → Takes bytes s → walked place at bytes s ≡ after_step place at bytes s
   unfolding fields_left
-  walked-is place at bytes stop takes = refl
-  walked-is place at bytes (invalid code) takes = refl
-  walked-is place at bytes (field value len) takes =
-      let next = with_value g place value in
-      let taken : length (take len bytes) ≡ len = length-take-le len bytes takes.1 in
-      let fault = closes at bytes len place.whole (place.begun ++ value ∷ []) (g.record_of place.whole (place.begun ++ value ∷ [])) in
-      rw (taken, fault) refl
+  walked-is place at bytes s takes = search rules
 
   -- What is left is what one step reports, and what is left then.
   pub fields_left-step : (place : Cut R) (at : ℕ) (bytes : List ℕ)
@@ -65,31 +54,25 @@ module _ {R X : Type 0} (g : Grammar R) (tell : PlacedField → List X) where
   pub walk-field : (place : Cut R) (at : ℕ) (bytes : List ℕ) (form : Form) (value : Value) (len : ℕ)
       → g.form place.whole place.begun ≡ Some form → field_at form bytes ≡ Ok (value, len) → g.allows place.whole place.begun value ≡ true
       → fields_left g tell place at bytes ≡ push_all (told place at value) (fields_left g tell (with_value g place value) (at + len) (drop len bytes))
-  walk-field place at bytes form value len expected found allowed =
-      to_step place at bytes (Some form) (field value len) expected (ap (step_at g place.whole place.begun bytes) found
-      ∙ ap (λ b. if_allowed b value len) allowed)
+  walk-field place at bytes form value len expected found allowed = search (rules, to_step)
 
   -- A field that is there and not allowed.
   pub walk-out : (place : Cut R) (at : ℕ) (bytes : List ℕ) (form : Form) (value : Value) (len : ℕ)
       → g.form place.whole place.begun ≡ Some form → field_at form bytes ≡ Ok (value, len) → g.allows place.whole place.begun value ≡ false
       → fields_left g tell place at bytes ≡ nothing_left (Some (record { code = ValueRange; byte = at }))
-  walk-out place at bytes form value len expected found allowed =
-      to_step place at bytes (Some form) (invalid ValueRange) expected (ap (step_at g place.whole place.begun bytes) found
-      ∙ ap (λ b. if_allowed b value len) allowed)
+  walk-out place at bytes form value len expected found allowed = search (rules, to_step)
 
   -- No field is there, and the blob may not end there.
   pub walk-none : (place : Cut R) (at : ℕ) (bytes : List ℕ) (form : Form) (code : Code)
       → g.form place.whole place.begun ≡ Some form → field_at form bytes ≡ Err code → (is_empty bytes && g.may_stop place.whole place.begun) ≡ false
       → fields_left g tell place at bytes ≡ nothing_left (Some (record { code = code; byte = at }))
-  walk-none place at bytes form code expected none stays =
-      to_step place at bytes (Some form) (invalid code) expected (ap (step_at g place.whole place.begun bytes) none ∙ ap (λ b. stop_or b code) stays)
+  walk-none place at bytes form code expected none stays = search (rules, to_step)
 
   -- The end of a whole blob.
   pub walk-end : (place : Cut R) (at : ℕ) (form : Form) (code : Code) → g.form place.whole place.begun ≡ Some form → field_at form [] ≡ Err code
       → g.may_stop place.whole place.begun ≡ true
       → fields_left g tell place at [] ≡ nothing_left None
-  walk-end place at form code expected none stops =
-      to_step place at [] (Some form) stop expected (ap (step_at g place.whole place.begun []) none ∙ ap (λ b. stop_or b code) stops)
+  walk-end place at form code expected none stops = search (rules, to_step)
 
   -- What is left at the start is the whole walk.
   pub walk-fields : (blob : List ℕ) → HasFields g tell blob (fields_left g tell (record { whole = []; begun = [] }) 0 blob).items
@@ -113,37 +96,12 @@ module _ {R X : Type 0} (g : Grammar R) (tell : PlacedField → List X) where
   abbrev pub SameBegun : (List R → List R → Type 0) → Cut R → Cut R → Type 0
   SameBegun Same a b = Same a.whole b.whole × (a.begun ≡ b.begun)
 
-  closed-same : (Same : List R → List R → Type 0) → Alike g g Same → (a b : List R) (begun : List Value) (o : Option R) → Same a b
-      → SameBegun Same (closed o a begun) (closed o b begun)
-  closed-same Same k a b begun None e = (e, refl)
-  closed-same Same k a b begun (Some r) e = (k.push a b r e, refl)
-
-  with-same : (Same : List R → List R → Type 0) → Alike g g Same → (a b : List R) (c d : List Value) (value : Value) → Same a b → c ≡ d
-      → SameBegun Same (with_value g (record { whole = a; begun = c }) value) (with_value g (record { whole = b; begun = d }) value)
-  with-same Same k a b c d value e same =
-      let o : closed (g.record_of a (c ++ value ∷ [])) b (c ++ value ∷ []) ≡ closed (g.record_of b (d ++ value ∷ [])) b (d ++ value ∷ []) =
-      rw (same, k.record_of a b (d ++ value ∷ []) e) refl in
-      subst (λ (p : Cut R). SameBegun Same (closed (g.record_of a (c ++ value ∷ [])) a (c ++ value ∷ [])) p) o (closed-same Same k a b (c ++ value ∷ [])
-      (g.record_of a (c ++ value ∷ [])) e)
-
   pub alike-begun : (Same : List R → List R → Type 0) → Alike g g Same → AlikeAt (SameBegun Same)
-  alike-begun Same k = record {
-    form = λ a b e. ap (g.form a.whole) e.1 ∙ k.form a.whole b.whole b.begun e.0;
-    allows = λ a b value e. ap (λ begun. g.allows a.whole begun value) e.1 ∙ k.allows a.whole b.whole b.begun value e.0;
-    may_stop = λ a b e. ap (g.may_stop a.whole) e.1 ∙ k.may_stop a.whole b.whole b.begun e.0;
-    tells = λ a b at value e. ap (λ begun. tell (record { byte = at; before = begun; value = value })) e.1;
-    keeps = λ a b value e allowed. with-same Same k a.whole b.whole a.begun b.begun value e.0 e.1;
-  }
+  alike-begun Same k = search rules
 
   module _ (E : Cut R → Cut R → Type 0) (k : AlikeAt E) where
     same_step : (a b : Cut R) (bytes : List ℕ) (o : Option Form) → E a b → step_in g a.whole a.begun bytes o ≡ step_in g b.whole b.begun bytes o
-    same_step a b bytes (Some form) e = same_at (field_at form bytes)
-      where
-        same_at : (r : Result (Value × ℕ) Code) → step_at g a.whole a.begun bytes r ≡ step_at g b.whole b.begun bytes r
-        same_at (Ok x) = ap (λ t. if_allowed t x.0 x.1) (k.allows a b x.0 e)
-        same_at (Err code) = ap (λ t. stop_or (is_empty bytes && t) code) (k.may_stop a b e)
-    same_step a b [] None e = ap (λ t. stop_or t BlobEnd) (k.may_stop a b e)
-    same_step a b (x ∷ bytes) None e = refl
+    same_step a b bytes o e = search rules
 
     -- a field of a step is allowed
     abbrev Allowed : Cut R → Step → Type 0
@@ -152,21 +110,13 @@ module _ {R X : Type 0} (g : Grammar R) (tell : PlacedField → List X) where
     Allowed a (invalid code) = Unit {0}
 
     allowed_if : (a : Cut R) (b : Bool) (value : Value) (len : ℕ) → g.allows a.whole a.begun value ≡ b → Allowed a (if_allowed b value len)
-    allowed_if a true value len e = e
-    allowed_if a false value len e = tt
+    allowed_if a b value len e = search rules
 
     allowed_stop : (a : Cut R) (b : Bool) (code : Code) → Allowed a (stop_or b code)
-    allowed_stop a true code = tt
-    allowed_stop a false code = tt
+    allowed_stop a b code = search rules
 
     allowed_in : (a : Cut R) (bytes : List ℕ) (o : Option Form) → Allowed a (step_in g a.whole a.begun bytes o)
-    allowed_in a bytes (Some form) = at (field_at form bytes)
-      where
-        at : (r : Result (Value × ℕ) Code) → Allowed a (step_at g a.whole a.begun bytes r)
-        at (Ok x) = allowed_if a (g.allows a.whole a.begun x.0) x.0 x.1 refl
-        at (Err code) = allowed_stop a (is_empty bytes && g.may_stop a.whole a.begun) code
-    allowed_in a [] None = allowed_stop a (g.may_stop a.whole a.begun) BlobEnd
-    allowed_in a (x ∷ bytes) None = tt
+    allowed_in a bytes o = search (rules, allowed_if, allowed_stop)
 
     same_after : (a b : Cut R) (at : ℕ) (bytes : List ℕ) → E a b
         → ((c d : Cut R) (len : ℕ) → length (drop len bytes) < length bytes → E c d

@@ -1,11 +1,11 @@
 -- Records that are written one after the other, each allowed after those before it, are read again.
-use Rattle.std.proofs.Common.{◌≡◌, ℕ, ◌+◌, ◌^◌, ◌<◌, true, List, [], ◌∷◌, ◌++◌, length, length-append, Some, None, refl, sym, ap, subst, ◌∙◌, append_assoc}
-use Rattle.std.{proofs.Common.{append-nil, arith}, specs.List.{flat_map}, proofs.lemmas.List.Sums.{fold-append}, proofs.lemmas.Grind.{flat_map-append}}
+use Rattle.std.proofs.Common.{rules, ◌≡◌, ℕ, ◌+◌, ◌^◌, ◌<◌, true, List, [], ◌∷◌, ◌++◌, length, length-append, Some, None, refl, sym, ap, subst, ◌∙◌, append_assoc}
+use Rattle.std.{proofs.Common.{append-nil, arith}, proofs.lemmas.Grind.{flat_map-append}, specs.List.{flat_map}, proofs.lemmas.List.Sums.{fold-append}}
 use Rattle.blob_grammar.specs.{Grammar.{number, unsigned, Field, Grammar, Cut, with_value, cut, bytes_of, IsAllowed, EachFollows}, Reading.{IsLongestPrefix}}
-use Rattle.blob_grammar.specs.{Reading.{Reading}, Places.{PlacedField, placed_from, placed_of, HasFields}, Reader.{field_at}}
+use Rattle.blob_grammar.specs.{Reading.{Reading}, Places.{PlacedField, placed_from, placed_of, HasFields}}
 pub use Rattle.blob_grammar.specs.Reader.{cut_from}
 use Rattle.cli_ints.{specs.Compressed.{SpellsUnsigned}, specs.Shortest.{short_unsigned}, proofs.Shortest.{short_unsigned-shortest}}
-use Rattle.blob_grammar.proofs.{Fields.{FieldFound, field-is, field-all}, Prefixes.{cut-push, IsStuck, longest_where_stuck}}
+use Rattle.blob_grammar.proofs.{Fields.{field-is, field-all}, Prefixes.{cut-push, IsStuck, longest_where_stuck}}
 
 -- the fields are allowed after a place
 abbrev pub FollowFrom : {R : Type 0} → Grammar R → Cut R → List Field → List ℕ → Type 0
@@ -67,15 +67,11 @@ all_follow g fields_of MayAdd w whole (r ∷ rs) left h =
 
 -- no field stands where no byte is left
 stuck_at_end : {R : Type 0} (g : Grammar R) (fs : List Field) → IsStuck g fs []
-stuck_at_end g fs f left e m =
-    let there = ap (field_at m.form) e ∙ field-all m.form f.bytes f.value left m.spelled in
-    let none = subst (FieldFound m.form []) there (field-is m.form []) in
-    omega (arith, none.positive, none.within)
+stuck_at_end g fs f left e m = search (rules, field-all, field-is)
 
 -- Fields that are allowed one after the other are the longest valid prefix of what they spell.
 pub fields_longest : {R : Type 0} (g : Grammar R) (fs : List Field) → FollowFrom g (after []) fs [] → IsLongestPrefix g (bytes_of fs) fs []
-fields_longest g fs h =
-    longest_where_stuck g (bytes_of fs) fs [] (record { bytes = sym (append-nil (bytes_of fs)); each = follow-each g [] fs [] h }) (stuck_at_end g fs)
+fields_longest g fs h = search (rules, longest_where_stuck, follow-each, stuck_at_end)
 
 -- So a walk reports of them, and of nothing else.
 pub written_fields : {R X : Type 0} (g : Grammar R) (tell : PlacedField → List X) (fs : List Field) → FollowFrom g (after []) fs []
@@ -106,13 +102,7 @@ number_allowed g place n left form small h = record { form = unsigned; expected 
 -- What fields spell that are allowed one after the other, and after which the grammar may stop, is read so.
 pub fields_read : {R : Type 0} (g : Grammar R) (fs : List Field) → FollowFrom g (after []) fs [] → g.may_stop (cut g fs).whole (cut g fs).begun ≡ true
     → Reading g (bytes_of fs) (cut g fs).whole None
-fields_read g fs h stops = record {
-  fields = fs;
-  after = [];
-  prefix = fields_longest g fs h;
-  made = refl;
-  ends = (refl, stops);
-}
+fields_read g fs h stops = search (rules, fields_longest)
 
 -- What is written is whole and has those records.
 pub records_read : {R : Type 0} (g : Grammar R) (fields_of : List R → R → List Field) (MayAdd : List R → R → Type 0) → Writes g fields_of MayAdd → (rs : List R)

@@ -1,6 +1,6 @@
 -- The composed map answers each question as the second map does of what the first answers.
-use Rattle.std.proofs.Common.{◌≡◌, ℕ, ◌+◌, ◌<◌, ◌≤◌, ◌⊎◌, ◌&&◌, ◌||◌, ◌++◌, ◌≢◌, Bool, true, false, cond, List, [], ◌∷◌, Option, Some, None, refl, sym, ◌∙◌, ap}
-use Rattle.std.{proofs.Common.{arith, inl, inr, map, subst, zero, suc}, specs.Prelude.{nat_eq, is_some, ◌↔◌}, specs.List.{filter_map, find, range_with_len}}
+use Rattle.std.proofs.Common.{rules, ◌≡◌, ℕ, ◌+◌, ◌<◌, ◌≤◌, ◌⊎◌, ◌&&◌, ◌||◌, ◌++◌, ◌≢◌, Bool, true, false, cond, List, [], ◌∷◌, Option, Some, None, refl, sym, ◌∙◌}
+use Rattle.std.{proofs.Common.{ap, arith, inl, inr, map, subst, zero, suc}, specs.Prelude.{nat_eq, is_some, ◌↔◌}, specs.List.{filter_map, find, range_with_len}}
 use Rattle.std.{specs.List.{cons_option, AllByRecursion}, specs.Option.{option_map, option_and_then, option_or}, proofs.lemmas.Bool.{cases_lt, eq-eqb, ne_eqb}}
 use Rattle.std.proofs.lemmas.Bool.{eqb-true, and_parts}
 use Rattle.ppdb_base.specs.Offsets.{every, gone, Moves, Kept, kept_runs, all_offsets}
@@ -27,16 +27,13 @@ given_true false None is = refl
 given_true false (Some x) is = let e : false ≡ true = is refl in absurd (cc)
 
 and_both : (a b : Bool) → (b ≡ true → a ≡ true) → (a && b) ≡ b
-and_both true b is = refl
-and_both false false is = refl
-and_both false true is = is refl
+and_both a b is = search rules
 
 or_left : (a b : Bool) → a ≡ true → (a || b) ≡ true
 or_left a b e = rw e refl
 
 or_right : (a b : Bool) → b ≡ true → (a || b) ≡ true
-or_right true b e = refl
-or_right false b e = e
+or_right a b e = search rules
 
 -- ---- the methods that may be spoken of
 
@@ -59,8 +56,7 @@ pub data Came (f : Map) (m image : ℕ) : Type 0 where
   stayed : image ≡ m → count_of f 0x06 ≡ None → Came f m image
 
 some_mapped : {A B : Type 0} (g : A → B) (o : Option A) (b : B) → option_map g o ≡ Some b → is_some o ≡ true
-some_mapped g None b is = absurd (cc)
-some_mapped g (Some a) b is = refl
+some_mapped g o b is = search rules
 
 pub record CameBy (f : Map) (m image : ℕ) : Type 0 where
   pub live : is_dropped f m ≡ false
@@ -92,8 +88,7 @@ spoken_own f own others m in_own = spoken_has f own others m ∙ or_left (has m 
 -- ---- drops
 
 or_parts : (a b : Bool) → (a || b) ≡ true → (a ≡ true) ⊎ (b ≡ true)
-or_parts true b e = inl refl
-or_parts false b e = inr e
+or_parts a b e = search rules
 
 -- what is true of an image holds of one
 of_some : (says : ℕ → Bool) (o : Option ℕ) → of_image false says o ≡ true → (image : ℕ) × ((o ≡ Some image) × (says image ≡ true))
@@ -114,10 +109,7 @@ pub line_named : (f s : Map) (k : ℕ) (l : MethodLine) → composed_line f s k 
 line_named f s k l is = of (has_image f s k) is
   where
     by : (a b : Option MethodLine) → sized k (composed_runs f s k) a b ≡ Some l → l.method ≡ k
-    by None None is = absurd (cc)
-    by (Some a) None is = cc
-    by None (Some b) is = cc
-    by (Some a) (Some b) is = cc
+    by a b is = search rules
 
     of : (b : Bool) → cond b (sized k (composed_runs f s k) (method_line f k) (second_line f s k)) None ≡ Some l → l.method ≡ k
     of false is = absurd (cc)
@@ -171,8 +163,7 @@ live_image s image some = of (is_dropped s image) some
   where
     of : (b : Bool) → is_some (cond b None (elim (count_of s 0x06) as (λ _. Option ℕ) [ None ↦ Some image | Some count ↦ row_line s 0x06 image ])) ≡ true
         → b ≡ false
-    of false some = refl
-    of true some = absurd (cc)
+    of b some = search rules
 
 module _ (f s : Map) (m image : ℕ) (follows : Follows f s m image) where
   pub there : has_image f s m ≡ true
@@ -230,10 +221,7 @@ module _ (f s : Map) (m image : ℕ) (follows : Follows f s m image) where
     where
       of : (a b : Option MethodLine) → sizes_of (line_offsets (sized m (composed_runs f s m) a b))
           ≡ sizes_then (sizes_of (line_offsets a)) (sizes_of (line_offsets b))
-      of None None = refl
-      of None (Some b) = refl
-      of (Some a) None = refl
-      of (Some a) (Some b) = refl
+      of a b = search rules
 
 -- ---- rows
 
@@ -241,8 +229,7 @@ pub count_named : (f s : Map) (k : ℕ) (c : Count) → count_entry f s k ≡ So
 count_named f s k c is = of (composed_count f s k) is
   where
     of : (o : Option ℕ) → option_map (λ rows. record { table = k; rows = rows }) o ≡ Some c → c.table ≡ k
-    of None is = absurd (cc)
-    of (Some n) is = cc
+    of o is = search rules
 
 counts_there : (f s : Map) (table : ℕ) → count_of (composed f s) table ≡ given (has table tables) (composed_count f s table)
 counts_there f s table =
@@ -250,9 +237,7 @@ counts_there f s table =
     ∙ of (has table tables) (composed_count f s table)
   where
     of : (b : Bool) (o : Option ℕ) → option_map (λ (c : Count). c.rows) (given b (option_map (λ rows. record { table = table; rows = rows }) o)) ≡ given b o
-    of false o = refl
-    of true None = refl
-    of true (Some n) = refl
+    of b o = search rules
 
 -- only tables of the type system have a `rows` line
 abbrev pub TablesKnown : Map → Type 0
@@ -305,8 +290,7 @@ row_of_table table old Missing r is = absurd (cc)
 row_of_table table old (RowOf to new) r is = of (nat_eq to table) is
   where
     of : (b : Bool) → cond b (Some (record { table = table; old = old; new = new })) None ≡ Some r → (r.table ≡ table) × (r.old ≡ old)
-    of false is = absurd (cc)
-    of true is = (cc, cc)
+    of b is = search rules
 
 pub cross_of_table : (table old : ℕ) (image : RowImage) (r : CrossLine) → cross_lined table old image ≡ Some r → (r.table ≡ table) × (r.old ≡ old)
 cross_of_table table old Gone r is = absurd (cc)
@@ -314,13 +298,10 @@ cross_of_table table old Missing r is = absurd (cc)
 cross_of_table table old (RowOf to new) r is = of (nat_eq to table) is
   where
     of : (b : Bool) → cond b None (Some (record { table = table; old = old; to = to; new = new })) ≡ Some r → (r.table ≡ table) × (r.old ≡ old)
-    of true is = absurd (cc)
-    of false is = (cc, cc)
+    of b is = search rules
 
 pub gone_of_table : (table old : ℕ) (image : RowImage) (r : GoneLine) → gone_lined table old image ≡ Some r → (r.table ≡ table) × (r.old ≡ old)
-gone_of_table table old Gone r is = (cc, cc)
-gone_of_table table old Missing r is = absurd (cc)
-gone_of_table table old (RowOf to new) r is = absurd (cc)
+gone_of_table table old image r is = search rules
 
 abbrev pub row_entry : Map → Map → ℕ → ℕ → Option RowLine
 row_entry f s table old = row_lined table old (composed_image f s table old)
@@ -365,9 +346,7 @@ rows_there f s table old =
   where
     of : (a b : Bool) (o : Option RowLine) → option_map (λ (r : RowLine). r.new) (given a (given b o))
         ≡ given a (given b (option_map (λ (r : RowLine). r.new) o))
-    of false b o = refl
-    of true false o = refl
-    of true true o = refl
+    of a b o = search rules
 
 pub crossed_there : (f s : Map) (table old : ℕ)
     → cross_line (composed f s) table old ≡ given (has table tables) (given (has old (sources_of f s table)) (cross_entry f s table old))
@@ -418,18 +397,13 @@ pub image_plain : (m : Map) (table old : ℕ) → (nat_eq table 0x06 && is_dropp
 image_plain m table old live none = ap (λ b. by (row_line m table old) old b (count_of m table)) live ∙ ap (by (row_line m table old) old false) none
 
 pub is_some_map : {A B : Type 0} (g : A → B) (o : Option A) → is_some (option_map g o) ≡ is_some o
-is_some_map g None = refl
-is_some_map g (Some a) = refl
+is_some_map g o = search rules
 
 and_first : (a b c : Bool) → (a && (b || c)) ≡ false → (a && b) ≡ false
-and_first true true c e = e
-and_first true false c e = refl
-and_first false b c e = refl
+and_first a b c e = search rules
 
 and_second : (a b c : Bool) → (a && (b || c)) ≡ false → a ≡ true → c ≡ false
-and_second true true c e is = absurd (cc)
-and_second true false c e is = e
-and_second false b c e is = absurd (cc)
+and_second a b c e is = search rules
 
 -- a dropped row has no image by both
 pub dropped_none : (f s : Map) (table old : ℕ) → (nat_eq table 0x06 && drops_one f s old) ≡ true → composed_image f s table old ≡ Missing
@@ -518,9 +492,7 @@ composed_within f s table old =
     image = composed_image f s table old
 
     given_cond : (a b : Bool) → given a (given b (within table image)) ≡ within table (cond (a && b) image Missing)
-    given_cond false b = refl
-    given_cond true false = refl
-    given_cond true true = refl
+    given_cond a b = search rules
 
     of : (b : Bool) (c : Option ℕ)
         → by (given (has table tables) (given (has old (sources_of f s table)) (within table image))) old b c
@@ -558,8 +530,7 @@ pub slot_named : (f s : Map) (m k : ℕ) (x : SlotImage) → slot_of f s m k ≡
 slot_named f s m k x is = of (composed_slot f s m k) is
   where
     of : (o : Option ℕ) → option_map (λ new. record { method = m; old = k; new = new }) o ≡ Some x → x.old ≡ k
-    of None is = absurd (cc)
-    of (Some n) is = cc
+    of o is = search rules
 
 abbrev pub slot_olds : List SlotImage → List ℕ
 slot_olds xs = map (λ (x : SlotImage). x.old) xs
@@ -576,10 +547,7 @@ slots_there f s m old =
   where
     of : (a b : Bool) (o : Option ℕ) → option_map (λ (x : SlotImage). x.new)
         (given a (given b (option_map (λ new. record { method = m; old = old; new = new }) o))) ≡ given a (given b o)
-    of false b o = refl
-    of true false o = refl
-    of true true None = refl
-    of true true (Some n) = refl
+    of a b o = search rules
 
 -- a slot with an image has a line, where its method has lines
 slot_lined : (m : Map) (method old : ℕ) → has_slots m method ≡ true → is_some (slot_image m method old) ≡ true → has old (slot_olds (slots_of m method)) ≡ true
@@ -623,8 +591,7 @@ module _ (f s : Map) (m image : ℕ) (follows : Follows f s m image) where
       some_first some = by (slot_image f m old) some
         where
           by : (o : Option ℕ) → is_some (option_and_then (λ slot. of_image None (λ i. slot_image s i slot) (row_within f 0x06 m)) o) ≡ true → is_some o ≡ true
-          by None some = some
-          by (Some n) some = refl
+          by o some = search rules
 
       of : (a b : Bool) → has_slots f m ≡ a → has_slots s image ≡ b
           → cond (a || b) (given (a || b) (given (has old (slot_olds (slot_sources f s m))) (composed_slot f s m old))) (Some old)
@@ -644,8 +611,7 @@ pub signature_named : (f s : Map) (k : ℕ) (x : SignatureImage) → signature_e
 signature_named f s k x is = of (composed_signature f s k) is
   where
     of : (o : Option ℕ) → option_map (λ new. record { method = k; new = new }) o ≡ Some x → x.method ≡ k
-    of None is = absurd (cc)
-    of (Some n) is = cc
+    of o is = search rules
 
 pub signatures_are : (f s : Map) (m : ℕ) → signature_line (composed f s) m ≡ composed_signature f s m
 signatures_are f s m =
@@ -656,9 +622,7 @@ signatures_are f s m =
   where
     new_of : (b : Bool) (o : Option ℕ) → option_map (λ (x : SignatureImage). x.new) (given b (option_map (λ new. record { method = m; new = new }) o))
         ≡ given b o
-    new_of false o = refl
-    new_of true None = refl
-    new_of true (Some n) = refl
+    new_of b o = search rules
 
     by : (image : ℕ) → row_within f 0x06 m ≡ Some image → (o : Option ℕ) → signature_line f m ≡ o → is_some (signature_then s image o) ≡ true
         → has m (spoken_of f (signed f) (signed s)) ≡ true

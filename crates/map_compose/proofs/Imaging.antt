@@ -1,6 +1,6 @@
 -- The image of a row, and what a second map makes of it.
-use Rattle.std.{proofs.Common.{ℕ, ◌≡◌, ◌&&◌, ◌||◌, Bool, true, false, cond, Option, Some, None, refl, sym, ap, ◌∙◌, subst, arith, inl, inr}, specs.Prelude.{not}}
-use Rattle.std.{specs.Prelude.{nat_eq, is_some}, specs.Option.{option_map, option_and_then}, proofs.lemmas.Bool.{false≢true, eq-eqb, ne_eqb, eqb-true}}
+use Rattle.std.proofs.Common.{rules, ℕ, ◌≡◌, ◌&&◌, ◌||◌, Bool, true, false, cond, Option, Some, None, refl, sym, ap, ◌∙◌, subst, arith, inl, inr}
+use Rattle.std.{specs.Prelude.{not, nat_eq, is_some}, specs.Option.{option_map, option_and_then}, proofs.lemmas.Bool.{false≢true, eq-eqb, ne_eqb, eqb-true}}
 use Rattle.ppdb_maps.specs.declared.{entries.RowLine.{RowLine}, entries.CrossLine.{CrossLine}, image.RowImage.{RowImage}, image.RowImage.TheVariants.{Row, Gone}}
 use Rattle.ppdb_maps.specs.{declared.image.RowImage.TheVariants.{Missing}, Forms.{Crosses}, Map.{Map, count_of, row_line, cross_line, has_gone_line, told_image}}
 use Rattle.ppdb_maps.specs.{Map.{line_image, row_within, row_image, is_dropped}, Readable.{IsReadable, IsRow}}
@@ -28,8 +28,7 @@ within_lined table old Missing = refl
 within_lined table old (Row to new) = of (nat_eq to table)
   where
     of : (b : Bool) → option_map (λ (r : RowLine). r.new) (cond b (Some (record { table = table; old = old; new = new })) None) ≡ cond b (Some new) None
-    of true = refl
-    of false = refl
+    of b = search rules
 
 -- by its lines an image is itself
 pub told_lined : (table old : ℕ) (image : RowImage)
@@ -62,10 +61,7 @@ lineless m table old n count is =
     ∙ by_drop (nat_eq table 0x06 && is_dropped m old) ∙ of (row_line m table old) (cross_line m table old) (has_gone_line m table old) is
   where
     of : (a : Option ℕ) (b : Option CrossLine) (c : Bool) → (is_some a || (is_some b || c)) ≡ false → told_image table a b c ≡ Missing
-    of (Some x) b c is = absurd (false≢true (sym is))
-    of None (Some l) c is = absurd (false≢true (sym is))
-    of None None true is = absurd (false≢true (sym is))
-    of None None false is = refl
+    of a b c is = search rules
 
     by_drop : (b : Bool) → cond b Missing (line_image m table old) ≡ line_image m table old
     by_drop true = sym (of (row_line m table old) (cross_line m table old) (has_gone_line m table old) is)
@@ -139,8 +135,7 @@ crossing line table crosses at = elim crosses [
 ]
   where
     right : (a b : Bool) → b ≡ true → (a || b) ≡ true
-    right true b is = refl
-    right false b is = is
+    right a b is = search rules
 
 own_other : (table : ℕ) (image : RowImage) → may_cross table ≡ false → own_assembly table image ≡ image
 own_other table Gone is = refl
@@ -149,10 +144,7 @@ own_other table (Row to row) is =
     ap (λ b. cond (b && (nat_eq to 0x20 && not (nat_eq row 1))) Missing (Row to row)) (last (nat_eq table 0x01) (nat_eq table 0x02) (nat_eq table 0x1b) _ is)
   where
     last : (a b c d : Bool) → (a || (b || (c || d))) ≡ false → d ≡ false
-    last true b c d is = absurd (false≢true (sym is))
-    last false true c d is = absurd (false≢true (sym is))
-    last false false true d is = absurd (false≢true (sym is))
-    last false false false d is = is
+    last a b c d is = search rules
 
 pub image_kept : (f s : Map) → IsReadable f → IsReadable s → (table old : ℕ) → may_cross table ≡ false
     → within table (composed_image f s table old) ≡ option_and_then (row_within s table) (row_within f table old)

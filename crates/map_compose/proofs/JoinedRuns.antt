@@ -1,5 +1,5 @@
 -- Runs that come one after the other, joined as they come.
-use Rattle.std.proofs.Common.{◌≡◌, ◌+◌, ◌++◌, ◌&&◌, Bool, true, false, cond, List, [], ◌∷◌, Option, Some, None, refl, sym, ◌∙◌, ap, arith, subst, map}
+use Rattle.std.proofs.Common.{rules, ◌≡◌, ◌+◌, ◌++◌, ◌&&◌, Bool, true, false, cond, List, [], ◌∷◌, Option, Some, None, refl, sym, ◌∙◌, ap, arith, subst, map}
 use Rattle.std.{specs.Prelude.{nat_eq, option_to_list}, proofs.lemmas.Bool.{eqb-true, and_parts}, proofs.lemmas.List.{append_assoc, append-nil, map-append}}
 use Rattle.ppdb_base.specs.{declared.offsets.Run.{Run}, Offsets.{end_of, new_end_of}}
 use Rattle.ppdb_maps.specs.declared.line.Line.TheVariants.{Kept}
@@ -46,8 +46,7 @@ before_behind x (p ∷ []) r = of (goes_on x p) (goes_on p r) refl refl
 before_behind x (p ∷ q ∷ ps) r = of (goes_on x p)
   where
     of : (a : Bool) → cond a (both x p ∷ behind (q ∷ ps) r) (x ∷ p ∷ behind (q ∷ ps) r) ≡ behind (cond a (both x p ∷ q ∷ ps) (x ∷ p ∷ q ∷ ps)) r
-    of true = refl
-    of false = refl
+    of a = search rules
 
 pub longest_last : (xs : List Run) (r : Run) → longest (xs ++ r ∷ []) ≡ behind (longest xs) r
 longest_last [] r = refl

@@ -1,5 +1,5 @@
 -- What two rewritings keep of a method's offsets, one after the other.
-use Rattle.std.proofs.Common.{◌≡◌, ℕ, ◌+◌, ◌-◌, ◌<◌, ◌≤◌, ◌⊎◌, ◌++◌, Bool, true, false, cond, List, [], ◌∷◌, Option, Some, None, refl, arith, inl, inr}
+use Rattle.std.proofs.Common.{rules, ◌≡◌, ℕ, ◌+◌, ◌-◌, ◌<◌, ◌≤◌, ◌⊎◌, ◌++◌, Bool, true, false, cond, List, [], ◌∷◌, Option, Some, None, refl, arith, inl, inr}
 use Rattle.std.{specs.Prelude.{min, max, nat_lt}, specs.List.{filter_map, cons_option}, proofs.Math.Nat.{le-max_left, le-max_right, min-le_left, min-le_right}}
 use Rattle.std.proofs.lemmas.Bool.{cases_lt, lt-ltb, eqb-true, and_parts}
 use Rattle.ppdb_base.{specs.declared.offsets.Run.{Run}, specs.Offsets.{Takes, Moves, end_of, new_end_of}, proofs.Moved.{moves_left, moves_right}}
@@ -80,13 +80,11 @@ move_meets r [] x y z t m = absurd m
 move_meets r (q ∷ qs) x y z t (inr m) = skip (meet r q) (move_meets r qs x y z t m)
   where
     skip : (o : Option Run) → Moves (filter_map (meet r) qs) x z → Moves (cons_option o (filter_map (meet r) qs)) x z
-    skip None m = m
-    skip (Some p) m = inr m
+    skip o m = search rules
 move_meets r (q ∷ qs) x y z t (inl u) = here (meet r q) (takes_meet r q x z (record { y = y; first = t; second = u }))
   where
     here : (o : Option Run) → Gives o x z → Moves (cons_option o (filter_map (meet r) qs)) x z
-    here None none = absurd none
-    here (Some p) t = inl t
+    here o none = search rules
 
 -- ---- runs and runs
 

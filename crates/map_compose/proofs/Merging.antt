@@ -1,6 +1,6 @@
 -- Two lists of numbers that ascend, merged: what is left after the least of their first numbers.
-use Rattle.std.proofs.Common.{ℕ, zero, suc, ◌≡◌, ◌+◌, ◌<◌, ◌≤◌, ◌⊎◌, ◌++◌, ◌||◌, Bool, true, false, cond, List, [], ◌∷◌, length, drop, refl, sym, ap, ◌∙◌, arith}
-use Rattle.std.{proofs.Common.{subst, inl, inr, Some, None}, specs.Prelude.{nat_eq, is_some}, specs.List.{AllByRecursion, slice_get}}
+use Rattle.std.proofs.Common.{rules, ℕ, zero, suc, ◌≡◌, ◌+◌, ◌<◌, ◌≤◌, ◌⊎◌, ◌++◌, ◌||◌, Bool, true, false, cond, List, [], ◌∷◌, length, drop, refl, sym, ap, ◌∙◌}
+use Rattle.std.{proofs.Common.{arith, subst, inl, inr, Some, None}, specs.Prelude.{nat_eq, is_some}, specs.List.{AllByRecursion, slice_get}}
 use Rattle.std.{specs.List.Sorted.{IsStrictlySortedBy}, specs.Ordering.{nat_cmp}, specs.declared.cmp.Ordering.TheVariants.{Less}, proofs.lemmas.Bool.{eq-eqb}}
 use Rattle.std.proofs.lemmas.Bool.{ne_eqb, eqb-true, false≢true}
 use Rattle.ppdb_maps.{specs.Map.{Map, count_of}, specs.Readable.{IsReadable, IsRow}, proofs.OneMap.{same_or_apart}}
@@ -81,11 +81,7 @@ other_first x y xs ys h up also = first_of y ((x ∷ xs) ++ y ∷ ys) ((x ∷ xs
     ∙ ap (λ t. nat_eq n y || (nat_eq n x || t)) (sym (has_append n xs ys)))
   where
     of : (a b c d : Bool) → (a || (b || (c || d))) ≡ (c || (a || (b || d)))
-    of true b true d = refl
-    of true b false d = refl
-    of false true true d = refl
-    of false true false d = refl
-    of false false c d = refl
+    of a b c d = search rules
 
 both_first : (x : ℕ) (xs ys : List ℕ) → Up (x ∷ xs) → Up (x ∷ ys) → ascending ((x ∷ xs) ++ x ∷ ys) ≡ x ∷ ascending (xs ++ ys)
 unfolding IsStrictlySortedBy
@@ -93,8 +89,7 @@ both_first x xs ys up also = first_of x ((x ∷ xs) ++ x ∷ ys) (xs ++ ys) (abo
     (λ n. ap (λ t. nat_eq n x || t) (has_append n xs (x ∷ ys)) ∙ of (nat_eq n x) (has n xs) (has n ys) ∙ ap (λ t. nat_eq n x || t) (sym (has_append n xs ys)))
   where
     of : (a b c : Bool) → (a || (b || (a || c))) ≡ (a || (b || c))
-    of true b c = refl
-    of false b c = refl
+    of a b c = search rules
 
 only_own : (x : ℕ) (xs : List ℕ) → Up (x ∷ xs) → ascending ((x ∷ xs) ++ []) ≡ x ∷ ascending (xs ++ [])
 unfolding IsStrictlySortedBy
@@ -155,10 +150,7 @@ module _ (xs ys : List ℕ) (up : Up xs) (also : Up ys) (i j : ℕ) where
 -- ---- of a part
 
 pub part_up : (part : Part) (m : Map) → IsReadable m → Up (part_numbers part m)
-part_up Drops m readable = readable.ascends.drops
-part_up Slots m readable = readable.ascends.slotted
-part_up Signatures m readable = readable.ascends.signatures
-part_up Methods m readable = readable.ascends.methods
+part_up part m readable = search rules
 
 part_rows : (part : Part) (m : Map) → IsReadable m → AllByRecursion IsRow (part_numbers part m)
 part_rows Drops m readable = readable.drops

@@ -1,5 +1,5 @@
 -- The names of documents and the value of Source Link records in the map of two maps.
-use Rattle.std.proofs.Common.{ℕ, ◌≡◌, ◌≤◌, ◌+◌, ◌||◌, ◌++◌, Bool, true, false, cond, List, [], ◌∷◌, Option, Some, None, length, map, refl, sym, ap, ◌∙◌, arith}
+use Rattle.std.proofs.Common.{rules, ℕ, ◌≡◌, ◌≤◌, ◌+◌, ◌||◌, ◌++◌, Bool, true, false, cond, List, [], ◌∷◌, Option, Some, length, map, refl, sym, ap, ◌∙◌, arith}
 use Rattle.std.specs.{Prelude.{is_some, unwrap_or, IfSome}, Str.{bytes_eq}, List.{AllByRecursion, find, slice_get}, Option.{option_map, option_or}}
 use Rattle.std.specs.{Ordering.{match_ordering}, declared.cmp.Ordering.{Ordering}, declared.cmp.Ordering.TheVariants.{Less, Equal, Greater}}
 use Rattle.std.proofs.lemmas.List.{length-map, length-append}
@@ -11,8 +11,7 @@ use Rattle.map_compose.{specs.Names.{names_ascending}, specs.Says.{has_names}, p
 -- ---- what the map answers
 
 line_some : (o : Option NameLine) → is_some (option_map (λ (d : NameLine). d.new) o) ≡ is_some o
-line_some None = refl
-line_some (Some d) = refl
+line_some o = search rules
 
 pub has_line : (m : Map) (name : List ℕ) → has name (named m) ≡ is_some (document_line m name)
 has_line m name = has_key (λ (d : NameLine). d.old) name m.documents ∙ sym (line_some (find (λ (d : NameLine). bytes_eq d.old name) m.documents))
@@ -28,8 +27,7 @@ stays : (m : Map) (name : List ℕ) → has name (named m) ≡ false → moved_n
 stays m name none = of (document_line m name) (sym (has_line m name) ∙ none)
   where
     of : (o : Option (List ℕ)) → is_some o ≡ false → unwrap_or o name ≡ name
-    of None is = refl
-    of (Some new) is = absurd (cc)
+    of o is = search rules
 
 pub named_are : (f s : Map) (name : List ℕ)
     → is_some (document_line (composed f s) name) ≡ (is_some (document_line f name) || is_some (document_line s name))
@@ -38,8 +36,7 @@ named_are f s name =
     ∙ ap (λ b. b || has name (named s)) (has_line f name) ∙ ap (λ b. is_some (document_line f name) || b) (has_line s name)
   where
     of : (b : Bool) → is_some (option_map (λ (d : NameLine). d.new) (given b (Some (document_entry f s name)))) ≡ b
-    of true = refl
-    of false = refl
+    of b = search rules
 
 pub names_are : (f s : Map) (name : List ℕ) → moved_name (composed f s) name ≡ moved_name s (moved_name f name)
 names_are f s name =
@@ -65,8 +62,7 @@ module _ (P : List ℕ → Type 0) where
     where
       of : (b : Bool) → P (unwrap_or (option_map (λ (d : NameLine). d.new) (find (λ (d : NameLine). bytes_eq d.old name) ds)) name)
           → P (unwrap_or (option_map (λ (d : NameLine). d.new) (cond b (Some d) (find (λ (d : NameLine). bytes_eq d.old name) ds))) name)
-      of true rest = all.0.1
-      of false rest = rest
+      of b rest = search rules
 
   pub olds_hold : (ds : List NameLine) → AllByRecursion BothHold ds → AllByRecursion P (map (λ (d : NameLine). d.old) ds)
   olds_hold [] all = tt
@@ -90,8 +86,7 @@ module _ (P : List ℕ → Type 0) where
   link_holds f s a b = of f.link s.link a b
     where
       of : (x y : Option (List ℕ)) → IfSome x P → IfSome y P → IfSome (option_or y x) P
-      of x None a b = a
-      of x (Some value) a b = b
+      of x y a b = search rules
 
 -- their OLDs
 pub olds_are : (f s : Map) (ns : List (List ℕ)) → map (λ (d : NameLine). d.old) (map (document_entry f s) ns) ≡ ns
@@ -135,17 +130,14 @@ composed_fits f s a b = record {
 
 -- a list has an item where it has a first one
 pub items_first : {X : Type 0} (xs : List X) → has_items xs ≡ is_some (slice_get xs 0)
-items_first [] = refl
-items_first (x ∷ xs) = refl
+items_first xs = search rules
 
 put_some : (n : List ℕ) (ns : List (List ℕ)) → is_some (slice_get (put_name n ns) 0) ≡ true
 put_some n [] = refl
 put_some n (m ∷ ms) = of (name_cmp n m)
   where
     of : (o : Ordering) → is_some (slice_get (match_ordering o (n ∷ m ∷ ms) (m ∷ ms) (m ∷ put_name n ms)) 0) ≡ true
-    of Less = refl
-    of Equal = refl
-    of Greater = refl
+    of o = search rules
 
 mapped_some : {X Y : Type 0} (g : X → Y) (xs : List X) → is_some (slice_get (map g xs) 0) ≡ is_some (slice_get xs 0)
 mapped_some g [] = refl
@@ -165,10 +157,7 @@ both_named f s =
     ∙ ap (λ b. has_items (composed f s).documents || (b || (f.shares || s.shares))) (of f.link s.link)
   where
     of : (x y : Option (List ℕ)) → (is_some x || is_some y) ≡ is_some (option_or y x)
-    of None None = refl
-    of None (Some v) = refl
-    of (Some u) None = refl
-    of (Some u) (Some v) = refl
+    of x y = search rules
 
     documents : has_items (composed f s).documents ≡ (is_some (slice_get f.documents 0) || is_some (slice_get s.documents 0))
     documents =
@@ -178,8 +167,7 @@ both_named f s =
         ∙ ap (λ t. is_some (slice_get f.documents 0) || t) (mapped_some (λ (x : NameLine). x.old) s.documents)
 
     or_true : (a : Bool) → (a || true) ≡ true
-    or_true true = refl
-    or_true false = refl
+    or_true a = search rules
 
     turned : (a b c x y z : Bool) → ((a || (b || c)) || (x || (y || z))) ≡ ((a || x) || ((b || y) || (c || z)))
     turned true b c x y z = refl

@@ -1,5 +1,5 @@
 -- Names in the order of their bytes: what is found among them, and two lists of them merged.
-use Rattle.std.proofs.Common.{ℕ, zero, suc, ◌≡◌, ◌+◌, ◌++◌, ◌||◌, Bool, true, false, cond, List, [], ◌∷◌, Some, None, drop, map, refl, sym, ap, ◌∙◌, subst}
+use Rattle.std.proofs.Common.{rules, ℕ, zero, suc, ◌≡◌, ◌+◌, ◌++◌, ◌||◌, Bool, true, false, cond, List, [], ◌∷◌, Some, None, drop, map, refl, sym, ap, ◌∙◌, subst}
 use Rattle.std.specs.{Prelude.{is_some}, Str.{bytes_eq}, List.{AllByRecursion, find, list_any, slice_get}, List.Sorted.{IsStrictlySortedBy}}
 use Rattle.std.specs.{Ordering.{match_ordering, ordering_reverse, is_eq}, declared.cmp.Ordering.{Ordering}, declared.cmp.Ordering.TheVariants.{Less, Equal, Greater}}
 use Rattle.std.proofs.lemmas.{Cmp.{tied_itself, nat_list_cmp_total}, Map.Text.{is_eq-slice_cmp}, Slice.Eq.{bytes_eq-Decides}}
@@ -43,9 +43,7 @@ put_above n m [] less all = (less, tt)
 put_above n m (k ∷ ks) less all = of (name_cmp m k) (put_above n m ks less all.1)
   where
     of : (o : Ordering) → Above n (put_name m ks) → Above n (match_ordering o (m ∷ k ∷ ks) (k ∷ ks) (k ∷ put_name m ks))
-    of Less rest = (less, all)
-    of Equal rest = all
-    of Greater rest = (all.0, rest)
+    of o rest = search rules
 
 put_up : (n : List ℕ) (ns : List (List ℕ)) → Up ns → Up (put_name n ns)
 unfolding IsStrictlySortedBy
@@ -67,9 +65,7 @@ put_hold P n [] one all = (one, tt)
 put_hold P n (k ∷ ks) one all = of (name_cmp n k) (put_hold P n ks one all.1)
   where
     of : (o : Ordering) → AllByRecursion P (put_name n ks) → AllByRecursion P (match_ordering o (n ∷ k ∷ ks) (k ∷ ks) (k ∷ put_name n ks))
-    of Less rest = (one, all)
-    of Equal rest = all
-    of Greater rest = (all.0, rest)
+    of o rest = search rules
 
 pub ascending_hold : (P : List ℕ → Type 0) (ns : List (List ℕ)) → AllByRecursion P ns → AllByRecursion P (names_ascending ns)
 ascending_hold P [] all = tt
@@ -85,21 +81,17 @@ has_append n [] ys = refl
 has_append n (x ∷ xs) ys = step (bytes_eq x n) (has_append n xs ys)
   where
     step : (b : Bool) → has n (xs ++ ys) ≡ (has n xs || has n ys) → (b || has n (xs ++ ys)) ≡ ((b || has n xs) || has n ys)
-    step true rest = refl
-    step false rest = rest
+    step b rest = search rules
 
 has_put : (n k : List ℕ) (ms : List (List ℕ)) → has n (put_name k ms) ≡ (bytes_eq k n || has n ms)
 has_put n k [] = refl
 has_put n k (m ∷ ms) = of (name_cmp k m) refl (has_put n k ms)
   where
     again : (a b : Bool) → (a || b) ≡ (a || (a || b))
-    again true b = refl
-    again false b = refl
+    again a b = search rules
 
     swap : (a b c : Bool) → (a || (b || c)) ≡ (b || (a || c))
-    swap true true c = refl
-    swap true false c = refl
-    swap false b c = refl
+    swap a b c = search rules
 
     of : (o : Ordering) → name_cmp k m ≡ o → has n (put_name k ms) ≡ (bytes_eq k n || has n ms)
         → has n (match_ordering o (k ∷ m ∷ ms) (m ∷ ms) (m ∷ put_name k ms)) ≡ (bytes_eq k n || (bytes_eq m n || has n ms))
@@ -119,8 +111,7 @@ has_key {X} key n (x ∷ xs) = step (bytes_eq (key x) n) (has_key key n xs)
   where
     step : (b : Bool) → has n (map key xs) ≡ is_some (find (λ y. bytes_eq (key y) n) xs)
         → (b || has n (map key xs)) ≡ is_some (cond b (Some x) (find (λ y. bytes_eq (key y) n) xs))
-    step true rest = refl
-    step false rest = rest
+    step b rest = search rules
 
 -- by name, in what is made of names
 pub made_found : {X : Type 0} (key : X → List ℕ) (make : List ℕ → X) → ((k : List ℕ) → key (make k) ≡ k) → (n : List ℕ) (ns : List (List ℕ))

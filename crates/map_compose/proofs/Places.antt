@@ -1,6 +1,6 @@
 -- Where the runs of each method stand in one list, and that they are found there.
-use Rattle.std.proofs.Common.{ℕ, ◌≡◌, ◌+◌, ◌-◌, ◌≤◌, ◌++◌, Bool, true, false, cond, List, [], ◌∷◌, length, take, drop, map, refl, sym, ap, ◌∙◌, arith, subst, Option}
-use Rattle.std.{proofs.Common.{Some, None, inl, inr, length-append}, specs.Prelude.{nat_eq, nat_lt}, specs.List.{flat_map, find, slice_get, AllByRecursion}}
+use Rattle.std.proofs.Common.{rules, ℕ, ◌≡◌, ◌+◌, ◌-◌, ◌≤◌, ◌++◌, Bool, true, false, cond, List, [], ◌∷◌, length, take, drop, map, refl, sym, ap, ◌∙◌, arith, subst}
+use Rattle.std.{proofs.Common.{Option, Some, None, inl, inr, length-append}, specs.Prelude.{nat_eq, nat_lt}, specs.List.{flat_map, find, slice_get, AllByRecursion}}
 use Rattle.std.specs.{Option.{option_map, option_copied}, List.Sorted.{IsStrictlySortedBy, IsPartitionedBy, IsPartitionPoint}, Ordering.{nat_cmp}}
 use Rattle.std.{proofs.lemmas.Bool.{eqb-true, eq-eqb}, proofs.lemmas.Cmp.{nat_cmp_total}, proofs.lemmas.List.{append_assoc, append-nil}, specs.Borrow.{Bor}}
 use Rattle.std.specs.Slice.{IsItemAt, IsGetRangeResult}
@@ -182,15 +182,13 @@ not_placed method from (l ∷ ls) is = of (nat_eq l.method method) is (not_place
         → (find (λ (j : JoinedLine). nat_eq j.method method) (places (from + length (long l)) ls) ≡ None
         → find (λ (l : MethodLine). nat_eq l.method method) ls ≡ None)
         → cond b (Some l) (find (λ (l : MethodLine). nat_eq l.method method) ls) ≡ None
-    of true is rest = absurd (cc)
-    of false is rest = rest is
+    of b is rest = search rules
 
 pub lines_past : (lines : List MethodLine) (i : ℕ) → option_map (λ (l : MethodLine). l.method) (slice_get lines i) ≡ None → take i lines ≡ lines
 lines_past lines i is = take_past lines i (of (slice_get lines i) is)
   where
     of : (o : Option MethodLine) → option_map number o ≡ None → o ≡ None
-    of None is = refl
-    of (Some l) is = absurd (cc)
+    of o is = search rules
 
 -- ---- by halving
 

@@ -1,6 +1,6 @@
 -- What is put one after the other is put as one text, and texts of lines.
-use Rattle.std.proofs.Common.{ℕ, zero, suc, ◌≡◌, ◌+◌, ◌<◌, ◌≤◌, ◌++◌, Bool, true, false, cond, List, [], ◌∷◌, length, map, take, drop, refl, sym, ap, ◌∙◌, arith}
-use Rattle.std.{proofs.Common.{add-one, subst, Some, None, Result, Ok, Err, OnOk}, specs.List.{flat_map, range_with_len, slice_get}, specs.Prelude.{slice_index_or}}
+use Rattle.std.proofs.Common.{rules, ℕ, zero, suc, ◌≡◌, ◌+◌, ◌<◌, ◌≤◌, ◌++◌, Bool, true, false, cond, List, [], ◌∷◌, length, map, take, drop, refl, sym, ap, ◌∙◌}
+use Rattle.std.{proofs.Common.{arith, add-one, subst, Some, None, Result, OnOk}, specs.List.{flat_map, range_with_len, slice_get}, specs.Prelude.{slice_index_or}}
 use Rattle.std.proofs.lemmas.List.{append_assoc, append-nil, map-append}
 use Rattle.ppdb_maps.specs.{declared.line.Line.{Line}, declared.line.Line.TheVariants.{Document}, Map.{Map}}
 use Rattle.ppdb_maps_text.{specs.declared.counted.Counted.{Counted}, specs.MapTexts.{ended, line_text}, specs.Putting.{Puts}, proofs.Putting.{puts_then}}
@@ -90,8 +90,7 @@ map_done says old new xs i le h = says_same old new _ _ (ap (map says) (take_ove
 -- ---- results
 
 pub ok_then : {T E P Q : Type 0} (r : Result T E) → (P → Q) → OnOk r P → OnOk r Q
-ok_then (Ok v) g h = g h
-ok_then (Err e) g h = tt
+ok_then r g h = search rules
 
 -- ---- lines that are there where a test holds
 

@@ -1,6 +1,6 @@
 -- The map of two readable maps whose sizes agree is readable.
-use Rattle.std.proofs.Common.{◌≡◌, ℕ, ◌+◌, ◌<◌, ◌≤◌, ◌&&◌, ◌||◌, ◌++◌, Bool, true, false, cond, List, [], ◌∷◌, Option, Some, None, refl, sym, ◌∙◌, ap, arith, inl}
-use Rattle.std.{proofs.Common.{inr, map, subst, zero, suc}, specs.Prelude.{not, nat_eq, nat_lt, is_some, min, max, unwrap_or}, specs.List.{filter, filter_map}}
+use Rattle.std.proofs.Common.{rules, ◌≡◌, ℕ, ◌+◌, ◌<◌, ◌≤◌, ◌&&◌, ◌||◌, ◌++◌, Bool, true, false, cond, List, [], ◌∷◌, Option, Some, None, refl, sym, ◌∙◌, ap, arith}
+use Rattle.std.{proofs.Common.{inl, inr, map, subst, zero, suc}, specs.Prelude.{not, nat_eq, nat_lt, is_some, min, max, unwrap_or}, specs.List.{filter, filter_map}}
 use Rattle.std.specs.{List.{flat_map, find, range_with_len, cons_option, AllByRecursion}, Option.{option_map, option_and_then, option_or}}
 use Rattle.std.{proofs.lemmas.Bool.{cases_lt, lt-ltb, eq-eqb, eqb-true, and_parts, false≢true}, specs.List.Sorted.{IsStrictlySortedBy}}
 use Rattle.ppdb_base.specs.{declared.offsets.Run.{Run}, Offsets.{every, gone, lined, Rise, RiseFrom, kept_runs, all_offsets, end_of, new_end_of}}
@@ -21,8 +21,8 @@ use Rattle.map_compose.proofs.Equations.{tables_known, line_named, count_named, 
 use Rattle.map_compose.proofs.Equations.{gone_of_table, row_entry, cross_entry, gone_entry, rows_there, crossed_there, slot_named, signature_named, olds, numbers}
 use Rattle.map_compose.proofs.{Equations.{came_by, live_image}, Named.{entries_hold, link_holds, olds_are}, Names.{ascending_up as names_up}}
 use Rattle.ppdb_maps_text.{specs.Ascending.{put_once, ascending}, specs.MapTexts.{map_text, olds_of}, proofs.Reading.{texts_are_read}, proofs.Found.{given, has}}
-use Rattle.ppdb_maps_text.proofs.{OneLine.{OneLine, by_row, by_cross, by_gone, one_line, methods_stay}, Starting.{olds_have, olds_up, all_has, line_counted}}
-use Rattle.ppdb_maps_text.proofs.Orders.{Up, ascending_up, range_up, made_up, filter_up, flat_pairs, key_up}
+use Rattle.ppdb_maps_text.proofs.{OneLine.{OneLine, one_line, methods_stay}, Starting.{olds_have, olds_up, all_has, line_counted}, Orders.{Up, ascending_up}}
+use Rattle.ppdb_maps_text.proofs.Orders.{range_up, made_up, filter_up, flat_pairs, key_up}
 
 -- ---- each item of a list
 
@@ -76,17 +76,14 @@ all_there (n ∷ ns) = (ap (λ b. b || has n ns) (eq-eqb n n refl), weaker ns (a
     weaker (k ∷ ks) all = (of (nat_eq k n) all.0, weaker ks all.1)
       where
         of : (b : Bool) → has k ns ≡ true → (b || has k ns) ≡ true
-        of true h = refl
-        of false h = h
+        of b h = search rules
 
 put_hold : (P : ℕ → Type 0) (n : ℕ) (ns : List ℕ) → P n → AllByRecursion P ns → AllByRecursion P (put_once n ns)
 put_hold P n [] h all = (h, tt)
 put_hold P n (m ∷ ms) h all = of (nat_lt n m) (nat_eq n m) (put_hold P n ms h all.1)
   where
     of : (a b : Bool) → AllByRecursion P (put_once n ms) → AllByRecursion P (cond a (n ∷ m ∷ ms) (cond b (m ∷ ms) (m ∷ put_once n ms)))
-    of true b rest = (h, all)
-    of false true rest = all
-    of false false rest = (all.0, rest)
+    of a b rest = search rules
 
 pub ascending_hold : (P : ℕ → Type 0) (ns : List ℕ) → AllByRecursion P ns → AllByRecursion P (ascending ns)
 ascending_hold P [] all = tt
@@ -154,9 +151,7 @@ module _ (m : Map) (readable : IsReadable m) where
       (λ o there. let lined = sym (olds_have m table o) ∙ there in (of table o (one_line m readable table o lined), line_counted m readable table o lined))
     where
       of : (t o : ℕ) → OneLine m t o → IsRow o
-      of _ _ (by_row line holds row cross none) = holds.0
-      of _ _ (by_cross line holds some row cross none) = holds.0
-      of _ _ (by_gone line holds some row cross ends) = holds.0
+      of t o is = search rules
 
   -- and so is that of a number that may be 0 for no row, or it is 0
   image_or_none : (table old : ℕ) → old ≤ MAX_ROWS → moved_row m table old ≤ MAX_ROWS
@@ -278,8 +273,7 @@ own_is table Missing to new is = absurd (cc)
 own_is table (RowOf t row) to new is = of (nat_eq table 0x23 && (nat_eq t 0x20 && not (nat_eq row 1))) is
   where
     of : (b : Bool) → cond b Missing (RowOf t row) ≡ RowOf to new → RowOf t row ≡ RowOf to new
-    of true is = absurd (cc)
-    of false is = is
+    of b is = search rules
 
 own_gone : (table : ℕ) (image : RowImage) → own_assembly table image ≡ Gone → image ≡ Gone
 own_gone table Gone is = refl
@@ -287,8 +281,7 @@ own_gone table Missing is = absurd (cc)
 own_gone table (RowOf t row) is = of (nat_eq table 0x23 && (nat_eq t 0x20 && not (nat_eq row 1))) is
   where
     of : (b : Bool) → cond b Missing (RowOf t row) ≡ Gone → RowOf t row ≡ Gone
-    of true is = absurd (cc)
-    of false is = is
+    of b is = search rules
 
 assembly_one : (table to new : ℕ) → table ≡ 0x23 → to ≡ 0x20 → own_assembly table (RowOf to new) ≡ RowOf to new → new ≡ 1
 assembly_one table to new own there is = of (nat_eq new 1) refl
@@ -333,8 +326,7 @@ module _ (f s : Map) (f_readable : IsReadable f) (s_readable : IsReadable s) whe
       all m some (o ∷ os) h = ((h.0.0, some h.0.1), all m some os h.1)
 
       by : (o : Option ℕ) (n : ℕ) → is_some (option_or o (Some n)) ≡ true
-      by None n = refl
-      by (Some k) n = refl
+      by o n = search rules
 
       of : (a b : Option ℕ) → count_of f table ≡ a → count_of s table ≡ b
           → AllByRecursion (λ o. IsRow o × (is_some (composed_count f s table) ≡ true)) (sources a b f s table)
@@ -423,10 +415,7 @@ module _ (f s : Map) (f_readable : IsReadable f) (s_readable : IsReadable s) whe
       first (row_image f 0x06 old) (reaches f f_readable 0x06 old) (own_gone 0x06 (image_then s (row_image f 0x06 old)) is)
     where
       then_gone : (row : ℕ) (image : RowImage) → Reaches s 0x06 row image → image ≡ Gone → ⊥
-      then_gone row _ (stayed within) at = absurd (cc)
-      then_gone row _ (crossed line within from crosses there) at = absurd (cc)
-      then_gone row _ (ended within six) at = six refl
-      then_gone row _ (missed within) at = absurd (cc)
+      then_gone row image is at = search rules
 
       first : (image : RowImage) → Reaches f 0x06 old image → image_then s image ≡ Gone → ⊥
       first _ (stayed {row = row} within) at = then_gone row (row_image s 0x06 row) (reaches s s_readable 0x06 row) at
@@ -444,9 +433,7 @@ module _ (f s : Map) (f_readable : IsReadable f) (s_readable : IsReadable s) whe
       ∙ of (has table tables) (has old (sources_of f s table))
     where
       of : (a b : Bool) → given {A = ℕ} a (given b None) ≡ None
-      of false b = refl
-      of true false = refl
-      of true true = refl
+      of a b = search rules
 
   no_cross : (table old : ℕ) → cross_entry f s table old ≡ None → cross_line (composed f s) table old ≡ None
   no_cross table old none =
@@ -454,9 +441,7 @@ module _ (f s : Map) (f_readable : IsReadable f) (s_readable : IsReadable s) whe
       ∙ of (has table tables) (has old (sources_of f s table))
     where
       of : (a b : Bool) → given {A = CrossLine} a (given b None) ≡ None
-      of false b = refl
-      of true false = refl
-      of true true = refl
+      of a b = search rules
 
   row_fits : (table old : ℕ) (row : RowLine) → IsRow old × (is_some (composed_count f s table) ≡ true) → row_entry f s table old ≡ Some row
       → IsRowOf (composed f s) row

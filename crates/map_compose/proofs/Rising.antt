@@ -1,5 +1,5 @@
 -- Rising runs meet in rising runs, and so do the longest of them; what these move reports them.
-use Rattle.std.proofs.Common.{◌≡◌, ℕ, ◌+◌, ◌-◌, ◌<◌, ◌≤◌, ◌++◌, Bool, true, false, cond, List, [], ◌∷◌, refl, sym, ◌∙◌, ap, arith, inl, inr, subst}
+use Rattle.std.proofs.Common.{rules, ◌≡◌, ℕ, ◌+◌, ◌-◌, ◌<◌, ◌≤◌, ◌++◌, Bool, true, false, cond, List, [], ◌∷◌, refl, sym, ◌∙◌, ap, arith, inl, inr, subst}
 use Rattle.std.{specs.Prelude.{min, max, nat_lt, nat_eq, ◌&&◌}, specs.List.{filter_map}, proofs.lemmas.Bool.{cases_lt, lt-ltb, le-ltb, eq-eqb, eqb-true, and_parts}}
 use Rattle.std.proofs.lemmas.{Bool.{false≢true}, List.{append_assoc}}
 use Rattle.ppdb_base.{specs.declared.offsets.Run.{Run}, specs.Offsets.{Moves, RiseFrom, Rise, lined, end_of, new_end_of}, proofs.Stops.{moves_from}}
@@ -181,8 +181,7 @@ first_least : (a b : ℕ) (q : Run) (qs : List Run) (x z : ℕ) → RiseFrom a b
 first_least a b q qs x z rise moves = moves_from q.old q.new (q ∷ qs) (rise.0, omega arith, omega arith, rise.3) x z moves
 
 apart_tail : (r : Run) (rs : List Run) → Apart (r ∷ rs) → Apart rs
-apart_tail r [] apart = tt
-apart_tail r (n ∷ ns) apart = apart.1
+apart_tail r rs apart = search rules
 
 -- a run that ends early goes on
 not_shorter : (r : Run) (rs : List Run) (q : Run) (qs : List Run) → RiseFrom (end_of r) (new_end_of r) rs → Apart (r ∷ rs) → r.old ≡ q.old → r.new ≡ q.new

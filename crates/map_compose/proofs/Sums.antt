@@ -1,6 +1,6 @@
 -- The digits of runs before each, and the length of the lines of runs.
-use Rattle.std.proofs.Common.{ℕ, zero, suc, ◌≡◌, ◌+◌, ◌-◌, ◌*◌, ◌<◌, ◌≤◌, ◌++◌, List, [], ◌∷◌, length, take, drop, map, refl, sym, ap, ◌∙◌, arith, length-append}
-use Rattle.std.{proofs.Common.{slice_index_or}, specs.Fmt.{decimal}, specs.List.{AllByRecursion}, proofs.lemmas.Fmt.{length-decimal-le}}
+use Rattle.std.proofs.Common.{rules, ℕ, zero, suc, ◌≡◌, ◌+◌, ◌-◌, ◌*◌, ◌<◌, ◌≤◌, ◌++◌, List, [], ◌∷◌, length, take, drop, map, refl, sym, ap, ◌∙◌, arith}
+use Rattle.std.{proofs.Common.{length-append, slice_index_or}, specs.Fmt.{decimal}, specs.List.{AllByRecursion}, proofs.lemmas.Fmt.{length-decimal-le}}
 use Rattle.ppdb_base.specs.declared.offsets.Run.{Run}
 use Rattle.ppdb_maps.specs.declared.line.Line.TheVariants.{Kept}
 use Rattle.ppdb_maps_text.specs.MapTexts.{ended, line_text}
@@ -84,8 +84,7 @@ digits_next runs i d sum a b inside is one two =
 
 -- the digits between two places
 digits_none : (n : ℕ) → new_digits (take n []) ≡ 0
-digits_none zero = refl
-digits_none (suc n) = refl
+digits_none n = search rules
 
 digits_more : (runs : List Run) (from more : ℕ) → new_digits (take (from + more) runs) ≡ new_digits (take from runs) + new_digits (take more (drop from runs))
 digits_more runs zero more =

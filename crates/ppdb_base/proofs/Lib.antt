@@ -7,3 +7,4 @@ pub mod Moved
 pub mod Stops
 pub mod Tree
 pub mod Written
+pub mod Images

@@ -16,20 +16,20 @@ use crate::error::BuildError;
 use ppdb_base::Bytes;
 use ppdb_build_bytes::{counts_of, draft_len, file_of, late_limit};
 use ppdb_build_canon::{IdChoice, values_without_limits_are_small};
-use ppdb_build_draft::Drafting;
+use ppdb_build_draft::Drafted;
 use ppdb_build_rows_laws::canonical_rows_are_reread;
 use ppdb_build_written_laws::{written_files_are_canonical, written_files_are_valid};
 use ppdb_tables::PdbHead;
 use std::alloc::Global;
 
 /// The GUIDs of the draft of a value have 16 bytes each.
-fn guids_are_long(head: &PdbHead, draft: &Drafting)
+fn guids_are_long(head: &PdbHead, draft: &Drafted)
     requires { HasValue head.now draft.now }
     ensures { All IsGuid draft.now.guids }
 {}
 
 /// The draft of a value that passes no limit can be laid out.
-fn can_be_laid(head: &PdbHead, draft: &Drafting, counts: &[u32; 64])
+fn can_be_laid(head: &PdbHead, draft: &Drafted, counts: &[u32; 64])
     requires value { HasValue head.now draft.now }
     requires counts { counts.now ≡ counts_in head.now.rows draft.now.rows }
     requires none { (value : FileValue) → IsDraftedFrom value head.now draft.now → first_limit value ≡ None }
@@ -45,7 +45,7 @@ fn can_be_laid(head: &PdbHead, draft: &Drafting, counts: &[u32; 64])
 pub(crate) fn file_of_draft(
     alloc: Global,
     head: &PdbHead,
-    draft: &Drafting,
+    draft: &Drafted,
     id: IdChoice,
 ) -> Result<Bytes, BuildError>
     requires { HasValue head.now draft.now }

@@ -22,7 +22,7 @@ use crate::joined_head::{joined_has_types, joined_head};
 use crate::lists::list_limit;
 use ppdb_base::{Bytes, Limit, MAX_ROWS, Memory, Steps};
 use ppdb_build_canon::IdChoice;
-use ppdb_build_draft::{Drafting, drafts_are_canonical};
+use ppdb_build_draft::{Drafted, drafts_are_canonical};
 use ppdb_build_layout::Rows;
 use ppdb_build_merged::draft_of_inputs;
 use ppdb_merge_rows::RowInput;
@@ -50,7 +50,7 @@ fn are_few(rows: &Rows) -> bool
 }
 
 /// L1 to L3 of a draft with few rows, whose points have forms: the rows report L2, and the others are not met.
-fn early_limit_in(draft: &Drafting) -> Option<Limit>
+fn early_limit_in(draft: &Drafted) -> Option<Limit>
     requires { AreRowsFew draft.now.rows }
     ensures { (value : FileValue) → length value.rows ≡ 64 → Each HasForms value.methods → IsDraftOf value draft.now → result ≡ early_limit_of value }
 {
@@ -62,7 +62,7 @@ fn early_limit_in(draft: &Drafting) -> Option<Limit>
 fn joined_bytes(
     alloc: Global,
     inputs: &[RowInput<'_>],
-    draft: &Drafting,
+    draft: &Drafted,
     id: IdChoice,
 ) -> Result<Option<Bytes>, BuildError>
     requires some { 1 ≤ length inputs.now }

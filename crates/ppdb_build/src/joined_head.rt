@@ -8,7 +8,7 @@ ghost use Rattle.ppdb_merge_parts.specs.Flat.{InputsFit, joined_inputs};
 ghost use Rattle.ppdb_merge_rows.specs.Inputs.{moved_by, moved_inputs};
 ghost use Rattle.ppdb_build.specs.Joining.{IsHeadOf, IsMovedHead};
 
-use ppdb_build_draft::Drafting;
+use ppdb_build_draft::Drafted;
 use ppdb_build_merged::joined_records_are_flat;
 use ppdb_merge_moved::moved_rows;
 use ppdb_merge_parts::joined_parts_are_flat;
@@ -79,7 +79,7 @@ fn variables_are_narrow(variables: &[VariableRow])
 }
 
 /// The file that inputs are joined into has what the types of the code carry, which the inputs and the draft have.
-pub(crate) fn joined_has_types(inputs: &[RowInput<'_>], draft: &Drafting)
+pub(crate) fn joined_has_types(inputs: &[RowInput<'_>], draft: &Drafted)
     requires some { 1 ≤ length inputs.now }
     requires fit { InputsFit (moved_inputs inputs.now) }
     requires draft { IsDraftOf (joined_inputs (moved_inputs inputs.now)) draft.now }

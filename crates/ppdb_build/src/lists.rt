@@ -7,7 +7,7 @@ ghost use Rattle.ppdb_build_canon.specs.Limits.{list_past_end};
 ghost use Rattle.ppdb_build_draft.specs.Drafted.{IsDraftOf};
 
 use ppdb_base::Limit;
-use ppdb_build_draft::Drafting;
+use ppdb_build_draft::Drafted;
 use ppdb_tables::{LOCAL_CONSTANT, LOCAL_VARIABLE};
 
 /// The limit on a list of a table of so many rows, where the list of the last scope begins at a row.
@@ -22,7 +22,7 @@ fn past_end(table: u8, rows: usize, last: u32) -> Option<Limit>
 }
 
 /// L2, from the rows of a draft: a table has as many rows as a short index can name, and the list of the last scope begins after them.
-pub(crate) fn list_limit(draft: &Drafting) -> Option<Limit>
+pub(crate) fn list_limit(draft: &Drafted) -> Option<Limit>
     ensures { (value : FileValue) → IsDraftOf value draft.now
         → result ≡ option_or (list_past_end value 0x33 (λ scope. length scope.variables)) (list_past_end value 0x34 (λ scope. length scope.constants)) }
 {

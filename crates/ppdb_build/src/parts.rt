@@ -12,7 +12,7 @@ ghost use Rattle.ppdb_build.specs.Building.{ArePartsWritable, IsLimit, after_met
 
 use crate::error::BuildError;
 use ppdb_base::{Limit, Memory};
-use ppdb_build_draft::{Drafting, lent_body};
+use ppdb_build_draft::{Drafted, Drafting, lent_body};
 use ppdb_tables::{METHOD_DEF, MachineRow};
 use ppdb_values::{
     ConstantValue, CustomValue, DocumentValue, FileValue, ImportScopeValue, MethodValue,
@@ -195,18 +195,18 @@ fn add_parts(draft: &mut Drafting, value: &FileValue) -> Result<(), BuildError>
 }
 
 /// Drafts the file of a value, or answers the first step from line to line that has no form, L4.
-pub(crate) fn draft_of(alloc: Global, value: &FileValue) -> Result<Drafting, BuildError>
+pub(crate) fn draft_of(alloc: Global, value: &FileValue) -> Result<Drafted, BuildError>
     requires { ArePartsWritable value.now }
     ensures draft { IfOk result (λ draft. draft ≡ drafted value.now) }
     ensures none { OnOk result (first_of (filter_map large_step_of value.now.methods) ≡ None) }
     ensures limit { IfErr result (IsLimit (first_of (filter_map large_step_of value.now.methods))) }
 {
-    let mut draft = match Drafting::new(alloc) {
+    let mut draft = match Drafting::new(alloc, None) {
         Ok(draft) => draft,
         Err(Memory) => return Err(BuildError::Memory),
     };
     match add_parts(&mut draft, value) {
-        Ok(()) => Ok(draft),
+        Ok(()) => Ok(draft.close()),
         Err(error) => Err(error),
     }
 }

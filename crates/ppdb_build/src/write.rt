@@ -18,7 +18,7 @@ use crate::finish::file_of_draft;
 use crate::parts::draft_of;
 use ppdb_base::{Bytes, Limit};
 use ppdb_build_canon::IdChoice;
-use ppdb_build_draft::{Drafting, drafts_are_canonical};
+use ppdb_build_draft::{Drafted, drafts_are_canonical};
 use ppdb_build_limits::{length_limit, offset_limit, value_has_types};
 use ppdb_tables::PdbHead;
 use ppdb_values::FileValue;
@@ -47,7 +47,7 @@ fn parts_are_writable(value: &FileValue)
 fn bytes_of(
     alloc: Global,
     value: &FileValue,
-    draft: &Drafting,
+    draft: &Drafted,
     id: IdChoice,
 ) -> Result<Bytes, BuildError>
     requires sound { IsSound value.now }

@@ -8,7 +8,7 @@ ghost use Rattle.ppdb_build_canon.specs.Limits.{above, first_met};
 ghost use Rattle.ppdb_build_bytes.specs.Drafts.{file_from};
 
 use ppdb_base::{Limit, MAX_FILE_BYTES, MAX_SPAN};
-use ppdb_build_draft::Drafting;
+use ppdb_build_draft::Drafted;
 use ppdb_build_layout::file_len;
 
 /// The limit on a file of so many bytes.
@@ -34,7 +34,7 @@ fn span_limit(total: u64) -> Option<Limit>
 }
 
 /// How many bytes the file of a draft has.
-pub fn draft_len(counts: &[u32; 64], draft: &Drafting) -> u64
+pub fn draft_len(counts: &[u32; 64], draft: &Drafted) -> u64
     requires { All IsGuid draft.now.guids }
     ensures { (id : Seq ℕ) (entry : ℕ) → length id ≡ 20 → result ≡ told (length (file_bytes (file_from id entry counts.now draft.now))) }
 {

@@ -7,7 +7,7 @@ ghost use Rattle.ppdb_build_bytes.specs.Drafts.{debug_counts_of, counts_in, file
 use crate::identity::id_of;
 use ppdb_base::{Bytes, Memory};
 use ppdb_build_canon::IdChoice;
-use ppdb_build_draft::Drafting;
+use ppdb_build_draft::Drafted;
 use ppdb_build_layout::{Rows, put_prefix};
 use ppdb_tables::{
     CUSTOM, DOCUMENT, IMPORT_SCOPE, LOCAL_CONSTANT, LOCAL_SCOPE, LOCAL_VARIABLE, METHOD_DEBUG,
@@ -39,7 +39,7 @@ fn debug_counts(rows: &Rows) -> [u32; 64]
 }
 
 /// The row counts of a file with these of the type system.
-pub fn counts_of(system: &[u32; 64], draft: &Drafting) -> [u32; 64]
+pub fn counts_of(system: &[u32; 64], draft: &Drafted) -> [u32; 64]
     ensures { result ≡ counts_in system.now draft.now.rows }
 {
     let mut counts = debug_counts(draft.rows());
@@ -55,7 +55,7 @@ fn lay_out(
     id: &[u8; 20],
     entry: u32,
     counts: &[u32; 64],
-    draft: &Drafting,
+    draft: &Drafted,
     len: usize,
 ) -> Result<Bytes, Memory>
     requires { CanBeLaid entry counts.now draft.now }
@@ -88,7 +88,7 @@ pub fn file_of(
     kept: &[u8; 20],
     entry: u32,
     counts: &[u32; 64],
-    draft: &Drafting,
+    draft: &Drafted,
     len: usize,
     choice: IdChoice,
 ) -> Result<Bytes, Memory>

@@ -8,6 +8,7 @@ use Rattle.ppdb_values_sound_laws.specs.Scopes.{stored_body}
 use Rattle.ppdb_build_heaps.specs.Uses.{plain}
 use Rattle.ppdb_build_layout.specs.declared.rows.Rows.{Rows}
 use Rattle.ppdb_build_canon.specs.Uses.{name_pieces, method_blob, import_blob, custom_blob}
+use Rattle.ppdb_build_items.specs.declared.noted.Noted.{Noted}
 use Rattle.ppdb_build_items.specs.Interned.{Annotation, none_interned, with_text, with_blob, with_guid, text_place, blob_place, guid_place, cell}
 
 pub record Draft : Type 0 where
@@ -17,6 +18,10 @@ pub record Draft : Type 0 where
   pub rows : Rows
   -- how many constants the scopes own that have their rows, as it is reported
   pub owned : ℕ
+
+-- the items of a heap once all are noted, and the length of all uses
+abbrev pub annotation_of : Noted → Annotation
+annotation_of noted = record { items = noted.items.items; total = noted.total }
 
 abbrev pub no_rows : Rows
 no_rows = record { documents = []; methods = []; scopes = []; variables = []; constants = []; imports = []; machines = []; customs = [] }

@@ -1,4 +1,5 @@
 // A file that is drafted part by part.
+use crate::drafted::Drafted;
 use crate::notes::{fill_rows, next_row, note_guid, put_row};
 use custom_info::Range;
 use ppdb_base::{List, Memory};
@@ -12,6 +13,7 @@ use ppdb_tables::{
 use ppdb_values::{CustomBody, ImportValue};
 use sequence_points::{Point, PointError, single_document};
 use std::alloc::Global;
+use std::hash::RandomState;
 use std::marker::Model;
 use type_blobs::{Constant, Modifier};
 
@@ -19,9 +21,9 @@ use type_blobs::{Constant, Modifier};
 #[derive(Drop)]
 pub struct Drafting {
     alloc: Global,
-    pub(crate) texts: TextHeap,
-    pub(crate) guids: GuidHeap,
-    pub(crate) blobs: BlobHeap,
+    texts: TextHeap,
+    guids: GuidHeap,
+    blobs: BlobHeap,
     rows: Rows,
     /// How many constants the scopes own that have their rows.
     owned: u64,
@@ -48,15 +50,15 @@ impl Drafting {
     ghost use Rattle.ppdb_build_draft.specs.Draft.{empty_draft, with_document, with_method, with_all_methods, with_variable, with_scope_row};
     ghost use Rattle.ppdb_build_draft.specs.Draft.{with_signature, with_import, with_machine, with_custom};
 
-    /// A draft without parts.
-    pub fn new(alloc: Global) -> Result<Drafting, Memory>
+    /// A draft without parts. Items of its heaps are hashed under the key, if there is one.
+    pub fn new(alloc: Global, key: Option<RandomState>) -> Result<Drafting, Memory>
         ensures { IfOk result (λ draft. draft ≡ empty_draft) }
     {
         Ok(Drafting {
             alloc,
-            texts: TextHeap::new(alloc)?,
-            guids: GuidHeap::new(alloc),
-            blobs: BlobHeap::new(alloc)?,
+            texts: TextHeap::new(alloc, key)?,
+            guids: GuidHeap::new(alloc, key),
+            blobs: BlobHeap::new(alloc, key)?,
             rows: Rows {
                 documents: List::new(alloc),
                 methods: List::new(alloc),
@@ -249,10 +251,16 @@ impl Drafting {
         Ok(())
     }
 
-    /// The rows so far.
-    pub fn rows(&self) -> &Rows
-        ensures { result.now ≡ self.now.rows }
+    /// The draft once all parts are there. What items of its heaps were found by is freed.
+    pub fn close(self) -> Drafted
+        ensures { result ≡ self }
     {
-        &self.rows
+        Drafted {
+            texts: self.texts.close(),
+            guids: self.guids,
+            blobs: self.blobs.close(),
+            rows: self.rows,
+            owned: self.owned,
+        }
     }
 }

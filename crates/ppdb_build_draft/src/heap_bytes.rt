@@ -3,7 +3,7 @@ ghost use Rattle.std.specs.Prelude.{◌≡◌, ℕ, ◌+◌, ◌++◌, replicate
 ghost use Rattle.ppdb_base.specs.Told.{told};
 ghost use Rattle.ppdb_build_layout.specs.Bytes.{padding};
 
-use crate::drafting::Drafting;
+use crate::drafted::Drafted;
 use ppdb_base::{Bytes, Memory};
 use ppdb_build_layout::HeapLens;
 
@@ -26,7 +26,7 @@ fn put_padding(len: usize, into: &mut Bytes) -> Result<(), Memory>
     }
 }
 
-impl Drafting {
+impl Drafted {
     ghost use Rattle.std.specs.Prelude.{◌≡◌, ◌+◌, ◌++◌, flat_map, OnOk};
     ghost use Rattle.ppdb_base.specs.Told.{told};
     ghost use Rattle.ppdb_build_heaps.specs.Items.{as_text, as_blob};
@@ -39,9 +39,9 @@ impl Drafting {
         ensures { result ≡ told_lens (heap_lens_of self.now) }
     {
         HeapLens {
-            texts: padded_len(self.texts.len()),
+            texts: padded_len(self.texts.items.len()),
             guids: self.guids.len(),
-            blobs: padded_len(self.blobs.len()),
+            blobs: padded_len(self.blobs.items.len()),
         }
     }
 
@@ -49,7 +49,7 @@ impl Drafting {
     pub fn span(&self) -> u64
         ensures { result ≡ told (self.now.texts.total + self.now.blobs.total) }
     {
-        self.texts.total().saturating_add(self.blobs.total())
+        self.texts.total.saturating_add(self.blobs.total)
     }
 
     /// Appends the texts, with their padding.
@@ -57,7 +57,7 @@ impl Drafting {
         ensures { OnOk result (into.new ≡ into.old ++ padded (flat_map as_text self.now.texts.items)) }
     {
         let start = into.len();
-        self.texts.put(into)?;
+        into.append(self.texts.items.as_slice())?;
         put_padding(into.len() - start, into)?;
         Ok(())
     }
@@ -67,7 +67,7 @@ impl Drafting {
         ensures { OnOk result (into.new ≡ into.old ++ padded (flat_map as_blob self.now.blobs.items)) }
     {
         let start = into.len();
-        self.blobs.put_all(into)?;
+        into.append(self.blobs.items.as_slice())?;
         put_padding(into.len() - start, into)?;
         Ok(())
     }

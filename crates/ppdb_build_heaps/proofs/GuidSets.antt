@@ -1,7 +1,7 @@
 -- What the map of a heap's GUIDs says of them.
-use Rattle.std.proofs.Common.{◌≡◌, ℕ, ◌+◌, Bool, true, false, cond, List, [], ◌∷◌, ◌++◌, length, sym, ap, refl, ◌∙◌, bytes_eq, min, Some, None, if◌then◌else◌}
-use Rattle.std.{proofs.lemmas.Map.Text.{is_eq-slice_cmp}, specs.List.{list_any, position_or_len}, specs.BTreeMap.{is_at}, specs.Cmp.Lexicographic.{slice_cmp}}
-use Rattle.std.specs.Ordering.{nat_cmp}
+use Rattle.std.proofs.Common.{◌≡◌, ℕ, ◌+◌, Bool, true, false, cond, List, [], ◌∷◌, ◌++◌, length, sym, ap, refl, ◌∙◌, bytes_eq, nat_eq, min, Some, None}
+use Rattle.std.proofs.{Common.{if◌then◌else◌}, lemmas.Bool.{eqb-true}, lemmas.List.Folds.{position_or_len_push}, lemmas.Map.Text.{is_eq-slice_cmp}}
+use Rattle.std.specs.{List.{list_any, position_or_len}, BTreeMap.{is_at}, Cmp.Lexicographic.{slice_cmp}, Ordering.{nat_cmp}}
 use Rattle.ppdb_build_heaps.{specs.Guids.{number_of}, specs.Items.{with_use}, proofs.Items.{before-new, itself}, proofs.Stays.{before-length, number}}
 use Rattle.ppdb_build_heaps.proofs.Interned.{said_more}
 
@@ -35,3 +35,21 @@ pub number_new : (guids : List (List ℕ)) (guid : List ℕ) → list_any (bytes
     → min (1 + length guids) 0xffffffff ≡ min (1 + position_or_len (bytes_eq guid) (with_use guids guid)) 0xffffffff
 number_new guids guid h = ap (λ n. min (1 + n) 0xffffffff) (sym (last_place guids guid h))
     ∙ ap (λ b. min (1 + position_or_len (bytes_eq guid) (if b then guids else guids ++ guid ∷ [])) 0xffffffff) (sym h)
+
+-- the place of a GUID that is used
+pub place_used : (guids : List (List ℕ)) (guid : List ℕ)
+    → position_or_len (bytes_eq guid) guids ≡ position_or_len (bytes_eq guid) (with_use guids guid)
+place_used guids guid = by (list_any (bytes_eq guid) guids) refl
+  where
+    at : ℕ
+    at = position_or_len (bytes_eq guid) guids
+
+    place_of : (b : Bool) → position_or_len (bytes_eq guid) (guids ++ guid ∷ [])
+        ≡ cond b (length guids + cond (bytes_eq guid guid) 0 1) at → nat_eq at (length guids) ≡ b → list_any (bytes_eq guid) guids ≡ false
+        → at ≡ length guids
+    place_of true pushed is none = eqb-true at (length guids) is
+    place_of false pushed is none = sym pushed ∙ last_place guids guid none
+
+    by : (b : Bool) → list_any (bytes_eq guid) guids ≡ b → at ≡ position_or_len (bytes_eq guid) (if b then guids else guids ++ guid ∷ [])
+    by true there = refl
+    by false none = place_of (nat_eq at (length guids)) (position_or_len_push (bytes_eq guid) guids guid) refl none ∙ sym (last_place guids guid none)

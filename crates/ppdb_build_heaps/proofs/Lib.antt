@@ -5,7 +5,6 @@ pub mod FirstUses
 pub mod Interned
 pub mod Spellings
 pub mod Marks
+pub mod Places
 pub mod GuidSets
-pub mod Parts
-pub mod Drafts
 pub mod Stays

@@ -12,7 +12,7 @@ use Rattle.ppdb_build_heaps.proofs.Stays.{counted}
 
 -- ---- the first place, with one more item
 
-module _ (p : List ℕ → Bool) (xs : List (List ℕ)) (y : List ℕ) where
+module _ {T : Type 0} (p : T → Bool) (xs : List T) (y : T) where
   most : position_or_len p xs ≤ length xs
   most = prefix_len-le-length (λ x. not (p x)) xs
 

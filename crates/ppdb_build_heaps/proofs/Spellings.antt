@@ -266,12 +266,6 @@ module _ (kind : HeapKind) where
         (subst (λ all. AreSpelled kind all starts_now (items ++ item ∷ [])) (sym put)
         (subst (λ all. AreSpelled kind (bytes ++ spelled kind item) all (items ++ item ∷ [])) (sym pushed) (spelled_push bytes starts items item are)))
 
-  -- as many starts as items
-  pub few : (number : ℕ) (bytes starts slice : List ℕ) (heap : Contents) → number < length heap.items
-      → record { kind = kind; items = items_in kind bytes starts } ≡ heap → slice ≡ starts → number < length slice
-  few number bytes starts slice heap h seen same = subst (λ n. number < n) (counted bytes starts ∙ ap length (sym same))
-      (subst (λ (one : Contents). number < length one.items) (sym seen) h)
-
   -- what two slices have, which are the bytes and the starts of a heap's items: the spelling of each item
   pub record HasPart (number : ℕ) (bytes starts : List ℕ) (heap : Contents) : Type 0 where
     pub there : number < length starts

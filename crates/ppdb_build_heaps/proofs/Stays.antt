@@ -4,9 +4,8 @@ use Rattle.std.proofs.lemmas.{List.Concat.{flat_map-append, length-flat_map}, Li
 use Rattle.std.{proofs.lemmas.List.Sums.{prefix_len-le-length}, specs.List.{before_first, position_or_len}}
 use Rattle.cli_ints.specs.Shortest.{short_unsigned}
 use Rattle.ppdb_build_heaps.specs.{Items.{IsIn, index_of, as_blob, shortest}, Uses.{Piece, with_held, heap_of, blob_bytes}, Laws.{ItemsStay, ItemsHaveForms}}
-use Rattle.ppdb_build_heaps.{specs.Laws.{AllUsesAreThere, DraftsAreInterned}, proofs.Items.{there, index-stable, before-stable, with_use-adds, used-there}}
-use Rattle.ppdb_build_heaps.proofs.{Items.{stays-there}, Stable.{AreUsed, all-used}, Drafts.{none-drafted, octets-drafted, index-drafted, draft-interned}}
-use Rattle.ppdb_build_heaps.proofs.Drafts.{draft-spelled}
+use Rattle.ppdb_build_heaps.{specs.Laws.{AllUsesAreThere}, proofs.Items.{there, index-stable, before-stable, with_use-adds, used-there, stays-there}}
+use Rattle.ppdb_build_heaps.proofs.Stable.{AreUsed, all-used}
 
 -- an item and what stands before it lie within the heap
 pub within : (spelled : List ℕ → List ℕ) (items : List (List ℕ)) (item : List ℕ) → IsIn items item
@@ -67,12 +66,3 @@ used-all items (used ∷ uses) are = All-cons (λ one. IsIn items (blob_bytes it
 
 pub uses-there : AllUsesAreThere
 uses-there blobs = used-all (heap_of (flat_map with_held blobs)) (flat_map with_held blobs) (all-used blobs)
-
-pub drafts : DraftsAreInterned
-drafts = record {
-  none = none-drafted;
-  octets = λ before pieces items bytes more draft. octets-drafted before pieces items bytes draft more;
-  index = λ before pieces items bytes content draft. index-drafted before pieces items bytes draft content;
-  interned = draft-interned;
-  spelled = draft-spelled;
-}

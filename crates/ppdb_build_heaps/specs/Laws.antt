@@ -2,7 +2,7 @@
 use Rattle.std.specs.{Prelude.{◌≡◌, ◌≢◌, ℕ, ◌+◌, ◌<◌, ◌≤◌, List, [], ◌∷◌, ◌++◌, length, flat_map, bytes_eq, All, Some}, List.position_or_len}
 use Rattle.cli_ints.specs.Shortest.{short_unsigned}
 use Rattle.ppdb_heaps.specs.Heaps.{text_at, blob_at, guid_at}
-use Rattle.ppdb_build_heaps.specs.{Items.{IsIn, with_use, index_of, as_text, as_blob, shortest}, Uses.{Piece, octets, index, with_held, heap_of, blob_bytes, blobs_after}, Drafts.IsDraft}
+use Rattle.ppdb_build_heaps.specs.{Items.{IsIn, with_use, index_of, as_text, as_blob, shortest}, Uses.{Piece, with_held, heap_of, blob_bytes}}
 
 -- At an item's index the heap, with whatever stands after it, has the item. The first text and the first blob are empty.
 pub record WrittenItemsAreRead : Type 0 where
@@ -40,15 +40,3 @@ ItemsHaveForms = (items : List (List ℕ)) (item : List ℕ) → IsIn items item
 abbrev pub AllUsesAreThere : Type 0
 AllUsesAreThere = (blobs : List (List Piece)) →
     All (λ used. IsIn (heap_of (flat_map with_held blobs)) (blob_bytes (heap_of (flat_map with_held blobs)) used)) (flat_map with_held blobs)
-
--- Pieces that are put one after another make the blob that is noted.
-pub record DraftsAreInterned : Type 0 where
-  pub none : (before : List (List ℕ)) → IsDraft before [] before []
-  pub octets : (before : List (List ℕ)) (pieces : List Piece) (items : List (List ℕ)) (bytes more : List ℕ) → IsDraft before pieces items bytes
-      → IsDraft before (pieces ++ octets more ∷ []) items (bytes ++ more)
-  pub index : (before : List (List ℕ)) (pieces : List Piece) (items : List (List ℕ)) (bytes content : List ℕ) → IsDraft before pieces items bytes
-      → IsDraft before (pieces ++ index content ∷ []) (with_use items content) (bytes ++ shortest (index_of as_blob (with_use items content) content))
-  pub interned : (before : List (List ℕ)) (pieces : List Piece) (items : List (List ℕ)) (bytes : List ℕ) → IsDraft before pieces items bytes
-      → with_use items bytes ≡ blobs_after before (with_held pieces)
-  pub spelled : (before : List (List ℕ)) (pieces : List Piece) (items : List (List ℕ)) (bytes : List ℕ) → IsDraft before pieces items bytes
-      → blob_bytes (with_use items bytes) pieces ≡ bytes

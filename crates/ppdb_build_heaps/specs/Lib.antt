@@ -3,7 +3,8 @@ pub mod Kinds
 pub mod Interned
 pub mod Spelled
 pub mod Marks
+pub mod Places
+pub mod Keeping
 pub mod Guids
 pub mod Uses
-pub mod Drafts
 pub mod Laws

@@ -1,10 +1,10 @@
 // The items of a heap, each of which is kept once.
-use crate::mark::mark_of;
+use crate::keyed::Keyed;
+use crate::ordered::Ordered;
 use crate::spelled::Spelled;
-use ppdb_base::{Bytes, Memory};
-use std::alloc::{AllocFailed, Global};
-use std::collections::BTreeMap;
-use std::collections::btree_map::Entry;
+use ppdb_base::Memory;
+use std::alloc::Global;
+use std::hash::RandomState;
 use std::marker::Model;
 
 /// What a heap holds.
@@ -14,87 +14,45 @@ pub enum HeapKind {
     Blobs,
 }
 
+/// How the items of a heap are found.
+#[derive(Drop)]
+pub(crate) enum Kept {
+    /// In a hash table under a random key.
+    Keyed(Keyed),
+    /// In ordered maps, without a key.
+    Ordered(Ordered),
+}
+
 /// The items of a heap, each of which is kept once. Contracts see it as its kind and its items.
 #[derive(Drop)]
 pub struct Heap {
-    alloc: Global,
-    items: Spelled,
-    /// The number of the first item with each mark, from 0.
-    firsts: BTreeMap<u64, u64>,
-    /// The index of each item whose mark an earlier item has.
-    others: BTreeMap<Vec<u8>, u64>,
+    kept: Kept,
 }
 
 impl Model for Heap {
     ghost use Rattle.ppdb_build_heaps.specs.Interned.{Contents};
-    ghost use Rattle.ppdb_build_heaps.specs.Marks.{AreFirsts, AreOthers};
+    ghost use Rattle.ppdb_build_heaps.specs.Keeping.{contents_of};
 
     ghost Value = { Contents };
 
-    ghost view = { λ h. h.items };
-
-    ghost invariant = { λ h. AreFirsts h.items.items h.firsts × AreOthers h.items.kind h.items.items h.others };
+    ghost view = { λ h. contents_of h.kept };
 }
 
 impl Heap {
-    ghost use Rattle.std.specs.Prelude.{◌≡◌, [], ◌++◌, flat_map, bytes_eq, false, OnOk, OnErr, IfOk, IsSome};
-    ghost use Rattle.std.specs.List.{list_any};
+    ghost use Rattle.std.specs.Prelude.{◌≡◌, [], OnOk, OnErr, IfOk};
     ghost use Rattle.ppdb_base.specs.Told.{told};
     ghost use Rattle.ppdb_build_heaps.specs.Kinds.{spelled};
-    ghost use Rattle.ppdb_build_heaps.specs.Interned.{length_of};
     ghost use Rattle.ppdb_build_heaps.specs.Items.{with_use, index_of};
-    ghost use Rattle.ppdb_build_heaps.specs.Marks.{mark, first_with, is_first};
 
-    /// A heap without items.
-    pub fn new(alloc: Global, kind: HeapKind) -> Heap
+    /// A heap without items. Under a random key they are found in a hash table, and without one in ordered maps.
+    pub fn new(alloc: Global, kind: HeapKind, key: Option<RandomState>) -> Heap
         ensures { result ≡ record { kind = kind; items = [] } }
     {
         Heap {
-            alloc,
-            items: Spelled::new(alloc, kind),
-            firsts: BTreeMap::new(alloc),
-            others: BTreeMap::new(alloc),
-        }
-    }
-
-    /// How many bytes the items take.
-    pub fn len(&self) -> u64
-        ensures { result ≡ told (length_of self.now.kind self.now.items) }
-    {
-        self.items.len()
-    }
-
-    /// Adds an item that is not there, whose mark another item has, and answers its index.
-    fn add_other(&mut self, key: Vec<u8>, item: &[u8]) -> Result<u64, Memory>
-        requires key { key.items ≡ item.now }
-        requires new { list_any (bytes_eq item.now) self.old.items ≡ false }
-        requires some { IsSome (first_with self.old.items (mark item.now)) }
-        requires other { is_first self.old.items item.now ≡ false }
-        ensures items { OnOk result (self.new ≡ record self.old { items = with_use self.old.items item.now }) }
-        ensures index { IfOk result (λ index. index ≡ told (index_of (spelled self.old.kind) (with_use self.old.items item.now) item.now)) }
-        ensures err { OnErr result (self.new ≡ self.old) }
-    {
-        let index = self.items.len();
-        self.others.insert(key, index)?;
-        if self.items.push(item).is_err() {
-            let _index = self.others.remove(item);
-            return Err(Memory);
-        }
-        Ok(index)
-    }
-
-    /// Notes a use of an item that is not the first with its mark, and answers its index.
-    fn use_other(&mut self, item: &[u8]) -> Result<u64, Memory>
-        requires some { IsSome (first_with self.old.items (mark item.now)) }
-        requires other { is_first self.old.items item.now ≡ false }
-        ensures items { OnOk result (self.new ≡ record self.old { items = with_use self.old.items item.now }) }
-        ensures index { IfOk result (λ index. index ≡ told (index_of (spelled self.old.kind) (with_use self.old.items item.now) item.now)) }
-        ensures err { OnErr result (self.new ≡ self.old) }
-    {
-        let key = Vec::from_slice(self.alloc, item)?;
-        match self.others.get(&key).copied() {
-            Some(index) => Ok(index),
-            None => self.add_other(key, item),
+            kept: match key {
+                Some(key) => Kept::Keyed(Keyed::new(alloc, kind, key)),
+                None => Kept::Ordered(Ordered::new(alloc, kind)),
+            },
         }
     }
 
@@ -104,26 +62,19 @@ impl Heap {
         ensures index { IfOk result (λ index. index ≡ told (index_of (spelled self.old.kind) (with_use self.old.items item.now) item.now)) }
         ensures err { OnErr result (self.new ≡ self.old) }
     {
-        let first = match self.firsts.entry(mark_of(item))? {
-            Entry::Occupied(entry) => *entry.get(),
-            Entry::Vacant(entry) => {
-                let index = self.items.len();
-                let number = self.items.count();
-                self.items.push(item)?;
-                entry.insert(number);
-                return Ok(index);
-            }
-        };
-        if self.items.item(first) == item {
-            return Ok(self.items.index(first));
+        match &mut self.kept {
+            Kept::Keyed(items) => items.use_item(item),
+            Kept::Ordered(items) => items.use_item(item),
         }
-        self.use_other(item)
     }
 
-    /// Appends the items as they are spelled.
-    pub fn put(&self, into: &mut Bytes) -> Result<(), Memory>
-        ensures { OnOk result (into.new ≡ into.old ++ flat_map (spelled self.now.kind) self.now.items) }
+    /// The items alone. What they were found by is freed, since no more come.
+    pub fn close(self) -> Spelled
+        ensures { result ≡ self }
     {
-        into.append(self.items.as_slice())
+        match self.kept {
+            Kept::Keyed(items) => items.close(),
+            Kept::Ordered(items) => items.close(),
+        }
     }
 }

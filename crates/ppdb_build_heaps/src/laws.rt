@@ -1,5 +1,5 @@
 // Heaps that are written.
-ghost use Rattle.ppdb_build_heaps.specs.Laws.{WrittenItemsAreRead, ItemsStay, ItemsHaveForms, AllUsesAreThere, DraftsAreInterned};
+ghost use Rattle.ppdb_build_heaps.specs.Laws.{WrittenItemsAreRead, ItemsStay, ItemsHaveForms, AllUsesAreThere};
 ghost use Rattle.ppdb_build_heaps.specs.Uses.{HeapsAreFirstUses};
 
 /// At an item's index the heap that is written has the item.
@@ -25,9 +25,4 @@ pub fn items_have_forms()
 /// Each blob that is used stands in the heap.
 pub fn all_uses_are_there()
     ensures { AllUsesAreThere }
-{}
-
-/// Pieces that are put one after another make the blob that is noted.
-pub fn drafts_are_interned()
-    ensures { DraftsAreInterned }
 {}

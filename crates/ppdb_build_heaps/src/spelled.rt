@@ -3,7 +3,8 @@ ghost use Rattle.std.specs.Prelude.{◌≡◌, ◌+◌, ◌-◌, ◌<◌, ◌≤
 
 use crate::heap::HeapKind;
 use crate::put::put_item;
-use ppdb_base::{Bytes, List, Memory};
+use crate::starts::Starts;
+use ppdb_base::{Bytes, Memory};
 use std::alloc::Global;
 use std::marker::Model;
 
@@ -25,28 +26,26 @@ impl HeapKind {
 }
 
 /// The bytes from the start of a number to the next one.
-fn part_of<'a>(bytes: &'a [u8], starts: &[u64], number: u64) -> &'a [u8]
+fn part_of<'a>(bytes: &'a [u8], starts: &Starts, number: u64) -> &'a [u8]
     requires there { number < length starts.now }
     requires rise { get_or starts.now number 0 ≤ get_or starts.now (number + 1) (length bytes.now) }
     requires within { get_or starts.now (number + 1) (length bytes.now) ≤ length bytes.now }
     ensures { result.now ≡ take (get_or starts.now (number + 1) (length bytes.now) - get_or starts.now number 0) (drop (get_or starts.now number 0) bytes.now) }
 {
-    let at = number as usize;
-    let start = starts[at] as usize;
-    let end = match starts.get(at + 1) {
-        Some(next) => *next as usize,
-        None => bytes.len(),
-    };
+    // There are fewer numbers than 2 ^ 64.
+    let _ = starts.len();
+    let start = starts.get_or(number, 0) as usize;
+    let end = starts.get_or(number + 1, bytes.len() as u64) as usize;
     &bytes[start..end]
 }
 
 /// The items of a heap as the heap spells them, one after another. Contracts see it as the heap's kind and items.
 #[derive(Drop)]
-pub(crate) struct Spelled {
+pub struct Spelled {
     kind: HeapKind,
     bytes: Bytes,
     /// Where each item begins.
-    starts: List<u64>,
+    starts: Starts,
 }
 
 impl Model for Spelled {
@@ -72,8 +71,8 @@ impl Spelled {
     {
         Spelled {
             kind,
-            bytes: List::new(alloc),
-            starts: List::new(alloc),
+            bytes: Bytes::new(alloc),
+            starts: Starts::new(alloc),
         }
     }
 
@@ -81,11 +80,11 @@ impl Spelled {
     pub(crate) fn count(&self) -> u64
         ensures { result ≡ length self.now.items }
     {
-        self.starts.len() as u64
+        self.starts.len()
     }
 
     /// How many bytes the items take.
-    pub(crate) fn len(&self) -> u64
+    pub fn len(&self) -> u64
         ensures { result ≡ told (length_of self.now.kind self.now.items) }
     {
         self.bytes.len() as u64
@@ -97,8 +96,7 @@ impl Spelled {
         ensures { result.now ≡ get_or self.now.items number [] }
     {
         let bytes = self.bytes.as_slice();
-        self.kind
-            .item_of(part_of(bytes, self.starts.as_slice(), number))
+        self.kind.item_of(part_of(bytes, &self.starts, number))
     }
 
     /// The index of the item of a number, from 0.
@@ -106,7 +104,7 @@ impl Spelled {
         requires { number < length self.now.items }
         ensures { result ≡ told (length_of self.now.kind (take number self.now.items)) }
     {
-        self.starts.as_slice()[number as usize]
+        self.starts.get_or(number, 0)
     }
 
     /// Adds an item.
@@ -115,17 +113,19 @@ impl Spelled {
         ensures err { OnErr result (self.new ≡ self.old) }
     {
         let start = self.bytes.len();
-        self.starts.push(start as u64)?;
         if put_item(self.kind, item, &mut self.bytes).is_err() {
             self.bytes.truncate(start);
-            let _start = self.starts.pop();
+            return Err(Memory);
+        }
+        if self.starts.push(start as u64).is_err() {
+            self.bytes.truncate(start);
             return Err(Memory);
         }
         Ok(())
     }
 
     /// Lends the items as they are spelled.
-    pub(crate) fn as_slice(&self) -> &[u8]
+    pub fn as_slice(&self) -> &[u8]
         ensures { result.now ≡ flat_map (spelled self.now.kind) self.now.items }
     {
         self.bytes.as_slice()

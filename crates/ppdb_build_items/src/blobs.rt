@@ -1,9 +1,11 @@
 // The blobs of a file, and the one that is being made.
 use crate::cells::cell_of;
+use crate::noted::Noted;
 use cli_ints::spell_unsigned;
 use ppdb_base::{Bytes, Memory};
 use ppdb_build_heaps::{Heap, HeapKind, put_shortest};
 use std::alloc::Global;
+use std::hash::RandomState;
 use std::marker::Model;
 
 /// The blobs that were noted, each kept once, the length of all uses, and a buffer in which the next blob is made.
@@ -27,21 +29,19 @@ impl Model for BlobHeap {
 }
 
 impl BlobHeap {
-    ghost use Rattle.std.specs.Prelude.{◌≡◌, ◌<◌, ◌^◌, [], ◌++◌, flat_map, OnOk, IfOk};
+    ghost use Rattle.std.specs.Prelude.{◌≡◌, ◌<◌, ◌^◌, [], OnOk, IfOk};
     ghost use Rattle.cli_ints.specs.Shortest.{short_unsigned};
     ghost use Rattle.ppdb_build_heaps.specs.declared.heap.HeapKind.TheVariants.{Blobs};
-    ghost use Rattle.ppdb_base.specs.Told.{told};
-    ghost use Rattle.ppdb_build_heaps.specs.Interned.{length_of};
     ghost use Rattle.ppdb_build_heaps.specs.Items.{as_blob, index_of};
     ghost use Rattle.ppdb_build_heaps.specs.Uses.{plain, octets, index};
     ghost use Rattle.ppdb_build_items.specs.Interned.{none_interned, with_blob, blob_place, cell};
     ghost use Rattle.ppdb_build_items.specs.Making.{interned_of, begun, with_piece, made};
 
-    /// The empty blob alone, which no use has counted.
-    pub fn new(alloc: Global) -> Result<BlobHeap, Memory>
+    /// The empty blob alone, which no use has counted. Blobs are hashed under the key, if there is one.
+    pub fn new(alloc: Global, key: Option<RandomState>) -> Result<BlobHeap, Memory>
         ensures { IfOk result (λ blobs. interned_of blobs ≡ none_interned) }
     {
-        let mut heap = Heap::new(alloc, HeapKind::Blobs);
+        let mut heap = Heap::new(alloc, HeapKind::Blobs, key);
         heap.use_item(&[])?;
         Ok(BlobHeap {
             heap,
@@ -102,24 +102,13 @@ impl BlobHeap {
         Ok(index)
     }
 
-    /// How many bytes the blobs take in the heap.
-    pub fn len(&self) -> u64
-        ensures { result ≡ told (length_of Blobs self.now.items) }
+    /// The blobs alone. What they were found by is freed, since no more come.
+    pub fn close(self) -> Noted
+        ensures { result ≡ record { items = record { kind = Blobs; items = self.items }; total = self.total } }
     {
-        self.heap.len()
-    }
-
-    /// The length of all uses.
-    pub fn total(&self) -> u64
-        ensures { result ≡ self.now.total }
-    {
-        self.total
-    }
-
-    /// Appends the blobs as the heap has them.
-    pub fn put_all(&self, into: &mut Bytes) -> Result<(), Memory>
-        ensures { OnOk result (into.new ≡ into.old ++ flat_map as_blob self.now.items) }
-    {
-        self.heap.put(into)
+        Noted {
+            items: self.heap.close(),
+            total: self.total,
+        }
     }
 }

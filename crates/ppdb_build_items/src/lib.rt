@@ -6,8 +6,10 @@ mod bodies;
 mod cells;
 mod imports;
 mod names;
+mod noted;
 mod texts;
 
 pub use blobs::BlobHeap;
 pub use cells::cell_of;
+pub use noted::Noted;
 pub use texts::TextHeap;

@@ -1,8 +1,10 @@
 // The texts of a file.
 use crate::cells::cell_of;
+use crate::noted::Noted;
 use ppdb_base::{Bytes, Memory};
 use ppdb_build_heaps::{Heap, HeapKind};
 use std::alloc::Global;
+use std::hash::RandomState;
 use std::marker::Model;
 
 /// The texts that were noted, each kept once, and the length of all uses.
@@ -25,18 +27,15 @@ impl Model for TextHeap {
 }
 
 impl TextHeap {
-    ghost use Rattle.std.specs.Prelude.{◌≡◌, [], ◌++◌, flat_map, OnOk, IfOk};
+    ghost use Rattle.std.specs.Prelude.{◌≡◌, [], OnOk, IfOk};
     ghost use Rattle.ppdb_build_heaps.specs.declared.heap.HeapKind.TheVariants.{Texts};
-    ghost use Rattle.ppdb_base.specs.Told.{told};
-    ghost use Rattle.ppdb_build_heaps.specs.Interned.{length_of};
-    ghost use Rattle.ppdb_build_heaps.specs.Items.{as_text};
     ghost use Rattle.ppdb_build_items.specs.Interned.{none_interned, with_text, text_place, cell};
 
-    /// The empty text alone, which no use has counted.
-    pub fn new(alloc: Global) -> Result<TextHeap, Memory>
+    /// The empty text alone, which no use has counted. Texts are hashed under the key, if there is one.
+    pub fn new(alloc: Global, key: Option<RandomState>) -> Result<TextHeap, Memory>
         ensures { IfOk result (λ texts. texts ≡ none_interned) }
     {
-        let mut heap = Heap::new(alloc, HeapKind::Texts);
+        let mut heap = Heap::new(alloc, HeapKind::Texts, key);
         heap.use_item(&[])?;
         Ok(TextHeap { heap, total: 0 })
     }
@@ -51,24 +50,13 @@ impl TextHeap {
         Ok(cell_of(index))
     }
 
-    /// How many bytes the texts take in the heap.
-    pub fn len(&self) -> u64
-        ensures { result ≡ told (length_of Texts self.now.items) }
+    /// The texts alone. What they were found by is freed, since no more come.
+    pub fn close(self) -> Noted
+        ensures { result ≡ record { items = record { kind = Texts; items = self.items }; total = self.total } }
     {
-        self.heap.len()
-    }
-
-    /// The length of all uses.
-    pub fn total(&self) -> u64
-        ensures { result ≡ self.now.total }
-    {
-        self.total
-    }
-
-    /// Appends the texts as the heap has them.
-    pub fn put(&self, into: &mut Bytes) -> Result<(), Memory>
-        ensures { OnOk result (into.new ≡ into.old ++ flat_map as_text self.now.items) }
-    {
-        self.heap.put(into)
+        Noted {
+            items: self.heap.close(),
+            total: self.total,
+        }
     }
 }

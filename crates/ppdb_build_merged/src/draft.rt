@@ -20,7 +20,7 @@ use crate::methods::add_methods;
 use crate::scopes::add_scopes;
 use crate::stopped::Stopped;
 use ppdb_base::{Memory, Steps};
-use ppdb_build_draft::Drafting;
+use ppdb_build_draft::{Drafted, Drafting};
 use ppdb_merge_parts::joined_parts_are_flat;
 use ppdb_merge_rows::{RowInput, fitting_points_fit, rows_are_images};
 use ppdb_tables::METHOD_DEF;
@@ -150,7 +150,7 @@ pub fn draft_of_inputs<L: Ledger>(
     alloc: Global,
     inputs: &[RowInput<'_>],
     steps: &mut Steps<L>,
-) -> Result<Option<Drafting>, Memory>
+) -> Result<Option<Drafted>, Memory>
     requires some { 1 ≤ length inputs.now }
     requires most { length inputs.now ≤ 256 }
     requires fit { InputsFit (moved_inputs inputs.now) }
@@ -158,12 +158,12 @@ pub fn draft_of_inputs<L: Ledger>(
     ensures draft { IfOk result (λ draft. IfSome draft (λ draft. draft ≡ drafted (joined_inputs (moved_inputs inputs.now)))) }
     ensures points { IfOk result (λ draft. IfSome draft (λ draft. Each HasForms (joined_inputs (moved_inputs inputs.now)).methods)) }
 {
-    let mut draft = match Drafting::new(alloc) {
+    let mut draft = match Drafting::new(alloc, steps.key()) {
         Ok(draft) => draft,
         Err(error) => return Err(error),
     };
     match add_parts(alloc, inputs, &mut draft, steps) {
-        Ok(()) => Ok(Some(draft)),
+        Ok(()) => Ok(Some(draft.close())),
         Err(Stopped::Memory) => Err(Memory),
         Err(Stopped::Limit) => Ok(None),
     }

@@ -1,5 +1,5 @@
 // What the program says of itself: its help, its version, and a hint where the words are no command.
-use crate::codes::code_text;
+use ppdb_codes::code_text;
 use std::fmt;
 
 /// The version of the program, of its manual page and of its packages.
@@ -399,20 +399,20 @@ impl fmt::Display for Hint<'_> {
     }
 }
 
-/// The text of the words that ask for the program itself.
-pub fn own_text(words: &[String]) -> Option<&'static str> {
+/// The text of the words that ask for the program itself, in pieces.
+pub fn own_text(words: &[String]) -> Option<[&'static str; 3]> {
     match words {
         [word] => match word.as_str() {
-            "--help" | "-h" | "help" => Some(HELP),
-            "--version" | "-V" => Some(VERSION),
+            "--help" | "-h" | "help" => Some([HELP, "", ""]),
+            "--version" | "-V" => Some([VERSION, "", ""]),
             _ => None,
         },
         [word, topic] if word.as_str() == "help" => match Topic::named(topic) {
-            Some(topic) => Some(topic.text()),
-            None => code_text(topic),
+            Some(topic) => Some([topic.text(), "", ""]),
+            None => code_text(topic).map(|text| [text.sentence, "\n", text.advice]),
         },
         [command, word] if word.as_str() == "--help" || word.as_str() == "-h" => {
-            Topic::named(command).map(Topic::text)
+            Topic::named(command).map(|topic| [topic.text(), "", ""])
         }
         _ => None,
     }

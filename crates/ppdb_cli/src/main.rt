@@ -3,7 +3,6 @@
 
 ghost use Rattle.std.specs.Prelude.{◌≡◌, ◌<◌};
 
-mod codes;
 mod help;
 mod reasons;
 
@@ -12,6 +11,7 @@ use ppdb_base::{CounterPermit, Folder, Sink, Steps};
 use ppdb_cli_files::{RealFolder, StdSink};
 use ppdb_run::{Status, read_words, run};
 use reasons::{Failure, Refusal};
+use std::hash::RandomState;
 use std::io::ErrorKind;
 use std::marker::Brand;
 use std::process::ExitCode;
@@ -105,18 +105,20 @@ fn tell_more(
 
 /// The text of words that ask for the program itself and are no command. Only words that have such a text are read here: `run` reads
 /// those of all commands.
-fn asked_text(words: &[String]) -> Option<&'static str> {
+fn asked_text(words: &[String]) -> Option<[&'static str; 3]> {
     match help::own_text(words) {
         Some(text) if read_words(words).is_err() => Some(text),
         _ => None,
     }
 }
 
-fn put_text<O: Sink>(out: &mut O, text: &str) -> Status {
-    match out.put(text.as_bytes()) {
-        Ok(()) => Status::Done,
-        Err(_) => Status::WriteFault,
+fn put_text<O: Sink>(out: &mut O, text: [&str; 3]) -> Status {
+    for piece in text {
+        if out.put(piece.as_bytes()).is_err() {
+            return Status::WriteFault;
+        }
     }
+    Status::Done
 }
 
 /// Runs the command over a folder.
@@ -143,5 +145,6 @@ fn run_counted<F: Folder, O: Sink, K: Ledger, L: Ledger>(
 {
     let mut checks = Steps::<K>::new(CounterPermit::new(rt), checks);
     let mut steps = Steps::<L>::new(CounterPermit::new(rt), steps);
+    steps.set_key(RandomState::new(rt).ok());
     run(rt.alloc(), words, folder, out, &mut checks, &mut steps)
 }

@@ -1,6 +1,6 @@
 // What the program says on standard error of a file that was refused, or not read or written.
-use crate::codes::sentence;
 use ppdb_cli_files::{RealFolder, Reason};
+use ppdb_codes::code_text;
 use std::fmt;
 use std::io::ErrorKind;
 
@@ -20,7 +20,7 @@ impl<'a> Refusal<'a> {
     pub fn of(line: &'a str, folder: &RealFolder<'_, HostRuntime>) -> Option<Refusal<'a>> {
         let (file, fault) = line.strip_prefix("refused ")?.split_once(' ')?;
         let (code, _) = fault.split_once(' ')?;
-        let sentence = sentence(code)?;
+        let sentence = code_text(code)?.sentence;
         let is_assembly = folder.is_assembly(file);
         Some(Refusal {
             file,

@@ -9,6 +9,8 @@ mod piece;
 mod room;
 mod run;
 mod status;
+mod texts;
+mod there;
 mod verify;
 mod version;
 mod words;

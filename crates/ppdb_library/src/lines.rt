@@ -4,11 +4,13 @@ ghost use Rattle.ppdb_base.specs.First.{IsAccepted};
 ghost use Rattle.ppdb_values.specs.RawFile.{RawFile};
 ghost use Rattle.ppdb_verify.specs.Files.{FileFaults, IsRawOf};
 ghost use Rattle.ppdb_verify.specs.Views.{raw_file};
+ghost use Rattle.ppdb_queries.specs.Known.{IsKnown};
 ghost use Rattle.ppdb_library.specs.Lines.{line_of, point_line};
 
 use crate::status::{DONE, MEMORY, REFUSED, TOO_LONG, USAGE};
+use crate::there::there;
 use ppdb_base::{CounterPermit, MAX_FILE_BYTES, Steps};
-use ppdb_queries::{NoMethod, point_at};
+use ppdb_queries::{KnownPoints, NoMethod, point_by};
 use ppdb_verify::{Verified, verify};
 use ppdb_verify_rules::VerifyError;
 use sequence_points::{Point, Span};
@@ -73,6 +75,7 @@ pub extern "C" fn ppdb_lines(
     ensures too_long { (result ≡ TOO_LONG) ↔ (length frames.now ≤ length lines.old) × (MAX_FILE_BYTES < length file.now) }
     ensures kept { result ≢ DONE → lines.new ≡ lines.old }
 {
+    let (file, frames) = (there(file), there(frames));
     verified_lines::<Brand>(alloc, permit, file, frames, lines, Blank::new(1))
 }
 
@@ -103,7 +106,7 @@ fn verified_lines<L: Ledger>(
     let mut steps = Steps::<L>::new(permit, steps);
     match verify(alloc, file, &mut steps) {
         Ok(file) => {
-            put_lines(&file, frames, lines, &mut steps);
+            put_lines(alloc, &file, frames, lines, &mut steps);
             DONE
         }
         Err(VerifyError::Fault(_)) => REFUSED,
@@ -113,6 +116,7 @@ fn verified_lines<L: Ledger>(
 
 /// Puts the lines of the frames.
 fn put_lines<L: Ledger>(
+    alloc: Global,
     file: &Verified<'_>,
     frames: &[PpdbFrame],
     lines: &mut [PpdbLine],
@@ -121,16 +125,24 @@ fn put_lines<L: Ledger>(
     requires { length frames.now ≤ length lines.old }
     ensures { lines.new ≡ map (line_of (raw_file file.now)) frames.now ++ drop (length frames.now) lines.old }
 {
+    let mut known = KnownPoints::new(alloc);
     for (i, frame) in frames.iter().enumerate() {
-        lines[i] = line(file, frame, steps);
+        lines[i] = line(file, frame, &mut known, steps);
     }
 }
 
-/// The line of a frame.
-fn line<L: Ledger>(file: &Verified<'_>, frame: &PpdbFrame, steps: &mut Steps<L>) -> PpdbLine
-    ensures { result ≡ line_of (raw_file file.now) frame.now }
+/// The line of a frame, by what is known of the method of the frame before it.
+fn line<L: Ledger>(
+    file: &Verified<'_>,
+    frame: &PpdbFrame,
+    known: &mut KnownPoints,
+    steps: &mut Steps<L>,
+) -> PpdbLine
+    requires known { IsKnown (raw_file file.now) known.old }
+    ensures known { IsKnown (raw_file file.now) known.new }
+    ensures line { result ≡ line_of (raw_file file.now) frame.now }
 {
-    match point_at(file, frame.method, frame.offset, steps) {
+    match point_by(file, frame.method, frame.offset, known, steps) {
         Ok(Some(found)) => of_point(found.point),
         Ok(None) => bare(NO_POINT),
         Err(NoMethod) => bare(NO_METHOD),

@@ -8,6 +8,7 @@ use crate::answer::answer;
 use crate::piece::PpdbPiece;
 use crate::room::give;
 use crate::status::{DONE, MEMORY, USAGE};
+use crate::there::there;
 use ppdb_base::CounterPermit;
 use std::alloc::Global;
 
@@ -37,7 +38,7 @@ pub extern "C" fn ppdb_run(
     ensures again { result ≡ DONE → OnCall words.now files.now pieces.now (λ told all. OnAsked told (Some all) WritesAgain) }
     ensures means { result ≡ DONE → OnCall words.now files.now pieces.now (λ told all. OnAsked told (Some all) (WritesMeaning (Some all))) }
 {
-    match answer(alloc, permit, words, files, pieces) {
+    match answer(alloc, permit, there(words), there(files), there(pieces)) {
         Ok(ended) => {
             give(ended.text.as_slice(), text, text_needed);
             give(ended.made(), made, made_needed);

@@ -3,6 +3,8 @@ use crate::fault::PpdbFault;
 use crate::lines::{HIDDEN, LINES, NO_METHOD, PpdbFrame, PpdbLine, ppdb_lines};
 use crate::piece::PpdbPiece;
 use crate::run::ppdb_run;
+use crate::status::{DONE, USAGE};
+use crate::texts::{ppdb_fault_text, ppdb_status_text};
 use crate::verify::ppdb_verify;
 use ppdb_base::CounterPermit;
 use worked_files::SMALL;
@@ -108,4 +110,23 @@ fn commands_are_run(rt: HostRuntime) {
     assert!(rt; status_of(&rt, b"verify\0P", piece) == (2, 0, 0));
     assert!(rt; status_of(&rt, b"verify\0\xff\0", piece) == (2, 0, 0));
     assert!(rt; status_of(&rt, b"verify\0P\0", beyond) == (2, 0, 0));
+}
+
+/// The status of the call for a text, and how long the text is.
+fn text_length(of_rule: bool, number: u8) -> (u8, usize) {
+    let mut needed = 9;
+    let status = if of_rule {
+        ppdb_fault_text(number, &mut [], &mut needed)
+    } else {
+        ppdb_status_text(number, &mut [], &mut needed)
+    };
+    (status, needed)
+}
+
+#[test]
+fn statuses_have_texts(rt: HostRuntime) {
+    assert!(rt; text_length(false, 0) == (DONE, 7) && text_length(false, 15) == (USAGE, 0));
+    // F14: the widths of heap indexes (HeapSizes) have an unknown bit
+    assert!(rt; text_length(true, 14) == (DONE, 63) && text_length(true, 0) == (USAGE, 0));
+    assert!(rt; text_length(true, 41) == (USAGE, 0));
 }

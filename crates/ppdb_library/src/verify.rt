@@ -7,6 +7,7 @@ ghost use Rattle.ppdb_library.specs.Faults.{told_fault};
 
 use crate::fault::{PpdbFault, tell};
 use crate::status::{DONE, MEMORY, REFUSED, TOO_LONG};
+use crate::there::there;
 use ppdb_base::{CounterPermit, MAX_FILE_BYTES, Steps};
 use ppdb_verify::verify;
 use ppdb_verify_rules::VerifyError;
@@ -29,7 +30,7 @@ pub extern "C" fn ppdb_verify(
     ensures too_long { (result ≡ TOO_LONG) ↔ (MAX_FILE_BYTES < length file.now) }
     ensures kept { result ≢ REFUSED → fault.new ≡ fault.old }
 {
-    verified::<Brand>(alloc, permit, file, fault, Blank::new(1))
+    verified::<Brand>(alloc, permit, there(file), fault, Blank::new(1))
 }
 
 /// Verifies a file over a counter of its own.

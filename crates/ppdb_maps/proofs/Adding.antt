@@ -1,133 +1,98 @@
 -- A draft holds a line that was added.
 use Rattle.std.proofs.Common.{inl, inr, ℕ, ◌≡◌, ◌≤◌, ◌&&◌, ◌||◌, ◌++◌, map, Bool, true, false, cond, List, [], ◌∷◌, Option, Some, None, Result, Ok, Err, OnOk, IfErr}
-use Rattle.std.{proofs.Common.{lit≤, refl, sym, ap, ◌∙◌, subst}, specs.Prelude.{nat_eq, bytes_eq, is_some, option_map, Vec}, specs.List.{find, list_any, IsDistinct}}
-use Rattle.std.{specs.Option.{option_or}, specs.declared.alloc.Global.{Global}, proofs.lemmas.List.{map-append}, proofs.lemmas.List.Folds.{find-append}}
-use Rattle.std.proofs.lemmas.{List.Folds.{list_any-append}, Cmp.{nat_eq_equiv}, Map.Keys.{IsDistinct-push}}
-use Rattle.std.specs.BTreeMap as tree
-use Rattle.std.{specs.BTreeMap.{BTreeMap, is_at}, proofs.lemmas.Bool.{false≢true, or_parts}, specs.Cmp.Lexicographic.{slice_cmp}, specs.Ordering.{nat_cmp}}
+use Rattle.std.{proofs.Common.{lit≤, refl, sym, ap, ◌∙◌, subst, rules}, specs.Prelude.{nat_eq, bytes_eq, is_some, option_map, option_and_then, Vec}}
+use Rattle.std.specs.{Cmp.{IsEquivalence}, List.{find, list_any, IsDistinct}, Option.{option_or}, declared.alloc.Global.{Global}}
+use Rattle.std.proofs.lemmas.{List.{map-append}, List.Folds.{find-append}, Cmp.{nat_eq_equiv}, Map.Keys.{IsDistinct-push}, Bool.{false≢true}}
 use Rattle.ppdb_base.specs.declared.offsets.Run.{Run}
+use Rattle.std.specs.BTreeMap as tree
+use Rattle.std.specs.{BTreeMap.{BTreeMap, is_at}, Ordering.{nat_cmp}, Cmp.Lexicographic.{slice_cmp}}
 use Rattle.ppdb_maps.specs.{Map.{MethodLine, pair_cmp}, BitSets.{has_number, has_row}, Gathered.{row_key, cross_key, gone_key, method_key, signature_key, same_pair}}
-use Rattle.ppdb_maps.specs.{Before.{methods_of, follows_method, row_in, cross_in, gone_in, has_image_in, method_in, signature_in}, Rules.{kind_of, Breaks}}
-use Rattle.ppdb_maps.specs.{Rules.{BeginsEarly, EndsBeyond, run_alone, run_early, run_long}, Runs.{RefusesRun}, Drafts.{Holds, HoldsMethods, HasLines, IsClosed}}
-use Rattle.ppdb_maps.specs.{Drafts.{RefusedBy, AddsLine}, declared.draft.Draft.{Draft}, declared.refusal.Refusal.{Refusal}}
-use Rattle.ppdb_maps.specs.declared.{refusal.Refusal.TheVariants.{Breaks as refused, Memory}, line.Line.{Line}, line.Line.TheVariants.{Row, Cross, Gone, Method}}
-use Rattle.ppdb_maps.specs.declared.{line.Line.TheVariants.{Kept, Slot, Signature, Document, Link, Shares}, entries.NameLine.{NameLine}, rule.Rule.{Rule}}
-use Rattle.ppdb_maps.specs.declared.{rule.Rule.TheVariants.{NoMethod}, bit_set.BitSet.{BitSet}, bit_set.RowSet.{RowSet}, entries.RowLine.{RowLine}}
-use Rattle.ppdb_maps.specs.declared.entries.{CrossLine.{CrossLine}, GoneLine.{GoneLine}, SignatureImage.{SignatureImage}}
-use Rattle.ppdb_maps.proofs.{OneMap.{pair_equal, pair_is, same_number}, OneList.{any_is}, Refusing.{at_pair}}
+use Rattle.ppdb_maps.specs.Before.{told, methods_of, follows_method, row_said, cross_said, gone_said, slot_said, signature_said, document_said, slot_in, document_in}
+use Rattle.ppdb_maps.specs.{Places.{Place, place, is_place, row_place, slot_place, signature_place, document_place, method_place}, Rules.{kind_of, Breaks}}
+use Rattle.ppdb_maps.specs.{Rules.{BeginsEarly, EndsBeyond, second, alone, run_alone, run_early, run_long, names_dropped}, Runs.{RefusesRun}, Drafts.{Gathers}}
+use Rattle.ppdb_maps.specs.{Drafts.{Holds, HoldsOthers, HoldsMethods, HasLines, IsClosed, RefusedBy, AddsLine}, declared.draft.Draft.{Draft}}
+use Rattle.ppdb_maps.specs.declared.{refusal.Refusal.{Refusal}, refusal.Refusal.TheVariants.{Breaks as refused, Memory}, line.Line.{Line}}
+use Rattle.ppdb_maps.specs.declared.{line.Line.TheVariants.{Row, Cross, Gone, Method, Kept, Slot, Signature, Document, Link, Shares}, rule.Rule.{Rule}}
+use Rattle.ppdb_maps.specs.declared.{rule.Rule.TheVariants.{Repeated, NoMethod}, bit_set.BitSet.{BitSet}, bit_set.RowSet.{RowSet}, entries.RowLine.{RowLine}}
+use Rattle.ppdb_maps.specs.declared.entries.{CrossLine.{CrossLine}, GoneLine.{GoneLine}, SignatureImage.{SignatureImage}, NameLine.{NameLine}}
+use Rattle.ppdb_maps.proofs.{OneMap.{pair_equal, pair_is, same_number}, Refusing.{none_of, at_pair}, Telling.{has_method, placed, none_there}}
 
 some_or : {A : Type 0} (b : Bool) (x : A) (o : Option A) → (b || is_some o) ≡ is_some (cond b (Some x) o)
-some_or true x o = refl
-some_or false x o = refl
+some_or b x o = search rules
 
--- what is found by a key
-abbrev find_at : {X : Type 0} → (X → ℕ) → ℕ → List X → Option X
-find_at key k xs = find (λ x. nat_eq (key x) k) xs
+module _ {K X V : Type 0} (same : K → K → Bool) (equal : IsEquivalence same) (key : X → K) (value : X → V) where
+  abbrev at : K → List X → Option X
+  at k xs = find (λ x. same (key x) k) xs
 
-pushed_at : {X V : Type 0} (value : X → V) (o : Option X) (x : X) (b : Bool) → (b ≡ true → is_some (option_map value o) ≡ false)
-    → option_map value (option_or o (cond b (Some x) None)) ≡ cond b (Some (value x)) (option_map value o)
-pushed_at value None x true fresh = refl
-pushed_at value None x false fresh = refl
-pushed_at value (Some other) x true fresh = absurd (false≢true (sym (fresh refl)))
-pushed_at value (Some other) x false fresh = refl
+  absent : (k : K) (xs : List X) → option_map value (at k xs) ≡ None → list_any (same k) (map key xs) ≡ false
+  absent k [] none = refl
+  absent k (x ∷ xs) none = of (same (key x) k) refl none (absent k xs)
+    where
+      of : (b : Bool) → same (key x) k ≡ b → option_map value (cond b (Some x) (at k xs)) ≡ None
+          → (option_map value (at k xs) ≡ None → list_any (same k) (map key xs) ≡ false) → list_any (same k) (map key (x ∷ xs)) ≡ false
+      of true hit none rest = absurd (cc)
+      of false miss none rest = ap (λ b. b || list_any (same k) (map key xs)) (equal.symm k (key x) ∙ miss) ∙ rest none
 
--- what is said by a key, with one more item at the end at a key that was not there before
-push_said : {X V : Type 0} (key : X → ℕ) (value : X → V) (xs : List X) (x : X) (said : ℕ → Option V)
-    → ((k : ℕ) → option_map value (find_at key k xs) ≡ said k) → is_some (said (key x)) ≡ false → (k : ℕ)
-    → option_map value (find_at key k (xs ++ x ∷ [])) ≡ cond (nat_eq (key x) k) (Some (value x)) (said k)
-push_said key value xs x said same fresh k =
-    ap (option_map value) (find-append (λ y. nat_eq (key y) k) xs (x ∷ []))
-    ∙ (pushed_at value (find_at key k xs) x (nat_eq (key x) k)
-    (λ is. ap is_some (same k) ∙ subst (λ j. is_some (said j) ≡ false) (same_number (key x) k is) fresh)
-    ∙ ap (cond (nat_eq (key x) k) (Some (value x))) (same k))
+  -- one more item, at a key that was not there before
+  pub pushed : (answer new : K → Option V) (xs ys : List X) (x : X) → Gathers same key value answer xs → ys ≡ xs ++ x ∷ [] → answer (key x) ≡ None
+      → ((k : K) → same (key x) k ≡ true → key x ≡ k) → ((k : K) → new k ≡ cond (same (key x) k) (Some (value x)) (answer k))
+      → Gathers same key value new ys
+  pushed answer new xs ys x old pushes fresh exact is = record {
+    found = λ k. ap (λ l. option_map value (at k l)) pushes ∙ (of k (same (key x) k) refl ∙ sym (is k));
+    once = subst (λ l. IsDistinct same (map key l)) (sym pushes)
+        (subst (IsDistinct same) (sym (map-append key xs (x ∷ [])))
+        (IsDistinct-push equal (map key xs) (key x) old.once (absent (key x) xs (old.found (key x) ∙ fresh))));
+  }
+    where
+      last : (o : Option X) (b : Bool) → (b ≡ true → option_map value o ≡ None)
+          → option_map value (option_or o (cond b (Some x) None)) ≡ cond b (Some (value x)) (option_map value o)
+      last None b none = search rules
+      last (Some y) true none = let e : Some (value y) ≡ None = none refl in absurd (cc)
+      last (Some y) false none = refl
 
-itself : {X : Type 0} (o : Option X) → option_map (λ x. x) o ≡ o
-itself None = refl
-itself (Some x) = refl
+      of : (k : K) (b : Bool) → same (key x) k ≡ b → option_map value (at k (xs ++ x ∷ [])) ≡ cond b (Some (value x)) (answer k)
+      of k b hit =
+          ap (option_map value) (find-append (λ y. same (key y) k) xs (x ∷ []))
+          ∙ ap (λ c. option_map value (option_or (at k xs) (cond c (Some x) None))) hit
+          ∙ last (at k xs) b (λ yes. old.found k ∙ subst (λ j. answer j ≡ None) (exact k (hit ∙ yes)) fresh)
+          ∙ ap (cond b (Some (value x))) (old.found k)
 
-push_found : {X : Type 0} (key : X → ℕ) (xs : List X) (x : X) (lines : List X) → ((k : ℕ) → find_at key k xs ≡ find_at key k lines)
-    → is_some (find_at key (key x) lines) ≡ false → (k : ℕ) → find_at key k (xs ++ x ∷ []) ≡ cond (nat_eq (key x) k) (Some x) (find_at key k lines)
-push_found key xs x lines same fresh k =
-    sym (itself (find_at key k (xs ++ x ∷ [])))
-    ∙ push_said key (λ y. y) xs x (λ j. find_at key j lines) (λ j. itself (find_at key j xs) ∙ same j) fresh k
+-- ---- one line more, of any kind
 
-some_said : {X V : Type 0} (value : X → V) (o : Option X) → is_some (option_map value o) ≡ false → is_some o ≡ false
-some_said value None none = refl
-some_said value (Some x) none = none
+module _ (before : List Line) (line : Line) (once : Breaks before Repeated line → ⊥) where
+  pub new : (at : Place) → is_place at (place line) ≡ true → told before at ≡ None
+  new at hit = none_there (told before at) (λ some. once (second at (placed at (place line) hit) some))
 
-key_absent : {X : Type 0} (key : X → ℕ) (xs : List X) (k : ℕ) → is_some (find_at key k xs) ≡ false → list_any (nat_eq k) (map key xs) ≡ false
-key_absent key [] k fresh = refl
-key_absent key (x ∷ xs) k fresh = of (nat_eq (key x) k) refl fresh (key_absent key xs k)
-  where
-    of : (b : Bool) → nat_eq (key x) k ≡ b → is_some (cond b (Some x) (find_at key k xs)) ≡ false
-        → (is_some (find_at key k xs) ≡ false → list_any (nat_eq k) (map key xs) ≡ false) → list_any (nat_eq k) (map key (x ∷ xs)) ≡ false
-    of true is fresh rest = absurd (false≢true (sym fresh))
-    of false is fresh rest = ap (λ b. b || list_any (nat_eq k) (map key xs)) (nat_eq_equiv.symm k (key x) ∙ is) ∙ rest fresh
+  -- what it does not say is said as before
+  pub other_said : {A : Type 0} (said : Line → Option A) → said line ≡ None → (at : Place)
+      → option_and_then said (told (line ∷ before) at) ≡ option_and_then said (told before at)
+  other_said said none at = of (is_place at (place line)) (new at)
+    where
+      of : (b : Bool) → (b ≡ true → told before at ≡ None) → option_and_then said (cond b (Some line) (told before at)) ≡ option_and_then said (told before at)
+      of true fresh = none ∙ sym (ap (option_and_then said) (fresh refl))
+      of false fresh = refl
 
-push_distinct : {X : Type 0} (key : X → ℕ) (xs : List X) (x : X) → IsDistinct nat_eq (map key xs) → is_some (find_at key (key x) xs) ≡ false
-    → IsDistinct nat_eq (map key (xs ++ x ∷ []))
-push_distinct key xs x distinct fresh = subst (IsDistinct nat_eq) (sym (map-append key xs (x ∷ [])))
-    (IsDistinct-push nat_eq_equiv (map key xs) (key x) distinct (key_absent key xs (key x) fresh))
+  -- and a list that answers by it answers so still
+  module _ {K X V : Type 0} (same : K → K → Bool) (key : X → K) (value : X → V) (at : K → Place) (said : Line → Option V) (xs : List X)
+      (old : Gathers same key value (λ k. option_and_then said (told before (at k))) xs) where
+    pub stays : said line ≡ None → Gathers same key value (λ k. option_and_then said (told (line ∷ before) (at k))) xs
+    stays none = record { found = λ k. old.found k ∙ sym (other_said said none (at k)); once = old.once }
 
--- what is found by a pair
-abbrev find_pair : {X : Type 0} → (X → ℕ × ℕ) → ℕ → ℕ → List X → Option X
-find_pair key a b xs = find (λ x. nat_eq (key x).0 a && nat_eq (key x).1 b) xs
+    -- a list with an item of what it says answers by it too
+    pub adds : (ys : List X) (x : X) → IsEquivalence same → ((k : K) → same (key x) k ≡ true → key x ≡ k) → ys ≡ xs ++ x ∷ [] → said line ≡ Some (value x)
+        → ((k : K) → is_place (at k) (place line) ≡ same (key x) k) → Gathers same key value (λ k. option_and_then said (told (line ∷ before) (at k))) ys
+    adds ys x equal exact pushes is hits =
+        pushed same equal key value (λ k. option_and_then said (told before (at k))) (λ k. option_and_then said (told (line ∷ before) (at k))) xs ys x old pushes
+        (ap (option_and_then said) (new (at (key x)) (hits (key x) ∙ equal.refl (key x)))) exact
+        (λ k. ap (λ b. option_and_then said (cond b (Some line) (told before (at k)))) (hits k) ∙ of (same (key x) k) (told before (at k)))
+      where
+        of : (b : Bool) (o : Option Line) → option_and_then said (cond b (Some line) o) ≡ cond b (Some (value x)) (option_and_then said o)
+        of b o = search rules
 
--- what is said by a pair, with one more item at the end at a pair that was not there before
-push_pair : {X V : Type 0} (key : X → ℕ × ℕ) (value : X → V) (xs : List X) (x : X) (said : ℕ → ℕ → Option V)
-    → ((a b : ℕ) → option_map value (find_pair key a b xs) ≡ said a b) → is_some (said (key x).0 (key x).1) ≡ false → (a b : ℕ)
-    → option_map value (find_pair key a b (xs ++ x ∷ [])) ≡ cond (nat_eq (key x).0 a && nat_eq (key x).1 b) (Some (value x)) (said a b)
-push_pair key value xs x said same fresh a b =
-    ap (option_map value) (find-append (λ y. nat_eq (key y).0 a && nat_eq (key y).1 b) xs (x ∷ []))
-    ∙ (pushed_at value (find_pair key a b xs) x (nat_eq (key x).0 a && nat_eq (key x).1 b)
-    (λ is. ap is_some (same a b) ∙ subst (λ (p : ℕ × ℕ). is_some (said p.0 p.1) ≡ false) (pair_is (key x) (a, b) is) fresh)
-    ∙ ap (cond (nat_eq (key x).0 a && nat_eq (key x).1 b) (Some (value x))) (same a b))
+there_now : (b old : Bool) (line : Line) (o : Option Line) → old ≡ is_some o → (b || old) ≡ is_some (cond b (Some line) o)
+there_now b old line o same = search rules
 
-pair_absent : {X : Type 0} (key : X → ℕ × ℕ) (xs : List X) (a b : ℕ) → is_some (find_pair key a b xs) ≡ false
-    → list_any (same_pair (a, b)) (map key xs) ≡ false
-pair_absent key [] a b fresh = refl
-pair_absent key (x ∷ xs) a b fresh = of (nat_eq (key x).0 a && nat_eq (key x).1 b) refl fresh (pair_absent key xs a b)
-  where
-    turned : same_pair (a, b) (key x) ≡ (nat_eq (key x).0 a && nat_eq (key x).1 b)
-    turned = pair_equal.symm (a, b) (key x)
-
-    of : (t : Bool) → (nat_eq (key x).0 a && nat_eq (key x).1 b) ≡ t → is_some (cond t (Some x) (find_pair key a b xs)) ≡ false
-        → (is_some (find_pair key a b xs) ≡ false → list_any (same_pair (a, b)) (map key xs) ≡ false)
-        → list_any (same_pair (a, b)) (map key (x ∷ xs)) ≡ false
-    of true is fresh rest = absurd (false≢true (sym fresh))
-    of false is fresh rest = ap (λ t. t || list_any (same_pair (a, b)) (map key xs)) (turned ∙ is) ∙ rest fresh
-
-pair_distinct : {X : Type 0} (key : X → ℕ × ℕ) (xs : List X) (x : X) → IsDistinct same_pair (map key xs)
-    → is_some (find_pair key (key x).0 (key x).1 xs) ≡ false → IsDistinct same_pair (map key (xs ++ x ∷ []))
-pair_distinct key xs x distinct fresh = subst (IsDistinct same_pair) (sym (map-append key xs (x ∷ [])))
-    (IsDistinct-push pair_equal (map key xs) (key x) distinct (pair_absent key xs (key x).0 (key x).1 fresh))
-
--- a row has an image by the lines before the last, or by the last one
-moved_by_row : {A : Type 0} (b : Bool) (x : A) (o : Option A) (rest : Bool) → (b || (is_some o || rest)) ≡ (is_some (cond b (Some x) o) || rest)
-moved_by_row true x o rest = refl
-moved_by_row false x o rest = refl
-
-moved_by_cross : {A : Type 0} (b : Bool) (x : A) (row : Bool) (o : Option A) (gone : Bool)
-    → (b || (row || (is_some o || gone))) ≡ (row || (is_some (cond b (Some x) o) || gone))
-moved_by_cross true x true o gone = refl
-moved_by_cross true x false o gone = refl
-moved_by_cross false x row o gone = refl
-
-moved_by_gone : (b row crossed gone : Bool) → (b || (row || (crossed || gone))) ≡ (row || (crossed || cond b true gone))
-moved_by_gone true true crossed gone = refl
-moved_by_gone true false true gone = refl
-moved_by_gone true false false gone = refl
-moved_by_gone false row crossed gone = refl
-
--- whether one is there, with one more item at the end
-any_pushed : (b c : Bool) → (c || (b || false)) ≡ cond b true c
-any_pushed true true = refl
-any_pushed true false = refl
-any_pushed false true = refl
-any_pushed false false = refl
-
-push_any : {X : Type 0} (p : X → Bool) (xs : List X) (x : X) (said : Bool) → list_any p xs ≡ said → list_any p (xs ++ x ∷ []) ≡ cond (p x) true said
-push_any p xs x said same = list_any-append p xs (x ∷ []) ∙ any_pushed (p x) (list_any p xs) ∙ ap (cond (p x) true) same
+-- ---- the draft
 
 pub none_held : (draft : Draft) → draft.counts.entries ≡ [] → draft.rows.items ≡ [] → draft.crossed.items ≡ [] → draft.gone.items ≡ []
     → ((table row : ℕ) → has_row draft.moved table row ≡ false) → draft.methods.items ≡ [] → ((number : ℕ) → has_number draft.listed number ≡ false)
@@ -136,351 +101,150 @@ pub none_held : (draft : Draft) → draft.counts.entries ≡ [] → draft.rows.i
     → draft.shares ≡ false → Holds [] draft
 unfolding IsDistinct
 none_held draft counts rows crossed gone moved methods listed current drops slotted slots signatures signed documents link shares = record {
-  others = record {
-    counts = λ table. rw counts refl;
-    rows = λ table old. rw rows refl;
-    distinct = rw rows tt;
-    crossed = λ table old. rw crossed refl;
-    crossed_once = rw crossed tt;
-    gone = λ table old. rw gone refl;
-    gone_once = rw gone tt;
-    moved = moved;
-    drops = λ method. rw drops refl;
-    slotted = λ method. rw slotted refl;
-    slots = λ method old. rw slots refl;
-    signatures = λ method. rw signatures refl;
-    signed_once = rw signatures tt;
-    signed = signed;
-    documents = λ name. rw documents refl;
-    link = link;
-    shares = shares;
-  };
+  others = search rules;
   methods = subst (λ (m : Option MethodLine). HoldsMethods [] m draft) (sym current)
-      (record { found = λ method. rw methods refl; distinct = rw methods tt; numbers = listed }, refl);
+      (record { gathered = record { found = λ k. rw methods refl; once = rw methods tt }; numbers = listed }, refl);
 }
 
--- no line of the row is there
-abbrev no_row : List Line → ℕ → ℕ → Type 0
-no_row before t o = (is_some (row_in before t o) ≡ false) × (is_some (cross_in before t o) ≡ false) × (gone_in before t o ≡ false)
-
-none_there : (before : List Line) (t o : ℕ) → has_image_in before t o ≡ false → no_row before t o
-none_there before t o fresh =
-    let first = or_parts (is_some (row_in before t o)) (is_some (cross_in before t o) || gone_in before t o) fresh in
-    let others = or_parts (is_some (cross_in before t o)) (gone_in before t o) first.1 in
-    (first.0, others.0, others.1)
-
-pub row_added : (before : List Line) (draft : Draft) (rows : Vec RowLine Global) (moved : RowSet) (t o n : ℕ) → IsClosed before draft
-    → has_image_in before t o ≡ false
-    → rows.items ≡ draft.rows.items ++ record { table = t; old = o; new = n } ∷ []
-    → ((a b : ℕ) → has_row moved a b ≡ (nat_eq t a && nat_eq o b || has_row draft.moved a b))
-    → Holds (Row t o n ∷ before) (record draft { rows = rows; moved = moved })
-row_added before draft rows moved t o n closed fresh pushes marks = record {
-  others = record {
-    counts = closed.others.counts;
-    rows = λ a b.
-        ap (λ rs. option_map (λ (r : RowLine). r.new) (find_pair row_key a b rs)) pushes
-        ∙ push_pair row_key (λ (r : RowLine). r.new) draft.rows.items (record { table = t; old = o; new = n }) (row_in before)
-        closed.others.rows (none_there before t o fresh).0 a b;
-    distinct = subst (λ rs. IsDistinct same_pair (map row_key rs)) (sym pushes)
-        (pair_distinct row_key draft.rows.items (record { table = t; old = o; new = n }) closed.others.distinct
-        (some_said (λ (r : RowLine). r.new) (find_pair row_key t o draft.rows.items)
-        (ap is_some (closed.others.rows t o) ∙ (none_there before t o fresh).0)));
-    crossed = closed.others.crossed;
-    crossed_once = closed.others.crossed_once;
-    gone = closed.others.gone;
-    gone_once = closed.others.gone_once;
-    moved = λ a b.
-        marks a b ∙ (ap (λ m. nat_eq t a && nat_eq o b || m) (closed.others.moved a b)
-        ∙ moved_by_row (nat_eq t a && nat_eq o b) n (row_in before a b) (is_some (cross_in before a b) || gone_in before a b));
-    drops = closed.others.drops;
-    slotted = closed.others.slotted;
-    slots = closed.others.slots;
-    signatures = closed.others.signatures;
-    signed_once = closed.others.signed_once;
-    signed = closed.others.signed;
-    documents = closed.others.documents;
-    link = closed.others.link;
-    shares = closed.others.shares;
-  };
-  methods = subst (λ (m : Option MethodLine). HoldsMethods (Row t o n ∷ before) m (record draft { rows = rows; moved = moved })) (sym closed.closed)
-      (closed.methods, refl);
+-- the other lists answer as before, and no method is open
+closed_holds : (before : List Line) (line : Line) (draft : Draft) → draft.current ≡ None → HoldsOthers (line ∷ before) draft
+    → HoldsMethods (line ∷ before) None draft → Holds (line ∷ before) draft
+closed_holds before line draft is others methods = record {
+  others = others;
+  methods = subst (λ (m : Option MethodLine). HoldsMethods (line ∷ before) m draft) (sym is) methods;
 }
 
-pub cross_added : (before : List Line) (draft : Draft) (crossed : Vec CrossLine Global) (moved : RowSet) (line : CrossLine) → IsClosed before draft
-    → has_image_in before line.table line.old ≡ false
-    → crossed.items ≡ draft.crossed.items ++ line ∷ []
-    → ((a b : ℕ) → has_row moved a b ≡ (nat_eq line.table a && nat_eq line.old b || has_row draft.moved a b))
-    → Holds (Cross line ∷ before) (record draft { crossed = crossed; moved = moved })
-cross_added before draft crossed moved line closed fresh pushes marks = record {
-  others = record {
-    counts = closed.others.counts;
-    rows = closed.others.rows;
-    distinct = closed.others.distinct;
-    crossed = λ a b.
-        ap (λ rs. find_pair cross_key a b rs) pushes
-        ∙ sym (itself (find_pair cross_key a b (draft.crossed.items ++ line ∷ [])))
-        ∙ push_pair cross_key (λ r. r) draft.crossed.items line (cross_in before)
-        (λ x y. itself (find_pair cross_key x y draft.crossed.items) ∙ closed.others.crossed x y)
-        (none_there before line.table line.old fresh).1 a b;
-    crossed_once = subst (λ rs. IsDistinct same_pair (map cross_key rs)) (sym pushes)
-        (pair_distinct cross_key draft.crossed.items line closed.others.crossed_once
-        (ap is_some (closed.others.crossed line.table line.old) ∙ (none_there before line.table line.old fresh).1));
-    gone = closed.others.gone;
-    gone_once = closed.others.gone_once;
-    moved = λ a b.
-        marks a b ∙ (ap (λ m. nat_eq line.table a && nat_eq line.old b || m) (closed.others.moved a b)
-        ∙ moved_by_cross (nat_eq line.table a && nat_eq line.old b) line (is_some (row_in before a b)) (cross_in before a b) (gone_in before a b));
-    drops = closed.others.drops;
-    slotted = closed.others.slotted;
-    slots = closed.others.slots;
-    signatures = closed.others.signatures;
-    signed_once = closed.others.signed_once;
-    signed = closed.others.signed;
-    documents = closed.others.documents;
-    link = closed.others.link;
-    shares = closed.others.shares;
-  };
-  methods = subst (λ (m : Option MethodLine). HoldsMethods (Cross line ∷ before) m (record draft { crossed = crossed; moved = moved }))
-      (sym closed.closed) (closed.methods, refl);
-}
+module _ (before : List Line) (draft : Draft) (closed : IsClosed before draft) where
+  -- the list of its kind takes a line of a row, and the others answer as before
+  pub row_put : (rows : Vec RowLine Global) (moved : RowSet) (x : RowLine) → (Breaks before Repeated (Row x.table x.old x.new) → ⊥)
+      → rows.items ≡ draft.rows.items ++ x ∷ [] → ((a b : ℕ) → has_row moved a b ≡ (nat_eq x.table a && nat_eq x.old b || has_row draft.moved a b))
+      → Holds (Row x.table x.old x.new ∷ before) (record draft { rows = rows; moved = moved })
+  row_put rows moved x once pushes marks =
+      let line = Row x.table x.old x.new in
+      let here = closed.others in
+      let a = adds before line once same_pair row_key (λ r. r.new) (λ k. row_place k.0 k.1) row_said draft.rows.items here.rows rows.items x pair_equal
+      (pair_is (row_key x)) pushes refl (λ k. refl) in
+      let b = stays before line once same_pair cross_key (λ r. r) (λ k. row_place k.0 k.1) cross_said draft.crossed.items here.crossed refl in
+      let c = stays before line once same_pair gone_key (λ r. r) (λ k. row_place k.0 k.1) gone_said draft.gone.items here.gone refl in
+      let d : (a b : ℕ) → has_row moved a b ≡ is_some (told (line ∷ before) (row_place a b)) =
+      λ a b. marks a b ∙ there_now (nat_eq x.table a && nat_eq x.old b) (has_row draft.moved a b) line (told before (row_place a b)) (here.moved a b) in
+      closed_holds before line (record draft { rows = rows; moved = moved }) closed.closed (search rules) (closed.methods, refl)
 
-pub gone_added : (before : List Line) (draft : Draft) (gone : Vec GoneLine Global) (moved : RowSet) (t o : ℕ) → IsClosed before draft
-    → has_image_in before t o ≡ false
-    → gone.items ≡ draft.gone.items ++ record { table = t; old = o } ∷ []
-    → ((a b : ℕ) → has_row moved a b ≡ (nat_eq t a && nat_eq o b || has_row draft.moved a b))
-    → Holds (Gone t o ∷ before) (record draft { gone = gone; moved = moved })
-gone_added before draft gone moved t o closed fresh pushes marks = record {
-  others = record {
-    counts = closed.others.counts;
-    rows = closed.others.rows;
-    distinct = closed.others.distinct;
-    crossed = closed.others.crossed;
-    crossed_once = closed.others.crossed_once;
-    gone = λ a b.
-        ap (λ rs. list_any (λ (r : GoneLine). nat_eq r.table a && nat_eq r.old b) rs) pushes
-        ∙ push_any (λ (r : GoneLine). nat_eq r.table a && nat_eq r.old b) draft.gone.items (record { table = t; old = o }) (gone_in before a b)
-        (closed.others.gone a b);
-    gone_once = subst (λ rs. IsDistinct same_pair (map gone_key rs)) (sym pushes)
-        (pair_distinct gone_key draft.gone.items (record { table = t; old = o }) closed.others.gone_once
-        (sym (any_is (λ (r : GoneLine). nat_eq r.table t && nat_eq r.old o) draft.gone.items)
-        ∙ (closed.others.gone t o ∙ (none_there before t o fresh).2)));
-    moved = λ a b.
-        marks a b ∙ (ap (λ m. nat_eq t a && nat_eq o b || m) (closed.others.moved a b)
-        ∙ moved_by_gone (nat_eq t a && nat_eq o b) (is_some (row_in before a b)) (is_some (cross_in before a b)) (gone_in before a b));
-    drops = closed.others.drops;
-    slotted = closed.others.slotted;
-    slots = closed.others.slots;
-    signatures = closed.others.signatures;
-    signed_once = closed.others.signed_once;
-    signed = closed.others.signed;
-    documents = closed.others.documents;
-    link = closed.others.link;
-    shares = closed.others.shares;
-  };
-  methods = subst (λ (m : Option MethodLine). HoldsMethods (Gone t o ∷ before) m (record draft { gone = gone; moved = moved }))
-      (sym closed.closed) (closed.methods, refl);
-}
+  pub cross_put : (crossed : Vec CrossLine Global) (moved : RowSet) (x : CrossLine) → (Breaks before Repeated (Cross x) → ⊥)
+      → crossed.items ≡ draft.crossed.items ++ x ∷ []
+      → ((a b : ℕ) → has_row moved a b ≡ (nat_eq x.table a && nat_eq x.old b || has_row draft.moved a b))
+      → Holds (Cross x ∷ before) (record draft { crossed = crossed; moved = moved })
+  cross_put crossed moved x once pushes marks =
+      let line = Cross x in
+      let here = closed.others in
+      let a = stays before line once same_pair row_key (λ r. r.new) (λ k. row_place k.0 k.1) row_said draft.rows.items here.rows refl in
+      let b = adds before line once same_pair cross_key (λ r. r) (λ k. row_place k.0 k.1) cross_said draft.crossed.items here.crossed crossed.items x pair_equal
+      (pair_is (cross_key x)) pushes refl (λ k. refl) in
+      let c = stays before line once same_pair gone_key (λ r. r) (λ k. row_place k.0 k.1) gone_said draft.gone.items here.gone refl in
+      let d : (a b : ℕ) → has_row moved a b ≡ is_some (told (line ∷ before) (row_place a b)) =
+      λ a b. marks a b ∙ there_now (nat_eq x.table a && nat_eq x.old b) (has_row draft.moved a b) line (told before (row_place a b)) (here.moved a b) in
+      closed_holds before line (record draft { crossed = crossed; moved = moved }) closed.closed (search rules) (closed.methods, refl)
 
-pub slot_added : (before : List Line) (draft : Draft) (slots : BTreeMap (ℕ × ℕ) ℕ) (m o n : ℕ) → IsClosed before draft
-    → ((q : ℕ × ℕ) → tree.get pair_cmp slots q ≡ cond (is_at (pair_cmp (m, o)) q) (Some n) (tree.get pair_cmp draft.slots q))
-    → Holds (Slot m o n ∷ before) (record draft { slots = slots })
-slot_added before draft slots m o n closed updates = record {
-  others = record {
-    counts = closed.others.counts;
-    rows = closed.others.rows;
-    distinct = closed.others.distinct;
-    crossed = closed.others.crossed;
-    crossed_once = closed.others.crossed_once;
-    gone = closed.others.gone;
-    gone_once = closed.others.gone_once;
-    moved = closed.others.moved;
-    drops = closed.others.drops;
-    slotted = closed.others.slotted;
-    slots = λ a b. updates (a, b) ∙ rw (at_pair m o a b, closed.others.slots a b) refl;
-    signatures = closed.others.signatures;
-    signed_once = closed.others.signed_once;
-    signed = closed.others.signed;
-    documents = closed.others.documents;
-    link = closed.others.link;
-    shares = closed.others.shares;
-  };
-  methods = subst (λ (l : Option MethodLine). HoldsMethods (Slot m o n ∷ before) l (record draft { slots = slots })) (sym closed.closed) (closed.methods, refl);
-}
+  pub gone_put : (gone : Vec GoneLine Global) (moved : RowSet) (x : GoneLine) → (Breaks before Repeated (Gone x.table x.old) → ⊥)
+      → gone.items ≡ draft.gone.items ++ x ∷ []
+      → ((a b : ℕ) → has_row moved a b ≡ (nat_eq x.table a && nat_eq x.old b || has_row draft.moved a b))
+      → Holds (Gone x.table x.old ∷ before) (record draft { gone = gone; moved = moved })
+  gone_put gone moved x once pushes marks =
+      let line = Gone x.table x.old in
+      let here = closed.others in
+      let a = stays before line once same_pair row_key (λ r. r.new) (λ k. row_place k.0 k.1) row_said draft.rows.items here.rows refl in
+      let b = stays before line once same_pair cross_key (λ r. r) (λ k. row_place k.0 k.1) cross_said draft.crossed.items here.crossed refl in
+      let c = adds before line once same_pair gone_key (λ r. r) (λ k. row_place k.0 k.1) gone_said draft.gone.items here.gone gone.items x pair_equal
+      (pair_is (gone_key x)) pushes refl (λ k. refl) in
+      let d : (a b : ℕ) → has_row moved a b ≡ is_some (told (line ∷ before) (row_place a b)) =
+      λ a b. marks a b ∙ there_now (nat_eq x.table a && nat_eq x.old b) (has_row draft.moved a b) line (told before (row_place a b)) (here.moved a b) in
+      closed_holds before line (record draft { gone = gone; moved = moved }) closed.closed (search rules) (closed.methods, refl)
 
-pub signature_added : (before : List Line) (draft : Draft) (signatures : Vec SignatureImage Global) (signed : BitSet) (m n : ℕ) → IsClosed before draft
-    → is_some (signature_in before m) ≡ false
-    → signatures.items ≡ draft.signatures.items ++ record { method = m; new = n } ∷ []
-    → ((a : ℕ) → has_number signed a ≡ (nat_eq m a || has_number draft.signed a))
-    → Holds (Signature m n ∷ before) (record draft { signatures = signatures; signed = signed })
-signature_added before draft signatures signed m n closed fresh pushes marks = record {
-  others = record {
-    counts = closed.others.counts;
-    rows = closed.others.rows;
-    distinct = closed.others.distinct;
-    crossed = closed.others.crossed;
-    crossed_once = closed.others.crossed_once;
-    gone = closed.others.gone;
-    gone_once = closed.others.gone_once;
-    moved = closed.others.moved;
-    drops = closed.others.drops;
-    slotted = closed.others.slotted;
-    slots = closed.others.slots;
-    signatures = λ k.
-        ap (λ ss. option_map (λ (s : SignatureImage). s.new) (find_at signature_key k ss)) pushes
-        ∙ push_said signature_key (λ (s : SignatureImage). s.new) draft.signatures.items (record { method = m; new = n })
-        (signature_in before) closed.others.signatures fresh k;
-    signed_once = subst (λ ss. IsDistinct nat_eq (map signature_key ss)) (sym pushes)
-        (push_distinct signature_key draft.signatures.items (record { method = m; new = n }) closed.others.signed_once
-        (some_said (λ (s : SignatureImage). s.new) (find_at signature_key m draft.signatures.items) (ap is_some (closed.others.signatures m) ∙ fresh)));
-    signed = λ k. marks k ∙ (ap (λ b. nat_eq m k || b) (closed.others.signed k) ∙ some_or (nat_eq m k) n (signature_in before k));
-    documents = closed.others.documents;
-    link = closed.others.link;
-    shares = closed.others.shares;
-  };
-  methods = subst (λ (l : Option MethodLine). HoldsMethods (Signature m n ∷ before) l (record draft { signatures = signatures; signed = signed }))
-      (sym closed.closed) (closed.methods, refl);
-}
+  pub signature_put : (signatures : Vec SignatureImage Global) (signed : BitSet) (x : SignatureImage) → (Breaks before Repeated (Signature x.method x.new) → ⊥)
+      → signatures.items ≡ draft.signatures.items ++ x ∷ [] → ((a : ℕ) → has_number signed a ≡ (nat_eq x.method a || has_number draft.signed a))
+      → Holds (Signature x.method x.new ∷ before) (record draft { signatures = signatures; signed = signed })
+  signature_put signatures signed x once pushes marks =
+      let line = Signature x.method x.new in
+      let here = closed.others in
+      let a = adds before line once nat_eq signature_key (λ s. s.new) signature_place signature_said draft.signatures.items here.signatures signatures.items x
+      nat_eq_equiv (same_number x.method) pushes refl (λ k. refl) in
+      let b : (k : ℕ) → has_number signed k ≡ is_some (told (line ∷ before) (signature_place k)) =
+      λ k. marks k ∙ there_now (nat_eq x.method k) (has_number draft.signed k) line (told before (signature_place k)) (here.signed k) in
+      closed_holds before line (record draft { signatures = signatures; signed = signed }) closed.closed (search rules) (closed.methods, refl)
 
-pub document_added : (before : List Line) (draft : Draft) (documents : BTreeMap (Vec ℕ Global) (List ℕ)) (d : NameLine) → IsClosed before draft
-    → ((name : List ℕ) → tree.get_by (λ key. slice_cmp nat_cmp name key.items) documents
-    ≡ cond (bytes_eq d.old name) (Some d.new) (tree.get_by (λ key. slice_cmp nat_cmp name key.items) draft.documents))
-    → Holds (Document d ∷ before) (record draft { documents = documents })
-document_added before draft documents d closed updates = record {
-  others = record {
-    counts = closed.others.counts;
-    rows = closed.others.rows;
-    distinct = closed.others.distinct;
-    crossed = closed.others.crossed;
-    crossed_once = closed.others.crossed_once;
-    gone = closed.others.gone;
-    gone_once = closed.others.gone_once;
-    moved = closed.others.moved;
-    drops = closed.others.drops;
-    slotted = closed.others.slotted;
-    slots = closed.others.slots;
-    signatures = closed.others.signatures;
-    signed_once = closed.others.signed_once;
-    signed = closed.others.signed;
-    documents = λ name. updates name ∙ ap (cond (bytes_eq d.old name) (Some d.new)) (closed.others.documents name);
-    link = closed.others.link;
-    shares = closed.others.shares;
-  };
-  methods = subst (λ (l : Option MethodLine). HoldsMethods (Document d ∷ before) l (record draft { documents = documents }))
-      (sym closed.closed) (closed.methods, refl);
-}
+  pub slot_put : (slots : BTreeMap (ℕ × ℕ) ℕ) (m o n : ℕ)
+      → ((q : ℕ × ℕ) → tree.get pair_cmp slots q ≡ cond (is_at (pair_cmp (m, o)) q) (Some n) (tree.get pair_cmp draft.slots q))
+      → Holds (Slot m o n ∷ before) (record draft { slots = slots })
+  slot_put slots m o n updates =
+      let here = closed.others in
+      let a : (x y : ℕ) → tree.get pair_cmp slots (x, y) ≡ slot_in (Slot m o n ∷ before) x y =
+      λ x y. updates (x, y) ∙ (rw (at_pair m o x y, here.slots x y) (of (nat_eq m x && nat_eq o y) (told before (slot_place x y)))) in
+      closed_holds before (Slot m o n) (record draft { slots = slots }) closed.closed (search rules) (closed.methods, refl)
+    where
+      of : (b : Bool) (l : Option Line) → cond b (Some n) (option_and_then slot_said l) ≡ option_and_then slot_said (cond b (Some (Slot m o n)) l)
+      of b l = search rules
 
-pub link_added : (before : List Line) (draft : Draft) (value : List ℕ) → IsClosed before draft → Holds (Link value ∷ before) (record draft { link = Some value })
-link_added before draft value closed = record {
-  others = record {
-    counts = closed.others.counts;
-    rows = closed.others.rows;
-    distinct = closed.others.distinct;
-    crossed = closed.others.crossed;
-    crossed_once = closed.others.crossed_once;
-    gone = closed.others.gone;
-    gone_once = closed.others.gone_once;
-    moved = closed.others.moved;
-    drops = closed.others.drops;
-    slotted = closed.others.slotted;
-    slots = closed.others.slots;
-    signatures = closed.others.signatures;
-    signed_once = closed.others.signed_once;
-    signed = closed.others.signed;
-    documents = closed.others.documents;
-    link = refl;
-    shares = closed.others.shares;
-  };
-  methods = subst (λ (l : Option MethodLine). HoldsMethods (Link value ∷ before) l (record draft { link = Some value })) (sym closed.closed) (closed.methods, refl);
-}
+  pub document_put : (documents : BTreeMap (Vec ℕ Global) (List ℕ)) (d : NameLine)
+      → ((name : List ℕ) → tree.get_by (λ key. slice_cmp nat_cmp name key.items) documents
+      ≡ cond (bytes_eq d.old name) (Some d.new) (tree.get_by (λ key. slice_cmp nat_cmp name key.items) draft.documents))
+      → Holds (Document d ∷ before) (record draft { documents = documents })
+  document_put documents d updates =
+      let here = closed.others in
+      let a : (name : List ℕ) → tree.get_by (λ key. slice_cmp nat_cmp name key.items) documents ≡ document_in (Document d ∷ before) name =
+      λ name. updates name ∙ (ap (cond (bytes_eq d.old name) (Some d.new)) (here.documents name) ∙ of (bytes_eq d.old name) (told before (document_place name))) in
+      closed_holds before (Document d) (record draft { documents = documents }) closed.closed (search rules) (closed.methods, refl)
+    where
+      of : (b : Bool) (l : Option Line) → cond b (Some d.new) (option_and_then document_said l) ≡ option_and_then document_said (cond b (Some (Document d)) l)
+      of b l = search rules
 
-pub shares_added : (before : List Line) (draft : Draft) → IsClosed before draft → Holds (Shares ∷ before) (record draft { shares = true })
-shares_added before draft closed = record {
-  others = record {
-    counts = closed.others.counts;
-    rows = closed.others.rows;
-    distinct = closed.others.distinct;
-    crossed = closed.others.crossed;
-    crossed_once = closed.others.crossed_once;
-    gone = closed.others.gone;
-    gone_once = closed.others.gone_once;
-    moved = closed.others.moved;
-    drops = closed.others.drops;
-    slotted = closed.others.slotted;
-    slots = closed.others.slots;
-    signatures = closed.others.signatures;
-    signed_once = closed.others.signed_once;
-    signed = closed.others.signed;
-    documents = closed.others.documents;
-    link = closed.others.link;
-    shares = refl;
-  };
-  methods = subst (λ (l : Option MethodLine). HoldsMethods (Shares ∷ before) l (record draft { shares = true })) (sym closed.closed) (closed.methods, refl);
-}
+  pub link_put : (value : List ℕ) → Holds (Link value ∷ before) (record draft { link = Some value })
+  link_put value =
+      let here = closed.others in
+      closed_holds before (Link value) (record draft { link = Some value }) closed.closed (search rules) (closed.methods, refl)
+
+  pub shares_put : Holds (Shares ∷ before) (record draft { shares = true })
+  shares_put =
+      let here = closed.others in
+      closed_holds before Shares (record draft { shares = true }) closed.closed (search rules) (closed.methods, refl)
+
+  pub method_added : (m o n : ℕ) → (Breaks before Repeated (Method m o n) → ⊥)
+      → Holds (Method m o n ∷ before) (record draft { current = Some (record { method = m; old_size = o; new_size = n; runs = [] }) })
+  method_added m o n once =
+      let here = closed.others in
+      record {
+        others = search rules;
+        methods = (
+          methods_of before,
+          refl,
+          closed.methods,
+          refl,
+          has_method before m ∙ ap is_some (new before (Method m o n) once (method_place m) (nat_eq_equiv.refl m)),
+        );
+      }
 
 -- the open method is put at the end of the others
 pub method_closed : (before : List Line) (draft : Draft) (methods : Vec MethodLine Global) (listed : BitSet) (line : MethodLine) → Holds before draft
     → draft.current ≡ Some line → methods.items ≡ draft.methods.items ++ line ∷ []
     → ((a : ℕ) → has_number listed a ≡ (nat_eq line.method a || has_number draft.listed a))
     → IsClosed before (record draft { methods = methods; listed = listed; current = None })
-method_closed before draft methods listed line holds is pushes marks = record {
-  others = record {
-    counts = holds.others.counts;
-    rows = holds.others.rows;
-    distinct = holds.others.distinct;
-    crossed = holds.others.crossed;
-    crossed_once = holds.others.crossed_once;
-    gone = holds.others.gone;
-    gone_once = holds.others.gone_once;
-    moved = holds.others.moved;
-    drops = holds.others.drops;
-    slotted = holds.others.slotted;
-    slots = holds.others.slots;
-    signatures = holds.others.signatures;
-    signed_once = holds.others.signed_once;
-    signed = holds.others.signed;
-    documents = holds.others.documents;
-    link = holds.others.link;
-    shares = holds.others.shares;
-  };
-  methods = lines_now (subst (λ (m : Option MethodLine). HoldsMethods before m draft) is holds.methods);
-  closed = refl;
-}
+method_closed before draft methods listed line holds is pushes marks =
+    let here = holds.others in
+    record {
+      others = search rules;
+      methods = lines_now (subst (λ (m : Option MethodLine). HoldsMethods before m draft) is holds.methods);
+      closed = refl;
+    }
   where
     lines_now : HoldsMethods before (Some line) draft → HasLines (methods_of before) (record draft { methods = methods; listed = listed; current = None })
     lines_now h = record {
-      found = λ k.
-          ap (λ ls. find_at method_key k ls) pushes ∙ (push_found method_key draft.methods.items line h.0 h.2.found h.4 k ∙ ap (λ ls. find_at method_key k ls) (sym h.1));
-      distinct = subst (λ ls. IsDistinct nat_eq (map method_key ls)) (sym pushes)
-          (push_distinct method_key draft.methods.items line h.2.distinct (ap is_some (h.2.found line.method) ∙ h.4));
+      gathered = pushed nat_eq nat_eq_equiv method_key (λ l. l) (λ k. find (λ l. nat_eq l.method k) h.0)
+          (λ k. find (λ l. nat_eq l.method k) (methods_of before)) draft.methods.items methods.items line h.2.gathered pushes
+          (none_of (find (λ l. nat_eq l.method line.method) h.0) h.4) (λ k. same_number line.method k)
+          (λ k. ap (λ ls. find (λ l. nat_eq l.method k) ls) h.1);
       numbers = λ k.
-          marks k ∙ (ap (λ b. nat_eq line.method k || b) (h.2.numbers k) ∙ (some_or (nat_eq line.method k) line (find_at method_key k h.0)
-          ∙ ap (λ ls. is_some (find_at method_key k ls)) (sym h.1)));
+          marks k ∙ (ap (λ b. nat_eq line.method k || b) (h.2.numbers k)
+          ∙ (some_or (nat_eq line.method k) line (find (λ l. nat_eq l.method k) h.0) ∙ ap (λ ls. is_some (find (λ l. nat_eq l.method k) ls)) (sym h.1)));
     }
-
-pub method_added : (before : List Line) (draft : Draft) (m o n : ℕ) → IsClosed before draft → is_some (method_in before m) ≡ false
-    → Holds (Method m o n ∷ before) (record draft { current = Some (record { method = m; old_size = o; new_size = n; runs = [] }) })
-method_added before draft m o n closed fresh = record {
-  others = record {
-    counts = closed.others.counts;
-    rows = closed.others.rows;
-    distinct = closed.others.distinct;
-    crossed = closed.others.crossed;
-    crossed_once = closed.others.crossed_once;
-    gone = closed.others.gone;
-    gone_once = closed.others.gone_once;
-    moved = closed.others.moved;
-    drops = closed.others.drops;
-    slotted = closed.others.slotted;
-    slots = closed.others.slots;
-    signatures = closed.others.signatures;
-    signed_once = closed.others.signed_once;
-    signed = closed.others.signed;
-    documents = closed.others.documents;
-    link = closed.others.link;
-    shares = closed.others.shares;
-  };
-  methods = (methods_of before, refl, closed.methods, refl, fresh);
-}
 
 -- a run is refused where no method is open
 pub run_unowned : (before : List Line) (draft : Draft) (run : Run) → Holds before draft → draft.current ≡ None → RefusedBy before (Kept run) (refused NoMethod)
@@ -489,9 +253,10 @@ run_unowned before draft run holds is =
     (run_alone h.1, λ other b. least other b)
   where
     least : (other : Rule) → Breaks before other (Kept run) → 6 ≤ kind_of other
-    least other (run_alone h) = lit≤ tt
-    least other (run_early e h) = lit≤ tt
-    least other (run_long e h) = lit≤ tt
+    least other (second at is h) = absurd (cc)
+    least other (alone at is h) = absurd (cc)
+    least other (names_dropped m is h) = absurd (cc)
+    least other h = lit≤ tt
 
 first_line : (before : List Line) (line other : MethodLine) (lines others : List MethodLine) → methods_of before ≡ line ∷ lines
     → methods_of before ≡ other ∷ others → other ≡ line
@@ -513,31 +278,16 @@ run_added before draft line taken run result holds is added kept why =
         → IfErr result (RefusesRun run line) → AddsLine before (Kept run) result (record draft { current = Some taken })
     of (Ok u) h added kept why = (
       record {
-        others = record {
-          counts = holds.others.counts;
-          rows = holds.others.rows;
-          distinct = holds.others.distinct;
-          crossed = holds.others.crossed;
-          crossed_once = holds.others.crossed_once;
-          gone = holds.others.gone;
-          gone_once = holds.others.gone_once;
-          moved = holds.others.moved;
-          drops = holds.others.drops;
-          slotted = holds.others.slotted;
-          slots = holds.others.slots;
-          signatures = holds.others.signatures;
-          signed_once = holds.others.signed_once;
-          signed = holds.others.signed;
-          documents = holds.others.documents;
-          link = holds.others.link;
-          shares = holds.others.shares;
-        };
+        others = let here = holds.others in search rules;
         methods = (h.0, rw (h.1, added) refl, h.2, h.3, rw added h.4);
       },
       λ rule b. keeps rule b,
     )
       where
         keeps : (rule : Rule) → Breaks before rule (Kept run) → ⊥
+        keeps rule (second at is k) = absurd (cc)
+        keeps rule (alone at is k) = absurd (cc)
+        keeps rule (names_dropped m is k) = absurd (cc)
         keeps rule (run_alone k) = follows h.3 k
         keeps rule (run_early {line = other} e k) = kept.0 (subst (λ (l : MethodLine). BeginsEarly run l.runs) (first_line before line other h.0 _ h.1 e) k)
         keeps rule (run_long {line = other} e k) = kept.1 (subst (λ (l : MethodLine). EndsBeyond run l) (first_line before line other h.0 _ h.1 e) k)
@@ -546,6 +296,9 @@ run_added before draft line taken run result holds is added kept why =
         subst (λ (r : Rule). RefusedBy before (Kept run) (refused r)) (sym w.0) (run_early h.1 w.1, λ other b. least other b)
       where
         least : (other : Rule) → Breaks before other (Kept run) → 7 ≤ kind_of other
+        least other (second at is k) = absurd (cc)
+        least other (alone at is k) = absurd (cc)
+        least other (names_dropped m is k) = absurd (cc)
         least other (run_alone k) = absurd (follows h.3 k)
         least other (run_early e k) = lit≤ tt
         least other (run_long e k) = lit≤ tt
@@ -553,6 +306,9 @@ run_added before draft line taken run result holds is added kept why =
         subst (λ (r : Rule). RefusedBy before (Kept run) (refused r)) (sym w.0) (run_long h.1 w.2, λ other b. least other b)
       where
         least : (other : Rule) → Breaks before other (Kept run) → 8 ≤ kind_of other
+        least other (second at is k) = absurd (cc)
+        least other (alone at is k) = absurd (cc)
+        least other (names_dropped m is k) = absurd (cc)
         least other (run_alone k) = absurd (follows h.3 k)
         least other (run_early {line = early} e k) = absurd
             (w.1 (subst (λ (l : MethodLine). BeginsEarly run l.runs) (first_line before line early h.0 _ h.1 e) k))

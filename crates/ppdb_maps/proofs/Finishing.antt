@@ -1,16 +1,19 @@
 -- The lists of a map answer as the maps in which they were gathered.
-use Rattle.std.{proofs.Common.{ℕ, ◌≡◌, ◌&&◌, Bool, true, false, List, [], ◌∷◌, Some, map, refl, sym, ap, ◌∙◌, subst, arith}, specs.Prelude.{find, nat_eq, bytes_eq}}
-use Rattle.std.specs.{Prelude.{option_map, Vec}, declared.alloc.Global.{Global}, List.{list_any, AllByRecursion}, declared.cmp.Ordering.TheVariants.{Less}}
-use Rattle.std.specs.{List.Sorted.{IsStrictlySortedBy, IsSortedByKey, IsPermutation}, Ordering.{nat_cmp}, Cmp.Lexicographic.{slice_cmp}, Map.{lookup, keys_of}}
-use Rattle.std.specs.BTreeMap.{BTreeMap, is_at, IsOrdered, get, get_by}
+use Rattle.std.proofs.Common.{rules, ℕ, ◌≡◌, ◌&&◌, Bool, true, false, List, [], ◌∷◌, Option, None, Some, map, refl, sym, ap, ◌∙◌, subst, arith}
+use Rattle.std.specs.{Prelude.{find, nat_eq, bytes_eq, is_some, option_map, Vec}, declared.alloc.Global.{Global}, List.{list_any, AllByRecursion}}
+use Rattle.std.specs.{declared.cmp.Ordering.TheVariants.{Less}, List.Sorted.{IsStrictlySortedBy, IsSortedByKey, IsPermutation}, Ordering.{nat_cmp}}
+use Rattle.std.specs.{Cmp.Lexicographic.{slice_cmp}, Map.{lookup, keys_of}, BTreeMap.{BTreeMap, is_at, IsOrdered, get, get_by}}
 use Rattle.std.specs.BTreeSet as sorted
 use Rattle.std.proofs.lemmas.{Bool.Decides.{nat_tests}, Cmp.{nat_cmp_total, nat_eq_equiv}, List.Sorted.{list_any-IsPermutation}, Map.Lookups.{exact_unsigned}}
 use Rattle.std.proofs.lemmas.Map.Views.{exact_unsigned_eq}
 use Rattle.ppdb_maps.specs.{Map.{Map, MethodLine, Ascends, pair_cmp}, Gathered.{count_entry, row_key, cross_key, gone_key, method_key, signature_key, same_pair}}
 use Rattle.ppdb_maps.specs.{Gathered.{slot_entry, name_entry, name_cmp}, Drafts.{IsClosed}, Text.{HoldsWhat}, declared.entries.Count.{Count}}
 use Rattle.ppdb_maps.specs.declared.entries.{RowLine.{RowLine}, GoneLine.{GoneLine}, SlotImage.{SlotImage}, SignatureImage.{SignatureImage}, NameLine.{NameLine}}
-use Rattle.ppdb_maps.{specs.declared.draft.Draft.{Draft}, specs.declared.line.Line.{Line}, proofs.Named.{at_name}, proofs.OneMap.{pair_equal, pair_exact, pair_is}}
-use Rattle.ppdb_maps.proofs.{OneMap.{pair_total, same_number}, Refusing.{at_number, at_pair}, Sorting.{found_alike, sorts_strictly}}
+use Rattle.ppdb_maps.{specs.declared.draft.Draft.{Draft}, specs.declared.line.Line.{Line}, proofs.Named.{at_name}, proofs.OneList.{any_is}}
+use Rattle.ppdb_maps.proofs.{OneMap.{pair_equal, pair_exact, pair_is, pair_total, same_number}, Refusing.{at_number, at_pair}, Sorting.{found_alike, sorts_strictly}}
+
+itself : {X : Type 0} (o : Option X) → option_map (λ x. x) o ≡ o
+itself o = search rules
 
 -- what is found among the entries is what the map has
 found_entry : {K X A : Type 0} (make : K × X → A) (test : A → Bool) (value : A → X) (at : K → Bool) → ((e : K × X) → test (make e) ≡ at e.0)
@@ -57,16 +60,6 @@ any_number : (n : ℕ) (xs : List ℕ) → list_any (nat_eq n) xs ≡ list_any (
 any_number n [] = refl
 any_number n (x ∷ xs) = rw (at_number n x, any_number n xs) refl
 
--- a line that was found is at its number
-pub found_at_number : (lines : List MethodLine) (m : ℕ) (line : MethodLine) → find (λ l. nat_eq l.method m) lines ≡ Some line → line.method ≡ m
-found_at_number [] m line is = cc
-found_at_number (l ∷ ls) m line is = of (nat_eq l.method m) refl (found_at_number ls m line)
-  where
-    of : (b : Bool) → nat_eq l.method m ≡ b → (find (λ x. nat_eq x.method m) ls ≡ Some line → line.method ≡ m) → line.method ≡ m
-    of true here rest = let e : Some l ≡ Some line = rw here at is in let f : l ≡ line = cc in subst (λ (x : MethodLine). x.method ≡ m) f
-        (exact_unsigned_eq l.method m here)
-    of false here rest = rest (rw here at is)
-
 -- the lists that were made of a draft
 pub record MadeOf (draft : Draft) (made : Map) : Type 0 where
   pub counts : made.counts ≡ map count_entry draft.counts.entries
@@ -95,30 +88,30 @@ pub record MadeOf (draft : Draft) (made : Map) : Type 0 where
 rows_ascend : (before : List Line) (draft : Draft) (made : Map) → IsClosed before draft → MadeOf draft made
     → IsStrictlySortedBy pair_cmp (map row_key made.rows)
 rows_ascend before draft made closed h =
-    sorts_strictly row_key same_pair pair_cmp pair_equal pair_is pair_total pair_exact draft.rows.items made.rows closed.others.distinct h.rows h.rows_ordered
+    sorts_strictly row_key same_pair pair_cmp pair_equal pair_is pair_total pair_exact draft.rows.items made.rows closed.others.rows.once h.rows h.rows_ordered
 
 crossed_ascend : (before : List Line) (draft : Draft) (made : Map) → IsClosed before draft → MadeOf draft made
     → IsStrictlySortedBy pair_cmp (map cross_key made.crossed)
 crossed_ascend before draft made closed h =
-    sorts_strictly cross_key same_pair pair_cmp pair_equal pair_is pair_total pair_exact draft.crossed.items made.crossed closed.others.crossed_once h.crossed
+    sorts_strictly cross_key same_pair pair_cmp pair_equal pair_is pair_total pair_exact draft.crossed.items made.crossed closed.others.crossed.once h.crossed
     h.crossed_ordered
 
 gone_ascend : (before : List Line) (draft : Draft) (made : Map) → IsClosed before draft → MadeOf draft made
     → IsStrictlySortedBy pair_cmp (map gone_key made.gone)
 gone_ascend before draft made closed h =
-    sorts_strictly gone_key same_pair pair_cmp pair_equal pair_is pair_total pair_exact draft.gone.items made.gone closed.others.gone_once h.gone h.gone_ordered
+    sorts_strictly gone_key same_pair pair_cmp pair_equal pair_is pair_total pair_exact draft.gone.items made.gone closed.others.gone.once h.gone h.gone_ordered
 
 methods_ascend : (before : List Line) (draft : Draft) (made : Map) → IsClosed before draft → MadeOf draft made
     → IsStrictlySortedBy nat_cmp (map method_key made.methods)
 methods_ascend before draft made closed h =
-    sorts_strictly method_key nat_eq nat_cmp nat_eq_equiv same_number nat_cmp_total exact_unsigned draft.methods.items made.methods closed.methods.distinct
+    sorts_strictly method_key nat_eq nat_cmp nat_eq_equiv same_number nat_cmp_total exact_unsigned draft.methods.items made.methods closed.methods.gathered.once
     h.methods h.methods_ordered
 
 signatures_ascend : (before : List Line) (draft : Draft) (made : Map) → IsClosed before draft → MadeOf draft made
     → IsStrictlySortedBy nat_cmp (map signature_key made.signatures)
 signatures_ascend before draft made closed h =
     sorts_strictly signature_key nat_eq nat_cmp nat_eq_equiv same_number nat_cmp_total exact_unsigned draft.signatures.items made.signatures
-    closed.others.signed_once h.signatures h.signatures_ordered
+    closed.others.signatures.once h.signatures h.signatures_ordered
 
 -- entries that are in the order of their keys ascend by their names
 names_after : (k : Vec ℕ Global) (es : List (Vec ℕ Global × List ℕ)) → AllByRecursion (λ y. name_cmp k y ≡ Less) (keys_of es)
@@ -153,18 +146,19 @@ made_holds before draft made closed h = record {
       ap (option_map (λ (r : RowLine). r.new))
       (found_alike row_key same_pair pair_cmp pair_equal pair_is pair_total pair_exact draft.rows.items made.rows h.rows
       (rows_ascend before draft made closed h) (table, old))
-      ∙ closed.others.rows table old;
+      ∙ closed.others.rows.found (table, old);
   crossed = λ table old.
       found_alike cross_key same_pair pair_cmp pair_equal pair_is pair_total pair_exact draft.crossed.items made.crossed h.crossed
       (crossed_ascend before draft made closed h) (table, old)
-      ∙ closed.others.crossed table old;
+      ∙ (sym (itself _) ∙ closed.others.crossed.found (table, old));
   gone = λ table old.
       sym (list_any-IsPermutation (λ (r : GoneLine). nat_eq r.table table && nat_eq r.old old) draft.gone.items made.gone h.gone)
-      ∙ closed.others.gone table old;
+      ∙ (any_is (λ (r : GoneLine). nat_eq r.table table && nat_eq r.old old) draft.gone.items
+      ∙ ap is_some (sym (itself _) ∙ closed.others.gone.found (table, old)));
   methods = λ method.
       found_alike method_key nat_eq nat_cmp nat_eq_equiv same_number nat_cmp_total exact_unsigned draft.methods.items made.methods h.methods
       (methods_ascend before draft made closed h) method
-      ∙ closed.methods.found method;
+      ∙ (sym (itself _) ∙ closed.methods.gathered.found method);
   drops = λ method. rw h.drops (any_number method draft.drops.keys ∙ closed.others.drops method);
   slotted = λ method. rw h.slotted (any_number method draft.slotted.keys ∙ closed.others.slotted method);
   slots = λ method old. rw h.slots (slots_found draft.slots method old ∙ closed.others.slots method old);
@@ -172,7 +166,7 @@ made_holds before draft made closed h = record {
       ap (option_map (λ (s : SignatureImage). s.new))
       (found_alike signature_key nat_eq nat_cmp nat_eq_equiv same_number nat_cmp_total exact_unsigned draft.signatures.items made.signatures h.signatures
       (signatures_ascend before draft made closed h) method)
-      ∙ closed.others.signatures method;
+      ∙ closed.others.signatures.found method;
   documents = λ name. rw h.documents (documents_found draft.documents name ∙ closed.others.documents name);
   link = h.link ∙ closed.others.link;
   shares = h.shares ∙ closed.others.shares;

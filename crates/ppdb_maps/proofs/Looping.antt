@@ -1,5 +1,5 @@
 -- Lines that are read one after another.
-use Rattle.std.proofs.Common.{ℕ, ◌≡◌, ◌<◌, ◌+◌, ◌++◌, List, [], ◌∷◌, Result, Ok, Err, length, append_assoc, length-append, refl, sym, ap, ◌∙◌, subst, arith}
+use Rattle.std.proofs.Common.{rules, ℕ, ◌≡◌, ◌<◌, ◌+◌, ◌++◌, List, [], ◌∷◌, Result, Ok, Err, length, append_assoc, length-append, refl, sym, ap, ◌∙◌, subst, arith}
 use Rattle.std.specs.{Prelude.{MatchResult}, Str.Lines.{lines}}
 use Rattle.ppdb_maps.specs.Forms.{Tells, Values, silent, told, run_line, rows_line, row_line, method_line, drop_line, slots_line, slot_line, signature_line, IsHead}
 use Rattle.ppdb_maps.specs.{Forms.{document_line, link_line, cross_line, gone_line, shares_line}, Cuts.{IsLineOf}, Rules.{by_lines}, Text.{Read, start, further}}
@@ -10,19 +10,7 @@ use Rattle.ppdb_maps.{specs.declared.refusal.MapError.TheVariants.{Line as refus
 
 -- a run that a line says has an offset
 values_length : (form : Form) (values : List (List ℕ)) (line : Line) → Values form values line → HasLength line
-values_length form values line (rows_line a b) = tt
-values_length form values line (row_line a b d) = tt
-values_length form values line (method_line a b d) = tt
-values_length form values line (run_line a b d) = d.from
-values_length form values line (drop_line a) = tt
-values_length form values line (slots_line a) = tt
-values_length form values line (slot_line a b d) = tt
-values_length form values line (signature_line a b) = tt
-values_length form values line (document_line a b) = tt
-values_length form values line (link_line a) = tt
-values_length form values line (cross_line a b d e f) = tt
-values_length form values line (gone_line a b d) = tt
-values_length form values line shares_line = tt
+values_length form values line says = search rules
 
 pub tells_length : (version : ℕ) (text : List ℕ) (line : Line) → Tells version text line → HasLength line
 tells_length version text line (silent h) = tt
@@ -38,8 +26,7 @@ text_added version before text line (Err no_memory) new tells adds = tt
 
 -- a line that is refused whatever the lines before it say is refused
 pub alone_refused : (version : ℕ) (before : List Line) (text : List ℕ) (why : Refusal) → RefusedAlone version text why → TextRefused version before text why
-alone_refused version before text (refused rule) alone = alone before
-alone_refused version before text no_memory alone = tt
+alone_refused version before text why alone = search rules
 
 -- what was read of a list of lines, when `rest` is left
 pub record SoFar (version : ℕ) (all rest : List (List ℕ)) (number : ℕ) (draft : Draft) : Type 0 where

@@ -1,6 +1,6 @@
 -- What a map from names answers.
-use Rattle.std.{proofs.Common.{◌≡◌, ℕ, true, cond, List, [], ◌∷◌, Some, Ordering, Vec, map, refl, sym, ap, ◌∙◌}, specs.Prelude.{bytes_eq}, specs.Ordering.{nat_cmp}}
-use Rattle.std.specs.{Ordering.{is_eq, eq_by_cmp, match_ordering}, declared.alloc.Global.{Global}, declared.cmp.Ordering.TheVariants.{Less, Equal, Greater}}
+use Rattle.std.{proofs.Common.{rules, ◌≡◌, ℕ, true, cond, List, [], ◌∷◌, Some, Ordering, Vec, map, refl, sym, ap, ◌∙◌}, specs.Prelude.{bytes_eq}}
+use Rattle.std.specs.{Ordering.{nat_cmp, is_eq, eq_by_cmp, match_ordering}, declared.alloc.Global.{Global}, declared.cmp.Ordering.TheVariants.{Less, Equal, Greater}}
 use Rattle.std.specs.{BTreeMap.{insert_entry, is_at}, Cmp.Lexicographic.{slice_cmp, nat_list_cmp_total, nat_list_eq_equiv}, Map.{lookup}}
 use Rattle.std.specs.FinMap as maps
 use Rattle.std.{specs.FinMap.Entries.{find-put, by_order}, proofs.lemmas.Bool.{false≢true}, proofs.lemmas.Map.Lookups.{exact_bytes}}
@@ -14,9 +14,7 @@ names = slice_cmp nat_cmp
 
 -- bytes that are equal by the test are the same
 equal_is : (r : Ordering) → is_eq r ≡ true → r ≡ Equal
-equal_is Less is = absurd (false≢true is)
-equal_is Equal is = refl
-equal_is Greater is = absurd (false≢true is)
+equal_is r is = search rules
 
 pub same_bytes : (xs ys : List ℕ) → bytes_eq xs ys ≡ true → xs ≡ ys
 same_bytes xs ys is = exact_bytes xs ys (equal_is (names xs ys) (is_eq-slice_cmp xs ys ∙ is))

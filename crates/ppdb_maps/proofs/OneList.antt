@@ -1,6 +1,6 @@
 -- Lists that strictly ascend by a key: each item is found by its own, and lists that answer alike are the same.
-use Rattle.std.{proofs.Common.{◌≡◌, ◌||◌, Bool, true, false, cond, List, [], ◌∷◌, Option, Some, None, refl, sym, ◌∙◌, ap, map, subst}, specs.List.{find, list_any}}
-use Rattle.std.specs.{List.{AllByRecursion}, Prelude.{is_some}, List.Sorted.{IsStrictlySortedBy}, Ordering.{ordering_reverse}, Cmp.{IsTotalOrder}}
+use Rattle.std.{proofs.Common.{rules, ◌≡◌, ◌||◌, Bool, true, false, cond, List, [], ◌∷◌, Option, Some, None, refl, sym, ◌∙◌, ap, map, subst}, specs.List.{find}}
+use Rattle.std.specs.{List.{list_any, AllByRecursion}, Prelude.{is_some}, List.Sorted.{IsStrictlySortedBy}, Ordering.{ordering_reverse}, Cmp.{IsTotalOrder}}
 use Rattle.std.specs.declared.cmp.{Ordering.{Ordering}, Ordering.TheVariants.{Less, Equal, Greater}}
 
 -- an item passes exactly where one is found
@@ -9,14 +9,11 @@ any_is p [] = refl
 any_is {X} p (x ∷ xs) = step (p x) (any_is p xs)
   where
     step : (b : Bool) → list_any p xs ≡ is_some (find p xs) → (b || list_any p xs) ≡ is_some (cond b (Some x) (find p xs))
-    step true rest = refl
-    step false rest = rest
+    step b rest = search rules
 
 -- below each other at once no two keys are
 never_both : (o : Ordering) → o ≡ Less → ordering_reverse o ≡ Less → ⊥
-never_both Less a b = absurd (cc)
-never_both Equal a b = absurd (cc)
-never_both Greater a b = absurd (cc)
+never_both o a b = search rules
 
 module _ {X K : Type 0} (key : X → K) (same : K → K → Bool) (cmp : K → K → Ordering)
     (is_same : (a b : K) → same a b ≡ true → a ≡ b) (same_is : (a : K) → same a a ≡ true) (total : IsTotalOrder cmp) where

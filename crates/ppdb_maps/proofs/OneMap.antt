@@ -57,14 +57,14 @@ same_or_apart j k = elim (cases_lt j k) [
   | inr ge ↦ elim (cases_lt k j) [ inl more ↦ inr (λ e. omega (arith, e)) | inr le ↦ inl (omega arith) ]
 ]
 
-number_found : (n : ℕ) (xs : List ℕ) → find (λ x. nat_eq x n) xs ≡ cond (list_any (nat_eq n) xs) (Some n) None
+pub number_found : (n : ℕ) (xs : List ℕ) → find (λ x. nat_eq x n) xs ≡ cond (list_any (nat_eq n) xs) (Some n) None
 number_found n [] = refl
 number_found n (x ∷ xs) = elim (same_or_apart x n) [
   | inl same ↦ rw (eq-eqb x n same, eq-eqb n x (sym same)) (ap Some same)
   | inr apart ↦ rw (ne_eqb x n apart, ne_eqb n x (λ e. apart (sym e))) (number_found n xs)
 ]
 
-map_itself : (xs : List ℕ) → map (λ (x : ℕ). x) xs ≡ xs
+pub map_itself : (xs : List ℕ) → map (λ (x : ℕ). x) xs ≡ xs
 map_itself [] = refl
 map_itself (x ∷ xs) = ap (λ l. x ∷ l) (map_itself xs)
 
@@ -105,23 +105,8 @@ pub maps_made : (a b : Map) → a.counts ≡ b.counts → a.rows ≡ b.rows → 
     → a.methods ≡ b.methods → a.drops ≡ b.drops → a.slotted ≡ b.slotted → a.slots ≡ b.slots
     → a.signatures ≡ b.signatures → a.documents ≡ b.documents → a.link ≡ b.link → a.shares ≡ b.shares → a ≡ b
 maps_made a b counts rows crossed gone methods drops slotted slots signatures documents link shares =
-    ap (λ (v : List Count × List RowLine × List CrossLine × List GoneLine × List MethodLine × List ℕ × List ℕ × List SlotImage × List SignatureImage × List NameLine
-    × Option (List ℕ) × Bool).
-    map_of v.0 v.1 v.2 v.3 v.4 v.5 v.6 v.7 v.8 v.9 v.10 v.11)
-    (let e : (a.counts, a.rows, a.crossed, a.gone, a.methods, a.drops, a.slotted, a.slots, a.signatures, a.documents, a.link, a.shares) ≡ (
-      b.counts,
-      b.rows,
-      b.crossed,
-      b.gone,
-      b.methods,
-      b.drops,
-      b.slotted,
-      b.slots,
-      b.signatures,
-      b.documents,
-      b.link,
-      b.shares,
-    ) = cc in e)
+    let same : map_of a.counts a.rows a.crossed a.gone a.methods a.drops a.slotted a.slots a.signatures a.documents a.link a.shares
+    ≡ map_of b.counts b.rows b.crossed b.gone b.methods b.drops b.slotted b.slots b.signatures b.documents b.link b.shares = cc in same
 
 maps_same : (said : List Line) (a b : Map) → HoldsWhat said a → HoldsWhat said b → a ≡ b
 maps_same said a b x y =

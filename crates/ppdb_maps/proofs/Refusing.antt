@@ -1,150 +1,127 @@
 -- Which rules a line breaks, by what the lines before it say.
-use Rattle.std.{proofs.Common.{ℕ, ◌≡◌, ◌≤◌, ◌&&◌, Bool, true, false, List, Option, Some, None, lit≤, refl, sym, ◌∙◌, arith}, specs.Prelude.{IsSome, IsTrue, nat_eq}}
-use Rattle.std.{specs.Prelude.{is_some}, specs.Ordering.{nat_cmp}, proofs.lemmas.Bool.{false≢true}, proofs.lemmas.Bool.Decides.{nat_tests}, specs.BTreeMap.{is_at}}
-use Rattle.ppdb_maps.specs.{Map.{pair_cmp}, Before.{count_in, has_image_in, method_in, drop_in, slots_in, slot_in, signature_in, document_in, link_in, shares_in}}
-use Rattle.ppdb_maps.specs.Rules.{kind_of, Breaks, second_row, second_method, second_drop, second_slots, second_slot, row_alone, slot_alone, drop_named, IsNamed}
-use Rattle.ppdb_maps.specs.Rules.{dropped_method, dropped_row, dropped_slots, second_signature, dropped_signature, second_document, second_link, second_cross}
-use Rattle.ppdb_maps.specs.{Rules.{second_gone, second_shares, cross_alone, gone_alone}, Drafts.{RefusedBy}}
-use Rattle.ppdb_maps.specs.declared.{refusal.Refusal.TheVariants.{Breaks as refused}, line.Line.{Line}, line.Line.TheVariants.{Row, Cross, Gone, Method, Dropped}}
-use Rattle.ppdb_maps.specs.declared.{line.Line.TheVariants.{Slots, Slot, Signature, Document, Link, Shares}, entries.CrossLine.{CrossLine}}
-use Rattle.ppdb_maps.specs.declared.{entries.NameLine.{NameLine}, rule.Rule.{Rule}, rule.Rule.TheVariants.{Repeated, Undeclared, NamesDropped}}
-use Rattle.ppdb_maps.proofs.Saying.{from_four}
+use Rattle.std.proofs.Common.{ℕ, ◌≡◌, ◌≤◌, ◌&&◌, ◌⊎◌, inl, inr, Bool, true, false, List, Option, Some, None, lit≤, refl, sym, ap, ◌∙◌, subst, arith, rules}
+use Rattle.std.{specs.Prelude.{IsSome, IsTrue, ◌↔◌, not, nat_eq, is_some}, specs.Ordering.{nat_cmp}, proofs.lemmas.Bool.{false≢true}}
+use Rattle.std.{proofs.lemmas.Bool.Decides.{nat_tests}, specs.BTreeMap.{is_at}}
+use Rattle.ppdb_maps.specs.{Map.{pair_cmp}, Before.{told}, Places.{Place, place, needs, names, named_at, drop_place, row_place, slots_place, signature_place}}
+use Rattle.ppdb_maps.specs.{Places.{method_place}, Rules.{kind_of, IsNamed, Breaks, second, alone, run_alone, run_early, run_long, drop_named, names_dropped}}
+use Rattle.ppdb_maps.specs.{Drafts.{HasNaming, RefusedBy, FitsIn}, declared.refusal.Refusal.TheVariants.{Breaks as refused}, declared.line.Line.{Line}}
+use Rattle.ppdb_maps.specs.declared.{line.Line.TheVariants.{Dropped}, rule.Rule.{Rule}, rule.Rule.TheVariants.{Repeated, Undeclared, NamesDropped}}
+use Rattle.ppdb_maps.proofs.{Saying.{from_four}, Telling.{has_method}}
 
 pub none_of : {A : Type 0} (o : Option A) → is_some o ≡ false → o ≡ None
-none_of None is = refl
-none_of (Some x) is = absurd (false≢true (sym is))
+none_of o is = search rules
 
--- no option is both
-both : {A : Type 0} (o : Option A) → is_some o ≡ false → IsSome o → ⊥
-both o absent there = false≢true (sym absent ∙ there)
+absent : {A : Type 0} (o : Option A) → o ≡ None → is_some o ≡ false
+absent o is = search rules
 
-none_and_some : {A : Type 0} (o : Option A) → o ≡ None → is_some o ≡ true → ⊥
-none_and_some None is there = false≢true there
-none_and_some (Some x) is there = cc
+pub taken : (before : List Line) (line : Line) (at : Place) (b : Bool) → place line ≡ Some at → b ≡ is_some (told before at) → IsTrue b ↔ Breaks before Repeated line
+taken before line at b is same = (λ yes. second at is (sym same ∙ yes), back)
+  where
+    back : Breaks before Repeated line → IsTrue b
+    back (second other own there) = let e : at ≡ other = cc in same ∙ subst (λ p. is_some (told before p) ≡ true) (sym e) there
 
-untrue : (b : Bool) → b ≡ false → IsTrue b → ⊥
-untrue b absent there = false≢true (sym absent ∙ there)
+pub undeclared : (before : List Line) (line : Line) (at : Place) (b : Bool) → needs line ≡ Some at → b ≡ is_some (told before at)
+    → IsTrue (not b) ↔ Breaks before Undeclared line
+undeclared before line at b is same = (λ never. alone at is (none_of (told before at) (sym same ∙ turned b never)), back)
+  where
+    turned : (b : Bool) → not b ≡ true → b ≡ false
+    turned b never = search rules
+
+    back : Breaks before Undeclared line → IsTrue (not b)
+    back (alone other own none) =
+        let e : at ≡ other = cc in
+        ap not (same ∙ absent (told before at) (subst (λ p. told before p ≡ None) (sym e) none))
+
+pub barred : (before : List Line) (line : Line) (m : ℕ) (b : Bool) → names line ≡ Some m → b ≡ is_some (told before (drop_place m))
+    → IsTrue b ↔ Breaks before NamesDropped line
+barred before line m b is same = (λ yes. names_dropped m is (sym same ∙ yes), λ broken. back line is broken)
+  where
+    back : (l : Line) → names l ≡ Some m → Breaks before NamesDropped l → IsTrue b
+    back l is (drop_named named) = absurd (cc)
+    back l is (names_dropped k own there) = let e : m ≡ k = cc in same ∙ subst (λ p. is_some (told before (drop_place p)) ≡ true) (sym e) there
+
+named_places : (at : Place) (m : ℕ) → named_at at ≡ Some m
+    → (at ≡ method_place m) ⊎ (at ≡ row_place 0x06 m) ⊎ (at ≡ slots_place m) ⊎ (at ≡ signature_place m)
+named_places at m is = search rules
+
+-- a method is named at four places
+named_there : (before : List Line) (m : ℕ) → HasNaming before m → IsNamed before m
+named_there before m (inl is) = record { at = method_place m; named = refl; there = sym (has_method before m) ∙ is }
+named_there before m (inr (inl is)) = record { at = row_place 0x06 m; named = refl; there = is }
+named_there before m (inr (inr (inl is))) = record { at = slots_place m; named = refl; there = is }
+named_there before m (inr (inr (inr is))) = record { at = signature_place m; named = refl; there = is }
+
+there_named : (before : List Line) (m : ℕ) → IsNamed before m → HasNaming before m
+there_named before m n = elim (named_places n.at m n.named) [
+  | inl is ↦ inl (has_method before m ∙ subst (λ p. is_some (told before p) ≡ true) is n.there)
+  | inr (inl is) ↦ inr (inl (subst (λ p. is_some (told before p) ≡ true) is n.there))
+  | inr (inr (inl is)) ↦ inr (inr (inl (subst (λ p. is_some (told before p) ≡ true) is n.there)))
+  | inr (inr (inr is)) ↦ inr (inr (inr (subst (λ p. is_some (told before p) ≡ true) is n.there)))
+]
+
+pub drops : (before : List Line) (m : ℕ) (b : Bool) → IsTrue b ↔ HasNaming before m → IsTrue b ↔ Breaks before NamesDropped (Dropped m)
+drops before m b is = (λ yes. drop_named (named_there before m (is.0 yes)), back)
+  where
+    back : Breaks before NamesDropped (Dropped m) → IsTrue b
+    back (drop_named named) = is.1 (there_named before m named)
+    back (names_dropped k own there) = absurd (cc)
 
 pub repeated : (before : List Line) (line : Line) → Breaks before Repeated line → RefusedBy before line (refused Repeated)
 repeated before line breaks = (breaks, λ other h. from_four before other line h)
 
-pub row_undeclared : (before : List Line) (t o n : ℕ) → has_image_in before t o ≡ false → is_some (count_in before t) ≡ false
-    → RefusedBy before (Row t o n) (refused Undeclared)
-row_undeclared before t o n row count = (row_alone (none_of (count_in before t) count), λ other h. least other h)
+-- no line breaks a rule that has a lesser number than the one that it is refused by
+pub refused_alone : (before : List Line) (line : Line) → (Breaks before Repeated line → ⊥) → Breaks before Undeclared line → RefusedBy before line (refused Undeclared)
+refused_alone before line once breaks = (breaks, λ other h. least other line once h)
   where
-    least : (other : Rule) → Breaks before other (Row t o n) → 5 ≤ kind_of other
-    least other (second_row h) = absurd (untrue (has_image_in before t o) row h)
-    least other (row_alone h) = lit≤ tt
-    least other (dropped_row h k) = lit≤ tt
+    least : (other : Rule) (l : Line) → (Breaks before Repeated l → ⊥) → Breaks before other l → 5 ≤ kind_of other
+    least other l once (second at is there) = absurd (once (second at is there))
+    least other l once breaks = lit≤ tt
 
-pub row_dropped : (before : List Line) (t o n : ℕ) → has_image_in before t o ≡ false → is_some (count_in before t) ≡ true → t ≡ 0x06
-    → drop_in before o ≡ true
-    → RefusedBy before (Row t o n) (refused NamesDropped)
-row_dropped before t o n row count six drop = (dropped_row six drop, λ other h. least other h)
+-- a `run` names no method
+pub refused_barred : (before : List Line) (line : Line) → (Breaks before Repeated line → ⊥) → (Breaks before Undeclared line → ⊥) → Breaks before NamesDropped line
+    → RefusedBy before line (refused NamesDropped)
+refused_barred before line once declared breaks = (breaks, λ other h. least other line once declared breaks h)
   where
-    least : (other : Rule) → Breaks before other (Row t o n) → 9 ≤ kind_of other
-    least other (second_row h) = absurd (untrue (has_image_in before t o) row h)
-    least other (row_alone h) = absurd (none_and_some (count_in before t) h count)
-    least other (dropped_row h k) = lit≤ tt
+    least : (other : Rule) (l : Line) → (Breaks before Repeated l → ⊥) → (Breaks before Undeclared l → ⊥) → Breaks before NamesDropped l
+        → Breaks before other l → 9 ≤ kind_of other
+    least other l once declared breaks (second at is there) = absurd (once (second at is there))
+    least other l once declared breaks (alone at is none) = absurd (declared (alone at is none))
+    least other l once declared (names_dropped m is there) (run_alone h) = absurd (cc)
+    least other l once declared (names_dropped m is there) (run_early h k) = absurd (cc)
+    least other l once declared (names_dropped m is there) (run_long h k) = absurd (cc)
+    least other l once declared breaks broken = lit≤ tt
 
-pub row_keeps : (before : List Line) (t o n : ℕ) → has_image_in before t o ≡ false → is_some (count_in before t) ≡ true
-    → (t ≡ 0x06 → drop_in before o ≡ true → ⊥)
-    → (rule : Rule) → Breaks before rule (Row t o n) → ⊥
-row_keeps before t o n row count kept rule (second_row h) = untrue (has_image_in before t o) row h
-row_keeps before t o n row count kept rule (row_alone h) = none_and_some (count_in before t) h count
-row_keeps before t o n row count kept rule (dropped_row h k) = kept h k
-
-pub cross_undeclared : (before : List Line) (line : CrossLine) → has_image_in before line.table line.old ≡ false → is_some (count_in before line.table) ≡ false
-    → RefusedBy before (Cross line) (refused Undeclared)
-cross_undeclared before line row count = (cross_alone (none_of (count_in before line.table) count), λ other h. least other h)
+-- a line with a place fits in where it is alone at it, what it needs is there, and it neither names a dropped method nor drops a named one
+pub fits_in : (before : List Line) (line : Line) (at : Place) → place line ≡ Some at → told before at ≡ None
+    → ((p : Place) → needs line ≡ Some p → is_some (told before p) ≡ true) → ((m : ℕ) → names line ≡ Some m → told before (drop_place m) ≡ None)
+    → ((m : ℕ) → line ≡ Dropped m → IsNamed before m → ⊥) → FitsIn before line
+fits_in before line at own none needed live unnamed = record {
+  once = λ broken. once line own broken;
+  declared = λ broken. declared line needed broken;
+  kept = λ broken. kept line live unnamed broken;
+}
   where
-    least : (other : Rule) → Breaks before other (Cross line) → 5 ≤ kind_of other
-    least other (second_cross h) = absurd (untrue (has_image_in before line.table line.old) row h)
-    least other (cross_alone h) = lit≤ tt
+    once : (l : Line) → place l ≡ Some at → Breaks before Repeated l → ⊥
+    once l own (second other is there) =
+        let e : at ≡ other = cc in false≢true (sym (absent (told before at) none) ∙ subst (λ p. is_some (told before p) ≡ true) (sym e) there)
 
-pub cross_keeps : (before : List Line) (line : CrossLine) → has_image_in before line.table line.old ≡ false → is_some (count_in before line.table) ≡ true
-    → (rule : Rule) → Breaks before rule (Cross line) → ⊥
-cross_keeps before line row count rule (second_cross h) = untrue (has_image_in before line.table line.old) row h
-cross_keeps before line row count rule (cross_alone h) = none_and_some (count_in before line.table) h count
+    declared : (l : Line) → ((p : Place) → needs l ≡ Some p → is_some (told before p) ≡ true) → Breaks before Undeclared l → ⊥
+    declared l needed (alone p is missing) = false≢true (sym (absent (told before p) missing) ∙ needed p is)
 
-pub gone_undeclared : (before : List Line) (t o : ℕ) → has_image_in before t o ≡ false → is_some (count_in before t) ≡ false
-    → RefusedBy before (Gone t o) (refused Undeclared)
-gone_undeclared before t o row count = (gone_alone (none_of (count_in before t) count), λ other h. least other h)
-  where
-    least : (other : Rule) → Breaks before other (Gone t o) → 5 ≤ kind_of other
-    least other (second_gone h) = absurd (untrue (has_image_in before t o) row h)
-    least other (gone_alone h) = lit≤ tt
+    kept : (l : Line) → ((m : ℕ) → names l ≡ Some m → told before (drop_place m) ≡ None) → ((m : ℕ) → l ≡ Dropped m → IsNamed before m → ⊥)
+        → Breaks before NamesDropped l → ⊥
+    kept l live unnamed (drop_named {m = m} named) = unnamed m refl named
+    kept l live unnamed (names_dropped m is there) = false≢true (sym (absent (told before (drop_place m)) (live m is)) ∙ there)
 
-pub gone_keeps : (before : List Line) (t o : ℕ) → has_image_in before t o ≡ false → is_some (count_in before t) ≡ true → (rule : Rule)
-    → Breaks before rule (Gone t o) → ⊥
-gone_keeps before t o row count rule (second_gone h) = untrue (has_image_in before t o) row h
-gone_keeps before t o row count rule (gone_alone h) = none_and_some (count_in before t) h count
-
-pub method_dropped : (before : List Line) (m o n : ℕ) → is_some (method_in before m) ≡ false → drop_in before m ≡ true
-    → RefusedBy before (Method m o n) (refused NamesDropped)
-method_dropped before m o n method drop = (dropped_method drop, λ other h. least other h)
-  where
-    least : (other : Rule) → Breaks before other (Method m o n) → 9 ≤ kind_of other
-    least other (second_method h) = absurd (both (method_in before m) method h)
-    least other (dropped_method h) = lit≤ tt
-
-pub method_keeps : (before : List Line) (m o n : ℕ) → is_some (method_in before m) ≡ false → drop_in before m ≡ false → (rule : Rule)
-    → Breaks before rule (Method m o n) → ⊥
-method_keeps before m o n method drop rule (second_method h) = both (method_in before m) method h
-method_keeps before m o n method drop rule (dropped_method h) = untrue (drop_in before m) drop h
-
-pub drop_of_named : (before : List Line) (m : ℕ) → drop_in before m ≡ false → IsNamed before m → RefusedBy before (Dropped m) (refused NamesDropped)
-drop_of_named before m drop named = (drop_named named, λ other h. least other h)
-  where
-    least : (other : Rule) → Breaks before other (Dropped m) → 9 ≤ kind_of other
-    least other (second_drop h) = absurd (untrue (drop_in before m) drop h)
-    least other (drop_named h) = lit≤ tt
-
-pub drop_keeps : (before : List Line) (m : ℕ) → drop_in before m ≡ false → (IsNamed before m → ⊥) → (rule : Rule) → Breaks before rule (Dropped m) → ⊥
-drop_keeps before m drop unnamed rule (second_drop h) = untrue (drop_in before m) drop h
-drop_keeps before m drop unnamed rule (drop_named h) = unnamed h
-
-pub slots_dropped : (before : List Line) (m : ℕ) → slots_in before m ≡ false → drop_in before m ≡ true → RefusedBy before (Slots m) (refused NamesDropped)
-slots_dropped before m slots drop = (dropped_slots drop, λ other h. least other h)
-  where
-    least : (other : Rule) → Breaks before other (Slots m) → 9 ≤ kind_of other
-    least other (second_slots h) = absurd (untrue (slots_in before m) slots h)
-    least other (dropped_slots h) = lit≤ tt
-
-pub slot_undeclared : (before : List Line) (m o n : ℕ) → is_some (slot_in before m o) ≡ false → slots_in before m ≡ false
-    → RefusedBy before (Slot m o n) (refused Undeclared)
-slot_undeclared before m o n slot slots = (slot_alone slots, λ other h. least other h)
-  where
-    least : (other : Rule) → Breaks before other (Slot m o n) → 5 ≤ kind_of other
-    least other (second_slot h) = absurd (both (slot_in before m o) slot h)
-    least other (slot_alone h) = lit≤ tt
-
-pub slot_keeps : (before : List Line) (m o n : ℕ) → is_some (slot_in before m o) ≡ false → slots_in before m ≡ true → (rule : Rule)
-    → Breaks before rule (Slot m o n) → ⊥
-slot_keeps before m o n slot slots rule (second_slot h) = both (slot_in before m o) slot h
-slot_keeps before m o n slot slots rule (slot_alone h) = untrue (slots_in before m) h slots
-
-pub signature_dropped : (before : List Line) (m n : ℕ) → is_some (signature_in before m) ≡ false → drop_in before m ≡ true
-    → RefusedBy before (Signature m n) (refused NamesDropped)
-signature_dropped before m n signature drop = (dropped_signature drop, λ other h. least other h)
-  where
-    least : (other : Rule) → Breaks before other (Signature m n) → 9 ≤ kind_of other
-    least other (second_signature h) = absurd (both (signature_in before m) signature h)
-    least other (dropped_signature h) = lit≤ tt
-
-pub signature_keeps : (before : List Line) (m n : ℕ) → is_some (signature_in before m) ≡ false → drop_in before m ≡ false → (rule : Rule)
-    → Breaks before rule (Signature m n) → ⊥
-signature_keeps before m n signature drop rule (second_signature h) = both (signature_in before m) signature h
-signature_keeps before m n signature drop rule (dropped_signature h) = untrue (drop_in before m) drop h
-
-pub document_keeps : (before : List Line) (d : NameLine) → is_some (document_in before d.old) ≡ false → (rule : Rule) → Breaks before rule (Document d) → ⊥
-document_keeps before d document rule (second_document h) = both (document_in before d.old) document h
-
-pub link_keeps : (before : List Line) (value : List ℕ) → is_some (link_in before) ≡ false → (rule : Rule) → Breaks before rule (Link value) → ⊥
-link_keeps before value link rule (second_link h) = both (link_in before) link h
-
-pub shares_keeps : (before : List Line) → shares_in before ≡ false → (rule : Rule) → Breaks before rule Shares → ⊥
-shares_keeps before shares rule (second_shares h) = untrue (shares_in before) shares h
+-- a line with a place is no `run`
+pub keeps_all : (before : List Line) (line : Line) → IsSome (place line) → FitsIn before line → (rule : Rule) → Breaks before rule line → ⊥
+keeps_all before line placed fits rule (second at is there) = fits.once (second at is there)
+keeps_all before line placed fits rule (alone at is none) = fits.declared (alone at is none)
+keeps_all before line placed fits rule (run_alone h) = false≢true placed
+keeps_all before line placed fits rule (run_early h k) = false≢true placed
+keeps_all before line placed fits rule (run_long h k) = false≢true placed
+keeps_all before line placed fits rule (drop_named h) = fits.kept (drop_named h)
+keeps_all before line placed fits rule (names_dropped m is there) = fits.kept (names_dropped m is there)
 
 -- what the tests of keys say
 pub at_number : (k q : ℕ) → is_at (nat_cmp k) q ≡ nat_eq k q

@@ -1,10 +1,11 @@
 -- The texts of three samples have the samples' maps.
-use Rattle.std.{proofs.Common.{◌≡◌, ℕ, Bool, true, false, [], ◌∷◌, Some, None, refl, arith}, specs.Prelude.{codes, cond, nat_eq, ◌&&◌}, specs.Option.{option_map}}
-use Rattle.std.proofs.lemmas.Bool.Decides.{nat_tests}
+use Rattle.std.{proofs.Common.{rules, ◌≡◌, ℕ, Bool, true, false, [], ◌∷◌, Option, Some, None, refl, sym, ap, arith}, specs.Prelude.{codes, cond, nat_eq, ◌&&◌}}
+use Rattle.std.{specs.Prelude.{is_some, option_and_then}, specs.Option.{option_map}, proofs.lemmas.Bool.Decides.{nat_tests}}
 use Rattle.ppdb_maps.specs.{Map.{MethodLine, count_of}, declared.entries.Count.{Count}, declared.entries.RowLine.{RowLine}, Sample.{sample_map_of}, Forms.{IsHead}}
-use Rattle.ppdb_maps.specs.{Forms.{Tells}, Text.{Read, start, further, HoldsWhat}, SampleTexts.{SampleTexts}, declared.line.Line.TheVariants.{Rows, Row, Method}}
-use Rattle.ppdb_maps.{specs.declared.line.Line.TheVariants.{Kept}, proofs.SampleMap.{sample_readable}, proofs.TextSteps.{tells_rows, tells_row, tells_method}}
-use Rattle.ppdb_maps.proofs.TextSteps.{keeps_rows, keeps_row, keeps_method, with_runs, number_of_digit, row_of_digit, prefix_run, back_run}
+use Rattle.ppdb_maps.specs.{Forms.{Tells}, Text.{Read, start, further, HoldsWhat}, SampleTexts.{SampleTexts}, declared.line.Line.{Line}}
+use Rattle.ppdb_maps.{specs.declared.line.Line.TheVariants.{Rows, Row, Method, Kept}, proofs.SampleMap.{sample_readable}, proofs.TextSteps.{tells_rows, tells_row}}
+use Rattle.ppdb_maps.proofs.TextSteps.{tells_method, keeps_rows, keeps_row, keeps_method, with_runs, number_of_digit, row_of_digit, prefix_run, back_run}
+use Rattle.ppdb_maps.{proofs.Telling.{not_said}, specs.Before.{count_in, rows_said, row_said, cross_said, gone_said}}
 use Rattle.ppdb_base.specs.declared.limits.TheConstants.{MAX_ROWS}
 
 head_1 : IsHead (codes "ppdbmap 1") 1
@@ -42,12 +43,12 @@ method_2 = tells_method (codes "method 2 16 20") (codes "2") 2 refl (λ e. omega
 read_0 : Read 1 (codes "rows 06 0" ∷ []) (Rows 6 0 ∷ [])
 read_0 = further start rows_0 (keeps_rows [] (codes "rows 06 0") 6 0 rows_0 refl)
 
-one_count : (n table : ℕ) → count_of (sample_map_of n) table ≡ cond (nat_eq 6 table) (Some n) None
+one_count : (n table : ℕ) → count_of (sample_map_of n) table ≡ count_in (Rows 6 n ∷ []) table
 one_count n table = of (nat_eq 6 table)
   where
-    of : (b : Bool) → option_map (λ (c : Count). c.rows) (cond b (Some (record { table = 6; rows = n })) None) ≡ cond b (Some n) None
-    of true = refl
-    of false = refl
+    of : (b : Bool) → option_map (λ (c : Count). c.rows) (cond b (Some (record { table = 6; rows = n })) None)
+        ≡ option_and_then rows_said (cond b (Some (Rows 6 n)) None)
+    of b = search rules
 
 holds_0 : HoldsWhat (Rows 6 0 ∷ []) (sample_map_of 0)
 holds_0 = record {
@@ -71,24 +72,23 @@ holds_0 = record {
 read_rows_1 : Read 1 (codes "rows 06 1" ∷ codes "row 06 1 1" ∷ []) (Row 6 1 1 ∷ Rows 6 1 ∷ [])
 read_rows_1 =
     further (further start rows_1 (keeps_rows [] (codes "rows 06 1") 6 1 rows_1 refl)) row_1_1
-    (keeps_row (Rows 6 1 ∷ []) (codes "row 06 1 1") 6 1 1 1 row_1_1 refl refl refl)
+    (keeps_row (Rows 6 1 ∷ []) (codes "row 06 1 1") 1 1 row_1_1 refl refl refl)
 
 read_1 : Read 1 (codes "rows 06 1" ∷ codes "row 06 1 1" ∷ codes "method 1 16 20" ∷ codes "run 0 0 4" ∷ codes "run 8 10 8" ∷ [])
     (Kept back_run ∷ Kept prefix_run ∷ Method 1 16 20 ∷ Row 6 1 1 ∷ Rows 6 1 ∷ [])
 read_1 = with_runs (codes "rows 06 1" ∷ codes "row 06 1 1" ∷ codes "method 1 16 20" ∷ []) (Row 6 1 1 ∷ Rows 6 1 ∷ []) 1
     (further read_rows_1 method_1 (keeps_method (Row 6 1 1 ∷ Rows 6 1 ∷ []) (codes "method 1 16 20") 1 16 20 method_1 refl refl))
 
-one_row : (b : Bool) (old new : ℕ) → let r : RowLine =
-    record { table = 6; old = old; new = new } in option_map (λ (x : RowLine). x.new) (cond b (Some r) None) ≡ cond b (Some new) None
-one_row true old new = refl
-one_row false old new = refl
+one_row : (x y : Bool) (old new : ℕ) → let r : RowLine = record { table = 6; old = old; new = new } in
+    option_map (λ (z : RowLine). z.new) (cond (x && y) (Some r) None) ≡ option_and_then row_said (cond (x && y) (Some (Row 6 old new)) None)
+one_row x y old new = search rules
 
 holds_1 : HoldsWhat (Kept back_run ∷ Kept prefix_run ∷ Method 1 16 20 ∷ Row 6 1 1 ∷ Rows 6 1 ∷ []) (sample_map_of 1)
 holds_1 = record {
   counts = one_count 1;
-  rows = λ t o. one_row (nat_eq 6 t && nat_eq 1 o) 1 1;
-  crossed = λ t o. refl;
-  gone = λ t o. refl;
+  rows = λ t o. one_row (nat_eq 6 t) (nat_eq 1 o) 1 1;
+  crossed = λ t o. sym (not_said cross_said (nat_eq 6 t && nat_eq 1 o) (Row 6 1 1) None refl refl);
+  gone = λ t o. sym (ap is_some (not_said gone_said (nat_eq 6 t && nat_eq 1 o) (Row 6 1 1) None refl refl));
   methods = λ m. refl;
   drops = λ m. refl;
   slotted = λ m. refl;
@@ -105,8 +105,8 @@ holds_1 = record {
 read_rows_2 : Read 1 (codes "rows 06 2" ∷ codes "row 06 1 2" ∷ codes "row 06 2 1" ∷ []) (Row 6 2 1 ∷ Row 6 1 2 ∷ Rows 6 2 ∷ [])
 read_rows_2 =
     further (further (further start rows_2 (keeps_rows [] (codes "rows 06 2") 6 2 rows_2 refl)) row_1_2
-    (keeps_row (Rows 6 2 ∷ []) (codes "row 06 1 2") 6 1 2 2 row_1_2 refl refl refl)) row_2_1
-    (keeps_row (Row 6 1 2 ∷ Rows 6 2 ∷ []) (codes "row 06 2 1") 6 2 1 2 row_2_1 refl refl refl)
+    (keeps_row (Rows 6 2 ∷ []) (codes "row 06 1 2") 1 2 row_1_2 refl refl refl)) row_2_1
+    (keeps_row (Row 6 1 2 ∷ Rows 6 2 ∷ []) (codes "row 06 2 1") 2 1 row_2_1 refl refl refl)
 
 read_first : Read 1 (codes "rows 06 2" ∷ codes "row 06 1 2" ∷ codes "row 06 2 1" ∷ codes "method 1 16 20" ∷ codes "run 0 0 4" ∷ codes "run 8 10 8" ∷ [])
     (Kept back_run ∷ Kept prefix_run ∷ Method 1 16 20 ∷ Row 6 2 1 ∷ Row 6 1 2 ∷ Rows 6 2 ∷ [])
@@ -129,28 +129,25 @@ apart n a b = grind (arith, nat_tests)
 
 two_rows : (b first second : Bool) → (first ≡ true → second ≡ true → ⊥)
     → let r : RowLine = record { table = 6; old = 1; new = 2 } in let s : RowLine = record { table = 6; old = 2; new = 1 } in
-    option_map (λ (x : RowLine). x.new) (cond (b && first) (Some r) (cond (b && second) (Some s) None)) ≡ cond (b && second) (Some 1)
-    (cond (b && first) (Some 2) None)
-two_rows true true true apart = absurd (apart refl refl)
-two_rows true true false apart = refl
-two_rows true false true apart = refl
-two_rows true false false apart = refl
-two_rows false first second apart = refl
+    option_map (λ (x : RowLine). x.new) (cond (b && first) (Some r) (cond (b && second) (Some s) None))
+    ≡ option_and_then row_said (cond (b && second) (Some (Row 6 2 1)) (cond (b && first) (Some (Row 6 1 2)) None))
+two_rows b first second apart = search rules
+
+none_of_two : {A : Type 0} (said : Line → Option A) (x y z : Bool) → said (Row 6 2 1) ≡ None → said (Row 6 1 2) ≡ None
+    → option_and_then said (cond (x && y) (Some (Row 6 2 1)) (cond (x && z) (Some (Row 6 1 2)) None)) ≡ None
+none_of_two said x y z first second = not_said said (x && y) (Row 6 2 1) _ first (not_said said (x && z) (Row 6 1 2) None second refl)
 
 two_methods : (first second : Bool) (x y : MethodLine) → (first ≡ true → second ≡ true → ⊥)
     → cond first (Some x) (cond second (Some y) None) ≡ cond second (Some y) (cond first (Some x) None)
-two_methods true true x y apart = absurd (apart refl refl)
-two_methods true false x y apart = refl
-two_methods false true x y apart = refl
-two_methods false false x y apart = refl
+two_methods first second x y apart = search rules
 
 holds_2 : HoldsWhat (Kept back_run ∷ Kept prefix_run ∷ Method 2 16 20 ∷ Kept back_run ∷ Kept prefix_run ∷ Method 1 16 20 ∷ Row 6 2 1 ∷ Row 6 1 2 ∷ Rows 6 2 ∷ [])
     (sample_map_of 2)
 holds_2 = record {
   counts = one_count 2;
   rows = λ t o. two_rows (nat_eq 6 t) (nat_eq 1 o) (nat_eq 2 o) (apart o);
-  crossed = λ t o. refl;
-  gone = λ t o. refl;
+  crossed = λ t o. sym (none_of_two cross_said (nat_eq 6 t) (nat_eq 2 o) (nat_eq 1 o) refl refl);
+  gone = λ t o. sym (ap is_some (none_of_two gone_said (nat_eq 6 t) (nat_eq 2 o) (nat_eq 1 o) refl refl));
   methods = λ m. two_methods (nat_eq 1 m) (nat_eq 2 m) (record { method = 1; old_size = 16; new_size = 20; runs = prefix_run ∷ back_run ∷ [] })
       (record { method = 2; old_size = 16; new_size = 20; runs = prefix_run ∷ back_run ∷ [] }) (apart m);
   drops = λ m. refl;

@@ -1,5 +1,5 @@
 -- A line of a form has its values; a line says one thing.
-use Rattle.std.proofs.Common.{zero, suc, inl, inr, lit<, lit≤, ℕ, ◌≡◌, ◌<◌, ◌≤◌, List, [], ◌∷◌, Option, Some, length, take, refl, sym, ap, ◌∙◌, subst, arith}
+use Rattle.std.proofs.Common.{rules, zero, suc, inl, inr, lit<, lit≤, ℕ, ◌≡◌, ◌<◌, ◌≤◌, List, [], ◌∷◌, Option, Some, length, take, refl, sym, ap, ◌∙◌, subst, arith}
 use Rattle.std.{specs.Prelude.{find, bytes_eq, nat_eq, ◌&&◌}, proofs.lemmas.Bool.{cases_lt}, proofs.lemmas.List.{length-take-le}}
 use Rattle.ppdb_base.specs.declared.{offsets.Run.{Run}, limits.TheConstants.{MAX_ROWS}}
 use Rattle.ppdb_maps.specs.{Words.{IsSilent, line_words}, Forms.{Crosses, name_of, words_in, HasForm, IsNumber, IsTable, Values, Tells, rows_line, row_line}}
@@ -8,9 +8,7 @@ use Rattle.ppdb_maps.specs.{Forms.{shares_line, silent, told}, declared.entries.
 use Rattle.ppdb_maps.specs.declared.line.{Form.{Form}, Form.TheVariants.{TableRows, RowMove, MethodSizes, OffsetRun, MethodDrop, MethodSlots, SlotMove}}
 use Rattle.ppdb_maps.specs.declared.line.{Form.TheVariants.{MethodSignature, DocumentRename, LinkValue, CrossMove, RowGone, Sharing}, Line.{Line}}
 use Rattle.ppdb_maps.specs.{declared.line.Line.TheVariants.{Cross, Kept, Document, Link}, Cuts.{AreWordsOf}, Reading.{FitsForm, values_of}, Rules.{kind_of, Breaks}}
-use Rattle.ppdb_maps.specs.Rules.{BreaksLine, BreaksFirst, no_form, no_value, by_lines, second_rows, second_row, second_method, second_drop, second_slots}
-use Rattle.ppdb_maps.specs.Rules.{second_slot, second_signature, row_alone, slot_alone, run_alone, run_early, run_long, drop_named, dropped_method, dropped_row}
-use Rattle.ppdb_maps.specs.Rules.{dropped_slots, dropped_signature, second_document, second_link, second_cross, second_gone, second_shares, cross_alone, gone_alone}
+use Rattle.ppdb_maps.specs.Rules.{BreaksLine, BreaksFirst, no_form, no_value, by_lines, second, alone, run_alone, run_early, run_long, drop_named, names_dropped}
 use Rattle.ppdb_maps.specs.declared.{rule.Rule.{Rule}, rule.Rule.TheVariants.{UnknownForm, NumberFaults}, words.Words.{Words}}
 use Rattle.ppdb_maps.proofs.{Numbers.{one_number, one_table}, Spelled.{one_spelling}}
 
@@ -107,19 +105,7 @@ form_named name count = find (λ form. bytes_eq (name_of form) name && nat_eq (w
     ∷ DocumentRename ∷ LinkValue ∷ CrossMove ∷ RowGone ∷ Sharing ∷ [])
 
 named_itself : (form : Form) → form_named (name_of form) (words_in form) ≡ Some form
-named_itself TableRows = refl
-named_itself RowMove = refl
-named_itself MethodSizes = refl
-named_itself OffsetRun = refl
-named_itself MethodDrop = refl
-named_itself MethodSlots = refl
-named_itself SlotMove = refl
-named_itself MethodSignature = refl
-named_itself DocumentRename = refl
-named_itself LinkValue = refl
-named_itself CrossMove = refl
-named_itself RowGone = refl
-named_itself Sharing = refl
+named_itself form = search rules
 
 -- forms have different first words or numbers of words
 one_form : (x y : Form) → name_of x ≡ name_of y → words_in x ≡ words_in y → x ≡ y
@@ -186,19 +172,7 @@ has_form line words version form are fits =
     (names, ap length is ∙ long form)
   where
     taken : (form : Form) → take (words_in form) (words_read words) ≡ words.name.now ∷ values_of form words
-    taken TableRows = refl
-    taken RowMove = refl
-    taken MethodSizes = refl
-    taken OffsetRun = refl
-    taken MethodDrop = refl
-    taken MethodSlots = refl
-    taken SlotMove = refl
-    taken MethodSignature = refl
-    taken DocumentRename = refl
-    taken LinkValue = refl
-    taken CrossMove = refl
-    taken RowGone = refl
-    taken Sharing = refl
+    taken form = search rules
 
     long : (form : Form) → length (take (words_in form) (words_read words)) ≡ words_in form
     long form = length-take-le (words_in form) (words_read words) (few_words form).1
@@ -219,30 +193,8 @@ tells_form line words version form says loud are fits values =
 
 -- the rules on what lines say have the numbers from 4 on
 pub from_four : (before : List Line) (rule : Rule) (line : Line) → Breaks before rule line → 4 ≤ kind_of rule
-from_four before rule line (second_rows h) = lit≤ tt
-from_four before rule line (second_row h) = lit≤ tt
-from_four before rule line (second_method h) = lit≤ tt
-from_four before rule line (second_drop h) = lit≤ tt
-from_four before rule line (second_slots h) = lit≤ tt
-from_four before rule line (second_slot h) = lit≤ tt
-from_four before rule line (second_signature h) = lit≤ tt
-from_four before rule line (second_document h) = lit≤ tt
-from_four before rule line (second_link h) = lit≤ tt
-from_four before rule line (second_cross h) = lit≤ tt
-from_four before rule line (second_gone h) = lit≤ tt
-from_four before rule line (second_shares h) = lit≤ tt
-from_four before rule line (cross_alone h) = lit≤ tt
-from_four before rule line (gone_alone h) = lit≤ tt
-from_four before rule line (row_alone h) = lit≤ tt
-from_four before rule line (slot_alone h) = lit≤ tt
-from_four before rule line (run_alone h) = lit≤ tt
-from_four before rule line (run_early h k) = lit≤ tt
-from_four before rule line (run_long h k) = lit≤ tt
-from_four before rule line (drop_named h) = lit≤ tt
-from_four before rule line (dropped_method h) = lit≤ tt
-from_four before rule line (dropped_row h k) = lit≤ tt
-from_four before rule line (dropped_slots h) = lit≤ tt
-from_four before rule line (dropped_signature h) = lit≤ tt
+from_four before rule line (second at is there) = lit≤ tt
+from_four before rule line broken = lit≤ tt
 
 -- a line without a form
 pub breaks_form : (line : List ℕ) (words : Words) (version : ℕ) (before : List Line) → (IsSilent line → ⊥) → AreWordsOf line words

@@ -1,12 +1,13 @@
 -- Lines that report something and break no rule.
-use Rattle.std.proofs.Common.{◌≡◌, ℕ, ◌+◌, ◌<◌, ◌≤◌, ◌++◌, Bool, true, false, List, [], ◌∷◌, length, Option, Some, None, refl, sym, ap, subst, ◌∙◌, arith, inl, inr}
-use Rattle.std.{specs.Prelude.{codes, IsSome, IsTrue}, specs.Fmt.{decimal}, proofs.lemmas.Fmt.{decimal_digit, decimal_step}}
+use Rattle.std.proofs.Common.{◌≡◌, ℕ, ◌+◌, ◌<◌, ◌≤◌, ◌++◌, true, false, List, [], ◌∷◌, length, None, refl, sym, ap, subst, ◌∙◌, arith, inl, inr}
+use Rattle.std.{specs.Prelude.{codes, is_some, IsSome}, specs.Fmt.{decimal}, proofs.lemmas.Fmt.{decimal_digit, decimal_step}}
 use Rattle.ppdb_base.specs.declared.{offsets.Run.{Run}, limits.TheConstants.{MAX_ROWS, MAX_OFFSET}}
 use Rattle.ppdb_maps.specs.{Map.{MethodLine}, Words.{IsSilent, line_words}, Forms.{IsNumber, IsTable, Tells, told, rows_line, row_line, method_line, run_line}}
-use Rattle.ppdb_maps.specs.{Before.{count_in, has_image_in, method_in, drop_in, methods_of, follows_method}, Rules.{Breaks, Keeps, BeginsEarly, EndsBeyond}}
-use Rattle.ppdb_maps.specs.Rules.{second_rows, second_row, row_alone, dropped_row, second_method, dropped_method, run_alone, run_early, run_long}
+use Rattle.ppdb_maps.specs.{Before.{told as last_at, methods_of, follows_method}, Drafts.{FitsIn}, Places.{place, rows_place, row_place, drop_place, method_place}}
+use Rattle.ppdb_maps.specs.Rules.{Breaks, Keeps, BeginsEarly, EndsBeyond, second, alone, names_dropped, run_alone, run_early, run_long}
 use Rattle.ppdb_maps.specs.declared.line.{Form.TheVariants.{TableRows, RowMove, MethodSizes, OffsetRun}, Line.{Line}, Line.TheVariants.{Rows, Row, Method, Kept}}
-use Rattle.ppdb_maps.{specs.declared.rule.Rule.{Rule}, proofs.Saying.{breaks_said}, specs.Text.{Read, further}, proofs.Numbers.{table_of_digits}}
+use Rattle.ppdb_maps.{specs.declared.rule.Rule.{Rule}, proofs.Refusing.{fits_in, keeps_all}, proofs.Saying.{breaks_said}, specs.Text.{Read, further}}
+use Rattle.ppdb_maps.proofs.Numbers.{table_of_digits}
 
 digit : (n : ℕ) → n < 10 → (48 + n) ∷ [] ≡ decimal n
 digit n h = sym (decimal_digit n h)
@@ -71,36 +72,25 @@ tells_back = told OffsetRun (λ e. omega (arith, e))
 
 -- ---- lines that break no rule
 
-not_some : {A : Type 0} (o : Option A) → o ≡ None → IsSome o → ⊥
-not_some None e some = let h : false ≡ true = some in cc
-not_some (Some x) e some = absurd cc
+keeps_placed : (before : List Line) (text : List ℕ) (line : Line) → Tells 1 text line → IsSome (place line) → FitsIn before line → Keeps 1 before text
+keeps_placed before text line tells placed fits rule b = keeps_all before line placed fits rule (breaks_said 1 before text line rule tells b)
 
-not_true : (b : Bool) → b ≡ false → IsTrue b → ⊥
-not_true false e t = cc
-not_true true e t = absurd cc
+pub keeps_rows : (before : List Line) (text : List ℕ) (t n : ℕ) → Tells 1 text (Rows t n) → last_at before (rows_place t) ≡ None → Keeps 1 before text
+keeps_rows before text t n tells none = keeps_placed before text (Rows t n) tells refl
+    (fits_in before (Rows t n) (rows_place t) refl none (λ p is. absurd (cc)) (λ m is. absurd (cc)) (λ m is. absurd (cc)))
 
-pub keeps_rows : (before : List Line) (text : List ℕ) (t n : ℕ) → Tells 1 text (Rows t n) → count_in before t ≡ None → Keeps 1 before text
-keeps_rows before text t n tells none rule b = of rule (breaks_said 1 before text (Rows t n) rule tells b)
-  where
-    of : (r : Rule) → Breaks before r (Rows t n) → ⊥
-    of r (second_rows some) = not_some (count_in before t) none some
+pub keeps_row : (before : List Line) (text : List ℕ) (o n : ℕ) → Tells 1 text (Row 6 o n) → is_some (last_at before (rows_place 6)) ≡ true
+    → last_at before (row_place 6 o) ≡ None → last_at before (drop_place o) ≡ None → Keeps 1 before text
+keeps_row before text o n tells counted none live = keeps_placed before text (Row 6 o n) tells refl
+    (fits_in before (Row 6 o n) (row_place 6 o) refl none
+    (λ p is. let e : rows_place 6 ≡ p = cc in subst (λ q. is_some (last_at before q) ≡ true) e counted)
+    (λ m is. let e : o ≡ m = cc in subst (λ k. last_at before (drop_place k) ≡ None) e live) (λ m is. absurd (cc)))
 
-pub keeps_row : (before : List Line) (text : List ℕ) (t o n count : ℕ) → Tells 1 text (Row t o n) → count_in before t ≡ Some count → has_image_in before t o ≡ false
-    → drop_in before o ≡ false → Keeps 1 before text
-keeps_row before text t o n count tells counted none live rule b = of rule (breaks_said 1 before text (Row t o n) rule tells b)
-  where
-    of : (r : Rule) → Breaks before r (Row t o n) → ⊥
-    of r (second_row some) = not_true (has_image_in before t o) none some
-    of r (row_alone alone) = let e : Some count ≡ None = sym counted ∙ alone in cc
-    of r (dropped_row is dropped) = not_true (drop_in before o) live dropped
-
-pub keeps_method : (before : List Line) (text : List ℕ) (m o n : ℕ) → Tells 1 text (Method m o n) → method_in before m ≡ None → drop_in before m ≡ false
-    → Keeps 1 before text
-keeps_method before text m o n tells none live rule b = of rule (breaks_said 1 before text (Method m o n) rule tells b)
-  where
-    of : (r : Rule) → Breaks before r (Method m o n) → ⊥
-    of r (second_method some) = not_some (method_in before m) none some
-    of r (dropped_method dropped) = not_true (drop_in before m) live dropped
+pub keeps_method : (before : List Line) (text : List ℕ) (m o n : ℕ) → Tells 1 text (Method m o n) → last_at before (method_place m) ≡ None
+    → last_at before (drop_place m) ≡ None → Keeps 1 before text
+keeps_method before text m o n tells none live = keeps_placed before text (Method m o n) tells refl
+    (fits_in before (Method m o n) (method_place m) refl none (λ p is. absurd (cc))
+    (λ k is. let e : m ≡ k = cc in subst (λ j. last_at before (drop_place j) ≡ None) e live) (λ k is. absurd (cc)))
 
 pub keeps_run : (before : List Line) (text : List ℕ) (run : Run) (line : MethodLine) (others : List MethodLine) → Tells 1 text (Kept run)
     → follows_method before ≡ true → methods_of before ≡ line ∷ others
@@ -108,7 +98,10 @@ pub keeps_run : (before : List Line) (text : List ℕ) (run : Run) (line : Metho
 keeps_run before text run line others tells follows last late short rule b = of rule (breaks_said 1 before text (Kept run) rule tells b)
   where
     of : (r : Rule) → Breaks before r (Kept run) → ⊥
-    of r (run_alone alone) = let e : true ≡ false = sym follows ∙ alone in cc
+    of r (second at is there) = absurd (cc)
+    of r (alone at is none) = absurd (cc)
+    of r (names_dropped m is there) = absurd (cc)
+    of r (run_alone never) = let e : true ≡ false = sym follows ∙ never in cc
     of r (run_early {line = l} {lines = ls} is early) =
         let e : line ∷ others ≡ l ∷ ls = sym last ∙ is in
         let same : l ≡ line = cc in late (subst (λ (x : MethodLine). BeginsEarly run x.runs) same early)

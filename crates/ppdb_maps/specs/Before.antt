@@ -1,79 +1,99 @@
 -- What lines of a map text say together; a list of lines has the last one first.
-use Rattle.std.specs.Prelude.{ℕ, ◌&&◌, ◌||◌, ◌++◌, Bool, true, false, cond, nat_eq, bytes_eq, is_some, List, [], ◌∷◌, Option, Some, None, find}
+use Rattle.std.specs.Prelude.{ℕ, ◌++◌, Bool, true, false, nat_eq, is_some, List, [], ◌∷◌, Option, Some, None, find, option_and_then}
 use Rattle.ppdb_base.specs.declared.offsets.Run.{Run}
-use Rattle.ppdb_maps.specs.{Map.MethodLine, declared.entries.CrossLine.CrossLine}
+use Rattle.ppdb_maps.specs.{Map.MethodLine, declared.entries.{CrossLine.CrossLine, GoneLine.GoneLine}}
+use Rattle.ppdb_maps.specs.Places.{Place, place, is_place, shares_place, link_place, rows_place, row_place, drop_place, slots_place, slot_place, signature_place, document_place}
 use Rattle.ppdb_maps.specs.declared.line.Line.{Line}
-use Rattle.ppdb_maps.specs.declared.line.Line.TheVariants.{Silent, Rows, Row, Cross, Gone, Method, Kept, Dropped, Slots, Slot, Signature, Document, Link, Shares}
+use Rattle.ppdb_maps.specs.declared.line.Line.TheVariants.{Silent}
+use Rattle.ppdb_maps.specs.declared.line.Line.TheVariants.{Rows}
+use Rattle.ppdb_maps.specs.declared.line.Line.TheVariants.{Row}
+use Rattle.ppdb_maps.specs.declared.line.Line.TheVariants.{Cross}
+use Rattle.ppdb_maps.specs.declared.line.Line.TheVariants.{Gone}
+use Rattle.ppdb_maps.specs.declared.line.Line.TheVariants.{Method}
+use Rattle.ppdb_maps.specs.declared.line.Line.TheVariants.{Kept}
+use Rattle.ppdb_maps.specs.declared.line.Line.TheVariants.{Slot}
+use Rattle.ppdb_maps.specs.declared.line.Line.TheVariants.{Signature}
+use Rattle.ppdb_maps.specs.declared.line.Line.TheVariants.{Document}
+use Rattle.ppdb_maps.specs.declared.line.Line.TheVariants.{Link}
 
--- the N of the table's `rows` line
+-- the last line at a place
+abbrev pub told : List Line → Place → Option Line
+told before at = find (λ line. is_place at (place line)) before
+
+-- the N of a `rows` line
+abbrev pub rows_said : Line → Option ℕ
+rows_said (Rows table rows) = Some rows
+rows_said line = None
+
+-- the NEW of a `row` line of four words
+abbrev pub row_said : Line → Option ℕ
+row_said (Row table old new) = Some new
+row_said line = None
+
+-- a `row` line of five words
+abbrev pub cross_said : Line → Option CrossLine
+cross_said (Cross line) = Some line
+cross_said line = None
+
+-- a `gone` line
+abbrev pub gone_said : Line → Option GoneLine
+gone_said (Gone table old) = Some (record { table = table; old = old })
+gone_said line = None
+
+-- the NEW of a `slot`, of a `signature` and of a `document` line
+abbrev pub slot_said : Line → Option ℕ
+slot_said (Slot method old new) = Some new
+slot_said line = None
+
+abbrev pub signature_said : Line → Option ℕ
+signature_said (Signature method new) = Some new
+signature_said line = None
+
+abbrev pub document_said : Line → Option (List ℕ)
+document_said (Document d) = Some d.new
+document_said line = None
+
+-- the VALUE of a `link` line
+abbrev pub link_said : Line → Option (List ℕ)
+link_said (Link value) = Some value
+link_said line = None
+
+-- what the lines say of a table, of a row, of a method, of a slot and of a name
 abbrev pub count_in : List Line → ℕ → Option ℕ
-count_in [] table = None
-count_in (Rows t n ∷ before) table = cond (nat_eq t table) (Some n) (count_in before table)
-count_in (_ ∷ before) table = count_in before table
+count_in before table = option_and_then rows_said (told before (rows_place table))
 
--- the NEW of the row's `row` line of four words
 abbrev pub row_in : List Line → ℕ → ℕ → Option ℕ
-row_in [] table old = None
-row_in (Row t o n ∷ before) table old = cond (nat_eq t table && nat_eq o old) (Some n) (row_in before table old)
-row_in (_ ∷ before) table old = row_in before table old
+row_in before table old = option_and_then row_said (told before (row_place table old))
 
--- the row's `row` line of five words
 abbrev pub cross_in : List Line → ℕ → ℕ → Option CrossLine
-cross_in [] table old = None
-cross_in (Cross line ∷ before) table old = cond (nat_eq line.table table && nat_eq line.old old) (Some line) (cross_in before table old)
-cross_in (_ ∷ before) table old = cross_in before table old
+cross_in before table old = option_and_then cross_said (told before (row_place table old))
 
--- whether the row has a `gone` line
+abbrev pub gone_line_in : List Line → ℕ → ℕ → Option GoneLine
+gone_line_in before table old = option_and_then gone_said (told before (row_place table old))
+
 abbrev pub gone_in : List Line → ℕ → ℕ → Bool
-gone_in [] table old = false
-gone_in (Gone t o ∷ before) table old = cond (nat_eq t table && nat_eq o old) true (gone_in before table old)
-gone_in (_ ∷ before) table old = gone_in before table old
+gone_in before table old = is_some (gone_line_in before table old)
 
--- whether the row has a `row` line, of four words or of five, or a `gone` line
-abbrev pub has_image_in : List Line → ℕ → ℕ → Bool
-has_image_in before table old = is_some (row_in before table old) || (is_some (cross_in before table old) || gone_in before table old)
-
--- whether the method has a `drop` line
 abbrev pub drop_in : List Line → ℕ → Bool
-drop_in [] method = false
-drop_in (Dropped m ∷ before) method = cond (nat_eq m method) true (drop_in before method)
-drop_in (_ ∷ before) method = drop_in before method
+drop_in before method = is_some (told before (drop_place method))
 
--- whether the method has a `slots` line
 abbrev pub slots_in : List Line → ℕ → Bool
-slots_in [] method = false
-slots_in (Slots m ∷ before) method = cond (nat_eq m method) true (slots_in before method)
-slots_in (_ ∷ before) method = slots_in before method
+slots_in before method = is_some (told before (slots_place method))
 
--- the NEW of the slot's `slot` line
 abbrev pub slot_in : List Line → ℕ → ℕ → Option ℕ
-slot_in [] method old = None
-slot_in (Slot m o n ∷ before) method old = cond (nat_eq m method && nat_eq o old) (Some n) (slot_in before method old)
-slot_in (_ ∷ before) method old = slot_in before method old
+slot_in before method old = option_and_then slot_said (told before (slot_place method old))
 
--- the NEW of the method's `signature` line
 abbrev pub signature_in : List Line → ℕ → Option ℕ
-signature_in [] method = None
-signature_in (Signature m n ∷ before) method = cond (nat_eq m method) (Some n) (signature_in before method)
-signature_in (_ ∷ before) method = signature_in before method
+signature_in before method = option_and_then signature_said (told before (signature_place method))
 
--- the NEW of the name's `document` line
 abbrev pub document_in : List Line → List ℕ → Option (List ℕ)
-document_in [] name = None
-document_in (Document d ∷ before) name = cond (bytes_eq d.old name) (Some d.new) (document_in before name)
-document_in (_ ∷ before) name = document_in before name
+document_in before name = option_and_then document_said (told before (document_place name))
 
--- the VALUE of the `link` line
 abbrev pub link_in : List Line → Option (List ℕ)
-link_in [] = None
-link_in (Link value ∷ before) = Some value
-link_in (_ ∷ before) = link_in before
+link_in before = option_and_then link_said (told before link_place)
 
--- whether there is a `shares` line
 abbrev pub shares_in : List Line → Bool
-shares_in [] = false
-shares_in (Shares ∷ before) = true
-shares_in (_ ∷ before) = shares_in before
+shares_in before = is_some (told before shares_place)
 
 -- a run goes to the last `method` line
 abbrev pub with_run : Run → List MethodLine → List MethodLine

@@ -3,6 +3,7 @@ pub mod Runs
 pub mod Map
 pub mod Words
 pub mod Forms
+pub mod Places
 pub mod Before
 pub mod Rules
 pub mod Text

@@ -27,6 +27,12 @@ impl<T: Drop> Boxed<T> {
         })
     }
 
+    pub fn get(&self) -> &T
+        ensures { result.now ≡ self.now }
+    {
+        &self.item
+    }
+
     /// The value.
     pub fn into_inner(self) -> T
         ensures { result ≡ self }

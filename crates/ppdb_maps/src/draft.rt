@@ -1,13 +1,14 @@
 // What the lines of a map text say together, while they are read.
-ghost use Rattle.std.specs.Prelude.{ℕ, ◌<◌, ◌↔◌, [], List, IsTrue, OnOk, IfOk};
+ghost use Rattle.std.specs.Prelude.{ℕ, ◌<◌, ◌↔◌, [], List, IsTrue, IsSome, OnOk, IfOk};
 ghost use Rattle.ppdb_maps.specs.Loops.{IsTextAdded};
 ghost use Rattle.ppdb_maps.specs.Reading.{IsTold};
 ghost use Rattle.ppdb_maps.specs.Text.{HoldsWhat, Read};
 ghost use Rattle.ppdb_maps.specs.declared.line.Line.{Line};
-ghost use Rattle.ppdb_maps.specs.declared.line.Line.TheVariants.{Rows, Row, Cross, Gone, Method as SizesOf, Kept, Dropped, Slots, Slot, Signature, Document, Link};
-ghost use Rattle.ppdb_maps.specs.declared.line.Line.TheVariants.{Shares};
-ghost use Rattle.ppdb_maps.specs.Drafts.{Holds, IsClosed, IsReadyFor, AddsLine, IsAdded, IsAddedTo, HasLength};
-ghost use Rattle.ppdb_maps.specs.Rules.{IsNamed};
+ghost use Rattle.ppdb_maps.specs.declared.line.Line.TheVariants.{Rows, Row, Cross, Gone, Kept, Dropped, Slots, Slot, Signature, Document};
+ghost use Rattle.ppdb_maps.specs.Drafts.{Holds, IsClosed, HasNaming, IsChecked, IsPut, IsAddedTo, HasLength};
+ghost use Rattle.ppdb_maps.specs.Places.{place};
+ghost use Rattle.ppdb_maps.specs.Rules.{Breaks};
+ghost use Rattle.ppdb_maps.specs.declared.rule.Rule.TheVariants.{Repeated, Undeclared, NamesDropped};
 
 use crate::bit_set::{BitSet, RowSet};
 use crate::entries::{CrossLine, GoneLine, NameLine, RowLine, SignatureImage};
@@ -91,96 +92,43 @@ impl Draft {
         Ok(())
     }
 
-    fn add_rows(&mut self, table: u8, rows: u32) -> Result<(), Refusal>
-        ensures { IsAdded (Rows table rows) self.old result self.new }
+    /// Whether there is a line at the place of this one.
+    fn is_taken(&self, line: &Line) -> bool
+        ensures { (before : List Line) → IsClosed before self.now → IsTrue result ↔ Breaks before Repeated line.now }
     {
-        if self.counts.contains_key(&table) {
-            return Err(Refusal::Breaks(Rule::Repeated));
+        match line {
+            Line::Silent | Line::Kept(_) => false,
+            Line::Rows { table, .. } => self.counts.contains_key(table),
+            Line::Row { table, old, .. } => self.moved.contains(*table, *old),
+            Line::Gone { table, old } => self.moved.contains(*table, *old),
+            Line::Cross(line) => self.moved.contains(line.table, line.old),
+            Line::Method { method, .. } => self.listed.contains(*method),
+            Line::Dropped(method) => self.drops.contains(method),
+            Line::Slots(method) => self.slotted.contains(method),
+            Line::Slot { method, old, .. } => self.slots.contains_key(&(*method, *old)),
+            Line::Signature { method, .. } => self.signed.contains(*method),
+            Line::Document(names) => self.documents.contains_key(names.get().old.as_slice()),
+            Line::Link(_) => self.link.is_some(),
+            Line::Shares => self.shares,
         }
-        self.counts.insert(table, rows)?;
-        Ok(())
     }
 
-    fn add_row(&mut self, alloc: Global, table: u8, old: u32, new: u32) -> Result<(), Refusal>
-        ensures { IsAdded (Row table old new) self.old result self.new }
+    /// Whether the line that this one needs is not there.
+    fn is_alone(&self, line: &Line) -> bool
+        ensures { (before : List Line) → IsClosed before self.now → IsTrue result ↔ Breaks before Undeclared line.now }
     {
-        if self.moved.contains(table, old) {
-            return Err(Refusal::Breaks(Rule::Repeated));
+        match line {
+            Line::Row { table, .. } => !self.counts.contains_key(table),
+            Line::Gone { table, .. } => !self.counts.contains_key(table),
+            Line::Cross(line) => !self.counts.contains_key(&line.table),
+            Line::Slot { method, .. } => !self.slotted.contains(method),
+            _ => false,
         }
-        if !self.counts.contains_key(&table) {
-            return Err(Refusal::Breaks(Rule::Undeclared));
-        }
-        if table == 0x06 && self.drops.contains(&old) {
-            return Err(Refusal::Breaks(Rule::NamesDropped));
-        }
-        self.moved.insert(alloc, table, old)?;
-        self.rows.push(RowLine { table, old, new })?;
-        Ok(())
     }
 
-    fn add_cross(&mut self, alloc: Global, line: CrossLine) -> Result<(), Refusal>
-        ensures { IsAdded (Cross line) self.old result self.new }
-    {
-        if self.moved.contains(line.table, line.old) {
-            return Err(Refusal::Breaks(Rule::Repeated));
-        }
-        if !self.counts.contains_key(&line.table) {
-            return Err(Refusal::Breaks(Rule::Undeclared));
-        }
-        self.moved.insert(alloc, line.table, line.old)?;
-        self.crossed.push(line)?;
-        Ok(())
-    }
-
-    fn add_gone(&mut self, alloc: Global, table: u8, old: u32) -> Result<(), Refusal>
-        ensures { IsAdded (Gone table old) self.old result self.new }
-    {
-        if self.moved.contains(table, old) {
-            return Err(Refusal::Breaks(Rule::Repeated));
-        }
-        if !self.counts.contains_key(&table) {
-            return Err(Refusal::Breaks(Rule::Undeclared));
-        }
-        self.moved.insert(alloc, table, old)?;
-        self.gone.push(GoneLine { table, old })?;
-        Ok(())
-    }
-
-    fn add_method(
-        &mut self,
-        alloc: Global,
-        method: u32,
-        old_size: u32,
-        new_size: u32,
-    ) -> Result<(), Refusal>
-        ensures { IsAdded (SizesOf method old_size new_size) self.old result self.new }
-    {
-        if self.listed.contains(method) {
-            return Err(Refusal::Breaks(Rule::Repeated));
-        }
-        if self.drops.contains(&method) {
-            return Err(Refusal::Breaks(Rule::NamesDropped));
-        }
-        self.current = Some(Method::new(alloc, method, old_size, new_size));
-        Ok(())
-    }
-
-    fn add_drop(&mut self, method: u32) -> Result<(), Refusal>
-        ensures { IsAdded (Dropped method) self.old result self.new }
-    {
-        if self.drops.contains(&method) {
-            return Err(Refusal::Breaks(Rule::Repeated));
-        }
-        if self.is_named(method) {
-            return Err(Refusal::Breaks(Rule::NamesDropped));
-        }
-        self.drops.insert(method)?;
-        Ok(())
-    }
-
-    /// Whether the method has a `method`, a `row`, a `slots` or a `signature` line.
+    /// Whether there is a line at a place where the method is named.
     fn is_named(&self, method: u32) -> bool
-        ensures { (before : List Line) → IsClosed before self.now → IsTrue result ↔ IsNamed before method }
+        ensures { (before : List Line) → IsClosed before self.now → IsTrue result ↔ HasNaming before method }
     {
         self.listed.contains(method)
             || self.moved.contains(0x06, method)
@@ -188,76 +136,136 @@ impl Draft {
             || self.signed.contains(method)
     }
 
-    fn add_slots(&mut self, method: u32) -> Result<(), Refusal>
-        ensures { IsAdded (Slots method) self.old result self.new }
+    /// Whether this line drops a method that is named, or names a dropped one.
+    fn is_barred(&self, line: &Line) -> bool
+        ensures { (before : List Line) → IsClosed before self.now → IsTrue result ↔ Breaks before NamesDropped line.now }
     {
-        if self.slotted.contains(&method) {
+        match line {
+            Line::Dropped(method) => self.is_named(*method),
+            Line::Row { table, old, .. } => *table == 0x06 && self.drops.contains(old),
+            Line::Slots(method) => self.drops.contains(method),
+            Line::Method { method, .. } => self.drops.contains(method),
+            Line::Signature { method, .. } => self.drops.contains(method),
+            _ => false,
+        }
+    }
+
+    /// Refuses a line that breaks a rule on its place, the line that it needs, or dropped methods.
+    fn check(&self, line: &Line) -> Result<(), Refusal>
+        ensures { (before : List Line) → IsClosed before self.now → IsChecked before line.now result }
+    {
+        if self.is_taken(line) {
             return Err(Refusal::Breaks(Rule::Repeated));
         }
-        if self.drops.contains(&method) {
+        if self.is_alone(line) {
+            return Err(Refusal::Breaks(Rule::Undeclared));
+        }
+        if self.is_barred(line) {
             return Err(Refusal::Breaks(Rule::NamesDropped));
         }
+        Ok(())
+    }
+
+    fn put_row(&mut self, alloc: Global, row: RowLine) -> Result<(), Memory>
+        ensures { IsPut (Row row.table row.old row.new) self.old result self.new }
+    {
+        self.moved.insert(alloc, row.table, row.old)?;
+        self.rows.push(row)?;
+        Ok(())
+    }
+
+    fn put_cross(&mut self, alloc: Global, line: CrossLine) -> Result<(), Memory>
+        ensures { IsPut (Cross line) self.old result self.new }
+    {
+        self.moved.insert(alloc, line.table, line.old)?;
+        self.crossed.push(line)?;
+        Ok(())
+    }
+
+    fn put_gone(&mut self, alloc: Global, line: GoneLine) -> Result<(), Memory>
+        ensures { IsPut (Gone line.table line.old) self.old result self.new }
+    {
+        self.moved.insert(alloc, line.table, line.old)?;
+        self.gone.push(line)?;
+        Ok(())
+    }
+
+    fn put_signature(&mut self, signature: SignatureImage) -> Result<(), Memory>
+        ensures { IsPut (Signature signature.method signature.new) self.old result self.new }
+    {
+        self.signed.insert(signature.method)?;
+        self.signatures.push(signature)?;
+        Ok(())
+    }
+
+    fn put_document(&mut self, names: NameLine) -> Result<(), Memory>
+        ensures { IsPut (Document names) self.old result self.new }
+    {
+        self.documents.insert(names.old.into_vec(), names.new)?;
+        Ok(())
+    }
+
+    fn put_rows(&mut self, table: u8, rows: u32) -> Result<(), Memory>
+        ensures { IsPut (Rows table rows) self.old result self.new }
+    {
+        self.counts.insert(table, rows)?;
+        Ok(())
+    }
+
+    fn put_drop(&mut self, method: u32) -> Result<(), Memory>
+        ensures { IsPut (Dropped method) self.old result self.new }
+    {
+        self.drops.insert(method)?;
+        Ok(())
+    }
+
+    fn put_slots(&mut self, method: u32) -> Result<(), Memory>
+        ensures { IsPut (Slots method) self.old result self.new }
+    {
         self.slotted.insert(method)?;
         Ok(())
     }
 
-    fn add_slot(&mut self, method: u32, old: u16, new: u16) -> Result<(), Refusal>
-        ensures { IsAdded (Slot method old new) self.old result self.new }
+    fn put_slot(&mut self, method: u32, old: u16, new: u16) -> Result<(), Memory>
+        ensures { IsPut (Slot method old new) self.old result self.new }
     {
-        if self.slots.contains_key(&(method, old)) {
-            return Err(Refusal::Breaks(Rule::Repeated));
-        }
-        if !self.slotted.contains(&method) {
-            return Err(Refusal::Breaks(Rule::Undeclared));
-        }
         self.slots.insert((method, old), new)?;
         Ok(())
     }
 
-    fn add_signature(&mut self, method: u32, new: u32) -> Result<(), Refusal>
-        ensures { IsAdded (Signature method new) self.old result self.new }
+    /// Puts in a line that has a place, at which there is none yet.
+    fn put(&mut self, alloc: Global, line: Line) -> Result<(), Memory>
+        requires { IsSome (place line) }
+        ensures { IsPut line self.old result self.new }
     {
-        if self.signed.contains(method) {
-            return Err(Refusal::Breaks(Rule::Repeated));
+        match line {
+            Line::Silent | Line::Kept(_) => Ok(()),
+            Line::Rows { table, rows } => self.put_rows(table, rows),
+            Line::Row { table, old, new } => self.put_row(alloc, RowLine { table, old, new }),
+            Line::Cross(line) => self.put_cross(alloc, line),
+            Line::Gone { table, old } => self.put_gone(alloc, GoneLine { table, old }),
+            Line::Method {
+                method,
+                old_size,
+                new_size,
+            } => {
+                self.current = Some(Method::new(alloc, method, old_size, new_size));
+                Ok(())
+            }
+            Line::Dropped(method) => self.put_drop(method),
+            Line::Slots(method) => self.put_slots(method),
+            Line::Slot { method, old, new } => self.put_slot(method, old, new),
+            Line::Signature { method, new } => self.put_signature(SignatureImage { method, new }),
+            Line::Document(names) => self.put_document(names.into_inner()),
+            Line::Link(value) => {
+                self.link = Some(value.into_inner());
+                Ok(())
+            }
+            Line::Shares => {
+                self.shares = true;
+                Ok(())
+            }
         }
-        if self.drops.contains(&method) {
-            return Err(Refusal::Breaks(Rule::NamesDropped));
-        }
-        self.signed.insert(method)?;
-        self.signatures.push(SignatureImage { method, new })?;
-        Ok(())
-    }
-
-    fn add_document(&mut self, document: NameLine) -> Result<(), Refusal>
-        ensures { IsAdded (Document document) self.old result self.new }
-    {
-        let NameLine { old, new } = document;
-        let old = old.into_vec();
-        if self.documents.contains_key(old.as_slice()) {
-            return Err(Refusal::Breaks(Rule::Repeated));
-        }
-        self.documents.insert(old, new)?;
-        Ok(())
-    }
-
-    fn add_link(&mut self, value: Bytes) -> Result<(), Refusal>
-        ensures { IsAdded (Link value) self.old result self.new }
-    {
-        if self.link.is_some() {
-            return Err(Refusal::Breaks(Rule::Repeated));
-        }
-        self.link = Some(value);
-        Ok(())
-    }
-
-    fn add_shares(&mut self) -> Result<(), Refusal>
-        ensures { IsAdded Shares self.old result self.new }
-    {
-        if self.shares {
-            return Err(Refusal::Breaks(Rule::Repeated));
-        }
-        self.shares = true;
-        Ok(())
     }
 
     fn add_run(&mut self, run: Run) -> Result<(), Refusal>
@@ -270,41 +278,15 @@ impl Draft {
         }
     }
 
-    /// Puts the open method among the others, unless the line may be among its runs.
-    fn close_before(&mut self, line: &Line) -> Result<(), Memory>
-        ensures { OnOk result ((before : List Line) → Holds before self.old → IsReadyFor line.now before self.new) }
+    /// Adds what a line with a place says.
+    fn add_placed(&mut self, alloc: Global, line: Line) -> Result<(), Refusal>
+        requires { IsSome (place line) }
+        ensures { IsAddedTo line self.old result self.new }
     {
-        match line {
-            Line::Silent | Line::Kept(_) => Ok(()),
-            _ => self.close(),
-        }
-    }
-
-    /// Adds what a line says to a draft that can take the line.
-    fn add_ready(&mut self, alloc: Global, line: Line) -> Result<(), Refusal>
-        requires { HasLength line }
-        ensures { (before : List Line) → IsReadyFor line before self.old → AddsLine before line result self.new }
-    {
-        match line {
-            Line::Silent => Ok(()),
-            Line::Kept(run) => self.add_run(run),
-            Line::Rows { table, rows } => self.add_rows(table, rows),
-            Line::Row { table, old, new } => self.add_row(alloc, table, old, new),
-            Line::Cross(line) => self.add_cross(alloc, line),
-            Line::Gone { table, old } => self.add_gone(alloc, table, old),
-            Line::Method {
-                method,
-                old_size,
-                new_size,
-            } => self.add_method(alloc, method, old_size, new_size),
-            Line::Dropped(method) => self.add_drop(method),
-            Line::Slots(method) => self.add_slots(method),
-            Line::Slot { method, old, new } => self.add_slot(method, old, new),
-            Line::Signature { method, new } => self.add_signature(method, new),
-            Line::Document(document) => self.add_document(document.into_inner()),
-            Line::Link(value) => self.add_link(value.into_inner()),
-            Line::Shares => self.add_shares(),
-        }
+        self.close()?;
+        self.check(&line)?;
+        self.put(alloc, line)?;
+        Ok(())
     }
 
     /// Adds what a line says.
@@ -312,8 +294,11 @@ impl Draft {
         requires { HasLength line }
         ensures { IsAddedTo line self.old result self.new }
     {
-        self.close_before(&line)?;
-        self.add_ready(alloc, line)
+        match line {
+            Line::Silent => Ok(()),
+            Line::Kept(run) => self.add_run(run),
+            line => self.add_placed(alloc, line),
+        }
     }
 
     /// Adds what a line after the first says, or refuses it by the rule that it breaks by itself.

@@ -1,7 +1,7 @@
 -- Items that are put in the order of their keys, in place of an item with the same key.
-use Rattle.std.{proofs.Common.{ℕ, ◌≡◌, ◌||◌, Bool, true, false, cond, List, [], ◌∷◌, Option, Some, map, refl, sym, ap, ◌∙◌, subst, arith}, specs.Prelude.{nat_eq}}
-use Rattle.std.specs.{Prelude.{is_some}, Cmp.{IsTotalOrder}, List.{find, list_any, AllByRecursion}, List.Sorted.{IsStrictlySortedBy}, Ordering.{match_ordering}}
-use Rattle.std.specs.{Ordering.{ordering_reverse}, declared.cmp.Ordering.{Ordering}, declared.cmp.Ordering.TheVariants.{Less, Equal, Greater}}
+use Rattle.std.proofs.Common.{rules, ℕ, ◌≡◌, ◌||◌, Bool, true, false, cond, List, [], ◌∷◌, Option, Some, map, refl, sym, ap, ◌∙◌, subst, arith}
+use Rattle.std.specs.{Prelude.{nat_eq, is_some}, Cmp.{IsTotalOrder}, List.{find, list_any, AllByRecursion}, List.Sorted.{IsStrictlySortedBy}}
+use Rattle.std.specs.{Ordering.{match_ordering, ordering_reverse}, declared.cmp.Ordering.{Ordering}, declared.cmp.Ordering.TheVariants.{Less, Equal, Greater}}
 use Rattle.std.proofs.lemmas.{Bool.Decides.{nat_tests}, Map.Lookups.{CmpEqualImpliesEq}}
 
 module _ {X K : Type 0} (key : X → K) (same : K → K → Bool) (cmp : K → K → Ordering) (is_same : (a b : K) → same a b ≡ true → a ≡ b)
@@ -25,8 +25,7 @@ module _ {X K : Type 0} (key : X → K) (same : K → K → Bool) (cmp : K → K
       equal a b is rest = subst (λ c. cond (same a q) (Some x) rest ≡ cond (same a q) (Some x) (cond (same c q) (Some y) rest)) is (both (same a q))
         where
           both : (b : Bool) → cond b (Some x) rest ≡ cond b (Some x) (cond b (Some y) rest)
-          both true = refl
-          both false = refl
+          both b = search rules
 
       later : (a b : Bool) → same (key x) q ≡ a → same (key y) q ≡ b → cmp (key x) (key y) ≡ Greater → (rest : Option X)
           → cond b (Some y) (cond a (Some x) rest) ≡ cond a (Some x) (cond b (Some y) rest)
@@ -51,9 +50,7 @@ module _ {X K : Type 0} (key : X → K) (same : K → K → Bool) (cmp : K → K
   below_put k x (y ∷ ys) less below = of (cmp (key x) (key y)) (below_put k x ys less below.1)
     where
       of : (o : Ordering) → IsBelow k (put x ys) → IsBelow k (match_ordering o (x ∷ y ∷ ys) (x ∷ ys) (y ∷ put x ys))
-      of Less rest = (less, below)
-      of Equal rest = (less, below.1)
-      of Greater rest = (below.0, rest)
+      of o rest = search rules
 
   below_more : (k j : K) (ys : List X) → cmp k j ≡ Less → IsBelow j ys → IsBelow k ys
   below_more k j [] less below = tt
@@ -82,5 +79,4 @@ any_found n (x ∷ xs) = ap (λ b. b || list_any (nat_eq n) xs) (turned n x) ∙
   where
     of : (b : Bool) → list_any (nat_eq n) xs ≡ is_some (find (λ x. nat_eq x n) xs)
         → (b || list_any (nat_eq n) xs) ≡ is_some (cond b (Some x) (find (λ x. nat_eq x n) xs))
-    of true rest = refl
-    of false rest = rest
+    of b rest = search rules

@@ -1,5 +1,5 @@
 -- What is found by its number in a list that is made from numbers.
-use Rattle.std.proofs.Common.{◌≡◌, ℕ, ◌&&◌, ◌||◌, ◌++◌, Bool, true, false, cond, List, [], ◌∷◌, Option, Some, None, refl, sym, ◌∙◌, ap, inl, inr, map, subst}
+use Rattle.std.proofs.Common.{rules, ◌≡◌, ℕ, ◌&&◌, ◌||◌, ◌++◌, Bool, true, false, cond, List, [], ◌∷◌, Option, Some, None, refl, sym, ◌∙◌, ap, inl, inr, map, subst}
 use Rattle.std.specs.{Prelude.{nat_eq, is_some}, List.{filter, filter_map, flat_map, find, list_any, cons_option}, Option.{option_or}}
 use Rattle.std.proofs.lemmas.{Bool.{cases_lt, eq-eqb, ne_eqb, lt-ltb, le-ltb}, List.Folds.{find-append}}
 use Rattle.ppdb_maps_text.specs.Ascending.{put_once, ascending}
@@ -12,8 +12,7 @@ abbrev pub given : {A : Type 0} → Bool → Option A → Option A
 given b o = cond b o None
 
 given_none : {A : Type 0} (b : Bool) → given {A = A} b None ≡ None
-given_none true = refl
-given_none false = refl
+given_none b = search rules
 
 -- ---- by number, in what is made from numbers
 
@@ -72,8 +71,7 @@ flat_found {X} key q make keyed n (k ∷ ks) =
     ]
   where
     twice : (b : Bool) (o : Option X) → option_or o (given b o) ≡ o
-    twice b None = given_none b
-    twice b (Some x) = refl
+    twice b o = search rules
 
 -- ---- numbers in lists
 
@@ -82,8 +80,7 @@ has_append n [] ys = refl
 has_append n (x ∷ xs) ys = step (nat_eq n x) (has_append n xs ys)
   where
     step : (b : Bool) → has n (xs ++ ys) ≡ (has n xs || has n ys) → (b || has n (xs ++ ys)) ≡ ((b || has n xs) || has n ys)
-    step true rest = refl
-    step false rest = rest
+    step b rest = search rules
 
 pub has_filter : (p : ℕ → Bool) (n : ℕ) (ns : List ℕ) → has n (filter p ns) ≡ (has n ns && p n)
 has_filter p n [] = refl
@@ -94,8 +91,7 @@ has_filter p n (k ∷ ks) = elim (same_or_apart k n) [
 ]
   where
     and_false : (b : Bool) → (b && false) ≡ false
-    and_false true = refl
-    and_false false = refl
+    and_false b = search rules
 
     of_same : (b : Bool) → p n ≡ b → has n (filter p ks) ≡ (has n ks && p n) → has n (cond b (n ∷ filter p ks) (filter p ks)) ≡ b
     of_same true is rest = rw (eq-eqb n n refl) refl
@@ -116,13 +112,10 @@ has_put n k (m ∷ ms) = elim (cases_lt k m) [
 ]
   where
     again : (b : Bool) → (b || has n ms) ≡ (b || (b || has n ms))
-    again true = refl
-    again false = refl
+    again b = search rules
 
     swap : (a b : Bool) → (a || (b || has n ms)) ≡ (b || (a || has n ms))
-    swap true true = refl
-    swap true false = refl
-    swap false b = refl
+    swap a b = search rules
 
 pub has_ascending : (n : ℕ) (ns : List ℕ) → has n (ascending ns) ≡ has n ns
 has_ascending n [] = refl

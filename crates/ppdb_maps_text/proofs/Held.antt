@@ -1,595 +1,239 @@
--- The map that lines say, whichever they are.
-use Rattle.std.{proofs.Common.{ℕ, ◌≡◌, ◌++◌, Bool, true, false, cond, List, [], ◌∷◌, Option, Some, None, map, refl, sym, ap, ◌∙◌, subst}, specs.Prelude.{nat_eq}}
-use Rattle.std.specs.{Prelude.{bytes_eq, is_some, option_map}, Cmp.Lexicographic.{slice_cmp, nat_list_cmp_total}, List.{find, list_any}}
-use Rattle.std.{specs.List.Sorted.{IsStrictlySortedBy}, specs.Ordering.{nat_cmp}, proofs.lemmas.Cmp.{nat_cmp_total}, proofs.lemmas.Map.Lookups.{exact_unsigned}}
-use Rattle.std.proofs.lemmas.Map.Lookups.{exact_bytes}
+-- The map that lines say which were read.
+use Rattle.std.proofs.Common.{ℕ, ◌≡◌, ◌++◌, Bool, true, false, cond, List, [], ◌∷◌, Option, Some, None, map, refl, sym, ap, ◌∙◌, subst, rules}
+use Rattle.std.specs.{Prelude.{nat_eq, bytes_eq, is_some, option_map, option_and_then}, Cmp.{IsTotalOrder}, Cmp.Lexicographic.{slice_cmp, nat_list_cmp_total}}
+use Rattle.std.specs.{List.{find, list_any}, List.Sorted.{IsStrictlySortedBy}, Ordering.{nat_cmp}, declared.cmp.Ordering.{Ordering}}
+use Rattle.std.proofs.lemmas.{Cmp.{nat_cmp_total}, Map.Lookups.{CmpEqualImpliesEq, exact_unsigned, exact_bytes}}
 use Rattle.ppdb_base.specs.declared.offsets.Run.{Run}
 use Rattle.ppdb_maps.specs.declared.entries.{Count.{Count}, RowLine.{RowLine}, CrossLine.{CrossLine}, GoneLine.{GoneLine}, SlotImage.{SlotImage}}
 use Rattle.ppdb_maps.specs.declared.{entries.SignatureImage.{SignatureImage}, entries.NameLine.{NameLine}, line.Line.{Line}, line.Line.TheVariants.{Silent, Rows}}
 use Rattle.ppdb_maps.specs.declared.line.Line.TheVariants.{Row, Cross, Gone, Method, Kept, Dropped, Slots, Slot, Signature, Document, Link, Shares}
-use Rattle.ppdb_maps.specs.{Before.{gone_in, methods_of}, Gathered.{same_pair}, Map.{Map, MethodLine, map_of, pair_cmp, method_line}, Text.{HoldsWhat}}
-use Rattle.ppdb_maps.proofs.{Named.{same_bytes}, OneMap.{same_number, pair_is, pair_total, pair_exact}, OneList.{any_is}}
+use Rattle.ppdb_maps.specs.{declared.rule.Rule.TheVariants.{Repeated}, Before.{told, methods_of, rows_said, row_said, cross_said, gone_said, slot_said}}
+use Rattle.ppdb_maps.specs.Before.{signature_said, document_said, count_in, row_in, cross_in, gone_in, slot_in, drop_in, slots_in, signature_in, document_in}
+use Rattle.ppdb_maps.specs.{Places.{rows_place, row_place, drop_place, slots_place, slot_place, signature_place, document_place}, Gathered.{same_pair, row_key}}
+use Rattle.ppdb_maps.specs.{Gathered.{cross_key, gone_key, method_key, signature_key}, Rules.{Breaks, by_lines}, Text.{HoldsWhat, Read, start, further}, Map.{Map}}
+use Rattle.ppdb_maps.specs.Map.{MethodLine, Ascends, map_of, pair_cmp, count_of, row_line, cross_line, has_gone_line, method_line, is_dropped, has_slots, slot_line}
+use Rattle.ppdb_maps.{specs.Map.{signature_line, document_line}, proofs.Adding.{other_said}, proofs.Named.{same_bytes}, proofs.OneMap.{same_number, pair_is}}
+use Rattle.ppdb_maps.proofs.{OneMap.{pair_total, pair_exact}, OneList.{any_is}}
 use Rattle.ppdb_maps_text.proofs.Entries.{put, put_found, put_rises, any_found}
 
--- ---- an item more in each list
+-- ---- an item more in a list, by a number, by two, or by a name
 
-abbrev table_of : Count → ℕ
-table_of count = count.table
+abbrev by_number : {X : Type 0} → (X → ℕ) → X → List X → List X
+by_number key x xs = put key nat_eq nat_cmp same_number nat_cmp_total exact_unsigned x xs
 
-abbrev row_of : RowLine → ℕ × ℕ
-row_of row = (row.table, row.old)
+abbrev by_pair : {X : Type 0} → (X → ℕ × ℕ) → X → List X → List X
+by_pair key x xs = put key same_pair pair_cmp pair_is pair_total pair_exact x xs
 
-abbrev cross_of : CrossLine → ℕ × ℕ
-cross_of line = (line.table, line.old)
+abbrev by_name : {X : Type 0} → (X → List ℕ) → X → List X → List X
+by_name key x xs = put key bytes_eq (slice_cmp nat_cmp) same_bytes nat_list_cmp_total exact_bytes x xs
 
-abbrev gone_of : GoneLine → ℕ × ℕ
-gone_of line = (line.table, line.old)
-
-abbrev method_of : MethodLine → ℕ
-method_of line = line.method
-
-abbrev slot_of : SlotImage → ℕ × ℕ
-slot_of slot = (slot.method, slot.old)
-
-abbrev signed_of : SignatureImage → ℕ
-signed_of signature = signature.method
-
-abbrev name_of : NameLine → List ℕ
-name_of document = document.old
-
-abbrev itself : ℕ → ℕ
-itself n = n
-
-abbrev with_count : Count → List Count → List Count
-with_count x xs = put table_of nat_eq nat_cmp same_number nat_cmp_total exact_unsigned x xs
-
-abbrev with_row : RowLine → List RowLine → List RowLine
-with_row x xs = put row_of same_pair pair_cmp pair_is pair_total pair_exact x xs
-
-abbrev with_cross : CrossLine → List CrossLine → List CrossLine
-with_cross x xs = put cross_of same_pair pair_cmp pair_is pair_total pair_exact x xs
-
-abbrev with_gone : GoneLine → List GoneLine → List GoneLine
-with_gone x xs = put gone_of same_pair pair_cmp pair_is pair_total pair_exact x xs
-
-abbrev with_line : MethodLine → List MethodLine → List MethodLine
-with_line x xs = put method_of nat_eq nat_cmp same_number nat_cmp_total exact_unsigned x xs
-
-abbrev with_number : ℕ → List ℕ → List ℕ
-with_number x xs = put itself nat_eq nat_cmp same_number nat_cmp_total exact_unsigned x xs
-
-abbrev with_slot : SlotImage → List SlotImage → List SlotImage
-with_slot x xs = put slot_of same_pair pair_cmp pair_is pair_total pair_exact x xs
-
-abbrev with_signature : SignatureImage → List SignatureImage → List SignatureImage
-with_signature x xs = put signed_of nat_eq nat_cmp same_number nat_cmp_total exact_unsigned x xs
-
-abbrev with_document : NameLine → List NameLine → List NameLine
-with_document x xs = put name_of bytes_eq (slice_cmp nat_cmp) same_bytes nat_list_cmp_total exact_bytes x xs
-
--- what is said of what is found
-said_found : {X V : Type 0} (val : X → V) (b : Bool) (x : X) (found : Option X) (before : Option V) → option_map val found ≡ before
-    → option_map val (cond b (Some x) found) ≡ cond b (Some (val x)) before
-said_found val true x found before is = refl
-said_found val false x found before is = is
-
-number_found : (n x : ℕ) (xs : List ℕ) (before : Bool) → list_any (nat_eq n) xs ≡ before
-    → list_any (nat_eq n) (with_number x xs) ≡ cond (nat_eq x n) true before
-number_found n x xs before is =
-    any_found n (with_number x xs)
-    ∙ (ap is_some (put_found itself nat_eq nat_cmp same_number nat_cmp_total exact_unsigned n x xs)
-    ∙ of (nat_eq x n) (sym (any_found n xs) ∙ is))
+-- the list answers by the line too
+put_says : {X K V : Type 0} (key : X → K) (same : K → K → Bool) (cmp : K → K → Ordering) (is_same : (a b : K) → same a b ≡ true → a ≡ b) (total : IsTotalOrder cmp)
+    (exact : CmpEqualImpliesEq cmp) (value : X → V) (said : Line → Option V) (x : X) (xs : List X) (line : Line) (o : Option Line) (k : K)
+    → said line ≡ Some (value x) → option_map value (find (λ y. same (key y) k) xs) ≡ option_and_then said o
+    → option_map value (find (λ y. same (key y) k) (put key same cmp is_same total exact x xs)) ≡ option_and_then said (cond (same (key x) k) (Some line) o)
+put_says {X} {K} {V} key same cmp is_same total exact value said x xs line o k is old =
+    ap (option_map value) (put_found key same cmp is_same total exact k x xs) ∙ of (same (key x) k) (find (λ y. same (key y) k) xs) old
   where
-    of : (b : Bool) → is_some (find (λ y. nat_eq y n) xs) ≡ before → is_some (cond b (Some x) (find (λ y. nat_eq y n) xs)) ≡ cond b true before
-    of true is = refl
-    of false is = is
+    of : (b : Bool) (found : Option X) → option_map value found ≡ option_and_then said o
+        → option_map value (cond b (Some x) found) ≡ option_and_then said (cond b (Some line) o)
+    of b found old = search rules
 
-itself_mapped : (xs : List ℕ) → map itself xs ≡ xs
-itself_mapped [] = refl
-itself_mapped (x ∷ xs) = ap (λ t. x ∷ t) (itself_mapped xs)
+-- a list of numbers has the number too
+number_says : (n x : ℕ) (xs : List ℕ) (line : Line) (o : Option Line) → list_any (nat_eq n) xs ≡ is_some o
+    → list_any (nat_eq n) (by_number (λ k. k) x xs) ≡ is_some (cond (nat_eq x n) (Some line) o)
+number_says n x xs line o old =
+    any_found n (by_number (λ k. k) x xs)
+    ∙ ap is_some (put_found (λ k. k) nat_eq nat_cmp same_number nat_cmp_total exact_unsigned n x xs)
+    ∙ of (nat_eq x n) (sym (any_found n xs) ∙ old)
+  where
+    of : (b : Bool) → is_some (find (λ y. nat_eq y n) xs) ≡ is_some o → is_some (cond b (Some x) (find (λ y. nat_eq y n) xs)) ≡ is_some (cond b (Some line) o)
+    of b old = search rules
 
-number_rises : (x : ℕ) (xs : List ℕ) → IsStrictlySortedBy nat_cmp xs → IsStrictlySortedBy nat_cmp (with_number x xs)
-number_rises x xs rise =
-    subst (λ ys. IsStrictlySortedBy nat_cmp ys) (itself_mapped (with_number x xs))
-    (put_rises itself nat_eq nat_cmp same_number nat_cmp_total exact_unsigned x xs (subst (λ ys. IsStrictlySortedBy nat_cmp ys) (sym (itself_mapped xs)) rise))
+number_rises : (x : ℕ) (xs : List ℕ) → IsStrictlySortedBy nat_cmp xs → IsStrictlySortedBy nat_cmp (by_number (λ k. k) x xs)
+number_rises x xs rise = subst (IsStrictlySortedBy nat_cmp) (itself (by_number (λ k. k) x xs))
+    (put_rises (λ k. k) nat_eq nat_cmp same_number nat_cmp_total exact_unsigned x xs (subst (IsStrictlySortedBy nat_cmp) (sym (itself xs)) rise))
+  where
+    itself : (xs : List ℕ) → map (λ k. k) xs ≡ xs
+    itself [] = refl
+    itself (x ∷ xs) = ap (λ l. x ∷ l) (itself xs)
 
 -- ---- a line more
 
 none_held : HoldsWhat [] (map_of [] [] [] [] [] [] [] [] [] [] None false)
 unfolding IsStrictlySortedBy
-none_held = record {
-  counts = λ table. refl;
-  rows = λ table old. refl;
-  crossed = λ table old. refl;
-  gone = λ table old. refl;
-  methods = λ method. refl;
-  drops = λ method. refl;
-  slotted = λ method. refl;
-  slots = λ method old. refl;
-  signatures = λ method. refl;
-  documents = λ name. refl;
-  link = refl;
-  shares = refl;
-  ascends = record { counts = tt; rows = tt; crossed = tt; gone = tt; methods = tt; drops = tt; slotted = tt; slots = tt; signatures = tt; documents = tt };
-}
+none_held = search rules
 
-silent_held : (said : List Line) (m : Map) → HoldsWhat said m → HoldsWhat (Silent ∷ said) m
-silent_held said m h = record {
-  counts = h.counts;
-  rows = h.rows;
-  crossed = h.crossed;
-  gone = h.gone;
-  methods = h.methods;
-  drops = h.drops;
-  slotted = h.slotted;
-  slots = h.slots;
-  signatures = h.signatures;
-  documents = h.documents;
-  link = h.link;
-  shares = h.shares;
-  ascends = h.ascends;
-}
+module _ (said : List Line) (m : Map) (h : HoldsWhat said m) where
+  up : Ascends m
+  up = h.ascends
 
-rows_held : (said : List Line) (m : Map) (t n : ℕ) → HoldsWhat said m
-    → HoldsWhat (Rows t n ∷ said) (record m { counts = with_count (record { table = t; rows = n }) m.counts })
-rows_held said m t n h = record {
-  counts = λ table.
-      ap (option_map (λ (c : Count). c.rows))
-      (put_found table_of nat_eq nat_cmp same_number nat_cmp_total exact_unsigned table (record { table = t; rows = n }) m.counts)
-      ∙ said_found (λ (c : Count). c.rows) (nat_eq t table) (record { table = t; rows = n }) (find (λ c. nat_eq c.table table) m.counts) _ (h.counts table);
-  rows = h.rows;
-  crossed = h.crossed;
-  gone = h.gone;
-  methods = h.methods;
-  drops = h.drops;
-  slotted = h.slotted;
-  slots = h.slots;
-  signatures = h.signatures;
-  documents = h.documents;
-  link = h.link;
-  shares = h.shares;
-  ascends = record {
-    counts = put_rises table_of nat_eq nat_cmp same_number nat_cmp_total exact_unsigned (record { table = t; rows = n }) m.counts h.ascends.counts;
-    rows = h.ascends.rows;
-    crossed = h.ascends.crossed;
-    gone = h.ascends.gone;
-    methods = h.ascends.methods;
-    drops = h.ascends.drops;
-    slotted = h.ascends.slotted;
-    slots = h.ascends.slots;
-    signatures = h.ascends.signatures;
-    documents = h.ascends.documents;
-  };
-}
+  rows_held : (t n : ℕ) → HoldsWhat (Rows t n ∷ said) (record m { counts = by_number (λ (c : Count). c.table) (record { table = t; rows = n }) m.counts })
+  rows_held t n =
+      let x : Count = record { table = t; rows = n } in
+      let a : (k : ℕ) → count_of (record m { counts = by_number (λ (c : Count). c.table) x m.counts }) k ≡ count_in (Rows t n ∷ said) k =
+      λ k. put_says (λ (c : Count). c.table) nat_eq nat_cmp same_number nat_cmp_total exact_unsigned (λ (c : Count). c.rows) rows_said x m.counts (Rows t n)
+      (told said (rows_place k)) k refl (h.counts k) in
+      let b = put_rises (λ (c : Count). c.table) nat_eq nat_cmp same_number nat_cmp_total exact_unsigned x m.counts up.counts in
+      search rules
 
-row_held : (said : List Line) (m : Map) (t o n : ℕ) → HoldsWhat said m
-    → HoldsWhat (Row t o n ∷ said) (record m { rows = with_row (record { table = t; old = o; new = n }) m.rows })
-row_held said m t o n h = record {
-  counts = h.counts;
-  rows = λ table old.
-      ap (option_map (λ (r : RowLine). r.new))
-      (put_found row_of same_pair pair_cmp pair_is pair_total pair_exact (table, old) (record { table = t; old = o; new = n }) m.rows)
-      ∙ said_found (λ (r : RowLine). r.new) (same_pair (t, o) (table, old)) (record { table = t; old = o; new = n })
-      (find (λ r. same_pair (row_of r) (table, old)) m.rows) _ (h.rows table old);
-  crossed = h.crossed;
-  gone = h.gone;
-  methods = h.methods;
-  drops = h.drops;
-  slotted = h.slotted;
-  slots = h.slots;
-  signatures = h.signatures;
-  documents = h.documents;
-  link = h.link;
-  shares = h.shares;
-  ascends = record {
-    counts = h.ascends.counts;
-    rows = put_rises row_of same_pair pair_cmp pair_is pair_total pair_exact (record { table = t; old = o; new = n }) m.rows h.ascends.rows;
-    crossed = h.ascends.crossed;
-    gone = h.ascends.gone;
-    methods = h.ascends.methods;
-    drops = h.ascends.drops;
-    slotted = h.ascends.slotted;
-    slots = h.ascends.slots;
-    signatures = h.ascends.signatures;
-    documents = h.ascends.documents;
-  };
-}
+  -- lines of rows: of the two other forms nothing more is said
+  module _ (line : Line) (once : Breaks said Repeated line → ⊥) where
+    no_row : row_said line ≡ None → (t o : ℕ) → row_line m t o ≡ row_in (line ∷ said) t o
+    no_row none t o = h.rows t o ∙ sym (other_said said line once row_said none (row_place t o))
 
-cross_held : (said : List Line) (m : Map) (line : CrossLine) → HoldsWhat said m
-    → HoldsWhat (Cross line ∷ said) (record m { crossed = with_cross line m.crossed })
-cross_held said m line h = record {
-  counts = h.counts;
-  rows = h.rows;
-  crossed = λ table old.
-      put_found cross_of same_pair pair_cmp pair_is pair_total pair_exact (table, old) line m.crossed
-      ∙ ap (cond (same_pair (cross_of line) (table, old)) (Some line)) (h.crossed table old);
-  gone = h.gone;
-  methods = h.methods;
-  drops = h.drops;
-  slotted = h.slotted;
-  slots = h.slots;
-  signatures = h.signatures;
-  documents = h.documents;
-  link = h.link;
-  shares = h.shares;
-  ascends = record {
-    counts = h.ascends.counts;
-    rows = h.ascends.rows;
-    crossed = put_rises cross_of same_pair pair_cmp pair_is pair_total pair_exact line m.crossed h.ascends.crossed;
-    gone = h.ascends.gone;
-    methods = h.ascends.methods;
-    drops = h.ascends.drops;
-    slotted = h.ascends.slotted;
-    slots = h.ascends.slots;
-    signatures = h.ascends.signatures;
-    documents = h.ascends.documents;
-  };
-}
+    no_cross : cross_said line ≡ None → (t o : ℕ) → cross_line m t o ≡ cross_in (line ∷ said) t o
+    no_cross none t o = h.crossed t o ∙ sym (other_said said line once cross_said none (row_place t o))
 
-gone_held : (said : List Line) (m : Map) (t o : ℕ) → HoldsWhat said m
-    → HoldsWhat (Gone t o ∷ said) (record m { gone = with_gone (record { table = t; old = o }) m.gone })
-gone_held said m t o h = record {
-  counts = h.counts;
-  rows = h.rows;
-  crossed = h.crossed;
-  gone = λ table old.
-      any_is (λ (r : GoneLine). same_pair (gone_of r) (table, old)) (with_gone (record { table = t; old = o }) m.gone)
-      ∙ ap is_some (put_found gone_of same_pair pair_cmp pair_is pair_total pair_exact (table, old) (record { table = t; old = o }) m.gone)
-      ∙ of table old (same_pair (t, o) (table, old));
-  methods = h.methods;
-  drops = h.drops;
-  slotted = h.slotted;
-  slots = h.slots;
-  signatures = h.signatures;
-  documents = h.documents;
-  link = h.link;
-  shares = h.shares;
-  ascends = record {
-    counts = h.ascends.counts;
-    rows = h.ascends.rows;
-    crossed = h.ascends.crossed;
-    gone = put_rises gone_of same_pair pair_cmp pair_is pair_total pair_exact (record { table = t; old = o }) m.gone h.ascends.gone;
-    methods = h.ascends.methods;
-    drops = h.ascends.drops;
-    slotted = h.ascends.slotted;
-    slots = h.ascends.slots;
-    signatures = h.ascends.signatures;
-    documents = h.ascends.documents;
-  };
-}
+    no_gone : gone_said line ≡ None → (t o : ℕ) → has_gone_line m t o ≡ gone_in (line ∷ said) t o
+    no_gone none t o = h.gone t o ∙ sym (ap is_some (other_said said line once gone_said none (row_place t o)))
+
+  row_held : (t o n : ℕ) → (Breaks said Repeated (Row t o n) → ⊥)
+      → HoldsWhat (Row t o n ∷ said) (record m { rows = by_pair row_key (record { table = t; old = o; new = n }) m.rows })
+  row_held t o n once =
+      let x : RowLine = record { table = t; old = o; new = n } in
+      let a : (k j : ℕ) → row_line (record m { rows = by_pair row_key x m.rows }) k j ≡ row_in (Row t o n ∷ said) k j =
+      λ k j. put_says row_key same_pair pair_cmp pair_is pair_total pair_exact (λ (r : RowLine). r.new) row_said x m.rows (Row t o n)
+      (told said (row_place k j)) (k, j) refl (h.rows k j) in
+      let b = no_cross (Row t o n) once refl in
+      let c = no_gone (Row t o n) once refl in
+      let d = put_rises row_key same_pair pair_cmp pair_is pair_total pair_exact x m.rows up.rows in
+      search rules
+
+  cross_held : (x : CrossLine) → (Breaks said Repeated (Cross x) → ⊥) → HoldsWhat (Cross x ∷ said) (record m { crossed = by_pair cross_key x m.crossed })
+  cross_held x once =
+      let a : (k j : ℕ) → cross_line (record m { crossed = by_pair cross_key x m.crossed }) k j ≡ cross_in (Cross x ∷ said) k j =
+      λ k j. sym (same _) ∙ put_says cross_key same_pair pair_cmp pair_is pair_total pair_exact (λ r. r) cross_said x m.crossed (Cross x)
+      (told said (row_place k j)) (k, j) refl (same _ ∙ h.crossed k j) in
+      let b = no_row (Cross x) once refl in
+      let c = no_gone (Cross x) once refl in
+      let d = put_rises cross_key same_pair pair_cmp pair_is pair_total pair_exact x m.crossed up.crossed in
+      search rules
+    where
+      same : (o : Option CrossLine) → option_map (λ r. r) o ≡ o
+      same o = search rules
+
+  gone_held : (t o : ℕ) → (Breaks said Repeated (Gone t o) → ⊥)
+      → HoldsWhat (Gone t o ∷ said) (record m { gone = by_pair gone_key (record { table = t; old = o }) m.gone })
+  gone_held t o once =
+      let x : GoneLine = record { table = t; old = o } in
+      let a : (k j : ℕ) → has_gone_line (record m { gone = by_pair gone_key x m.gone }) k j ≡ gone_in (Gone t o ∷ said) k j =
+      λ k j. any_is (λ (r : GoneLine). same_pair (gone_key r) (k, j)) (by_pair gone_key x m.gone)
+      ∙ (ap is_some (put_found gone_key same_pair pair_cmp pair_is pair_total pair_exact (k, j) x m.gone)
+      ∙ of (same_pair (t, o) (k, j)) x (find (λ (r : GoneLine). same_pair (gone_key r) (k, j)) m.gone) (told said (row_place k j))
+      (sym (any_is (λ (r : GoneLine). same_pair (gone_key r) (k, j)) m.gone) ∙ h.gone k j)) in
+      let b = no_row (Gone t o) once refl in
+      let c = no_cross (Gone t o) once refl in
+      let d = put_rises gone_key same_pair pair_cmp pair_is pair_total pair_exact x m.gone up.gone in
+      search rules
+    where
+      of : (b : Bool) (x : GoneLine) (found : Option GoneLine) (l : Option Line) → is_some found ≡ is_some (option_and_then gone_said l)
+          → is_some (cond b (Some x) found) ≡ is_some (option_and_then gone_said (cond b (Some (Gone t o)) l))
+      of b x found l old = search rules
+
+  drop_held : (k : ℕ) → HoldsWhat (Dropped k ∷ said) (record m { drops = by_number (λ n. n) k m.drops })
+  drop_held k =
+      let a : (n : ℕ) → is_dropped (record m { drops = by_number (λ n. n) k m.drops }) n ≡ drop_in (Dropped k ∷ said) n =
+      λ n. number_says n k m.drops (Dropped k) (told said (drop_place n)) (h.drops n) in
+      let b = number_rises k m.drops up.drops in
+      search rules
+
+  slots_held : (k : ℕ) → HoldsWhat (Slots k ∷ said) (record m { slotted = by_number (λ n. n) k m.slotted })
+  slots_held k =
+      let a : (n : ℕ) → has_slots (record m { slotted = by_number (λ n. n) k m.slotted }) n ≡ slots_in (Slots k ∷ said) n =
+      λ n. number_says n k m.slotted (Slots k) (told said (slots_place n)) (h.slotted n) in
+      let b = number_rises k m.slotted up.slotted in
+      search rules
+
+  slot_held : (k o n : ℕ)
+      → HoldsWhat (Slot k o n ∷ said) (record m { slots = by_pair (λ (s : SlotImage). (s.method, s.old)) (record { method = k; old = o; new = n }) m.slots })
+  slot_held k o n =
+      let x : SlotImage = record { method = k; old = o; new = n } in
+      let key : SlotImage → ℕ × ℕ = λ s. (s.method, s.old) in
+      let a : (i j : ℕ) → slot_line (record m { slots = by_pair (λ (s : SlotImage). (s.method, s.old)) x m.slots }) i j ≡ slot_in (Slot k o n ∷ said) i j =
+      λ i j. put_says (λ (s : SlotImage). (s.method, s.old)) same_pair pair_cmp pair_is pair_total pair_exact (λ (s : SlotImage). s.new) slot_said x m.slots
+      (Slot k o n) (told said (slot_place i j)) (i, j) refl (h.slots i j) in
+      let b = put_rises (λ (s : SlotImage). (s.method, s.old)) same_pair pair_cmp pair_is pair_total pair_exact x m.slots up.slots in
+      search rules
+
+  signature_held : (k n : ℕ) → HoldsWhat (Signature k n ∷ said) (record m { signatures = by_number signature_key (record { method = k; new = n }) m.signatures })
+  signature_held k n =
+      let x : SignatureImage = record { method = k; new = n } in
+      let a : (i : ℕ) → signature_line (record m { signatures = by_number signature_key x m.signatures }) i ≡ signature_in (Signature k n ∷ said) i =
+      λ i. put_says signature_key nat_eq nat_cmp same_number nat_cmp_total exact_unsigned (λ (s : SignatureImage). s.new) signature_said x m.signatures
+      (Signature k n) (told said (signature_place i)) i refl (h.signatures i) in
+      let b = put_rises signature_key nat_eq nat_cmp same_number nat_cmp_total exact_unsigned x m.signatures up.signatures in
+      search rules
+
+  document_held : (d : NameLine) → HoldsWhat (Document d ∷ said) (record m { documents = by_name (λ (d : NameLine). d.old) d m.documents })
+  document_held d =
+      let a : (i : List ℕ) → document_line (record m { documents = by_name (λ (d : NameLine). d.old) d m.documents }) i ≡ document_in (Document d ∷ said) i =
+      λ i. put_says (λ (d : NameLine). d.old) bytes_eq (slice_cmp nat_cmp) same_bytes nat_list_cmp_total exact_bytes (λ (d : NameLine). d.new) document_said d
+      m.documents (Document d) (told said (document_place i)) i refl (h.documents i) in
+      let b = put_rises (λ (d : NameLine). d.old) bytes_eq (slice_cmp nat_cmp) same_bytes nat_list_cmp_total exact_bytes d m.documents up.documents in
+      search rules
+
+  link_held : (value : List ℕ) → HoldsWhat (Link value ∷ said) (record m { link = Some value })
+  link_held value = search rules
+
+  shares_held : HoldsWhat (Shares ∷ said) (record m { shares = true })
+  shares_held = search rules
+
+  silent_held : HoldsWhat (Silent ∷ said) m
+  silent_held = search rules
+
+  -- a line of a method, in place of that which there was
+  line_held : (line : Line) (l : MethodLine)
+      → ((k : ℕ) → find (λ l. nat_eq l.method k) (methods_of (line ∷ said)) ≡ cond (nat_eq l.method k) (Some l) (find (λ l. nat_eq l.method k) (methods_of said)))
+      → (k : ℕ) → method_line (record m { methods = by_number method_key l m.methods }) k ≡ find (λ l. nat_eq l.method k) (methods_of (line ∷ said))
+  line_held line l says k =
+      put_found method_key nat_eq nat_cmp same_number nat_cmp_total exact_unsigned k l m.methods
+      ∙ (ap (cond (nat_eq l.method k) (Some l)) (h.methods k) ∙ sym (says k))
+
+  method_held : (k o n : ℕ) → HoldsWhat (Method k o n ∷ said)
+      (record m { methods = by_number method_key (record { method = k; old_size = o; new_size = n; runs = [] }) m.methods })
+  method_held k o n =
+      let l : MethodLine = record { method = k; old_size = o; new_size = n; runs = [] } in
+      let a = line_held (Method k o n) l (λ j. refl) in
+      let b = put_rises method_key nat_eq nat_cmp same_number nat_cmp_total exact_unsigned l m.methods up.methods in
+      search rules
+
+  -- a run goes to the last method, if there is one
+  run_held : (run : Run) → (held : Map) × HoldsWhat (Kept run ∷ said) held
+  run_held run = of (methods_of said) refl
+    where
+      twice : (b : Bool) (x y : MethodLine) (rest : Option MethodLine) → cond b (Some x) rest ≡ cond b (Some x) (cond b (Some y) rest)
+      twice b x y rest = search rules
+
+      of : (lines : List MethodLine) → methods_of said ≡ lines → (held : Map) × HoldsWhat (Kept run ∷ said) held
+      of [] is =
+          let a : (k : ℕ) → method_line m k ≡ find (λ l. nat_eq l.method k) (methods_of (Kept run ∷ said)) = λ k. h.methods k ∙ rw is refl in
+          let held : HoldsWhat (Kept run ∷ said) m = search rules in (m, held)
+      of (line ∷ lines) is =
+          let longer : MethodLine = record line { runs = line.runs ++ run ∷ [] } in
+          let a = line_held (Kept run) longer (λ k. rw is (twice (nat_eq line.method k) longer line (find (λ l. nat_eq l.method k) lines))) in
+          let b = put_rises method_key nat_eq nat_cmp same_number nat_cmp_total exact_unsigned longer m.methods up.methods in
+          let held : HoldsWhat (Kept run ∷ said) (record m { methods = by_number method_key longer m.methods }) = search rules in
+          (record m { methods = by_number method_key longer m.methods }, held)
+
+-- lines that were read have a map
+pub held : (version : ℕ) (texts : List (List ℕ)) (said : List Line) → Read version texts said → (m : Map) × HoldsWhat said m
+held version texts said start = (map_of [] [] [] [] [] [] [] [] [] [] None false, none_held)
+held version texts said (further {texts = prefix} {before} {text} {line} read tells keeps) =
+    let m = held version prefix before read in of line (λ broken. keeps Repeated (by_lines tells broken)) m.0 m.1
   where
-    of : (table old : ℕ) (b : Bool)
-        → is_some (cond b (Some (record { table = t; old = o })) (find (λ (r : GoneLine). same_pair (gone_of r) (table, old)) m.gone))
-        ≡ cond b true (gone_in said table old)
-    of table old true = refl
-    of table old false = sym (any_is (λ (r : GoneLine). same_pair (gone_of r) (table, old)) m.gone) ∙ h.gone table old
-
--- a line of a method, in place of that which there was
-line_held : (said more : List Line) (m : Map) (line : MethodLine) → HoldsWhat said m
-    → ((k : ℕ) → find (λ l. nat_eq l.method k) (methods_of more) ≡ cond (nat_eq line.method k) (Some line) (find (λ l. nat_eq l.method k) (methods_of said)))
-    → (method : ℕ) → method_line (record m { methods = with_line line m.methods }) method ≡ find (λ l. nat_eq l.method method) (methods_of more)
-line_held said more m line h says method =
-    put_found method_of nat_eq nat_cmp same_number nat_cmp_total exact_unsigned method line m.methods
-    ∙ (ap (cond (nat_eq line.method method) (Some line)) (h.methods method) ∙ sym (says method))
-
-with_line_ascends : (said : List Line) (m : Map) (line : MethodLine) → HoldsWhat said m
-    → IsStrictlySortedBy nat_cmp (map method_of (with_line line m.methods))
-with_line_ascends said m line h = put_rises method_of nat_eq nat_cmp same_number nat_cmp_total exact_unsigned line m.methods h.ascends.methods
-
-method_held : (said : List Line) (m : Map) (k o n : ℕ) → HoldsWhat said m
-    → HoldsWhat (Method k o n ∷ said) (record m { methods = with_line (record { method = k; old_size = o; new_size = n; runs = [] }) m.methods })
-method_held said m k o n h = record {
-  counts = h.counts;
-  rows = h.rows;
-  crossed = h.crossed;
-  gone = h.gone;
-  methods = line_held said (Method k o n ∷ said) m (record { method = k; old_size = o; new_size = n; runs = [] }) h (λ j. refl);
-  drops = h.drops;
-  slotted = h.slotted;
-  slots = h.slots;
-  signatures = h.signatures;
-  documents = h.documents;
-  link = h.link;
-  shares = h.shares;
-  ascends = record {
-    counts = h.ascends.counts;
-    rows = h.ascends.rows;
-    crossed = h.ascends.crossed;
-    gone = h.ascends.gone;
-    methods = with_line_ascends said m (record { method = k; old_size = o; new_size = n; runs = [] }) h;
-    drops = h.ascends.drops;
-    slotted = h.ascends.slotted;
-    slots = h.ascends.slots;
-    signatures = h.ascends.signatures;
-    documents = h.ascends.documents;
-  };
-}
-
-drop_held : (said : List Line) (m : Map) (k : ℕ) → HoldsWhat said m → HoldsWhat (Dropped k ∷ said) (record m { drops = with_number k m.drops })
-drop_held said m k h = record {
-  counts = h.counts;
-  rows = h.rows;
-  crossed = h.crossed;
-  gone = h.gone;
-  methods = h.methods;
-  drops = λ method. number_found method k m.drops _ (h.drops method);
-  slotted = h.slotted;
-  slots = h.slots;
-  signatures = h.signatures;
-  documents = h.documents;
-  link = h.link;
-  shares = h.shares;
-  ascends = record {
-    counts = h.ascends.counts;
-    rows = h.ascends.rows;
-    crossed = h.ascends.crossed;
-    gone = h.ascends.gone;
-    methods = h.ascends.methods;
-    drops = number_rises k m.drops h.ascends.drops;
-    slotted = h.ascends.slotted;
-    slots = h.ascends.slots;
-    signatures = h.ascends.signatures;
-    documents = h.ascends.documents;
-  };
-}
-
-slots_held : (said : List Line) (m : Map) (k : ℕ) → HoldsWhat said m → HoldsWhat (Slots k ∷ said) (record m { slotted = with_number k m.slotted })
-slots_held said m k h = record {
-  counts = h.counts;
-  rows = h.rows;
-  crossed = h.crossed;
-  gone = h.gone;
-  methods = h.methods;
-  drops = h.drops;
-  slotted = λ method. number_found method k m.slotted _ (h.slotted method);
-  slots = h.slots;
-  signatures = h.signatures;
-  documents = h.documents;
-  link = h.link;
-  shares = h.shares;
-  ascends = record {
-    counts = h.ascends.counts;
-    rows = h.ascends.rows;
-    crossed = h.ascends.crossed;
-    gone = h.ascends.gone;
-    methods = h.ascends.methods;
-    drops = h.ascends.drops;
-    slotted = number_rises k m.slotted h.ascends.slotted;
-    slots = h.ascends.slots;
-    signatures = h.ascends.signatures;
-    documents = h.ascends.documents;
-  };
-}
-
-slot_held : (said : List Line) (m : Map) (k o n : ℕ) → HoldsWhat said m
-    → HoldsWhat (Slot k o n ∷ said) (record m { slots = with_slot (record { method = k; old = o; new = n }) m.slots })
-slot_held said m k o n h = record {
-  counts = h.counts;
-  rows = h.rows;
-  crossed = h.crossed;
-  gone = h.gone;
-  methods = h.methods;
-  drops = h.drops;
-  slotted = h.slotted;
-  slots = λ method old.
-      ap (option_map (λ (s : SlotImage). s.new))
-      (put_found slot_of same_pair pair_cmp pair_is pair_total pair_exact (method, old) (record { method = k; old = o; new = n }) m.slots)
-      ∙ said_found (λ (s : SlotImage). s.new) (same_pair (k, o) (method, old)) (record { method = k; old = o; new = n })
-      (find (λ s. same_pair (slot_of s) (method, old)) m.slots) _ (h.slots method old);
-  signatures = h.signatures;
-  documents = h.documents;
-  link = h.link;
-  shares = h.shares;
-  ascends = record {
-    counts = h.ascends.counts;
-    rows = h.ascends.rows;
-    crossed = h.ascends.crossed;
-    gone = h.ascends.gone;
-    methods = h.ascends.methods;
-    drops = h.ascends.drops;
-    slotted = h.ascends.slotted;
-    slots = put_rises slot_of same_pair pair_cmp pair_is pair_total pair_exact (record { method = k; old = o; new = n }) m.slots h.ascends.slots;
-    signatures = h.ascends.signatures;
-    documents = h.ascends.documents;
-  };
-}
-
-signature_held : (said : List Line) (m : Map) (k n : ℕ) → HoldsWhat said m
-    → HoldsWhat (Signature k n ∷ said) (record m { signatures = with_signature (record { method = k; new = n }) m.signatures })
-signature_held said m k n h = record {
-  counts = h.counts;
-  rows = h.rows;
-  crossed = h.crossed;
-  gone = h.gone;
-  methods = h.methods;
-  drops = h.drops;
-  slotted = h.slotted;
-  slots = h.slots;
-  signatures = λ method.
-      ap (option_map (λ (s : SignatureImage). s.new))
-      (put_found signed_of nat_eq nat_cmp same_number nat_cmp_total exact_unsigned method (record { method = k; new = n }) m.signatures)
-      ∙ said_found (λ (s : SignatureImage). s.new) (nat_eq k method) (record { method = k; new = n })
-      (find (λ s. nat_eq s.method method) m.signatures) _ (h.signatures method);
-  documents = h.documents;
-  link = h.link;
-  shares = h.shares;
-  ascends = record {
-    counts = h.ascends.counts;
-    rows = h.ascends.rows;
-    crossed = h.ascends.crossed;
-    gone = h.ascends.gone;
-    methods = h.ascends.methods;
-    drops = h.ascends.drops;
-    slotted = h.ascends.slotted;
-    slots = h.ascends.slots;
-    signatures = put_rises signed_of nat_eq nat_cmp same_number nat_cmp_total exact_unsigned (record { method = k; new = n }) m.signatures
-        h.ascends.signatures;
-    documents = h.ascends.documents;
-  };
-}
-
-document_held : (said : List Line) (m : Map) (d : NameLine) → HoldsWhat said m
-    → HoldsWhat (Document d ∷ said) (record m { documents = with_document d m.documents })
-document_held said m d h = record {
-  counts = h.counts;
-  rows = h.rows;
-  crossed = h.crossed;
-  gone = h.gone;
-  methods = h.methods;
-  drops = h.drops;
-  slotted = h.slotted;
-  slots = h.slots;
-  signatures = h.signatures;
-  documents = λ name.
-      ap (option_map (λ (d : NameLine). d.new))
-      (put_found name_of bytes_eq (slice_cmp nat_cmp) same_bytes nat_list_cmp_total exact_bytes name d m.documents)
-      ∙ said_found (λ (d : NameLine). d.new) (bytes_eq d.old name) d (find (λ d. bytes_eq d.old name) m.documents) _ (h.documents name);
-  link = h.link;
-  shares = h.shares;
-  ascends = record {
-    counts = h.ascends.counts;
-    rows = h.ascends.rows;
-    crossed = h.ascends.crossed;
-    gone = h.ascends.gone;
-    methods = h.ascends.methods;
-    drops = h.ascends.drops;
-    slotted = h.ascends.slotted;
-    slots = h.ascends.slots;
-    signatures = h.ascends.signatures;
-    documents = put_rises name_of bytes_eq (slice_cmp nat_cmp) same_bytes nat_list_cmp_total exact_bytes d m.documents h.ascends.documents;
-  };
-}
-
-link_held : (said : List Line) (m : Map) (value : List ℕ) → HoldsWhat said m → HoldsWhat (Link value ∷ said) (record m { link = Some value })
-link_held said m value h = record {
-  counts = h.counts;
-  rows = h.rows;
-  crossed = h.crossed;
-  gone = h.gone;
-  methods = h.methods;
-  drops = h.drops;
-  slotted = h.slotted;
-  slots = h.slots;
-  signatures = h.signatures;
-  documents = h.documents;
-  link = refl;
-  shares = h.shares;
-  ascends = record {
-    counts = h.ascends.counts;
-    rows = h.ascends.rows;
-    crossed = h.ascends.crossed;
-    gone = h.ascends.gone;
-    methods = h.ascends.methods;
-    drops = h.ascends.drops;
-    slotted = h.ascends.slotted;
-    slots = h.ascends.slots;
-    signatures = h.ascends.signatures;
-    documents = h.ascends.documents;
-  };
-}
-
-shares_held : (said : List Line) (m : Map) → HoldsWhat said m → HoldsWhat (Shares ∷ said) (record m { shares = true })
-shares_held said m h = record {
-  counts = h.counts;
-  rows = h.rows;
-  crossed = h.crossed;
-  gone = h.gone;
-  methods = h.methods;
-  drops = h.drops;
-  slotted = h.slotted;
-  slots = h.slots;
-  signatures = h.signatures;
-  documents = h.documents;
-  link = h.link;
-  shares = refl;
-  ascends = record {
-    counts = h.ascends.counts;
-    rows = h.ascends.rows;
-    crossed = h.ascends.crossed;
-    gone = h.ascends.gone;
-    methods = h.ascends.methods;
-    drops = h.ascends.drops;
-    slotted = h.ascends.slotted;
-    slots = h.ascends.slots;
-    signatures = h.ascends.signatures;
-    documents = h.ascends.documents;
-  };
-}
-
--- a run goes to the last method, if there is one
-run_held : (said : List Line) (m : Map) (run : Run) → HoldsWhat said m → (held : Map) × HoldsWhat (Kept run ∷ said) held
-run_held said m run h = of (methods_of said) refl
-  where
-    twice : (b : Bool) (x y : MethodLine) (rest : Option MethodLine) → cond b (Some x) rest ≡ cond b (Some x) (cond b (Some y) rest)
-    twice true x y rest = refl
-    twice false x y rest = refl
-
-    of : (lines : List MethodLine) → methods_of said ≡ lines → (held : Map) × HoldsWhat (Kept run ∷ said) held
-    of [] is = (
-      m,
-      record {
-        counts = h.counts;
-        rows = h.rows;
-        crossed = h.crossed;
-        gone = h.gone;
-        methods = λ method. h.methods method ∙ rw is refl;
-        drops = h.drops;
-        slotted = h.slotted;
-        slots = h.slots;
-        signatures = h.signatures;
-        documents = h.documents;
-        link = h.link;
-        shares = h.shares;
-        ascends = h.ascends;
-      },
-    )
-    of (line ∷ lines) is =
-        let longer : MethodLine = record line { runs = line.runs ++ run ∷ [] } in
-        let says : (k : ℕ) → find (λ l. nat_eq l.method k) (methods_of (Kept run ∷ said))
-        ≡ cond (nat_eq line.method k) (Some longer) (find (λ l. nat_eq l.method k) (methods_of said))
-        = λ k. rw is (twice (nat_eq line.method k) longer line (find (λ l. nat_eq l.method k) lines)) in (
-          record m { methods = with_line longer m.methods },
-          record {
-            counts = h.counts;
-            rows = h.rows;
-            crossed = h.crossed;
-            gone = h.gone;
-            methods = line_held said (Kept run ∷ said) m longer h says;
-            drops = h.drops;
-            slotted = h.slotted;
-            slots = h.slots;
-            signatures = h.signatures;
-            documents = h.documents;
-            link = h.link;
-            shares = h.shares;
-            ascends = record {
-              counts = h.ascends.counts;
-              rows = h.ascends.rows;
-              crossed = h.ascends.crossed;
-              gone = h.ascends.gone;
-              methods = with_line_ascends said m longer h;
-              drops = h.ascends.drops;
-              slotted = h.ascends.slotted;
-              slots = h.ascends.slots;
-              signatures = h.ascends.signatures;
-              documents = h.ascends.documents;
-            };
-          },
-        )
-
-pub held : (said : List Line) → (m : Map) × HoldsWhat said m
-held [] = (map_of [] [] [] [] [] [] [] [] [] [] None false, none_held)
-held (Silent ∷ said) = let m = held said in (m.0, silent_held said m.0 m.1)
-held (Rows t n ∷ said) = let m = held said in (_, rows_held said m.0 t n m.1)
-held (Row t o n ∷ said) = let m = held said in (_, row_held said m.0 t o n m.1)
-held (Method k o n ∷ said) = let m = held said in (_, method_held said m.0 k o n m.1)
-held (Kept run ∷ said) = let m = held said in run_held said m.0 run m.1
-held (Dropped k ∷ said) = let m = held said in (_, drop_held said m.0 k m.1)
-held (Slots k ∷ said) = let m = held said in (_, slots_held said m.0 k m.1)
-held (Slot k o n ∷ said) = let m = held said in (_, slot_held said m.0 k o n m.1)
-held (Signature k n ∷ said) = let m = held said in (_, signature_held said m.0 k n m.1)
-held (Document d ∷ said) = let m = held said in (_, document_held said m.0 d m.1)
-held (Link value ∷ said) = let m = held said in (_, link_held said m.0 value m.1)
-held (Cross line ∷ said) = let m = held said in (_, cross_held said m.0 line m.1)
-held (Gone t o ∷ said) = let m = held said in (_, gone_held said m.0 t o m.1)
-held (Shares ∷ said) = let m = held said in (_, shares_held said m.0 m.1)
+    of : (line : Line) → (Breaks before Repeated line → ⊥) → (m : Map) → HoldsWhat before m → (m : Map) × HoldsWhat (line ∷ before) m
+    of Silent once m h = (_, silent_held before m h)
+    of (Rows t n) once m h = (_, rows_held before m h t n)
+    of (Row t o n) once m h = (_, row_held before m h t o n once)
+    of (Cross line) once m h = (_, cross_held before m h line once)
+    of (Gone t o) once m h = (_, gone_held before m h t o once)
+    of (Method k o n) once m h = (_, method_held before m h k o n)
+    of (Kept run) once m h = run_held before m h run
+    of (Dropped k) once m h = (_, drop_held before m h k)
+    of (Slots k) once m h = (_, slots_held before m h k)
+    of (Slot k o n) once m h = (_, slot_held before m h k o n)
+    of (Signature k n) once m h = (_, signature_held before m h k n)
+    of (Document d) once m h = (_, document_held before m h d)
+    of (Link value) once m h = (_, link_held before m h value)
+    of Shares once m h = (_, shares_held before m h)

@@ -74,7 +74,7 @@ module _ (text head : List ℕ) (rest : List (List ℕ)) (version : ℕ) (lines 
   walk : (prefix back : List (List ℕ)) (before : List Line) → rest ≡ prefix ++ back → Read version prefix before → ⊥
   walk prefix [] before cut read =
       let whole : prefix ≡ rest = sym (cut ∙ append-nil prefix) in
-      let m = held before in
+      let m = held version prefix before read in
       none m.0 (record {
         head = head;
         rest = rest;

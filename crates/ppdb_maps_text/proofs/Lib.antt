@@ -2,11 +2,11 @@ pub mod Found
 pub mod Orders
 pub mod Putting
 mod Words
-mod Ahead
 pub mod Groups
 pub mod OneLine
 mod Told
-pub mod Got
+pub mod InOrder
+pub mod Lined
 pub mod Starting
 mod Methods
 pub mod Reading

@@ -1,5 +1,5 @@
 -- A row has one line at most: of four words, of five, or `gone`.
-use Rattle.std.proofs.Common.{ℕ, ◌≡◌, ◌&&◌, ◌||◌, Bool, true, false, cond, List, [], ◌∷◌, Option, Some, None, refl, sym, ap, ◌∙◌, subst, arith, inl, inr}
+use Rattle.std.proofs.Common.{rules, ℕ, ◌≡◌, ◌&&◌, ◌||◌, Bool, true, false, cond, List, [], ◌∷◌, Option, Some, None, refl, sym, ap, ◌∙◌, subst, arith, inl, inr}
 use Rattle.std.{specs.Prelude.{nat_eq, is_some}, specs.List.{find}, specs.Option.{option_map}, proofs.lemmas.Bool.{false≢true, eqb-true, and_parts, eq-eqb, ne_eqb}}
 use Rattle.ppdb_maps.specs.declared.{entries.RowLine.{RowLine}, entries.CrossLine.{CrossLine}, entries.GoneLine.{GoneLine}, line.Line.{Line}}
 use Rattle.ppdb_maps.specs.{declared.line.Line.TheVariants.{Row, Cross, Gone}, Forms.{Crosses}, Map.{Map, row_line, cross_line, has_gone_line, told_image}}
@@ -28,9 +28,8 @@ pub record IsGoneLine (m : Map) (table old : ℕ) : Type 0 where
   pub old_is : line.old ≡ old
   pub some : has_items m.gone ≡ true
 
-some_items : {X : Type 0} (test : X → Bool) (xs : List X) (x : X) → find test xs ≡ Some x → has_items xs ≡ true
-some_items test [] x is = absurd (cc)
-some_items test (y ∷ ys) x is = refl
+pub some_items : {X : Type 0} (test : X → Bool) (xs : List X) (x : X) → find test xs ≡ Some x → has_items xs ≡ true
+some_items test xs x is = search rules
 
 module _ (m : Map) (readable : IsReadable m) (table old : ℕ) where
   pub row_found : (new : ℕ) → row_line m table old ≡ Some new → IsRowLine m table old new

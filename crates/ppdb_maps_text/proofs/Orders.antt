@@ -1,7 +1,7 @@
 -- What is made from numbers that ascend, in their order, ascends by them.
-use Rattle.std.proofs.Common.{ℕ, ◌+◌, ◌≡◌, ◌<◌, ◌≤◌, ◌++◌, Bool, true, false, cond, List, [], ◌∷◌, Option, Some, None, refl, sym, ◌∙◌, map, subst, arith, inl, inr}
-use Rattle.std.{proofs.Common.{zero, suc}, specs.Prelude.{nat_eq, nat_lt}, specs.List.{filter, filter_map, flat_map, AllByRecursion, cons_option, range_with_len}}
-use Rattle.std.specs.{List.Sorted.{IsStrictlySortedBy}, Ordering.{nat_cmp}, declared.cmp.Ordering.TheVariants.{Less, Equal, Greater}}
+use Rattle.std.proofs.Common.{rules, ℕ, ◌+◌, ◌≡◌, ◌<◌, ◌≤◌, ◌++◌, Bool, true, false, cond, List, [], ◌∷◌, Option, Some, None, refl, sym, ◌∙◌, map, subst, arith, inl}
+use Rattle.std.{proofs.Common.{inr, zero, suc}, specs.Prelude.{nat_eq, nat_lt}, specs.List.{filter, filter_map, flat_map, AllByRecursion, cons_option}}
+use Rattle.std.specs.{List.{range_with_len}, List.Sorted.{IsStrictlySortedBy}, Ordering.{nat_cmp}, declared.cmp.Ordering.TheVariants.{Less, Equal, Greater}}
 use Rattle.std.proofs.lemmas.Bool.{eqb-true, eq-eqb, ne_eqb, cases_lt, lt-ltb, le-ltb}
 use Rattle.ppdb_maps.{specs.Map.{pair_cmp}, proofs.OneMap.{same_or_apart}}
 use Rattle.ppdb_maps_text.specs.Ascending.{put_once, ascending}
@@ -103,8 +103,7 @@ filter_above n p [] all = tt
 filter_above n p (k ∷ ks) all = of (p k) (filter_above n p ks all.1)
   where
     of : (b : Bool) → Above n (filter p ks) → Above n (cond b (k ∷ filter p ks) (filter p ks))
-    of true rest = (all.0, rest)
-    of false rest = rest
+    of b rest = search rules
 
 pub filter_up : (p : ℕ → Bool) (ns : List ℕ) → Up ns → Up (filter p ns)
 unfolding IsStrictlySortedBy

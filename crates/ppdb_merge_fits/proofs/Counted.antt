@@ -1,8 +1,8 @@
--- A file has few variables and records.
+-- A file has few variables.
 use Rattle.std.{proofs.Common.{◌≡◌, ◌+◌, ◌≤◌, List, [], ◌∷◌, length, flat_map, refl, sym, ◌∙◌, ap, subst, arith}, specs.List.{sum_by}}
 use Rattle.std.proofs.lemmas.{List.{length-map, length-append}, List.Sums.{sum_by-cons}}
 use Rattle.ppdb_values_sound_laws.proofs.Counts.{variables_counted}
-use Rattle.ppdb_values.specs.{Customs.{custom_of}, RawFile.{RawFile}, Rules.{KeepsRules}, Value.{value_of}, declared.scope.ScopeValue.{ScopeValue}}
+use Rattle.ppdb_values.specs.{RawFile.{RawFile}, Rules.{KeepsRules}, Value.{value_of}, declared.scope.ScopeValue.{ScopeValue}}
 use Rattle.ppdb_merge_fits.specs.Slots.{scope_slots, variable_slots}
 
 slots_of : (scopes : List ScopeValue) → length (flat_map scope_slots scopes) ≡ sum_by (λ (s : ScopeValue). length s.variables) scopes
@@ -15,9 +15,3 @@ slots_of (s ∷ ss) =
 
 pub few_slots : (raw : RawFile) → KeepsRules raw → length (variable_slots (value_of raw)) ≤ 16777215
 few_slots raw keeps = subst (λ n. n ≤ 16777215) (sym (slots_of (value_of raw).scopes ∙ variables_counted raw keeps)) (keeps.shape.small 0x33)
-
-pub few_customs : (raw : RawFile) → KeepsRules raw → length (value_of raw).customs ≤ 16777215
-few_customs raw keeps =
-    let many = length-map raw.tables.customs (custom_of raw.tables) in
-    let counted = keeps.shape.customs in
-    let small = keeps.shape.small 0x37 in omega (arith, many, counted, small)

@@ -1,14 +1,18 @@
 -- Scopes and records of custom debug information, row after row.
-use Rattle.std.proofs.{Common.{◌≡◌, ℕ, Bool, true, false, cond, List, [], Some, None, length, slice_get, sym, ◌∙◌, ap}, lemmas.List.{length-map}}
+use Rattle.std.proofs.{Common.{◌≡◌, ◌<◌, ◌⊎◌, inl, inr, ℕ, Bool, true, false, cond, List, [], Some, None, length, slice_get, sym, ◌∙◌, ap}, lemmas.List.{length-map}}
 use Rattle.std.proofs.lemmas.List.FromFn.{length-enumerate_from}
 use Rattle.ppdb_base.specs.declared.merge_error.MergeError.{MergeError}
 use Rattle.ppdb_maps.specs.Map.{Map}
 use Rattle.ppdb_tables.specs.{declared.rows.CustomRow.{CustomRow}, declared.rows.ScopeRow.{ScopeRow}, RawTables.{numbered, row_at}}
 use Rattle.ppdb_values.specs.{declared.custom.CustomBody.{CustomBody}, declared.custom.CustomValue.{CustomValue}, Customs.{custom_of}, RawFile.{RawFile}}
 use Rattle.ppdb_values.specs.Value.{scope_of, value_of}
-use Rattle.ppdb_values_reading.proofs.Rows.{numbered_row, row_made}
+use Rattle.ppdb_values_reading.proofs.Rows.{numbered_row, row_made, row_past}
 use Rattle.ppdb_merge_items.specs.NamedRows.{live_custom}
 use Rattle.ppdb_merge_fits.specs.Walks.{record_told}
+
+pub no_row : {X : Type 0} (xs : List X) (row : ℕ) → (row ≡ 0) ⊎ (length xs < row) → row_at xs row ≡ None
+no_row xs row (inl none) = ap (row_at xs) none
+no_row xs row (inr past) = row_past xs row past
 
 pub scopes_many : (raw : RawFile) → length (value_of raw).scopes ≡ length raw.tables.scopes
 scopes_many raw = length-map (numbered raw.tables.scopes) (scope_of raw.tables) ∙ length-enumerate_from 1 raw.tables.scopes

@@ -13,7 +13,8 @@ pub mod Methods
 pub mod NoSlots
 pub mod Nothing
 pub mod OneName
+pub mod Owned
 pub mod Rows
-pub mod SlotLists
+pub mod ScopeLists
 pub mod Told
 pub mod Parts

@@ -4,6 +4,7 @@ pub mod FirstOf
 pub mod Laws
 pub mod Names
 pub mod Offsets
+pub mod Owned
 pub mod Rows
 pub mod Signatures
 pub mod Slots

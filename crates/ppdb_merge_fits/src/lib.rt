@@ -15,5 +15,5 @@ mod twice;
 mod used;
 
 pub use judging::judge;
-pub use kinds::is_unknown;
+pub use kinds::first_unknown;
 pub use laws::{nothing_clashes, worked_maps};

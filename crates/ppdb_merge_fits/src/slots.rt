@@ -41,7 +41,7 @@ fn add_slots<L: Ledger>(
 }
 
 /// The slots of the variables of all scopes.
-fn variable_slots<L: Ledger>(
+pub(crate) fn variable_slots<L: Ledger>(
     alloc: Global,
     file: &Verified<'_>,
     steps: &mut Steps<L>,

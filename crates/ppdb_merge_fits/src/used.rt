@@ -1,4 +1,4 @@
-// Slots of variables.
+// Slots of variables, and constants.
 
 /// A slot that a variable of a method has.
 #[derive(Clone, Copy)]
@@ -13,4 +13,11 @@ pub(crate) struct UsedSlot {
     pub(crate) method: u32,
     pub(crate) slot: u16,
     pub(crate) image: u16,
+}
+
+/// A constant of a method, and whether it is removed.
+#[derive(Clone, Copy)]
+pub(crate) struct OwnedConstant {
+    pub(crate) method: u32,
+    pub(crate) goes: bool,
 }

@@ -1,11 +1,10 @@
 -- The custom records on a method go with it, and those on no other do.
-use Rattle.std.{proofs.Common.{◌≡◌, ℕ, ◌≢◌, ◌&&◌, Bool, true, false, cond, Some, None, refl, sym, ◌∙◌, ap, subst, map}, specs.Prelude.{nat_eq, bytes_eq, unwrap_or}}
-use Rattle.std.{specs.Option.{option_map}, specs.List.{filter, filter_map}, proofs.lemmas.Bool.{eq-eqb, eqb-true, and_parts, both_ways}}
+use Rattle.std.{proofs.Common.{rules, ◌≡◌, ℕ, ◌≢◌, ◌&&◌, Bool, true, false, cond, Some, None, refl, sym, ◌∙◌, ap, map}, specs.Prelude.{nat_eq}, specs.List.{filter}}
+use Rattle.std.{specs.List.{filter_map}, proofs.lemmas.Bool.{eq-eqb, eqb-true, and_parts, both_ways}}
 use Rattle.ppdb_base.specs.Offsets.{gone}
 use Rattle.ppdb_maps.specs.{declared.image.RowImage.{RowImage}, declared.image.RowImage.TheVariants.{Row, Gone, Missing}, Readable.{IsReadable}, Map.{Map}}
-use Rattle.ppdb_maps.{specs.Map.{row_image, moved_row, offsets_in, is_dropped, method_line}, proofs.Parts.{line_offsets}}
-use Rattle.custom_info.specs.Kinds.{source_link}
-use Rattle.ppdb_values.specs.{Parts.{is_at, is_link}, declared.custom.CustomBody.TheVariants.{Unread}, declared.custom.CustomValue.{CustomValue}}
+use Rattle.ppdb_maps.specs.Map.{row_image, moved_row, offsets_in, is_dropped}
+use Rattle.ppdb_values.specs.declared.custom.CustomValue.{CustomValue}
 use Rattle.ppdb_merge_items.{specs.Each.{Each}, specs.declared.file.AnnotatedFile.{AnnotatedFile}, specs.NamedRows.{live_custom}, proofs.Lists.{Each-filter}}
 use Rattle.ppdb_merge_items.proofs.Lists.{Each-weaker}
 use Rattle.ppdb_merge_moved.specs.{Moved.{linked, moved_body, moved_custom, moved_file, moved_parent, row_in, table_in}, FitsMethod.{FitsCustom, MovesAsMethod}}
@@ -23,27 +22,14 @@ image_of m c = record {
 
 -- a method that moves is not dropped
 pub not_dropped : (m : Map) (method : ℕ) → (offsets_in m method ≢ gone) → is_dropped m method ≡ false
-not_dropped m method live = of (is_dropped m method) refl
-  where
-    of : (b : Bool) → is_dropped m method ≡ b → b ≡ false
-    of false is = refl
-    of true is = absurd (live (ap (λ c. cond c gone (line_offsets (method_line m method))) is))
+not_dropped m method live = search rules
 
 pub lives : (m : Map) → IsReadable m → (method : ℕ) → (offsets_in m method ≢ gone) → (c : CustomValue) → on method c ≡ true → live_custom m c ≡ true
-lives m ready method live c is =
-    let parts = and_parts (nat_eq c.parent.table 0x06) (nat_eq c.parent.row method) is in
-    let same : c.parent.row ≡ method = eqb-true c.parent.row method parts.1 in
-    lives_on_method m ready c (eqb-true c.parent.table 0x06 parts.0) (subst (λ n. is_dropped m n ≡ false) (sym same) (not_dropped m method live))
+lives m ready method live c is = search (rules, lives_on_method, not_dropped)
 
 -- a record on a method is none on a row of Module
 pub linked_on : (m : Map) (method : ℕ) (c : CustomValue) → on method c ≡ true → linked m c ≡ c
-linked_on m method c is = ap (λ b. record c { value = unwrap_or (option_map Unread (cond b m.link None)) c.value }) not_link
-  where
-    six : c.parent.table ≡ 0x06
-    six = eqb-true c.parent.table 0x06 (and_parts (nat_eq c.parent.table 0x06) (nat_eq c.parent.row method) is).0
-
-    not_link : is_link c ≡ false
-    not_link = ap (λ t. is_at 0x00 1 (record { table = t; row = c.parent.row }) && bytes_eq c.kind source_link) six
+linked_on m method c is = search rules
 
 -- a record whose parent's image is the method's is on the method
 own_parent : (m : Map) → IsReadable m → (method : ℕ) → MovesAsMethod m method → (c : CustomValue) → FitsCustom m method c
@@ -95,8 +81,7 @@ custom_alike m ready method image live c fits = by_living (live_custom m (linked
 
 pub custom_stays : (m : Map) → IsReadable m → (method : ℕ) → (offsets_in m method ≢ gone) → (c : CustomValue) → on method c ≡ true
     → moved_custom m c ≡ Some (image_of m c)
-custom_stays m ready method live c is =
-    ap (λ b. cond b (Some (image_of m (linked m c))) None) (lives m ready method live (linked m c) is) ∙ ap (λ d. Some (image_of m d)) (linked_on m method c is)
+custom_stays m ready method live c is = search (rules, lives, linked_on)
 
 -- the records on the image of a method are the images of those on the method
 pub records_moved : (m : Map) (w : AnnotatedFile) (method : ℕ) → IsReadable m → MovesAsMethod m method → (offsets_in m method ≢ gone)

@@ -1,5 +1,5 @@
 -- A file whose parts have the records on their rows is the form of its value with the records at their items (`annotated_file`).
-use Rattle.std.{proofs.Common.{◌≡◌, ℕ, ◌+◌, ◌-◌, ◌<◌, ◌≤◌, List, [], length, refl, ap, subst, ◌∙◌, arith}, specs.List.{sum_by}}
+use Rattle.std.{proofs.Common.{rules, ◌≡◌, ℕ, ◌+◌, ◌-◌, ◌<◌, ◌≤◌, List, [], length, refl, ap, ◌∙◌, arith}, specs.List.{sum_by}}
 use Rattle.ppdb_values.specs.declared.{file.FileValue.{FileValue}, file.DocumentValue.{DocumentValue}, import.ImportScopeValue.{ImportScopeValue}}
 use Rattle.ppdb_values.specs.declared.{annotation.Custom.{Custom}, annotation.Annotation.{Annotation}, custom.CustomValue.{CustomValue}}
 use Rattle.ppdb_values.specs.{declared.scope.ScopeValue.{ScopeValue}, Meaning.{annotated_on}}
@@ -56,5 +56,4 @@ file_is value rows documents scopes imports others has d s i o =
     ≡ (whole.documents, whole.scopes, whole.imports, whole.customs) = cc (d2, s2, i2, o2) in e)
 
 pub counts_same : (rows : OnRows) (a b c d e k l m n o : ℕ) → HasAll [] a b c d e rows → a ≡ k → b ≡ l → c ≡ m → d ≡ n → e ≡ o → HasAll [] k l m n o rows
-counts_same rows a b c d e k l m n o has p q r s t =
-    subst (λ (x : ℕ × ℕ × ℕ × ℕ × ℕ). HasAll [] x.0 x.1 x.2 x.3 x.4 rows) (let same : (a, b, c, d, e) ≡ (k, l, m, n, o) = cc in same) has
+counts_same rows a b c d e k l m n o has p q r s t = search rules

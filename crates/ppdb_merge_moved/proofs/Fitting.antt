@@ -1,7 +1,7 @@
 -- What a map that fits a file says of a method that the file names.
-use Rattle.std.proofs.Common.{◌≡◌, ◌≢◌, ℕ, zero, suc, ◌<◌, ◌≤◌, Bool, true, false, cond, List, [], ◌∷◌, Option, Some, None, refl, sym, ◌∙◌, ap, subst, arith}
-use Rattle.std.{specs.Prelude.{nat_eq, All, AllPairs, IfSome, unwrap_or, Contains}, specs.List.{repeat}, proofs.lemmas.Bool.{ne_eqb}}
-use Rattle.std.proofs.lemmas.List.Elements.{All-head, All-tail}
+use Rattle.std.proofs.Common.{rules, ◌≡◌, ◌≢◌, ℕ, zero, suc, ◌<◌, ◌≤◌, Bool, true, false, cond, List, [], ◌∷◌, Option, Some, None, refl, sym, ◌∙◌, ap, subst, arith}
+use Rattle.std.{specs.Prelude.{nat_eq, All, AllPairs, IfSome, Contains}, specs.List.{repeat}, proofs.lemmas.Bool.{ne_eqb}, proofs.lemmas.List.Elements.{All-head}}
+use Rattle.std.proofs.lemmas.List.Elements.{All-tail}
 use Rattle.ppdb_base.specs.Offsets.{Offsets, every, gone, Rise, old_size}
 use Rattle.custom_info.specs.declared.kinds.Kind.{Kind}
 use Rattle.custom_info.specs.declared.kinds.Kind.TheVariants as kinds
@@ -39,14 +39,7 @@ offsets_rise m ready method = by_drop (is_dropped m method)
     by_drop false = by_line (method_line m method) (found_holds (IsLineOf m) (λ l. nat_eq l.method method) m.methods ready.methods)
 
 pub moved_dropped : (m : Map) (row : ℕ) → is_dropped m row ≡ true → moved_row m 0x06 row ≡ 0
-moved_dropped m row is = ap
-    (λ b. cond (nat_eq row 0) 0
-    (unwrap_or (cond b None (elim (count_of m 0x06) as (λ _. Option ℕ) [ None ↦ Some row | Some count ↦ row_line m 0x06 row ])) 0)) is
-    ∙ by_zero (nat_eq row 0)
-  where
-    by_zero : (b : Bool) → ◌≡◌ {A = ℕ} (cond b 0 0) 0
-    by_zero true = refl
-    by_zero false = refl
+moved_dropped m row is = search rules
 
 -- ---- a method that the file names
 

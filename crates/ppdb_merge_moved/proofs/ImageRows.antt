@@ -1,14 +1,13 @@
 -- Images of rows: in the same table, or in one that the row's lines name.
-use Rattle.std.proofs.Common.{◌≡◌, ℕ, zero, suc, ◌≤◌, ◌⊎◌, inl, inr, ◌&&◌, ◌||◌, not, Bool, List, [], ◌∷◌, true, false, cond, Option, Some, None, refl, sym, ◌∙◌, ap}
-use Rattle.std.{proofs.Common.{subst, arith}, specs.Prelude.{nat_eq, bytes_eq, IfSome, unwrap_or}, specs.List.{find, list_any, AllByRecursion}}
-use Rattle.std.{specs.Option.{option_map}, proofs.lemmas.Bool.{eqb-true, eq-eqb, and_parts, or_cases, both_ways}}
+use Rattle.std.proofs.Common.{rules, ◌≡◌, ℕ, zero, suc, ◌≤◌, ◌⊎◌, inl, inr, ◌&&◌, ◌||◌, not, Bool, List, [], ◌∷◌, true, false, cond, Option, Some, None, refl, sym}
+use Rattle.std.{proofs.Common.{◌∙◌, ap, subst, arith}, specs.Prelude.{nat_eq, IfSome}, specs.List.{find, list_any, AllByRecursion}, specs.Option.{option_map}}
+use Rattle.std.proofs.lemmas.Bool.{eqb-true, eq-eqb, and_parts, or_cases, both_ways}
 use Rattle.ppdb_maps.specs.declared.{entries.CrossLine.{CrossLine}, entries.GoneLine.{GoneLine}, entries.RowLine.{RowLine}, image.RowImage.{RowImage}}
-use Rattle.ppdb_maps.specs.{declared.image.RowImage.TheVariants.{Row, Gone, Missing}, Forms.{Crosses}, Map.{Map, row_image, row_within, row_line, cross_line}}
+use Rattle.ppdb_maps.specs.{declared.image.RowImage.TheVariants.{Row, Missing}, Forms.{Crosses}, Map.{Map, row_image, row_within, row_line, cross_line}}
 use Rattle.ppdb_maps.specs.Map.{has_gone_line, told_image, line_image, count_of, is_dropped, is_gone, moved_row, is_gone_row, is_in_table, leaves_table}
 use Rattle.ppdb_maps.specs.Readable.{IsReadable, IsRowOf, IsCrossOf, IsGoneOf}
-use Rattle.custom_info.specs.Kinds.{source_link}
-use Rattle.ppdb_values.specs.{Parts.{is_at, is_link}, declared.custom.CustomBody.TheVariants.{Unread}, declared.custom.CustomValue.{CustomValue}}
-use Rattle.ppdb_merge_items.specs.NamedRows.{names, is_type_documents, leaves_types, live_custom}
+use Rattle.ppdb_values.specs.declared.custom.CustomValue.{CustomValue}
+use Rattle.ppdb_merge_items.specs.NamedRows.{names, live_custom}
 use Rattle.ppdb_merge_moved.{specs.Moved.{linked}, specs.Fits.{IsImaged, may_share}, proofs.RowImages.{IsWithin, within_in, moved_is_image}}
 
 pub found_passes : {A : Type 0} (P : A → Type 0) (p : A → Bool) (xs : List A) → AllByRecursion P xs → IfSome (find p xs) (λ x. P x × (p x ≡ true))
@@ -74,13 +73,7 @@ abbrev pub may_cross : ℕ → Bool
 may_cross table = nat_eq table 0x01 || (nat_eq table 0x02 || (nat_eq table 0x1b || nat_eq table 0x23))
 
 crosses_there : (line : CrossLine) → Crosses line → may_cross line.table ≡ true
-crosses_there line (inl types) = by types.0
-  where
-    by : (line.table ≡ 0x01) ⊎ ((line.table ≡ 0x02) ⊎ (line.table ≡ 0x1b)) → may_cross line.table ≡ true
-    by (inl one) = ap may_cross one
-    by (inr (inl two)) = ap may_cross two
-    by (inr (inr spec)) = ap may_cross spec
-crosses_there line (inr assembly) = ap may_cross assembly.0
+crosses_there line hyp1 = search rules
 
 -- an image of a row of another table is in that table
 pub image_stays : (m : Map) → IsReadable m → (table row to image : ℕ) → may_cross table ≡ false → row_image m table row ≡ Row to image
@@ -94,69 +87,24 @@ image_stays m ready table row to image apart is = by (image_cases m ready table 
 
 -- the row of the same table is the image
 pub within_is : (m : Map) (table row image : ℕ) → row_within m table row ≡ Some image → row_image m table row ≡ Row table image
-within_is m table row image is = by_drop (nat_eq table 0x06 && is_dropped m row) is
-  where
-    some_of : (a b : ℕ) → Some a ≡ Some b → a ≡ b
-    some_of a b e = cc
-
-    by_row : (r : Option ℕ) → r ≡ Some image → told_image table r (cross_line m table row) (has_gone_line m table row) ≡ Row table image
-    by_row None e = absurd cc
-    by_row (Some new) e = ap (Row table) (some_of new image e)
-
-    by_count : (c : Option ℕ) → elim c as (λ _. Option ℕ) [ None ↦ Some row | Some count ↦ row_line m table row ] ≡ Some image
-        → elim c as (λ _. RowImage) [ None ↦ Row table row | Some count ↦ line_image m table row ] ≡ Row table image
-    by_count None e = ap (Row table) (some_of row image e)
-    by_count (Some count) e = by_row (row_line m table row) e
-
-    by_drop : (b : Bool) → cond b None (elim (count_of m table) as (λ _. Option ℕ) [ None ↦ Some row | Some count ↦ row_line m table row ]) ≡ Some image
-        → cond b Missing (elim (count_of m table) as (λ _. RowImage) [ None ↦ Row table row | Some count ↦ line_image m table row ]) ≡ Row table image
-    by_drop true e = absurd cc
-    by_drop false e = by_count (count_of m table) e
+within_is m table row image is = search rules
 
 -- the moved row of another table is its image
 pub within_moved : (m : Map) → IsReadable m → (table row to image : ℕ) → may_cross table ≡ false → 1 ≤ row → row_image m table row ≡ Row to image
     → row_within m table row ≡ Some (moved_row m table row)
-within_moved m ready table row to image apart above is =
-    let stays = image_stays m ready table row to image apart is in
-    stays.1 ∙ ap Some (sym (moved_is_image m table row image above stays.1))
+within_moved m ready table row to image apart above is = search (rules, image_stays)
 
 pub moved_stays : (m : Map) → IsReadable m → (table row to image : ℕ) → may_cross table ≡ false → 1 ≤ row → row_image m table row ≡ Row to image
     → row_image m table row ≡ Row table (moved_row m table row)
-moved_stays m ready table row to image apart above is =
-    within_is m table row (moved_row m table row) (within_moved m ready table row to image apart above is)
+moved_stays m ready table row to image apart above is = search (rules, within_is, within_moved)
 
 -- no row of another table leaves it
 pub leaves_not : (m : Map) → IsReadable m → (table row : ℕ) → may_cross table ≡ false → leaves_table table (row_image m table row) ≡ false
-leaves_not m ready table row apart = by (row_image m table row) refl
-  where
-    by : (image : RowImage) → row_image m table row ≡ image → leaves_table table image ≡ false
-    by (Row to image) is = ap not (eq-eqb to table (image_stays m ready table row to image apart is).0)
-    by Gone is = refl
-    by Missing is = refl
+leaves_not m ready table row apart = search (rules, image_stays)
 
 -- what the `link` line makes a record say lets it stay or go as before
 pub linked_lives : (m : Map) → IsReadable m → (c : CustomValue) → live_custom m (linked m c) ≡ live_custom m c
-linked_lives m ready c = ap (λ b. not (nat_eq c.parent.table 0x06 && is_dropped m c.parent.row || (is_gone_row m c.parent.table c.parent.row || b))) leaves
-  where
-    and_false : (b : Bool) → b && false ≡ false
-    and_false true = refl
-    and_false false = refl
-
-    leaves : leaves_types m (linked m c) ≡ leaves_types m c
-    leaves = by_link (is_link c) refl m.link
-      where
-        by_link : (b : Bool) → is_link c ≡ b → (value : Option (List ℕ))
-            → (is_type_documents (unwrap_or (option_map Unread (cond b value None)) c.value)
-            && leaves_table c.parent.table (row_image m c.parent.table c.parent.row))
-            ≡ leaves_types m c
-        by_link false other value = refl
-        by_link true link None = refl
-        by_link true link (Some value) =
-            let here = (and_parts (is_at 0x00 1 c.parent) (bytes_eq c.kind source_link) link).0 in
-            let module_row : c.parent.table ≡ 0x00 = eqb-true c.parent.table 0x00
-            (and_parts (nat_eq c.parent.table 0x00) (nat_eq c.parent.row 1) here).0 in
-            sym (ap (λ b. is_type_documents c.value && b)
-            (leaves_not m ready c.parent.table c.parent.row (ap may_cross module_row)) ∙ and_false (is_type_documents c.value))
+linked_lives m ready c = search (rules, leaves_not)
 
 -- an assembly that does not become the module's own stays in its table
 pub assembly_stays : (m : Map) → IsReadable m → (row to image : ℕ) → row_image m 0x23 row ≡ Row to image → is_in_table 0x20 (row_image m 0x23 row) ≡ false
@@ -266,24 +214,8 @@ no_gone_method m ready row = by_drop (is_dropped m row)
 
 -- a record on a method stays where the method is not dropped
 pub lives_on_method : (m : Map) → IsReadable m → (c : CustomValue) → c.parent.table ≡ 0x06 → is_dropped m c.parent.row ≡ false → live_custom m c ≡ true
-lives_on_method m ready c six stays =
-    ap (λ b. not (nat_eq c.parent.table 0x06 && b || (is_gone_row m c.parent.table c.parent.row || leaves_types m c))) stays
-    ∙ ap (λ b. not (nat_eq c.parent.table 0x06 && false || (b || leaves_types m c)))
-    (ap (λ t. is_gone_row m t c.parent.row) six ∙ no_gone_method m ready c.parent.row)
-    ∙ ap (λ b. not (nat_eq c.parent.table 0x06 && false || (false || is_type_documents c.value && b)))
-    (leaves_not m ready c.parent.table c.parent.row (ap may_cross six))
-    ∙ none_holds (nat_eq c.parent.table 0x06) (is_type_documents c.value)
-  where
-    none_holds : (a b : Bool) → not (a && false || (false || b && false)) ≡ true
-    none_holds true true = refl
-    none_holds true false = refl
-    none_holds false true = refl
-    none_holds false false = refl
+lives_on_method m ready c six stays = search (rules, no_gone_method, leaves_not)
 
 -- no two methods may share an image
 pub no_shared_method : (m : Map) → may_share m 0x06 ≡ false
-no_shared_method m = by m.shares
-  where
-    by : (b : Bool) → b && false ≡ false
-    by true = refl
-    by false = refl
+no_shared_method m = search rules

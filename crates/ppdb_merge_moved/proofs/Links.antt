@@ -1,7 +1,7 @@
 -- What is linked to a method is moved with it.
-use Rattle.std.proofs.Common.{◌≡◌, ℕ, ◌≢◌, ◌||◌, not, Bool, true, false, cond, List, [], ◌∷◌, Option, Some, None, refl, sym, ◌∙◌, ap, subst, map}
+use Rattle.std.proofs.Common.{rules, ◌≡◌, ℕ, ◌≢◌, ◌||◌, not, Bool, true, false, cond, List, [], ◌∷◌, Option, Some, None, refl, sym, ◌∙◌, ap, subst, map}
 use Rattle.std.specs.{Prelude.{nat_eq, is_none}, List.{filter, filter_map, find, cons_option}, Option.{option_map, option_and_then}}
-use Rattle.std.proofs.lemmas.Bool.{eq-eqb, ne_eqb, eqb-true, eqb-false, and_parts}
+use Rattle.std.proofs.lemmas.Bool.{ne_eqb, eqb-true, and_parts}
 use Rattle.ppdb_base.specs.Offsets.{gone}
 use Rattle.ppdb_maps.specs.Map.{Map, moved_row, offsets_in, is_dropped}
 use Rattle.ppdb_tables.specs.declared.rows.MachineRow.{MachineRow}
@@ -50,11 +50,7 @@ machine_image m r = record { move_next = moved_row m 0x06 r.move_next; kickoff =
 
 same_row : (m : Map) (row method : ℕ) → (moved_row m 0x06 row ≡ moved_row m 0x06 method → row ≡ method)
     → nat_eq (moved_row m 0x06 row) (moved_row m 0x06 method) ≡ nat_eq row method
-same_row m row method own = step (nat_eq row method) refl
-  where
-    step : (b : Bool) → nat_eq row method ≡ b → nat_eq (moved_row m 0x06 row) (moved_row m 0x06 method) ≡ b
-    step true is = eq-eqb (moved_row m 0x06 row) (moved_row m 0x06 method) (ap (moved_row m 0x06) (eqb-true row method is))
-    step false is = ne_eqb (moved_row m 0x06 row) (moved_row m 0x06 method) (λ e. eqb-false row method is (own e))
+same_row m row method own = search rules
 
 -- of a side of a machine
 module _ (side : MachineRow → ℕ) (other : MachineRow → ℕ) where
@@ -85,12 +81,7 @@ machine_alike : (m : Map) (method : ℕ) (side : MachineRow → ℕ) (r : Machin
     → (nat_eq (side (machine_image m r)) (moved_row m 0x06 method) ≡ nat_eq (moved_row m 0x06 (side r)) (moved_row m 0x06 method))
     → (live_machine m r ≡ true → moved_row m 0x06 (side r) ≡ moved_row m 0x06 method → side r ≡ method)
     → PassesAlike (λ (s : MachineRow). nat_eq (side s) (moved_row m 0x06 method)) (moved_machine m r) (nat_eq (side r) method)
-machine_alike m method side r is own = step (is_dropped m r.move_next || is_dropped m r.kickoff) refl
-  where
-    step : (b : Bool) → is_dropped m r.move_next || is_dropped m r.kickoff ≡ b
-        → PassesAlike (λ (s : MachineRow). nat_eq (side s) (moved_row m 0x06 method)) (cond b None (Some (machine_image m r))) (nat_eq (side r) method)
-    step true goes = tt
-    step false stays = is ∙ same_row m (side r) method (own (ap not stays))
+machine_alike m method side r is own = search rules
 
 kickoffs_moved : (m : Map) (machines : List MachineRow) (method : ℕ) → (offsets_in m method ≢ gone) → Each (FitsMachine m method) machines
     → Pairs (λ (a b : MachineRow). a.move_next ≢ b.move_next) machines

@@ -1,5 +1,5 @@
 -- A file moved by a map means at a kept offset's image the image of what the file meant.
-use Rattle.std.{proofs.Common.{◌≡◌, ℕ, ◌≤◌, ◌≢◌, ◌&&◌, Bool, true, false, cond, List, [], ◌∷◌, refl, sym, ◌∙◌, ap, subst, map}, specs.Prelude.{nat_eq}}
+use Rattle.std.{proofs.Common.{rules, ◌≡◌, ℕ, ◌≤◌, ◌≢◌, ◌&&◌, Bool, true, false, cond, List, [], ◌∷◌, refl, sym, ◌∙◌, ap, subst, map}, specs.Prelude.{nat_eq}}
 use Rattle.std.proofs.lemmas.Bool.{eqb-true, and_parts}
 use Rattle.ppdb_base.specs.Offsets.{gone, Rise, Kept, old_size}
 use Rattle.ppdb_maps.specs.Map.{Map, moved_row, offsets_in}
@@ -26,11 +26,7 @@ imported_moved m [] = refl
 imported_moved m (l ∷ ls) = ap (λ r. record { item = map (moved_import m) (live_imports m l.item.imports); customs = l.customs } ∷ r) (imported_moved m ls)
 
 scope_moved : (m : Map) (w : AnnotatedFile) (s : AnnotatedScope) → scope_meaning (moved_file m w) (scope_image m s) ≡ scope_image_meaning m s.method (scope_meaning w s)
-scope_moved m w s =
-    let imports : chain (map (with_item (moved_import_scope m)) w.imports) s.import ≡ map (with_item (moved_import_scope m)) (chain w.imports s.import) =
-    chain_moved m w.imports s.import in
-    ap (λ l. record (scope_image_meaning m s.method (scope_meaning w s)) { imports = l })
-    (ap (map imported) imports ∙ imported_moved m (chain w.imports s.import))
+scope_moved m w s = search (rules, chain_moved, imported_moved)
 
 scopes_moved : (m : Map) (w : AnnotatedFile) (method x : ℕ) (ss : List AnnotatedScope)
     → map (scope_meaning (moved_file m w)) (map (scope_image m) (scopes_at method x ss))

@@ -1,18 +1,15 @@
 -- The rows that a sound file names are rows.
-use Rattle.std.{proofs.Common.{◌≡◌, ℕ, zero, suc, ◌≤◌, ◌||◌, Bool, true, false, cond, List, [], ◌∷◌, map, flat_map, refl, subst, arith}, specs.Prelude.{nat_eq}}
-use Rattle.std.{specs.Prelude.{is_some}, specs.List.{filter}, proofs.lemmas.Bool.{eqb-false}}
+use Rattle.std.{proofs.Common.{rules, ℕ, ◌≤◌, Bool, List, [], ◌∷◌, map, flat_map, subst}, specs.List.{filter}}
 use Rattle.type_blobs.specs.{declared.types.TypeToken.{TypeToken}, declared.types.Modifier.{Modifier}, Spelling.{IsBody, IsBodyThere}}
 use Rattle.custom_info.specs.{AsyncStepping.{IsStep}, Kinds.{kind_of}, declared.kinds.Kind.{Kind}}
 use Rattle.custom_info.specs.declared.kinds.Kind.TheVariants as kinds
 use Rattle.custom_info.specs.declared.stepping.AsyncStep.{AsyncStep}
-use Rattle.ppdb_maps.specs.Map.{Map, is_dropped, signature_line, is_gone_row}
+use Rattle.ppdb_maps.specs.Map.{Map}
 use Rattle.ppdb_tables.specs.declared.rows.MachineRow.{MachineRow}
 use Rattle.ppdb_values.specs.declared.custom.{CustomBody.{CustomBody}, CustomBody.TheVariants.{Async, Hoisted, TypeDocuments, Unread}, CustomValue.{CustomValue}}
 use Rattle.ppdb_values.specs.declared.{file.FileValue.{FileValue}, file.MethodValue.{MethodValue}, import.ImportScopeValue.{ImportScopeValue}}
-use Rattle.ppdb_values.specs.declared.import.{ImportValue.{ImportValue}, ImportValue.TheVariants.{Namespace, AssemblyNamespace, Target, Xml, Alias, AssemblyAlias}}
-use Rattle.ppdb_values.specs.declared.{import.ImportValue.TheVariants.{NamespaceAlias, AssemblyNamespaceAlias, TargetAlias}, annotation.Annotation.{Annotation}}
-use Rattle.ppdb_values.specs.declared.scope.{ConstantValue.{ConstantValue}, ConstantBody.{ConstantBody}, ConstantBody.TheVariants.{Primitive, Enumerated, General}}
-use Rattle.ppdb_values.specs.declared.scope.ConstantBody.TheVariants.{Object}
+use Rattle.ppdb_values.specs.declared.{import.ImportValue.{ImportValue}, annotation.Annotation.{Annotation}, scope.ConstantValue.{ConstantValue}}
+use Rattle.ppdb_values.specs.declared.scope.ConstantBody.{ConstantBody}
 use Rattle.ppdb_values_sound_laws.specs.{Customs.{IsBodyOfKind}, Imports.{SoundImport}, Named.{count, HasType, type_limits}, Scopes.{SoundConstant, stored_body}}
 use Rattle.ppdb_merge_items.specs.{declared.file.AnnotatedScope.{AnnotatedScope}, declared.file.AnnotatedFile.{AnnotatedFile}, Each.{Each}, NamedRows.{Named, names}}
 use Rattle.ppdb_merge_items.specs.NamedRows.{names_some, in_token, in_body, in_constant, in_import, in_steps, all_named, live_file, live_scope, live_machine}
@@ -33,24 +30,13 @@ live_flat : {A B : Type 0} (live : A → Bool) (f : A → List B) (P : B → Typ
 live_flat live f P Q holds xs each = each_flat f P (filter live xs) (Each-filter Q (λ x. Each P (f x)) live (λ x is q. holds x q) xs each)
 
 some_there : (table row : ℕ) → row ≤ 16777215 → Each IsThere (names_some table row)
-some_there table row below = step (nat_eq row 0) refl
-  where
-    positive : (row : ℕ) → (row ≡ 0 → ⊥) → 1 ≤ row
-    positive zero none = absurd (none refl)
-    positive (suc row) none = omega arith
-
-    step : (b : Bool) → nat_eq row 0 ≡ b → Each IsThere (cond b [] (names table row ∷ []))
-    step true is = tt
-    step false is = ((positive row (eqb-false row 0 is), below), tt)
+some_there table row below = search rules
 
 token_there : (v : FileValue) (t : TypeToken) → HasType (most v) t → IsThere (in_token t)
 token_there v t has = (has.1.0, has.0.1)
 
 body_there : (v : FileValue) (b : ConstantBody) → IsBody (stored_body b) → IsBodyThere (type_limits (most v)) (stored_body b) → Each IsThere (in_body b)
-body_there v (Primitive code value) is there = tt
-body_there v (Enumerated code value target) is there = (token_there v target (is.2, there), tt)
-body_there v (General code target rest) is there = (token_there v target (is.1, there), tt)
-body_there v Object is there = tt
+body_there v b is there = search rules
 
 modifiers_there : (v : FileValue) (ms : List Modifier) → Each (λ (x : Modifier). HasType (most v) x.target) ms
     → Each IsThere (map (λ (x : Modifier). in_token x.target) ms)
@@ -63,15 +49,7 @@ constant_there v n sound = Each-append IsThere (map (λ (x : Modifier). in_token
     (body_there v n.item.body sound.body sound.body_there)
 
 import_there : (v : FileValue) (i : ImportValue) → SoundImport (most v) i → Each IsThere (in_import i)
-import_there v (Namespace namespace) sound = tt
-import_there v (AssemblyNamespace assembly namespace) sound = ((sound.0, sound.1), tt)
-import_there v (Target target) sound = (token_there v target sound, tt)
-import_there v (Xml alias namespace) sound = tt
-import_there v (Alias alias) sound = tt
-import_there v (AssemblyAlias alias assembly) sound = ((sound.0, sound.1), tt)
-import_there v (NamespaceAlias alias namespace) sound = tt
-import_there v (AssemblyNamespaceAlias alias assembly namespace) sound = ((sound.0, sound.1), tt)
-import_there v (TargetAlias alias target) sound = (token_there v target sound, tt)
+import_there v i sound = search rules
 
 steps_there : (v : FileValue) (steps : List AsyncStep) → Each (λ (s : AsyncStep). IsStep s × (s.method ≤ count (most v) 0x06)) steps
     → Each IsThere (map (λ (s : AsyncStep). names 0x06 s.method) steps)
@@ -90,19 +68,10 @@ record_there v kind (TypeDocuments rows) sound = tt
 record_there v kind (Unread bytes) sound = tt
 
 entry_there : (first : Bool) (m : Map) (w : AnnotatedFile) → w.entry ≤ 16777215 → Each IsThere (in_entry first (live_file m w))
-entry_there false m w below = tt
-entry_there true m w below = some_there 0x06 (cond (is_dropped m w.entry) 0 w.entry) (by_drop (is_dropped m w.entry))
-  where
-    by_drop : (b : Bool) → cond b 0 w.entry ≤ 16777215
-    by_drop true = omega arith
-    by_drop false = below
+entry_there first m w below = search rules
 
 live_small : (m : Map) (e : MethodValue) → e.signature ≤ 16777215 → live_signature m e ≤ 16777215
-live_small m e below = by (is_some (signature_line m e.method) || is_gone_row m 0x11 e.signature)
-  where
-    by : (b : Bool) → cond b 0 e.signature ≤ 16777215
-    by true = omega arith
-    by false = below
+live_small m e below = search rules
 
 pub named_rows_are_rows : NamedRowsAreRows
 named_rows_are_rows first m w sound below =

@@ -1,8 +1,8 @@
 -- At a kept offset's image the last point that is not after it is the image of the last one not after the kept offset.
-use Rattle.std.proofs.Common.{◌≡◌, ℕ, ◌<◌, ◌≤◌, ◌⊎◌, ◌≢◌, Bool, true, false, cond, List, [], ◌∷◌, Some, refl, sym, ◌∙◌, ap, arith, inl, inr, suc}
+use Rattle.std.proofs.Common.{rules, ◌≡◌, ℕ, ◌<◌, ◌≤◌, ◌⊎◌, ◌≢◌, Bool, true, false, cond, List, [], ◌∷◌, Some, refl, sym, ◌∙◌, ap, arith, inl, inr, suc}
 use Rattle.std.{specs.Prelude.{nat_le}, specs.List.{filter}, specs.Option.{option_map}, proofs.lemmas.Bool.{cases_lt, le-leb, lt-leb}}
-use Rattle.ppdb_base.{specs.Offsets.{Offsets, every, gone, lined, Rise, Kept, moved, is_kept_between, old_size}, proofs.Moved.{moved_kept, moved_never_falls}}
-use Rattle.ppdb_base.proofs.Moved.{moved_passes, keeps_between, kept_below}
+use Rattle.ppdb_base.{specs.Offsets.{Offsets, gone, Rise, Kept, moved, is_kept_between, old_size}, proofs.Moved.{moved_kept, moved_never_falls, moved_passes}}
+use Rattle.ppdb_base.proofs.Moved.{keeps_between, kept_below}
 use Rattle.sequence_points.specs.{declared.point.Point.{Point}, MovedPoints.{moved_points, first_offset}}
 use Rattle.ppdb_merge_moved.specs.FitsMethod.{PointsRise}
 use Rattle.ppdb_merge_items.specs.AnnotatedMeaning.{last_of, point_at}
@@ -16,11 +16,7 @@ not_after x ps = filter (λ (p : Point). nat_le p.offset x) ps
 -- a point that a kept offset is at or after has a kept offset before the next point
 kept_near : (o : Offsets) → Rise o → (x y from to : ℕ) → Kept o x y → from ≤ x → from < to → to ≤ old_size o → (x < to) ⊎ (to ≡ old_size o)
     → is_kept_between o from to ≡ true
-kept_near every rise x y from to kept le less within here =
-    keeps_between every rise from to from from (inl (record { step = from; inside = omega arith; old = omega arith; new = omega arith })) (omega arith) less
-kept_near gone rise x y from to kept le less within here = absurd kept
-kept_near (lined runs old new) rise x y from to kept le less within here = keeps_between (lined runs old new) rise from to x y kept le
-    (elim here [ inl h ↦ h | inr h ↦ omega (arith, h, kept_below runs old new rise x y kept) ])
+kept_near o rise x y from to kept le less within here = search (rules, keeps_between, kept_below)
 
 rise_within : (end : ℕ) (ps : List Point) → PointsRise end ps → first_offset end ps ≤ end
 rise_within end [] rise = omega arith
@@ -48,10 +44,6 @@ after_new o rise live x y kept (p ∷ ps) fits less =
         let past : y < moved o p.offset = moved_passes o rise live x y p.offset kept less (omega (arith, fits.0, rise_within (old_size o) ps fits.1)) in
         rw (lt-leb (moved o p.offset) y past) none
 
-last-cons : (p : Point) (xs : List Point) (z : Point) → last_of xs ≡ Some z → last_of (p ∷ xs) ≡ Some z
-last-cons p [] z is = absurd (cc)
-last-cons p (x ∷ xs) z is = is
-
 -- some point of the list is not after the offset
 some_last : (x : ℕ) (p : Point) (ps : List Point) → p.offset ≤ x → (z : Point) × (point_at x (p ∷ ps) ≡ Some z)
 some_last x p ps le = rw (le-leb p.offset x le) (last_there p (not_after x ps))
@@ -63,11 +55,7 @@ some_last x p ps le = rw (le-leb p.offset x le) (last_there p (not_after x ps))
 -- a point before others that are not after the offset does not count
 skip : (b : Bool) (o : Offsets) (p : Point) (y : ℕ) (rest : List Point) (z : Point) → point_at y rest ≡ Some z
     → point_at y (cond b (p ∷ rest) rest) ≡ Some z
-skip false o p y rest z is = is
-skip true o p y rest z is = elim (cases_lt y p.offset) [
-  | inl less ↦ rw (lt-leb p.offset y less) is
-  | inr le ↦ rw (le-leb p.offset y le) (last-cons p (not_after y rest) z is)
-]
+skip b o p y rest z is = search rules
 
 pub points_kept : (o : Offsets) → Rise o → (o ≢ gone) → (x y : ℕ) → Kept o x y → x ≤ old_size o → (ps : List Point) → PointsRise (old_size o) ps
     → point_at y (moved_points o ps) ≡ option_map (moved_point o) (point_at x ps)

@@ -1,6 +1,6 @@
 -- The points that stay rise, and their offsets are offsets.
-use Rattle.std.{proofs.Common.{◌≡◌, ◌≢◌, ℕ, zero, suc, ◌<◌, ◌≤◌, Bool, true, false, cond, List, [], ◌∷◌, refl, arith, inl, length, get_or}, specs.Prelude.{All}}
-use Rattle.std.{specs.Prelude.{AllPairs}, proofs.lemmas.List.Elements.{All-head}, proofs.lemmas.List.Kept.{AllPairs-cons}}
+use Rattle.std.proofs.Common.{rules, ◌≡◌, ◌≢◌, ℕ, zero, suc, ◌<◌, ◌≤◌, Bool, true, false, cond, List, [], ◌∷◌, refl, arith, inl, length, get_or}
+use Rattle.std.{specs.Prelude.{All, AllPairs}, proofs.lemmas.List.Elements.{All-head}, proofs.lemmas.List.Kept.{AllPairs-cons}}
 use Rattle.sequence_points.{proofs.Follows.{pairs-head, pairs-tail}, specs.declared.point.Point.{Point}, specs.MovedPoints.{moved_points, first_offset}}
 use Rattle.ppdb_base.specs.{Offsets.{Offsets, every, gone, lined, Rise, KeepsBetween, moved, old_size, is_kept_between}, declared.offsets.Run.{Run}}
 use Rattle.ppdb_base.proofs.Moved.{moves_right, moved_is, moved_kept, moved_never_falls, moved_passes, is_kept}
@@ -35,12 +35,7 @@ size_moved runs old new rise = moved_is (lined runs old new) rise old new (recor
 
 -- without a line it is where it was
 pub itself_moved : Rise every → (x : ℕ) → x < 4294967296 → moved every x ≡ x
-itself_moved rise x small = moved_is every rise x x (record {
-  stop = x;
-  stops = inl (record { step = x; inside = small; old = omega arith; new = omega arith });
-  after = omega arith;
-  least = λ other image moves le. le;
-})
+itself_moved rise x small = search rules
 
 -- ---- the points that stay
 

@@ -1,5 +1,5 @@
 -- The images of rows are rows.
-use Rattle.std.proofs.Common.{◌≡◌, ℕ, zero, suc, ◌<◌, ◌≤◌, ◌&&◌, Bool, true, false, cond, List, [], ◌∷◌, Option, Some, None, refl, sym, ◌∙◌, ap, subst, arith}
+use Rattle.std.proofs.Common.{rules, ◌≡◌, ℕ, zero, suc, ◌<◌, ◌≤◌, ◌&&◌, Bool, true, false, cond, List, [], ◌∷◌, Option, Some, None, refl, subst, arith}
 use Rattle.std.{specs.Prelude.{nat_eq, IfSome, unwrap_or, get_or}, specs.List.{find, repeat, AllByRecursion}, specs.Option.{option_map}, proofs.lemmas.Bool.{ne_eqb}}
 use Rattle.ppdb_maps.specs.{declared.entries.RowLine.{RowLine}, declared.entries.SignatureImage.{SignatureImage}, Map.{Map, moved_row, moved_signature, row_within}}
 use Rattle.ppdb_maps.specs.{Map.{row_line, signature_line, count_of, is_dropped}, Readable.{IsReadable, IsRowOf, IsSignatureOf}}
@@ -43,27 +43,16 @@ within_in m ready table row image above below is = by_drop (nat_eq table 0x06 &&
     by_drop false e = by_count (count_of m table) e
 
 pub moved_is_image : (m : Map) (table row image : ℕ) → 1 ≤ row → row_within m table row ≡ Some image → moved_row m table row ≡ image
-moved_is_image m table row image above is =
-    ap (λ o. cond (nat_eq row 0) 0 (unwrap_or o 0)) is ∙ ap (λ b. cond b 0 image) (ne_eqb row 0 (λ e. absurd (omega (arith, above, e))))
+moved_is_image m table row image above is = search rules
 
 -- a row that has an image in its table moves to a row
 pub row_moved : (m : Map) → IsReadable m → (table row : ℕ) → 1 ≤ row → row ≤ 16777215 → IsWithin m table row
     → (1 ≤ moved_row m table row) × (moved_row m table row ≤ 16777215)
-row_moved m ready table row above below image =
-    subst (λ n. (1 ≤ n) × (n ≤ 16777215)) (sym (moved_is_image m table row image.0 above image.1)) (within_in m ready table row image.0 above below image.1)
+row_moved m ready table row above below image = search (rules, moved_is_image, within_in)
 
 -- and a number that may be 0 for none, to a row or to none
 pub some_moved : (m : Map) → IsReadable m → (table row : ℕ) → row ≤ 16777215 → moved_row m table row ≤ 16777215
-some_moved m ready table zero below = omega arith
-some_moved m ready table (suc row) below = by (row_within m table (suc row)) refl
-  where
-    by : (o : Option ℕ) → row_within m table (suc row) ≡ o → moved_row m table (suc row) ≤ 16777215
-    by None is = subst (λ (o : Option ℕ). cond (nat_eq (suc row) 0) 0 (unwrap_or o 0) ≤ 16777215) (sym is) (none (nat_eq (suc row) 0))
-      where
-        none : (b : Bool) → cond b 0 0 ≤ 16777215
-        none true = omega arith
-        none false = omega arith
-    by (Some image) is = (row_moved m ready table (suc row) (omega arith) below (image, is)).1
+some_moved m ready table row below = search (rules, row_moved)
 
 -- the row of a `signature` line
 signature_small : (m : Map) → IsReadable m → (method new : ℕ) → signature_line m method ≡ Some new → new ≤ 16777215

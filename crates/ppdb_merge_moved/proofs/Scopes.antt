@@ -1,7 +1,7 @@
 -- The scopes that hold a kept offset move to the scopes that hold its image, and no others do.
-use Rattle.std.proofs.Common.{◌≡◌, ℕ, ◌≤◌, ◌≢◌, ◌&&◌, Bool, true, false, cond, List, Some, None, refl, sym, ◌∙◌, ap, arith, inl, inr, subst, map}
-use Rattle.std.{specs.Prelude.{nat_lt, nat_eq}, specs.List.{filter_map}, proofs.lemmas.Bool.{cases_lt, le-leb, lt-leb, lt-ltb, le-ltb, eq-eqb, ne_eqb, eqb-true}}
-use Rattle.std.proofs.lemmas.Bool.{eqb-false, ltb-false, not-true, and_parts, both_ways}
+use Rattle.std.proofs.Common.{rules, ◌≡◌, ℕ, ◌≤◌, ◌≢◌, ◌&&◌, Bool, true, false, cond, List, Some, None, refl, sym, ◌∙◌, ap, arith, inl, inr, subst, map}
+use Rattle.std.{specs.Prelude.{nat_eq}, specs.List.{filter_map}, proofs.lemmas.Bool.{le-leb, lt-leb, lt-ltb, le-ltb, eq-eqb, ne_eqb, eqb-true, eqb-false, and_parts}}
+use Rattle.std.proofs.lemmas.Bool.{both_ways}
 use Rattle.ppdb_base.{specs.Offsets.{Offsets, gone, Rise, Kept, moved, old_size}, proofs.Moved.{moved_against}}
 use Rattle.ppdb_maps.specs.Map.{Map, moved_row, offsets_in}
 use Rattle.custom_info.specs.declared.slots.Range.{Range}
@@ -24,13 +24,7 @@ holds_kept o rise live x y kept at r order within =
 
 -- an empty range holds nothing
 pub empty_holds : (y : ℕ) (r : Range) → is_empty r ≡ true → holds y r ≡ false
-empty_holds y r empty = elim (cases_lt r.start r.end) [
-  | inl less ↦ absurd (omega (arith, ltb-false r.start r.end (not-true (nat_lt r.start r.end) empty)))
-  | inr le ↦ elim (cases_lt y r.start) [
-    | inl before ↦ rw (lt-leb r.start y before) refl
-    | inr from ↦ rw (le-leb r.start y from, le-ltb y r.end (omega arith)) refl
-  ]
-]
+empty_holds y r empty = search rules
 
 -- a scope stays as it holds the offset, and goes only where it does not
 scope_alike : (m : Map) → (method : ℕ) → Rise (offsets_in m method) → (offsets_in m method ≢ gone) → (x y : ℕ) → Kept (offsets_in m method) x y

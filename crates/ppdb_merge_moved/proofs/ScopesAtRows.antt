@@ -1,5 +1,5 @@
 -- Scopes with the records on their rows, one more at a time; and as the value has them.
-use Rattle.std.proofs.Common.{◌≡◌, ℕ, suc, ◌+◌, ◌-◌, ◌<◌, ◌≤◌, ◌++◌, List, [], ◌∷◌, length, take, map, refl, sym, ap, ◌∙◌, arith, append_assoc}
+use Rattle.std.proofs.Common.{rules, ◌≡◌, ℕ, suc, ◌+◌, ◌-◌, ◌<◌, ◌≤◌, ◌++◌, List, [], ◌∷◌, length, take, map, refl, sym, ap, ◌∙◌, arith, append_assoc}
 use Rattle.std.{specs.List.{sum_by, enumerate_from}, proofs.lemmas.List.{length-append, take_at}, proofs.lemmas.List.Sums.{sum_by-append, sum_by-cons}}
 use Rattle.ppdb_values.specs.declared.{file.FileValue.{FileValue}, annotation.Custom.{Custom}, annotation.Annotation.{Annotation}, scope.ScopeValue.{ScopeValue}}
 use Rattle.ppdb_values.specs.{declared.scope.VariableValue.{VariableValue}, declared.scope.ConstantValue.{ConstantValue}, Meaning.{annotated_on, annotated_from}}
@@ -111,8 +111,4 @@ pub scope_is : (S V C : ℕ → List Custom) (row variable constant : ℕ) (s : 
     → customs ≡ S row → variables ≡ annotated_by V variable s.variables → constants ≡ annotated_by C constant s.constants
     → let n : AnnotatedScope = record { method = s.method; import = s.import; range = s.range; customs = customs; variables = variables; constants = constants }
     in n ≡ annotated_scope_by S V C row variable constant s
-scope_is S V C row variable constant s customs variables constants c v k =
-    ap (λ (t : List Custom × List (Annotation VariableValue)
-    × List (Annotation ConstantValue)). let
-    n : AnnotatedScope = record { method = s.method; import = s.import; range = s.range; customs = t.0; variables = t.1; constants = t.2 } in n)
-    (let e : (customs, variables, constants) ≡ (S row, annotated_by V variable s.variables, annotated_by C constant s.constants) = cc in e)
+scope_is S V C row variable constant s customs variables constants c v k = search rules

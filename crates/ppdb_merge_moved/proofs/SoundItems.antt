@@ -1,7 +1,7 @@
 -- The items of a sound file are sound after they have moved.
-use Rattle.std.proofs.Common.{◌≡◌, ◌≢◌, ℕ, ◌<◌, ◌≤◌, ◌⊎◌, Bool, true, false, cond, List, [], ◌∷◌, Option, Some, None, length, map, refl, sym, ◌∙◌, ap, subst, arith}
-use Rattle.std.{proofs.Common.{inl, inr}, specs.Prelude.{nat_eq, nat_le, nat_lt, All, IfSome, get_or}, specs.List.{filter, repeat}, specs.Option.{option_map}}
-use Rattle.std.proofs.lemmas.{Bool.{and_parts, cases_lt, eqb-true, le-leb, leb-true, ltb-true, not-false}, List.Elements.{All-head, All-tail}}
+use Rattle.std.proofs.Common.{rules, ◌≡◌, ◌≢◌, ℕ, ◌<◌, ◌≤◌, ◌⊎◌, Bool, true, false, cond, List, [], ◌∷◌, Option, Some, None, length, map, refl, sym, ◌∙◌, ap, subst}
+use Rattle.std.{proofs.Common.{arith, inl, inr}, specs.Prelude.{nat_eq, nat_lt, All, IfSome, get_or}, specs.List.{filter, repeat}, specs.Option.{option_map}}
+use Rattle.std.proofs.lemmas.{Bool.{cases_lt, ltb-true, not-false}, List.Elements.{All-head, All-tail}}
 use Rattle.ppdb_base.{specs.Offsets.{Offsets, every, gone, lined, Rise, Kept, moved, old_size}, proofs.Moved.{moved_never_falls}}
 use Rattle.type_blobs.specs.{declared.types.TypeToken.{TypeToken}, declared.types.Modifier.{Modifier}, Types.{rows_of, tag_of}, Constants.{is_enumerable, is_string}}
 use Rattle.type_blobs.specs.{Constants.{size_of}, Spelling.{IsBody, IsBodyThere, IsPrimitive}}
@@ -24,8 +24,8 @@ use Rattle.ppdb_merge_items.{specs.NamedRows.{live_constants, with_live_body}, s
 use Rattle.ppdb_merge_items.proofs.{Lists.{Each-unmap, Pairs-map, Pairs-unmap}, Parts.{live_constant}}
 use Rattle.ppdb_merge_moved.{proofs.Lists.{Pairs-filter}, specs.Fits.{IsImaged, KeepsStep, KeepsAsync, EndsWithin, AreWithin}, specs.Moved.{moved_range, is_empty}}
 use Rattle.ppdb_merge_moved.specs.Moved.{moved_slot, moved_step, moved_body, moved_token, moved_modifier, moved_constant_body, moved_constant, moved_import, row_in}
-use Rattle.ppdb_merge_moved.{specs.Moved.{table_in}, proofs.Elements.{each_parts}, proofs.Means.{kept_within}, proofs.RisingPoints.{all_each, size_moved}}
-use Rattle.ppdb_merge_moved.proofs.{RisingPoints.{itself_moved}, ImageRows.{StaysOrCrosses, image_cases, image_in, within}, RowImages.{row_moved, found_holds}}
+use Rattle.ppdb_merge_moved.proofs.{Elements.{each_parts}, Means.{kept_within}, RisingPoints.{all_each, size_moved, itself_moved}, ImageRows.{StaysOrCrosses}}
+use Rattle.ppdb_merge_moved.proofs.{ImageRows.{image_cases, image_in, within}, RowImages.{row_moved, found_holds}}
 
 -- a value whose type system has as many rows as may be
 abbrev pub most : FileValue → FileValue
@@ -93,11 +93,7 @@ types_stay m ready t to image is_type is = by (image_cases m ready t.table t.row
     by (inr crossed) = by_line crossed.line crossed.from crossed.into crossed.there.2
 
 token_moved : (m : Map) → IsReadable m → (v u : FileValue) (t : TypeToken) → HasType (most v) t → IsImaged m (in_token t) → HasType (most u) (moved_token m t)
-token_moved m ready v u t has image =
-    let row = image_in m ready t.table t.row image.0 image.1 has.1.0 has.0.1 image.2 in
-    let types = types_stay m ready t image.0 image.1 has.0.0 image.2 in
-    subst (λ i. HasType (most u) (record { table = table_in i; row = row_in i })) (sym image.2)
-    ((types, row.1), (row.0, within_types u image.0 image.1 types row.1))
+token_moved m ready v u t has image = search (rules, image_in, types_stay, within_types)
 
 assembly_moved : (m : Map) → IsReadable m → (v u : FileValue) (row : ℕ) → HasRow (most v) 0x23 row → IsImaged m (names 0x23 row)
     → HasRow (most u) 0x23 (row_in (row_image m 0x23 row))
@@ -161,17 +157,7 @@ constant_moved m ready v u n sound images =
 
 -- a value of an enumeration's underlying type is one of a primitive type
 value_kept : (code : ℕ) (value : List ℕ) → is_enumerable code ≡ true → length value ≡ size_of code → IsPrimitive (is_string code) code value
-value_kept code value enumerable size = by_string (is_string code) refl
-  where
-    from : 0x02 ≤ code
-    from = leb-true 0x02 code (and_parts (nat_le 0x02 code) (nat_le code 0x0b) enumerable).0
-
-    to : code ≤ 0x0b
-    to = leb-true code 0x0b (and_parts (nat_le 0x02 code) (nat_le code 0x0b) enumerable).1
-
-    by_string : (b : Bool) → is_string code ≡ b → IsPrimitive b code value
-    by_string true is = absurd (omega (arith, to, eqb-true code 0x0e is))
-    by_string false is = record { primitive = rw (le-leb 0x02 code from, le-leb code 0x0d (omega (arith, to))) refl; size = size }
+value_kept code value enumerable size = search rules
 
 -- a constant of an enumeration that is gone is sound as one of a primitive type
 pub live_kept : (m : Map) (v : FileValue) (c : ConstantValue) → SoundConstant (most v) c → SoundConstant (most v) (with_live_body m c)
@@ -335,24 +321,4 @@ small_after m ready method rise x small within = small_in (offsets_in m method) 
 -- what a body says of its kind is the same where the documents are as many
 pub body_same : (v u : FileValue) → (count (most v) 0x30 ≡ count (most u) 0x30) → (kind : Kind) (body : CustomBody) → IsBodyOfKind (most v) kind body
     → IsBodyOfKind (most u) kind body
-body_same v u same kinds.Async (Async handler steps) sound = sound
-body_same v u same kinds.Hoisted (Hoisted slots) sound = sound
-body_same v u same kinds.TypeDocuments (TypeDocuments documents) sound = λ k d less.
-    ((sound k d less).0, subst (λ n. get_or documents k d ≤ n) same (sound k d less).1)
-body_same v u same kinds.Free (Unread content) sound = tt
-body_same v u same kinds.Unknown (Unread content) sound = tt
-body_same v u same kinds.Async (Hoisted slots) sound = absurd sound
-body_same v u same kinds.Async (TypeDocuments rows) sound = absurd sound
-body_same v u same kinds.Async (Unread content) sound = absurd sound
-body_same v u same kinds.Hoisted (Async handler steps) sound = absurd sound
-body_same v u same kinds.Hoisted (TypeDocuments rows) sound = absurd sound
-body_same v u same kinds.Hoisted (Unread content) sound = absurd sound
-body_same v u same kinds.TypeDocuments (Async handler steps) sound = absurd sound
-body_same v u same kinds.TypeDocuments (Hoisted slots) sound = absurd sound
-body_same v u same kinds.TypeDocuments (Unread content) sound = absurd sound
-body_same v u same kinds.Free (Async handler steps) sound = absurd sound
-body_same v u same kinds.Free (Hoisted slots) sound = absurd sound
-body_same v u same kinds.Free (TypeDocuments rows) sound = absurd sound
-body_same v u same kinds.Unknown (Async handler steps) sound = absurd sound
-body_same v u same kinds.Unknown (Hoisted slots) sound = absurd sound
-body_same v u same kinds.Unknown (TypeDocuments rows) sound = absurd sound
+body_same v u same kind body sound = search rules

@@ -1,14 +1,13 @@
 -- A sound file that a map fits is sound, part by part, after it has moved.
-use Rattle.std.proofs.Common.{◌≡◌, ◌≢◌, ℕ, zero, suc, ◌+◌, ◌*◌, ◌<◌, ◌≤◌, ◌&&◌, ◌||◌, not, Bool, true, false, cond, List, [], ◌∷◌, Option, Some, None, map, length}
-use Rattle.std.{proofs.Common.{refl, sym, ◌∙◌, ap, subst, arith, inl, inr}, specs.Prelude.{bytes_eq, nat_eq, nat_lt, ◌==◌, IsSome, Contains, unwrap_or, position}}
-use Rattle.std.{specs.List.{filter}, specs.Option.{option_map}, proofs.lemmas.Bool.{eqb-true, ltb-true, not-false, both_ways, and_parts}}
-use Rattle.std.proofs.lemmas.{Slice.Eq.{bytes_eq-Decides}, List.{length-map}}
+use Rattle.std.proofs.Common.{rules, ◌≡◌, ◌≢◌, ℕ, suc, ◌+◌, ◌*◌, ◌<◌, ◌≤◌, ◌&&◌, not, Bool, true, false, cond, List, [], ◌∷◌, Option, Some, None, map, length, refl}
+use Rattle.std.{proofs.Common.{sym, ◌∙◌, ap, subst, arith, inl, inr}, specs.Prelude.{bytes_eq, nat_lt, ◌==◌, IsSome, Contains, unwrap_or, position}}
+use Rattle.std.{specs.List.{filter}, specs.Option.{option_map}, proofs.lemmas.Bool.{ltb-true, not-false, and_parts}, proofs.lemmas.Slice.Eq.{bytes_eq-Decides}}
+use Rattle.std.proofs.lemmas.List.{length-map}
 use Rattle.ppdb_base.specs.Offsets.{gone, Rise, moved, old_size, is_kept_between}
 use Rattle.sequence_points.specs.{declared.point.Point.{Point}, MovedPoints.{moved_points, first_offset}}
 use Rattle.ppdb_maps.specs.{declared.entries.CrossLine.{CrossLine}, declared.image.RowImage.{RowImage}, declared.image.RowImage.TheVariants.{Row}, Forms.{Crosses}}
-use Rattle.ppdb_maps.specs.{Forms.{IsTypeTable}, Map.{Map, row_image, row_within, moved_row, offsets_in, is_dropped, method_line, is_gone_row, leaves_table}}
-use Rattle.ppdb_maps.specs.Readable.{IsReadable}
-use Rattle.ppdb_tables.specs.{declared.rows.MachineRow.{MachineRow}, Parents.{coded_in}, RawTables.{row_at}}
+use Rattle.ppdb_maps.specs.{Forms.{IsTypeTable}, Map.{Map, row_image, row_within, moved_row, offsets_in, is_dropped, method_line}, Readable.{IsReadable}}
+use Rattle.ppdb_tables.specs.{declared.rows.MachineRow.{MachineRow}, Parents.{coded_in}}
 use Rattle.row_layout.specs.Columns.{parent_tables}
 use Rattle.ppdb_values.specs.declared.{custom.CustomValue.{CustomValue}, file.FileValue.{FileValue}, file.MethodValue.{MethodValue}}
 use Rattle.ppdb_values.specs.declared.{file.DocumentValue.{DocumentValue}, import.ImportScopeValue.{ImportScopeValue}, import.ImportValue.{ImportValue}}
@@ -16,8 +15,7 @@ use Rattle.ppdb_values.specs.{Chains.{NeverEnds, parent_at, ancestor_of}, declar
 use Rattle.ppdb_values.specs.declared.scope.VariableValue.{VariableValue}
 use Rattle.custom_info.specs.{Kinds.{kind_of, source_link}, declared.kinds.Kind.{Kind}}
 use Rattle.custom_info.specs.declared.kinds.Kind.TheVariants as kinds
-use Rattle.ppdb_values.specs.{Parts.{is_at, is_link}, declared.custom.CustomBody.{CustomBody}, declared.custom.CustomBody.TheVariants.{Async, Hoisted}}
-use Rattle.ppdb_values.specs.{declared.custom.CustomBody.TheVariants.{TypeDocuments, Unread}, Rules.{StandsOn}, Ranges.{ComesAfter, IsInOrAfter}}
+use Rattle.ppdb_values.specs.{Parts.{is_at, is_link}, declared.custom.CustomBody.TheVariants.{Unread}, Rules.{StandsOn}, Ranges.{ComesAfter, IsInOrAfter}}
 use Rattle.ppdb_values.proofs.Mapped.{row_map}
 use Rattle.ppdb_values_sound_laws.specs.{Customs.{SoundCustom, IsBodyOfKind}, Methods.{SoundMethod, SoundPoint}, Named.{count, HasRow}, Sound.{SoundMachine}}
 use Rattle.ppdb_values_sound_laws.specs.{Scopes.{SoundVariable, SoundConstant}, Imports.{SoundImport, SoundImportScope}}
@@ -56,11 +54,7 @@ gone_of : (m : Map) (method : ℕ) → is_dropped m method ≡ true → offsets_
 gone_of m method is = ap (λ b. cond b gone (line_offsets (method_line m method))) is
 
 live_of : (m : Map) (method : ℕ) → is_dropped m method ≡ false → offsets_in m method ≢ gone
-live_of m method is e = by_line _ (sym (ap (λ b. cond b gone (line_offsets (method_line m method))) is) ∙ e)
-  where
-    by_line : (o : Option _) → line_offsets o ≡ gone → ⊥
-    by_line None e = cc
-    by_line (Some line) e = cc
+live_of m method is e = search rules
 
 -- a record on an item is sound for another file with as many documents
 note_kept : (v u : FileValue) → (count (most v) 0x30 ≡ count (most u) 0x30) → (table : ℕ) (c : Custom) → SoundNote (most v) table c → SoundNote (most u) table c
@@ -71,8 +65,7 @@ notes_kept : (v u : FileValue) → (count (most v) 0x30 ≡ count (most u) 0x30)
 notes_kept v u same table cs each = Each-weaker (SoundNote (most v) table) (SoundNote (most u) table) (note_kept v u same table) cs each
 
 ancestors_same : (f g : ℕ → ℕ) → ((row : ℕ) → f row ≡ g row) → (row steps : ℕ) → ancestor_of f row steps ≡ ancestor_of g row steps
-ancestors_same f g same row zero = refl
-ancestors_same f g same row (suc steps) = ap (λ r. ancestor_of f r steps) (same row) ∙ ancestors_same f g same (g row) steps
+ancestors_same f g same row steps = search rules
 
 never_same : (f g : ℕ → ℕ) → ((row : ℕ) → f row ≡ g row) → (row : ℕ) → NeverEnds f row → NeverEnds g row
 never_same f g same row never steps e = never steps (ancestors_same f g same row steps ∙ e)
@@ -88,9 +81,7 @@ module _ (first : Bool) (m : Map) (w : AnnotatedFile) (ready : IsReadable m) (so
   rise = offsets_rise m ready
 
   same_documents : count (most old) 0x30 ≡ count (most new) 0x30
-  same_documents = length-map w.documents (λ (n : Annotation DocumentValue). n.item)
-      ∙ sym (length-map (map (with_item (moved_document m)) w.documents) (λ (n : Annotation DocumentValue). n.item)
-      ∙ length-map w.documents (with_item (moved_document m)))
+  same_documents = search (rules, length-map)
 
   images : NamedParts (IsImaged m) first m w
   images = named_parts (IsImaged m) first m w fits.images
@@ -139,15 +130,7 @@ module _ (first : Bool) (m : Map) (w : AnnotatedFile) (ready : IsReadable m) (so
       step false rest = rest
 
   stays_live : (e q : MethodValue) → moved_method m e ≡ Some q → is_dropped m e.method ≡ false
-  stays_live e q is = by_drop (is_dropped m e.method) refl
-    where
-      by_drop : (b : Bool) → is_dropped m e.method ≡ b → b ≡ false
-      by_drop false drop = refl
-      by_drop true drop = absurd
-          (none_some (sym (ap (with_points m e) (ap (λ o. moved_points o e.points) (gone_of m e.method drop) ∙ no_points e.points)) ∙ is))
-        where
-          none_some : ◌≡◌ {A = Option MethodValue} None (Some q) → ⊥
-          none_some e = cc
+  stays_live e q is = search (rules, gone_of, no_points)
 
   method_moved : (e q : MethodValue) → moved_method m e ≡ Some q → MethodFacts e → SoundMethod (most new) q
   method_moved e q is facts = by_points (moved_points (offsets_in m e.method) e.points) refl is
@@ -173,11 +156,7 @@ module _ (first : Bool) (m : Map) (w : AnnotatedFile) (ready : IsReadable m) (so
       })
 
   method_row : (e q : MethodValue) → moved_method m e ≡ Some q → q.method ≡ moved_row m 0x06 e.method
-  method_row e q is = by_points (moved_points (offsets_in m e.method) e.points) is
-    where
-      by_points : (ps : List Point) → with_points m e ps ≡ Some q → q.method ≡ moved_row m 0x06 e.method
-      by_points [] eq = absurd (cc)
-      by_points (p ∷ ps) eq = sym (ap (λ (r : MethodValue). r.method) (some_of _ q eq))
+  method_row e q is = search rules
 
   method_facts : Each MethodFacts w.methods
   method_facts = each_of_four (SoundMethod (most old)) _ _ _ MethodFacts w.methods
@@ -224,16 +203,7 @@ module _ (first : Bool) (m : Map) (w : AnnotatedFile) (ready : IsReadable m) (so
     is : scope_image m s ≡ t
 
   scope_stays : (s t : AnnotatedScope) → moved_scope m s ≡ Some t → Stays s t
-  scope_stays s t eq = by_range (is_empty (scope_image m s).range) refl eq
-    where
-      live_by : is_empty (scope_image m s).range ≡ false → (b : Bool) → is_dropped m s.method ≡ b → b ≡ false
-      live_by filled false drop = refl
-      live_by filled true drop = absurd
-          (both_ways (is_empty (scope_image m s).range) filled (ap (λ o. is_empty (moved_range o s.range)) (gone_of m s.method drop)))
-
-      by_range : (b : Bool) → is_empty (scope_image m s).range ≡ b → cond b None (Some (scope_image m s)) ≡ Some t → Stays s t
-      by_range true empty eq = absurd (cc)
-      by_range false filled eq = record { live = live_by filled (is_dropped m s.method) refl; filled = filled; is = some_of (scope_image m s) t eq }
+  scope_stays s t eq = search rules
 
   imports_as_many : count (most old) 0x35 ≡ count (most new) 0x35
   imports_as_many = lengths w.imports
@@ -269,9 +239,7 @@ module _ (first : Bool) (m : Map) (w : AnnotatedFile) (ready : IsReadable m) (so
   slot_apart : (s : AnnotatedScope) → ScopeFacts s → is_dropped m s.method ≡ false → (v u : Annotation VariableValue)
       → HasSlot m s.method v × Contains s.variables v → HasSlot m s.method u × Contains s.variables u → v.item.slot ≢ u.item.slot
       → (moved_variable m s.method v.item).slot ≢ (moved_variable m s.method u.item).slot
-  slot_apart s facts live v u has also apart same =
-      let image : has.0.0 ≡ also.0.0 = sym (ap (λ o. unwrap_or o 0) has.0.1) ∙ same ∙ ap (λ o. unwrap_or o 0) also.0.1 in
-      apart (fits.slots_apart s s v u has.0.0 facts.is_in facts.is_in (ap not live) refl has.1 also.1 has.0.1 (also.0.1 ∙ ap Some (sym image)))
+  slot_apart s facts live v u has also apart same = search rules
 
   scope_image_sound : (s : AnnotatedScope) → ScopeFacts s → is_dropped m s.method ≡ false → is_empty (scope_image m s).range ≡ false
       → SoundAnnotatedScope (most new) (scope_image m s)
@@ -385,14 +353,7 @@ module _ (first : Bool) (m : Map) (w : AnnotatedFile) (ready : IsReadable m) (so
   parent_kept : (row : ℕ)
       → parent_at (λ (n : Annotation ImportScopeValue). n.item.parent) (map (with_item (moved_import_scope m)) w.imports) row
       ≡ parent_at (λ (n : Annotation ImportScopeValue). n.item.parent) w.imports row
-  parent_kept row = ap (λ o. unwrap_or (option_map (λ (n : Annotation ImportScopeValue). n.item.parent) o) 0)
-      (row_map (with_item (moved_import_scope m)) w.imports row) ∙ of_item (row_at w.imports row)
-    where
-      of_item : (o : Option (Annotation ImportScopeValue))
-          → unwrap_or (option_map (λ (n : Annotation ImportScopeValue). n.item.parent) (option_map (with_item (moved_import_scope m)) o)) 0
-          ≡ unwrap_or (option_map (λ (n : Annotation ImportScopeValue). n.item.parent) o) 0
-      of_item None = refl
-      of_item (Some n) = refl
+  parent_kept row = search (rules, row_map)
 
   -- ---- state machines
 
@@ -411,14 +372,7 @@ module _ (first : Bool) (m : Map) (w : AnnotatedFile) (ready : IsReadable m) (so
     starts : s.kickoff ≡ moved_row m 0x06 r.kickoff
 
   machine_stays : (r s : MachineRow) → moved_machine m r ≡ Some s → MachineStays r s
-  machine_stays r s eq = by_drop (is_dropped m r.move_next || is_dropped m r.kickoff) refl eq
-    where
-      by_drop : (b : Bool) → is_dropped m r.move_next || is_dropped m r.kickoff ≡ b
-          → cond b None (Some (record { move_next = moved_row m 0x06 r.move_next; kickoff = moved_row m 0x06 r.kickoff })) ≡ Some s → MachineStays r s
-      by_drop true goes eq = absurd (cc)
-      by_drop false stays eq =
-          let is : record { move_next = moved_row m 0x06 r.move_next; kickoff = moved_row m 0x06 r.kickoff } ≡ s = some_of _ s eq in
-          record { live = ap not stays; moves = sym (ap (λ (t : MachineRow). t.move_next) is); starts = sym (ap (λ (t : MachineRow). t.kickoff) is) }
+  machine_stays r s eq = search rules
 
   machines_moved : Each (SoundMachine (most new)) (moved_file m w).machines
   machines_moved = Each-filter_map (moved_machine m) MachineFacts (SoundMachine (most new)) (λ r s eq facts.
@@ -500,25 +454,7 @@ module _ (first : Bool) (m : Map) (w : AnnotatedFile) (ready : IsReadable m) (so
   -- a record of type definition documents that stays is on a type definition
   types_kept : (c : CustomValue) (to image : ℕ) → live_custom m c ≡ true → is_type_documents c.value ≡ true → row_image m c.parent.table c.parent.row ≡ Row to image
       → to ≡ c.parent.table
-  types_kept c to image live is_types is = eqb-true to c.parent.table (not_not (nat_eq to c.parent.table) stays)
-    where
-      not_not : (b : Bool) → not b ≡ false → b ≡ true
-      not_not true e = refl
-      not_not false e = absurd (both_ways true e refl)
-
-      stays : leaves_table c.parent.table (Row to image) ≡ false
-      stays = by (nat_eq c.parent.table 0x06 && is_dropped m c.parent.row) (is_gone_row m c.parent.table c.parent.row)
-          (leaves_table c.parent.table (Row to image))
-          (sym (ap (λ b. not (nat_eq c.parent.table 0x06 && is_dropped m c.parent.row
-          || (is_gone_row m c.parent.table c.parent.row || b && leaves_table c.parent.table (row_image m c.parent.table c.parent.row)))) is_types
-          ∙ ap (λ i. not (nat_eq c.parent.table 0x06 && is_dropped m c.parent.row
-          || (is_gone_row m c.parent.table c.parent.row || true && leaves_table c.parent.table i))) is) ∙ live)
-        where
-          by : (a b d : Bool) → not (a || (b || true && d)) ≡ true → d ≡ false
-          by true b d e = absurd (both_ways false refl e)
-          by false true d e = absurd (both_ways false refl e)
-          by false false true e = absurd (both_ways false refl e)
-          by false false false e = refl
+  types_kept c to image live is_types is = search rules
 
   method_kept : (c : CustomValue) (to image : ℕ) → c.parent.table ≡ 0x06 → row_image m c.parent.table c.parent.row ≡ Row to image → to ≡ 0x06
   method_kept c to image on is = (image_stays m ready 0x06 c.parent.row to image refl (ap (λ t. row_image m t c.parent.row) (sym on) ∙ is)).0
@@ -526,17 +462,7 @@ module _ (first : Bool) (m : Map) (w : AnnotatedFile) (ready : IsReadable m) (so
   -- a record of a kind that is read stands on that kind's table
   stands_kept : (c : CustomValue) (kind : Kind) (to image : ℕ) → live_custom m c ≡ true → StandsOn kind c.parent.table → IsBodyOfKind (most old) kind c.value
       → row_image m c.parent.table c.parent.row ≡ Row to image → StandsOn kind to
-  stands_kept c kinds.Async to image live on body is = method_kept c to image on is
-  stands_kept c kinds.Hoisted to image live on body is = method_kept c to image on is
-  stands_kept c kinds.TypeDocuments to image live on body is = types_kept c to image live (is_types c.value body) is ∙ on
-    where
-      is_types : (b : CustomBody) → IsBodyOfKind (most old) kinds.TypeDocuments b → is_type_documents b ≡ true
-      is_types (TypeDocuments names) body = refl
-      is_types (Async handler steps) body = absurd body
-      is_types (Hoisted slots) body = absurd body
-      is_types (Unread bytes) body = absurd body
-  stands_kept c kinds.Free to image live on body is = tt
-  stands_kept c kinds.Unknown to image live on body is = tt
+  stands_kept c kind to image live on body is = search (rules, method_kept, types_kept, most)
 
   -- a record before it moves
   linked_facts : (c : CustomValue) → CustomFacts c → CustomFacts (linked m c)
@@ -570,11 +496,7 @@ module _ (first : Bool) (m : Map) (w : AnnotatedFile) (ready : IsReadable m) (so
     is : image_of m c ≡ d
 
   custom_stays : (c d : CustomValue) → moved_record m c ≡ Some d → CustomStays c d
-  custom_stays c d eq = by_living (live_custom m c) refl eq
-    where
-      by_living : (b : Bool) → live_custom m c ≡ b → cond b (Some (image_of m c)) None ≡ Some d → CustomStays c d
-      by_living true stays eq = record { live = stays; is = some_of (image_of m c) d eq }
-      by_living false goes eq = absurd cc
+  custom_stays c d eq = search rules
 
   custom_moved : (c d : CustomValue) → moved_record m c ≡ Some d → CustomFacts c → (d.parent.table < 0x2d) × SoundCustom (most new) d
   custom_moved c d eq facts =

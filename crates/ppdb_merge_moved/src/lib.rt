@@ -26,4 +26,4 @@ pub use moves::{InMethod, Lives, Moves, Stays, move_all, moved_all};
 pub use named::is_link;
 pub use offsets::moved_offset;
 pub use records::custom_stays;
-pub use types::constant_goes;
+pub use types::{constant_goes, is_gone_type};

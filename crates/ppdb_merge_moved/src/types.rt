@@ -1,8 +1,10 @@
 // Types and constants, moved in their places.
-ghost use Rattle.std.specs.Prelude.{◌≡◌, map};
+ghost use Rattle.std.specs.Prelude.{◌≡◌, ◌||◌, map};
 ghost use Rattle.std.specs.List.{list_any};
+ghost use Rattle.type_blobs.specs.ConstantReading.{shown};
 ghost use Rattle.type_blobs.specs.declared.types.Modifier.{Modifier};
-ghost use Rattle.ppdb_merge_items.specs.NamedRows.{goes_constant, is_gone_type, live_body, live_constants, names_gone_class};
+ghost use Rattle.ppdb_values.specs.Constants.{body_value};
+ghost use Rattle.ppdb_merge_items.specs.NamedRows.{is_gone_type, live_body, live_constants, names_gone_class};
 ghost use Rattle.ppdb_merge_items.specs.Annotated.{with_item};
 ghost use Rattle.ppdb_merge_moved.specs.Moved.{moved_constant, moved_constant_body};
 
@@ -12,7 +14,7 @@ use ppdb_base::List;
 use ppdb_maps::MapText;
 use ppdb_values::{Annotation, ConstantBody, ConstantValue};
 use std::mem;
-use type_blobs::{Modifier, TypeToken};
+use type_blobs::{Constant, Modifier, TypeToken};
 
 impl Moves<MapText> for TypeToken {
     ghost use Rattle.ppdb_merge_moved.specs.Moved.{moved_token};
@@ -35,7 +37,7 @@ impl Moves<MapText> for Modifier {
 }
 
 /// Whether the type has no successor.
-fn is_gone_type(map: &MapText, token: TypeToken) -> bool
+pub fn is_gone_type(map: &MapText, token: TypeToken) -> bool
     ensures { result ≡ is_gone_type map.now token }
 {
     is_gone_row(map, token.table, token.row)
@@ -62,11 +64,22 @@ fn names_gone_modifier(map: &MapText, modifiers: &[Modifier]) -> bool
         .any(|modifier| is_gone_type(map, modifier.target))
 }
 
-/// Whether a constant is removed: one of its modifiers, or the class or value type that it is of, is gone.
-pub fn constant_goes(map: &MapText, constant: &ConstantValue) -> bool
-    ensures { result ≡ goes_constant map.now constant.now }
+/// Whether the class or value type that a constant of a file is of has no successor.
+fn is_of_gone_class(map: &MapText, body: &Constant<'_>) -> bool
+    ensures { result ≡ names_gone_class map.now (body_value (shown body.now)) }
 {
-    names_gone_modifier(map, constant.modifiers.as_slice()) || names_gone_class(map, &constant.body)
+    match body {
+        Constant::General { target, .. } => is_gone_type(map, *target),
+        Constant::Primitive { .. } | Constant::Enumerated { .. } | Constant::Object => false,
+    }
+}
+
+/// Whether a constant of a file is removed: one of its modifiers, or the class or value type that it is of, is gone.
+pub fn constant_goes(map: &MapText, modifiers: &[Modifier], body: &Constant<'_>) -> bool
+    ensures { result ≡ (list_any (λ (modifier : Modifier). is_gone_type map.now modifier.target) modifiers.now || names_gone_class map.now (body_value
+        (shown body.now))) }
+{
+    names_gone_modifier(map, modifiers) || is_of_gone_class(map, body)
 }
 
 /// A constant is removed with the records on it.
@@ -77,7 +90,8 @@ impl Lives<MapText> for Annotation<ConstantValue> {
     ghost lives = { λ m constant. not (goes_constant m constant.item) };
 
     fn lives_by(&self, map: &MapText) -> bool {
-        !constant_goes(map, &self.item)
+        !(names_gone_modifier(map, self.item.modifiers.as_slice())
+            || names_gone_class(map, &self.item.body))
     }
 }
 

@@ -1,20 +1,18 @@
 // What becomes of local constants.
-ghost use Rattle.std.specs.Prelude.{◌≡◌, ◌+◌, ◌||◌, [], Some, IfOk, OnErr, option_map};
-ghost use Rattle.std.specs.List.{list_any};
+ghost use Rattle.std.specs.Prelude.{◌≡◌, ◌+◌, [], Some, IfOk, OnErr, option_map};
 ghost use Rattle.type_blobs.specs.ConstantReading.{shown};
-ghost use Rattle.type_blobs.specs.declared.types.Modifier.{Modifier};
 ghost use Rattle.ppdb_tables.specs.RawTables.{row_at};
 ghost use Rattle.ppdb_values.specs.Constants.{body_value};
 ghost use Rattle.ppdb_values.specs.Rules.{HasRow};
 ghost use Rattle.ppdb_verify.specs.Views.{raw_file};
 ghost use Rattle.ppdb_values_reading.specs.Lent.{constant_value_shown};
-ghost use Rattle.ppdb_merge_items.specs.NamedRows.{is_gone_type, live_body, names_gone_class};
+ghost use Rattle.ppdb_merge_items.specs.NamedRows.{live_body};
 ghost use Rattle.ppdb_merge_moved.specs.Moved.{moved_constant_body, moved_token};
 ghost use Rattle.ppdb_merge_rows.specs.Rows.{constants_after};
 
 use ppdb_base::{List, Memory, Steps};
 use ppdb_maps::MapText;
-use ppdb_merge_moved::{Moves, is_gone_row, move_all};
+use ppdb_merge_moved::{Moves, constant_goes, is_gone_type, move_all};
 use ppdb_values_reading::{LentConstant, read_constant};
 use ppdb_verify::Verified;
 use std::sync::ledger::Ledger;
@@ -27,40 +25,6 @@ fn moved_token(map: &MapText, token: TypeToken) -> TypeToken
     let mut moved = token;
     moved.move_by(map);
     moved
-}
-
-/// Whether the type has no successor.
-fn is_gone_type(map: &MapText, token: TypeToken) -> bool
-    ensures { result ≡ is_gone_type map.now token }
-{
-    is_gone_row(map, token.table, token.row)
-}
-
-/// Whether the class or value type that a constant is of has no successor.
-fn names_gone_class(map: &MapText, body: &Constant<'_>) -> bool
-    ensures { result ≡ names_gone_class map.now (body_value (shown body.now)) }
-{
-    match body {
-        Constant::General { target, .. } => is_gone_type(map, *target),
-        Constant::Primitive { .. } | Constant::Enumerated { .. } | Constant::Object => false,
-    }
-}
-
-/// Whether a modifier has no successor.
-fn names_gone_modifier(map: &MapText, modifiers: &[Modifier]) -> bool
-    ensures { result ≡ list_any (λ (modifier : Modifier). is_gone_type map.now modifier.target) modifiers.now }
-{
-    modifiers
-        .iter()
-        .any(|modifier| is_gone_type(map, modifier.target))
-}
-
-/// Whether a constant is removed: one of its modifiers, or the class or value type that it is of, is gone.
-fn goes(map: &MapText, modifiers: &[Modifier], body: &Constant<'_>) -> bool
-    ensures { result ≡ (list_any (λ (modifier : Modifier). is_gone_type map.now modifier.target) modifiers.now || names_gone_class map.now (body_value
-        (shown body.now))) }
-{
-    names_gone_modifier(map, modifiers) || names_gone_class(map, body)
 }
 
 /// The type and the value of a constant in the joined file; one of an enumeration that is gone is one of the enumeration's underlying type.
@@ -108,7 +72,7 @@ pub fn moved_constant<'a, L: Ledger>(
     ensures step { steps.new ≡ steps.old + 1 }
 {
     let lent = read_constant(file, row, modifiers, steps)?;
-    if goes(map, modifiers.as_slice(), &lent.body) {
+    if constant_goes(map, modifiers.as_slice(), &lent.body) {
         return Ok(None);
     }
     move_all(modifiers.as_mut_slice(), map);

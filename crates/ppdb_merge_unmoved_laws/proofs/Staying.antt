@@ -19,9 +19,9 @@ use Rattle.ppdb_values.specs.declared.scope.ConstantBody.TheVariants as constant
 use Rattle.ppdb_values.specs.{declared.scope.ConstantValue.{ConstantValue}, Parts.{is_link}}
 use Rattle.ppdb_values_sound_laws.specs.{Customs.{IsBodyOfKind, SoundCustom}, Methods.{SoundMethod, SoundPoint}, Named.{count}}
 use Rattle.ppdb_merge_items.specs.{declared.file.AnnotatedScope.{AnnotatedScope}, declared.file.AnnotatedFile.{AnnotatedFile}, Each.{Each, Pairs}}
-use Rattle.ppdb_merge_items.specs.NamedRows.{is_gone_type, is_type_documents, leaves_types, live_body, live_constants, live_custom, live_import, names_gone_class}
-use Rattle.ppdb_merge_items.{specs.NamedRows.{with_live_body}, specs.SoundParts.{SoundIn, SoundAnnotatedScope}, proofs.Lists.{Each-weaker, each_of}}
-use Rattle.ppdb_merge_items.{specs.Annotated.{with_item}, proofs.Parts.{live_constant}}
+use Rattle.ppdb_merge_items.specs.NamedRows.{goes_constant, is_gone_type, is_type_documents, leaves_types, live_body, live_constants, live_custom, live_import}
+use Rattle.ppdb_merge_items.{specs.NamedRows.{names_gone_class, with_live_body}, specs.SoundParts.{SoundIn, SoundAnnotatedScope}, proofs.Lists.{Each-weaker}}
+use Rattle.ppdb_merge_items.{proofs.Lists.{each_of}, specs.Annotated.{with_item}}
 use Rattle.ppdb_merge_joined.proofs.{Each.{each_all, pairs_all}, One.{map_same}}
 use Rattle.ppdb_merge_moved.specs.Moved.{moved_body, moved_constant, moved_constant_body, moved_counts, moved_custom, moved_file, moved_import, moved_import_scope}
 use Rattle.ppdb_merge_moved.specs.Moved.{moved_machine, moved_method, moved_modifier, moved_range, moved_scope, moved_slot, moved_step, moved_token, moved_variable}
@@ -41,7 +41,7 @@ image_is table row = ap (λ b. cond b None (Some row)) (none_holds (nat_eq table
 pub image_row : (table row : ℕ) → row_image no_lines table row ≡ Row table row
 image_row table row = ap (λ b. cond b Missing (Row table row)) (none_holds (nat_eq table 0x06))
 
-never_gone : (table row : ℕ) → is_gone_row no_lines table row ≡ false
+pub never_gone : (table row : ℕ) → is_gone_row no_lines table row ≡ false
 never_gone table row = ap is_gone (image_row table row)
 
 row_same : (table row : ℕ) → moved_row no_lines table row ≡ row
@@ -125,8 +125,11 @@ no_class_goes (constants.Enumerated code value target) = refl
 no_class_goes (constants.General code target rest) = never_gone target.table target.row
 no_class_goes constants.Object = refl
 
+pub no_constant_goes : (c : ConstantValue) → goes_constant no_lines c ≡ false
+no_constant_goes c = rw (no_modifier_goes c.modifiers, no_class_goes c.body) refl
+
 constant_lives : (n : Annotation ConstantValue) → live_constant no_lines n ≡ true
-constant_lives n = rw (no_modifier_goes n.item.modifiers, no_class_goes n.item.body) refl
+constant_lives n = ap not (no_constant_goes n.item)
 
 live_same : (b : ConstantBody) → live_body no_lines b ≡ b
 live_same (constants.Primitive code value) = refl

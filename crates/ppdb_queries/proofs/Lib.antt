@@ -11,3 +11,4 @@ pub mod Parents
 pub mod Records
 pub mod Slots
 pub mod PointLists
+pub mod Passed

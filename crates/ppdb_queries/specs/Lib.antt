@@ -2,6 +2,7 @@ pub mod Chains
 pub mod Cursors
 pub mod Digits
 pub mod Hoisted
+pub mod Known
 pub mod Laws
 pub mod Machines
 pub mod Points

@@ -1,64 +1,53 @@
--- The first custom record of a kind that is neither read nor passed on, looked for row by row.
-use Rattle.std.proofs.Common.{ℕ, zero, suc, ◌≡◌, ◌+◌, ◌-◌, ◌≤◌, ◌<◌, List, [], ◌∷◌, length, map, drop, Bool, true, false, Option, Some, None, refl, sym, ◌∙◌, ap}
-use Rattle.std.{proofs.Common.{subst, arith}, specs.Prelude.{slice_get, if◌then◌else◌}, specs.List.{enumerate_from, find}}
+-- A map without lines removes nothing, so each record of a kind that is neither read nor passed on is reported.
+use Rattle.std.proofs.Common.{◌≡◌, ℕ, ◌&&◌, ◌||◌, ◌++◌, Bool, true, false, cond, List, [], ◌∷◌, Option, Some, None, flat_map, slice_get, refl, ◌∙◌, ap}
+use Rattle.std.specs.{Prelude.{◌==◌, not, if◌then◌else◌, option_map, option_to_list}, List.{find, list_any}}
 use Rattle.custom_info.specs.Kinds.{kind_of}
-use Rattle.ppdb_tables.specs.{declared.rows.CustomRow.{CustomRow}, RawTables.{RawTables, row_at}}
-use Rattle.ppdb_values.specs.{declared.custom.CustomValue.{CustomValue}, Customs.{custom_of, kind_in}}
-use Rattle.ppdb_merge_fits.specs.Clashes.{is_unknown}
+use Rattle.ppdb_base.specs.declared.merge_error.{MergeError.{MergeError}, MergeError.TheVariants.{KindUnknown}}
+use Rattle.ppdb_maps.specs.Map.{is_dropped, is_gone_row, no_lines}
+use Rattle.ppdb_tables.specs.RawTables.{numbered, row_at}
+use Rattle.ppdb_values.specs.{Names.{Parent}, declared.custom.CustomValue.{CustomValue}, declared.file.FileValue.{FileValue}}
+use Rattle.ppdb_values.specs.declared.scope.{ConstantValue.{ConstantValue}, ScopeValue.{ScopeValue}}
+use Rattle.ppdb_merge_items.specs.NamedRows.{goes_constant}
+use Rattle.ppdb_merge_unmoved_laws.proofs.Staying.{never_gone, no_constant_goes}
+use Rattle.ppdb_merge_fits.specs.Clashes.{if_unknown, is_at_gone, is_at_gone_constant, is_unknown, method_at, unknown_kinds}
+use Rattle.ppdb_run.specs.Outcome.{unknown_kind}
 
-module _ (marks : List (List ℕ)) (raw : RawTables) where
-  abbrev Test : ℕ × CustomValue → Bool
-  Test custom = is_unknown (kind_of marks custom.1.kind)
+none_dropped : (o : Option ℕ) → list_any (is_dropped no_lines) (option_to_list o) ≡ false
+none_dropped None = refl
+none_dropped (Some method) = refl
 
-  -- the first from a row on, of rows with their numbers
-  abbrev found : ℕ → List CustomRow → Option (ℕ × CustomValue)
-  found n rows = find Test (enumerate_from n (map (custom_of raw) rows))
+no_constant : (o : Option ConstantValue) → list_any (goes_constant no_lines) (option_to_list o) ≡ false
+no_constant None = refl
+no_constant (Some constant) = ap (λ b. b || false) (no_constant_goes constant)
 
-  -- no row before this one is of such a kind
-  abbrev pub Passed : ℕ → Type 0
-  Passed row = found row (drop (row - 1) raw.customs) ≡ found 1 raw.customs
+and_false : (b : Bool) → b && false ≡ false
+and_false true = refl
+and_false false = refl
 
-  head_of : (rows : List CustomRow) (i : ℕ) (cells : CustomRow) → slice_get rows i ≡ Some cells → drop i rows ≡ cells ∷ drop (suc i) rows
-  head_of [] i cells e = absurd cc
-  head_of (x ∷ rows) zero cells e = cc
-  head_of (x ∷ rows) (suc i) cells e = head_of rows i cells e
+module _ (marks : List (List ℕ)) (value : FileValue) where
+  never_at_gone : (parent : Parent) → is_at_gone no_lines value parent ≡ false
+  never_at_gone parent =
+      ap (λ b. b || (is_gone_row no_lines parent.table parent.row || is_at_gone_constant no_lines value parent)) (none_dropped (method_at value parent))
+      ∙ ap (λ b. b || is_at_gone_constant no_lines value parent) (never_gone parent.table parent.row)
+      ∙ ap (λ b. (parent.table == 0x34) && b) (no_constant (row_at (flat_map (λ (s : ScopeValue). s.constants) value.scopes) parent.row))
+      ∙ and_false (parent.table == 0x34)
 
-  -- the first from a row on, by the row
-  from_head : (n : ℕ) (cells : CustomRow) (rest rows : List CustomRow) → rows ≡ cells ∷ rest → found n rows ≡ found n (cells ∷ rest)
-  from_head n cells rest rows e = ap (found n) e
+  abbrev unknown_in : ℕ × CustomValue → Bool
+  unknown_in custom = is_unknown (kind_of marks custom.1.kind)
 
-  is_first : (n : ℕ) (cells : CustomRow) (rest : List CustomRow) → is_unknown (kind_of marks (kind_in raw cells)) ≡ true
-      → found n (cells ∷ rest) ≡ Some (n, custom_of raw cells)
-  is_first n cells rest is = ap (λ (b : Bool). if b then Some (n, custom_of raw cells) else found (n + 1) rest) is
+  abbrev told : ℕ × CustomValue → MergeError
+  told custom = KindUnknown custom.0 custom.1.kind
 
-  is_later : (n : ℕ) (cells : CustomRow) (rest : List CustomRow) → is_unknown (kind_of marks (kind_in raw cells)) ≡ false
-      → found n (cells ∷ rest) ≡ found (n + 1) rest
-  is_later n cells rest is = ap (λ (b : Bool). if b then Some (n, custom_of raw cells) else found (n + 1) rest) is
+  one_first : (x : ℕ × CustomValue) (b : Bool) (errors : List MergeError) (later : Option (ℕ × CustomValue)) → slice_get errors 0 ≡ option_map told later
+      → slice_get (cond (b && not false) (told x ∷ []) [] ++ errors) 0 ≡ option_map told (if b then Some x else later)
+  one_first x true errors later rest = refl
+  one_first x false errors later rest = rest
 
-  at_index : (i : ℕ) → Passed (suc i) → found (suc i) (drop i raw.customs) ≡ found 1 raw.customs
-  at_index i h = let same : suc i - 1 ≡ i = omega arith in subst (λ n. found (suc i) (drop n raw.customs) ≡ found 1 raw.customs) same h
+  first_is : (rows : List (ℕ × CustomValue)) → slice_get (flat_map (if_unknown marks no_lines value) rows) 0 ≡ option_map told (find unknown_in rows)
+  first_is [] = refl
+  first_is (x ∷ rows) =
+      ap (λ b. slice_get (cond (unknown_in x && not b) (told x ∷ []) [] ++ flat_map (if_unknown marks no_lines value) rows) 0) (never_at_gone x.1.parent)
+      ∙ one_first x (unknown_in x) (flat_map (if_unknown marks no_lines value) rows) (find unknown_in rows) (first_is rows)
 
-  pub at_unknown : (row : ℕ) (cells : CustomRow) → row_at raw.customs row ≡ Some cells → is_unknown (kind_of marks (kind_in raw cells)) ≡ true → Passed row
-      → found 1 raw.customs ≡ Some (row, custom_of raw cells)
-  at_unknown zero cells here is h = absurd cc
-  at_unknown (suc i) cells here is h =
-      sym (at_index i h) ∙ (from_head (suc i) cells (drop (suc i) raw.customs) (drop i raw.customs) (head_of raw.customs i cells here)
-      ∙ is_first (suc i) cells (drop (suc i) raw.customs) is)
-
-  pub past_known : (row : ℕ) (cells : CustomRow) → row_at raw.customs row ≡ Some cells → is_unknown (kind_of marks (kind_in raw cells)) ≡ false → Passed row
-      → Passed (row + 1)
-  past_known zero cells here is h = absurd cc
-  past_known (suc i) cells here is h =
-      let next : suc i + 1 - 1 ≡ suc i = omega arith in
-      subst (λ n. found (suc i + 1) (drop n raw.customs) ≡ found 1 raw.customs) (sym next)
-      (sym (from_head (suc i) cells (drop (suc i) raw.customs) (drop i raw.customs) (head_of raw.customs i cells here)
-      ∙ is_later (suc i) cells (drop (suc i) raw.customs) is) ∙ at_index i h)
-
-  pub none_unknown : (row : ℕ) → length raw.customs < row → Passed row → found 1 raw.customs ≡ None
-  none_unknown row past h = sym h ∙ ap (found row) (drop_all raw.customs (row - 1) (omega (arith, past)))
-    where
-      drop_all : (rows : List CustomRow) (n : ℕ) → length rows ≤ n → drop n rows ≡ []
-      drop_all [] zero le = refl
-      drop_all [] (suc n) le = refl
-      drop_all (x ∷ rows) zero le = absurd (omega (arith, le))
-      drop_all (x ∷ rows) (suc n) le = drop_all rows n (omega (arith, le))
+  pub unmoved_unknown : slice_get (unknown_kinds marks no_lines value) 0 ≡ unknown_kind marks value
+  unmoved_unknown = first_is (numbered value.customs)

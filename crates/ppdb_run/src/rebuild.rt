@@ -17,16 +17,13 @@ ghost use Rattle.ppdb_run.specs.MeaningLaws.{SaysButForId};
 use crate::meaning_laws::rebuilt_files_keep_themselves;
 use crate::output::write_output;
 use crate::verified::read_verified;
-use custom_info::{Marks, kind_of};
-use ppdb_base::{Bytes, Folder, List, MergeError, Steps};
+use custom_info::Marks;
+use ppdb_base::{Bytes, Folder, List, Memory, MergeError, Steps};
 use ppdb_build::{BuildError, IdChoice, RowInput};
 use ppdb_maps::MapText;
-use ppdb_merge_fits::is_unknown;
+use ppdb_merge_fits::first_unknown;
 use ppdb_run_stops::Stop;
 use ppdb_run_words::Options;
-use ppdb_tables::CUSTOM;
-use ppdb_verify::Verified;
-use ppdb_verify_rows::{count, custom, guid_of_kind};
 use std::alloc::Global;
 use std::sync::ledger::Ledger;
 
@@ -108,9 +105,8 @@ fn file_bytes<'a, L: Ledger>(
     ensures again { IfOk result (RebuildsToItself (record { keep_id = keep_id; marks = marks.now })) }
     ensures causes { StopsInside result }
 {
-    match unknown(&input.file, marks, steps) {
-        Some(error) => return Err(Stop::Unfit(name, error)),
-        None => {}
+    if let Some(error) = unknown(alloc, input, marks, steps)? {
+        return Err(Stop::Unfit(name, error));
     }
     match ppdb_build::rebuild(alloc, input, choice(keep_id), steps) {
         Ok(bytes) => Ok(bytes),
@@ -130,21 +126,15 @@ pub fn choice(keep_id: bool) -> IdChoice
     }
 }
 
-/// The first custom record of a kind that is neither read nor passed on.
+/// The first custom record of a kind that is neither read nor passed on: no line removes what it is on.
 fn unknown<L: Ledger>(
-    file: &Verified<'_>,
+    alloc: Global,
+    input: &RowInput<'_>,
     marks: &Marks,
     steps: &mut Steps<L>,
-) -> Option<MergeError>
-    ensures { result ≡ unknown_kind marks.now (value_of (raw_file file.now)) }
+) -> Result<Option<MergeError>, Memory>
+    requires { input.now.map ≡ no_lines }
+    ensures { IfOk result (λ told. told ≡ unknown_kind marks.now (value_of (raw_file input.now.file))) }
 {
-    let _ = file.keeps();
-    for row in 1..count(file, CUSTOM) + 1 {
-        let cells = custom(file, row, steps);
-        let kind = guid_of_kind(file, row, &cells);
-        if is_unknown(kind_of(&kind, marks)) {
-            return Some(MergeError::KindUnknown { row, kind });
-        }
-    }
-    None
+    first_unknown(alloc, marks, &input.map, &input.file, steps)
 }

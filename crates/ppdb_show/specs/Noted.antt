@@ -2,7 +2,8 @@
 use Rattle.std.specs.Prelude.{ℕ, ◌≡◌, List, flat_map}
 use Rattle.ppdb_tables.specs.RawTables.{RawTables}
 use Rattle.ppdb_values.specs.Chains.{chain_of}
-use Rattle.ppdb_queries.specs.Machines.{IsOrderOf}
+use Rattle.ppdb_values.specs.RawFile.{RawFile}
+use Rattle.ppdb_queries.specs.{Known.IsKnown, Machines.IsOrderOf}
 use Rattle.ppdb_show_lines.specs.{declared.form.Form.Form, Forms.lines_as, Lines.Line}
 use Rattle.ppdb_show.specs.{declared.query.notes.{NotedText.NotedText, Notes.Notes}, Query.import_answer}
 
@@ -15,6 +16,7 @@ abbrev pub IsNotedText : Form → RawTables → NotedText → Type 0
 IsNotedText form raw noted = noted.text ≡ lines_as form (lines_of_chain raw noted.import)
 
 -- what is noted is so of the file
-pub record AreNotes (form : Form) (raw : RawTables) (notes : Notes) : Type 0 where
-  pub kickoffs : IsOrderOf raw.machines notes.kickoffs
-  pub imports : IsNotedText form raw notes.imports
+pub record AreNotes (form : Form) (raw : RawFile) (notes : Notes) : Type 0 where
+  pub points : IsKnown raw notes.points
+  pub kickoffs : IsOrderOf raw.tables.machines notes.kickoffs
+  pub imports : IsNotedText form raw.tables notes.imports

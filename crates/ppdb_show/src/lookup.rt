@@ -52,8 +52,8 @@ fn put_one<O: Sink, L: Ledger>(
     out: &mut O,
     steps: &mut Steps<L>,
 ) -> Result<(), WriteError>
-    requires known { AreNotes printer.form (raw_file file.now).tables notes.old }
-    ensures known { AreNotes printer.entry.form (raw_file file.now).tables notes.new }
+    requires known { AreNotes printer.form (raw_file file.now) notes.old }
+    ensures known { AreNotes printer.entry.form (raw_file file.now) notes.new }
     ensures puts { PutsInto O.written O.faults result out.old out.new
         (lines_as printer.entry.form (answer_lines (raw_file file.now) at)) }
     ensures cost { steps.new ≤ steps.old + query_rows (raw_file file.now).tables at.method at.offset }

@@ -31,7 +31,7 @@ use crate::query::point::put_point;
 use crate::query::records::put_records;
 use crate::query::scopes::put_scopes;
 use ppdb_base::{Memory, Sink, SteadySink, Steps, WriteError};
-use ppdb_queries::{PointAt, point_at};
+use ppdb_queries::{PointAt, point_by};
 use ppdb_show_lines::{Form, Printer};
 use ppdb_verify::Verified;
 use std::alloc::Global;
@@ -62,8 +62,8 @@ fn put_answer<L: Ledger>(
 ) -> Result<(), Memory>
     requires there { HasRow (raw_of (tables_of file.now)) 0x06 method }
     requires point { PointIs (raw_file file.now) method offset found }
-    requires known { AreNotes printer.form (raw_of (tables_of file.now)) notes.old }
-    ensures known { AreNotes printer.entry.form (raw_of (tables_of file.now)) notes.new }
+    requires known { AreNotes printer.form (raw_file file.now) notes.old }
+    ensures known { AreNotes printer.entry.form (raw_file file.now) notes.new }
     ensures ok { OnOk result (Adds printer.entry.form text.old text.new (query_lines (raw_file file.now) method offset)) }
     ensures cost { steps.new + 2 ≤ steps.old + query_rows (raw_of (tables_of file.now)) method offset }
 {
@@ -99,8 +99,8 @@ pub(crate) fn put_noted_query<O: Sink, L: Ledger>(
     out: &mut O,
     steps: &mut Steps<L>,
 ) -> Result<(), QueryError>
-    requires known { AreNotes printer.form (raw_of (tables_of file.now)) notes.old }
-    ensures known { AreNotes printer.entry.form (raw_of (tables_of file.now)) notes.new }
+    requires known { AreNotes printer.form (raw_file file.now) notes.old }
+    ensures known { AreNotes printer.entry.form (raw_file file.now) notes.new }
     ensures none { IsErrOf result QueryError.NoMethod ↔ IsNoMethod (raw_of (tables_of file.now)) method }
     ensures nothing { IsErrOf result QueryError.NoMethod → O.written out.new ≡ O.written out.old }
     ensures ok { OnOk result (O.written out.new ≡ appended (O.written out.old) (query_text_of printer.entry.form (raw_file file.now) method offset)) }
@@ -109,7 +109,7 @@ pub(crate) fn put_noted_query<O: Sink, L: Ledger>(
     ensures later { O.faults out.old ≤ O.faults out.new }
     ensures cost { steps.new ≤ steps.old + query_rows (raw_of (tables_of file.now)) method offset }
 {
-    let Ok(found) = point_at(file, method, offset, steps) else {
+    let Ok(found) = point_by(file, method, offset, &mut notes.points, steps) else {
         return Err(QueryError::NoMethod);
     };
     let mut text = SteadySink::new(printer.alloc);

@@ -1,20 +1,19 @@
 -- The worked program's file keeps the rules.
-use Rattle.std.{proofs.Common.{◌≡◌, ◌≢◌, ℕ, zero, suc, ◌≤◌, List, [], ◌∷◌, refl, sym, subst, arith, inl, inr, true, slice_index}, specs.Prelude.{Option, Some, None}}
-use Rattle.std.{specs.Prelude.{nat_le}, specs.List.{list_all}, proofs.lemmas.Bool.Decides.{nat_tests}}
+use Rattle.std.{proofs.Common.{rules, ◌≡◌, ◌≢◌, ℕ, zero, suc, ◌≤◌, List, [], ◌∷◌, refl, sym, subst, arith, inl, inr, true, slice_index}, specs.Prelude.{Option}}
+use Rattle.std.{specs.Prelude.{None, nat_le}, specs.List.{list_all}, proofs.lemmas.Bool.Decides.{nat_tests}}
 use Rattle.ppdb_base.specs.declared.fault.BlobFault.{BlobFault}
 use Rattle.blob_grammar.specs.{Grammar.{Grammar}, Reading.{Reading}, Reader.{read_from, read_for, fields_from, fields_for, unsigned_at, signed_at, two_at, four_at}}
 use Rattle.blob_grammar.{specs.Reader.{character_len}, proofs.PrefixFields.{records_read}, proofs.Readers.{read_from-reads}}
 use Rattle.ppdb_heaps.specs.Heaps.{text_at, blob_at, guid_at}
-use Rattle.ppdb_tables.specs.{declared.rows.ScopeRow.{ScopeRow}, RawTables.{row_at, HasShape}}
-use Rattle.ppdb_values.specs.{RawFile.{text, records_of, begun_of}, Chains.{chain_for}, Ordered.{EachRow, EachPair, IsSorted, Rises}, Rules.{IsWhole, IsDocument}}
+use Rattle.ppdb_tables.specs.RawTables.{HasShape}
+use Rattle.ppdb_values.specs.{RawFile.{text, records_of, begun_of}, Chains.{chain_for}, Ordered.{EachRow, EachPair, IsSorted}, Rules.{IsWhole, IsDocument}}
 use Rattle.ppdb_values.specs.Rules.{KeepsDocuments, IsMethod, KeepsMethods, IsScope, KeepsScopes, KeepsLists, KeepsVariables, IsConstant, KeepsConstants, IsImport}
 use Rattle.ppdb_values.specs.{Rules.{KeepsImports, KeepsMachines, IsCustom, KeepsCustoms, KeepsRules}, WorkedProgram.{program_file}}
 
 -- ---- rows that are listed
 
 each_nil : {X : Type 0} (P : X → Type 0) → EachRow P []
-each_nil P zero x h = cc
-each_nil P (suc i) x h = cc
+each_nil P = search rules
 
 each_cons : {X : Type 0} (P : X → Type 0) (x : X) (xs : List X) → P x → EachRow P xs → EachRow P (x ∷ xs)
 each_cons P x xs p ps zero y h = cc
@@ -33,27 +32,16 @@ each_of P [] all = each_nil P
 each_of P (x ∷ xs) all = each_cons P x xs all.0 (each_of P xs all.1)
 
 pairs_one : {X : Type 0} (P : X → X → Type 0) (x : X) → EachPair P (x ∷ [])
-pairs_one P x zero b y z hy hz less = cc
-pairs_one P x (suc zero) zero y z hy hz less = cc
-pairs_one P x (suc zero) (suc zero) y z hy hz less = absurd (omega (arith, less))
-pairs_one P x (suc zero) (suc (suc j)) y z hy hz less = cc
-pairs_one P x (suc (suc i)) b y z hy hz less = cc
+pairs_one P x = search rules
 
 sorted_one : (x : ℕ) → IsSorted (x ∷ [])
-sorted_one x zero zero le within = omega arith
-sorted_one x zero (suc j) le within = absurd (omega (arith, within))
-sorted_one x (suc i) zero le within = absurd (omega arith)
-sorted_one x (suc i) (suc j) le within = absurd (omega (arith, within))
+sorted_one x = search rules
 
 sorted_cons : (x y : ℕ) (ys : List ℕ) → x ≤ y → IsSorted (y ∷ ys) → IsSorted (x ∷ y ∷ ys)
 sorted_cons x y ys up s zero zero le within = omega arith
 sorted_cons x y ys up s zero (suc j) le within = let r = s 0 j (omega arith) (omega (arith, within)) in omega (arith, up, r)
 sorted_cons x y ys up s (suc i) zero le within = absurd (omega arith)
 sorted_cons x y ys up s (suc i) (suc j) le within = s i j (omega (arith, le)) (omega (arith, within))
-
-rises_one : (x : ℕ) → Rises (x ∷ [])
-rises_one x i zero less within = absurd (omega arith)
-rises_one x i (suc j) less within = absurd (omega (arith, within))
 
 below : (top : ℕ) (xs : List ℕ) → list_all (λ n. nat_le n top) xs ≡ true → (i : ℕ) → slice_index xs i ≤ top
 below top [] e zero = omega arith
@@ -145,11 +133,7 @@ imports_kept = record { each = each_of _ program_file.tables.imports (first_impo
     ends (suc (suc (suc row))) le = absurd (omega (arith, le))
 
 machines_kept : KeepsMachines program_file.tables
-machines_kept = record {
-  each = each_one _ _ (record { move_next = (omega arith, omega arith); kickoff = (omega arith, omega arith) });
-  by_move_next = rises_one 4;
-  kickoffs_differ = pairs_one _ _;
-}
+machines_kept = search rules
 
 link_kept : IsCustom program_file.tables (record { parent = 39; kind = 3; value = 139 })
 unfolding blob_at guid_at unsigned_at two_at four_at
@@ -176,37 +160,11 @@ customs_kept = record {
 
 -- ---- the lists of the scope, and the file
 
-variable_lists_kept : KeepsLists (λ scope. scope.variables) program_file.tables.scopes 0
-variable_lists_kept = record {
-  first = λ scope there. first_is scope there;
-  sorted = sorted_one 1;
-  within = each_of _ program_file.tables.scopes (omega arith, tt);
-  none = λ e. refl;
-}
-  where
-    first_is : (scope : ScopeRow) → row_at program_file.tables.scopes 1 ≡ Some scope → scope.variables ≡ 1
-    first_is scope there = let e : record { method = 4; import = 2; variables = 1; constants = 1; start = 0; length = 175 } ≡ scope = cc in
-        subst (λ (s : ScopeRow). s.variables ≡ 1) e refl
-
 constant_lists_kept : KeepsLists (λ scope. scope.constants) program_file.tables.scopes 1
-constant_lists_kept = record {
-  first = λ scope there. first_is scope there;
-  sorted = sorted_one 1;
-  within = each_of _ program_file.tables.scopes (omega arith, tt);
-  none = λ e. cc;
-}
-  where
-    first_is : (scope : ScopeRow) → row_at program_file.tables.scopes 1 ≡ Some scope → scope.constants ≡ 1
-    first_is scope there = let e : record { method = 4; import = 2; variables = 1; constants = 1; start = 0; length = 175 } ≡ scope = cc in
-        subst (λ (s : ScopeRow). s.constants ≡ 1) e refl
+constant_lists_kept = search rules
 
 variables_kept : KeepsVariables program_file.tables
-variables_kept = record {
-  lists = variable_lists_kept;
-  names = each_nil _;
-  slots_differ = λ a b x y hx hy less owner. each_nil (λ v. v.slot ≢ y.slot) a x hx;
-  names_differ = λ a b x y hx hy less owner. each_nil (λ v. text program_file.tables v.name ≢ text program_file.tables y.name) a x hx;
-}
+variables_kept = search rules
 
 constants_kept : KeepsConstants program_file.tables
 constants_kept = record {

@@ -1,8 +1,8 @@
 -- Where the lists of scopes are in order, a scope owns the items of its list.
-use Rattle.std.proofs.Common.{◌≡◌, ℕ, zero, suc, ◌+◌, ◌-◌, ◌≤◌, ◌<◌, ◌↔◌, List, [], ◌∷◌, length, map, take, drop, refl, ap, sym, arith, inl, inr, Bool, true, false}
-use Rattle.std.{proofs.Common.{slice_get, slice_index}, specs.Prelude.{Option, Some, None, unwrap_or, nat_eq}, specs.List.{filter, enumerate_from}}
-use Rattle.std.{specs.Option.{option_map, option_map_or}, proofs.lemmas.Bool.{cases_lt, cases_eq}, proofs.lemmas.Bool.Decides.{nat_tests}}
-use Rattle.std.proofs.lemmas.{List.{length-map}, Option.{slice_get_cases, slice_get_within}}
+use Rattle.std.proofs.Common.{rules, ◌≡◌, ℕ, zero, suc, ◌+◌, ◌-◌, ◌≤◌, ◌<◌, ◌↔◌, List, [], ◌∷◌, length, map, take, drop, refl, ap, arith, inl, inr, Bool, true}
+use Rattle.std.{proofs.Common.{false, slice_get, slice_index}, specs.Prelude.{Option, Some, None, unwrap_or, nat_eq}, specs.List.{filter, enumerate_from}}
+use Rattle.std.{specs.Option.{option_map, option_map_or}, proofs.lemmas.Bool.{cases_lt}, proofs.lemmas.List.{length-map}, proofs.lemmas.Option.{slice_get_cases}}
+use Rattle.std.proofs.lemmas.Option.{slice_get_within}
 use Rattle.ppdb_tables.specs.{declared.rows.ScopeRow.{ScopeRow}, RawTables.{row_at}, Owners.{Owns}}
 use Rattle.ppdb_values.{specs.Value.{owner_of, owned_by}, specs.Rules.{KeepsLists}, specs.Owners.{list_end, list_of}, proofs.Owners.{owner_is_last, owner_is_found}}
 
@@ -35,8 +35,7 @@ row_before scopes (suc i) (suc j) y h low le =
     ]
 
 row_positive : (scopes : List ScopeRow) (a : ℕ) (x : ScopeRow) → row_at scopes a ≡ Some x → 1 ≤ a
-row_positive scopes zero x h = cc
-row_positive scopes (suc i) x h = omega arith
+row_positive scopes a x h = search rules
 
 -- ---- where a list ends
 
@@ -87,13 +86,7 @@ no_later list scopes items owner item (Some x) e keeps below later other there b
 owns : (list : ScopeRow → ℕ) (scopes : List ScopeRow) (items owner item : ℕ) (scope : ScopeRow) → KeepsLists list scopes items
     → row_at scopes owner ≡ Some scope
     → list scope ≤ item → item < list_end list scopes owner items → Owns list scopes owner item
-owns list scopes items owner item scope keeps there begun below = record { scope = scope; there = there; begun = begun; last = later_than }
-  where
-    later_than : (later : ℕ) (other : ScopeRow) → row_at scopes later ≡ Some other → list other ≤ item → later ≤ owner
-    later_than later other e le = elim (cases_lt owner later) [
-      | inl past ↦ absurd (no_later list scopes items owner item (row_at scopes (suc owner)) refl keeps below later other e le past)
-      | inr within ↦ within
-    ]
+owns list scopes items owner item scope keeps there begun below = search (rules, no_later)
 
 same_scope : (scopes : List ScopeRow) (row : ℕ) (x y : ScopeRow) → row_at scopes row ≡ Some x → row_at scopes row ≡ Some y → x ≡ y
 same_scope scopes row x y a b = cc
@@ -148,15 +141,10 @@ slice_filter p n (x ∷ xs) (suc a) (suc b) below mid above ab bn =
     rw (e, h) more
 
 yes : (owner : ℕ) (o : Option ℕ) → o ≡ Some owner → option_map_or (nat_eq owner) o false ≡ true
-yes owner None h = cc
-yes owner (Some m) h = let e : m ≡ owner = cc in grind (arith, nat_tests, e)
+yes owner o h = search rules
 
 no : (owner : ℕ) (o : Option ℕ) → (o ≡ Some owner → ⊥) → option_map_or (nat_eq owner) o false ≡ false
-no owner None h = refl
-no owner (Some m) h = elim (cases_eq owner m) [
-  | inl e ↦ absurd (h (ap (λ (n : ℕ). Some n) (sym e)))
-  | inr apart ↦ grind (arith, nat_tests, apart)
-]
+no owner o h = search rules
 
 pub owned_is_list : {X : Type 0} (list : ScopeRow → ℕ) (scopes : List ScopeRow) (owner : ℕ) (scope : ScopeRow) (items : List X)
     → KeepsLists list scopes (length items) → row_at scopes owner ≡ Some scope

@@ -1,6 +1,7 @@
 -- Filters and chains of the rows of a table, and of what is made of them.
-use Rattle.std.{proofs.Common.{◌≡◌, ℕ, zero, suc, ◌+◌, List, [], ◌∷◌, length, map, refl, ap, ◌∙◌, Bool, true, false, cond}, specs.Prelude.{Some, None, slice_get}}
-use Rattle.std.{specs.Prelude.{◌&&◌, ◌==◌}, specs.List.{filter, enumerate_from}, specs.Option.{option_map, option_map_or}, proofs.lemmas.List.{length-map}}
+use Rattle.std.{proofs.Common.{rules, ◌≡◌, ℕ, zero, suc, ◌+◌, List, [], ◌∷◌, length, map, refl, ap, ◌∙◌, Bool, true, false, cond}, specs.Prelude.{Some, None}}
+use Rattle.std.specs.{Prelude.{slice_get, ◌&&◌, ◌==◌}, List.{filter, enumerate_from}, Option.{option_map, option_map_or}}
+use Rattle.std.proofs.lemmas.List.{length-map}
 use Rattle.ppdb_tables.specs.RawTables.{numbered, row_at}
 use Rattle.ppdb_values.specs.{RawFile.{RawFile}, Imports.{import_scope_of}, Value.{value_of, scope_of, range_of}, Chains.{chain_for, chain_of}, Parts.{scopes_at}}
 use Rattle.ppdb_values.specs.Parts.{import_chain, holds}
@@ -20,9 +21,7 @@ filter_map_both f p (x ∷ xs) = elim (p (f x)) as (λ b. cond b (f x ∷ filter
 
 pub scopes_are_rows : (raw : RawFile) (m x : ℕ) → scopes_at (value_of raw) m x
     ≡ map (λ row. (row.0, scope_of raw.tables row)) (filter (λ row. (row.1.method == m) && holds (range_of row.1) x) (numbered raw.tables.scopes))
-scopes_are_rows raw m x =
-    ap (λ rows. filter (λ scope. (scope.1.method == m) && holds scope.1.range x) rows) (numbered_map (scope_of raw.tables) 1 raw.tables.scopes)
-    ∙ filter_map_both (λ row. (row.0, scope_of raw.tables row)) (λ scope. (scope.1.method == m) && holds scope.1.range x) (numbered raw.tables.scopes)
+scopes_are_rows raw m x = search (rules, numbered_map, filter_map_both)
 
 pub get_map : {X Y : Type 0} (f : X → Y) (xs : List X) (i : ℕ) → slice_get (map f xs) i ≡ option_map f (slice_get xs i)
 get_map f [] i = refl
@@ -30,8 +29,7 @@ get_map f (x ∷ xs) zero = refl
 get_map f (x ∷ xs) (suc i) = get_map f xs i
 
 pub row_map : {X Y : Type 0} (f : X → Y) (xs : List X) (row : ℕ) → row_at (map f xs) row ≡ option_map f (row_at xs row)
-row_map f xs zero = refl
-row_map f xs (suc i) = get_map f xs i
+row_map f xs row = search (rules, get_map)
 
 -- a chain of what rows are made to is that of the rows
 pub chain_map : {X Y : Type 0} (f : X → Y) (parent : X → ℕ) (other : Y → ℕ) (same : (x : X) → other (f x) ≡ parent x) (most : ℕ) (xs : List X) (row : ℕ)

@@ -1,8 +1,8 @@
 -- The owner of an item is the last scope whose list begins at or before it.
-use Rattle.std.proofs.Common.{◌≡◌, ℕ, zero, suc, ◌+◌, ◌≤◌, ◌<◌, ◌⊎◌, List, [], ◌∷◌, refl, ap, sym, ◌∙◌, arith, inl, inr, true, false, slice_get}
+use Rattle.std.proofs.Common.{rules, ◌≡◌, ℕ, suc, ◌+◌, ◌≤◌, ◌<◌, ◌⊎◌, List, [], ◌∷◌, refl, ap, ◌∙◌, arith, inl, inr, true, false, slice_get}
 use Rattle.std.{specs.Prelude.{Option, Some, None, nat_le}, specs.List.{filter, last_or, enumerate_from}, specs.Option.{option_map}, proofs.lemmas.Bool.{cases_lt}}
 use Rattle.std.proofs.lemmas.Bool.Decides.{nat_tests}
-use Rattle.ppdb_tables.specs.{declared.rows.ScopeRow.{ScopeRow}, RawTables.{row_at}, Owners.{Owns}}
+use Rattle.ppdb_tables.specs.{declared.rows.ScopeRow.{ScopeRow}, Owners.{Owns}}
 use Rattle.ppdb_values.specs.Value.{owner_of}
 
 -- the last of some scopes whose list begins at or before an item
@@ -37,24 +37,15 @@ none_in : (list : ScopeRow → ℕ) (item : ℕ) → NoneOf list [] item
 none_in list item index other h = cc
 
 none_more : (list : ScopeRow → ℕ) (item : ℕ) (x : ScopeRow) (scopes : List ScopeRow) → item < list x → NoneOf list scopes item → NoneOf list (x ∷ scopes) item
-none_more list item x scopes h none zero other e = let same : x ≡ other = cc in rw (sym same) h
-none_more list item x scopes h none (suc index) other e = none index other e
+none_more list item x scopes h none = search rules
 
 last_more : (list : ScopeRow → ℕ) (item index : ℕ) (x : ScopeRow) (scopes : List ScopeRow) → IsLastOf list scopes item index
     → IsLastOf list (x ∷ scopes) item (suc index)
-last_more list item index x scopes h = record { scope = h.scope; there = h.there; begun = h.begun; last = later_than }
-  where
-    later_than : (later : ℕ) (other : ScopeRow) → slice_get (x ∷ scopes) later ≡ Some other → list other ≤ item → later ≤ suc index
-    later_than zero other e le = omega arith
-    later_than (suc later) other e le = let below = h.last later other e le in omega (arith, below)
+last_more list item index x scopes h = search rules
 
 last_first : (list : ScopeRow → ℕ) (item : ℕ) (x : ScopeRow) (scopes : List ScopeRow) → list x ≤ item → NoneOf list scopes item
     → IsLastOf list (x ∷ scopes) item 0
-last_first list item x scopes h none = record { scope = x; there = refl; begun = h; last = later_than }
-  where
-    later_than : (later : ℕ) (other : ScopeRow) → slice_get (x ∷ scopes) later ≡ Some other → list other ≤ item → later ≤ 0
-    later_than zero other e le = omega arith
-    later_than (suc later) other e le = let above = none later other e in absurd (omega (arith, above, le))
+last_first list item x scopes h none = search rules
 
 next_row : (first index : ℕ) → Some (first + 1 + index) ≡ Some (first + suc index)
 next_row first index = ap (λ (n : ℕ). Some n) (let e : first + 1 + index ≡ first + suc index = omega arith in e)
@@ -80,30 +71,17 @@ one_more index = omega arith
 
 -- the last scope, by its row
 by_row : (list : ScopeRow → ℕ) (scopes : List ScopeRow) (item index : ℕ) → IsLastOf list scopes item index → Owns list scopes (suc index) item
-by_row list scopes item index h = record { scope = h.scope; there = h.there; begun = h.begun; last = later_than }
-  where
-    later_than : (later : ℕ) (other : ScopeRow) → row_at scopes later ≡ Some other → list other ≤ item → later ≤ suc index
-    later_than zero other e le = omega arith
-    later_than (suc later) other e le = let below = h.last later other e le in omega (arith, below)
+by_row list scopes item index h = search rules
 
 pub owner_is_last : (list : ScopeRow → ℕ) (scopes : List ScopeRow) (owner item : ℕ) → owner_of list scopes item ≡ Some owner → Owns list scopes owner item
-owner_is_last list scopes owner item h = elim (found list None 1 scopes item) [
-  | inl f ↦
-      let same : suc f.0 ≡ owner = let e = f.2 in let m = one_more f.0 in cc in
-      rw (sym same) (by_row list scopes item f.0 f.1)
-  | inr none ↦ let e = none.1 in cc
-]
+owner_is_last list scopes owner item h = search (rules, found, one_more, by_row)
 
 -- two owners are one
 same_owner : (list : ScopeRow → ℕ) (scopes : List ScopeRow) (a b item : ℕ) → Owns list scopes a item → Owns list scopes b item → a ≡ b
-same_owner list scopes a b item x y =
-    let up = x.last b y.scope y.there y.begun in
-    let down = y.last a x.scope x.there x.begun in
-    omega (arith, up, down)
+same_owner list scopes a b item x y = search rules
 
 none_owns : (list : ScopeRow → ℕ) (scopes : List ScopeRow) (owner item : ℕ) → NoneOf list scopes item → Owns list scopes owner item → ⊥
-none_owns list scopes zero item none h = let e = h.there in cc
-none_owns list scopes (suc index) item none h = let above = none index h.scope h.there in let begun = h.begun in omega (arith, above, begun)
+none_owns list scopes owner item none h = search rules
 
 pub owner_is_found : (list : ScopeRow → ℕ) (scopes : List ScopeRow) (owner item : ℕ) → Owns list scopes owner item → owner_of list scopes item ≡ Some owner
 owner_is_found list scopes owner item h = elim (found list None 1 scopes item) [

@@ -1,23 +1,16 @@
 -- What a value has of a method is what the method's row has.
-use Rattle.std.{proofs.Common.{◌≡◌, ℕ, zero, suc, ◌+◌, ◌<◌, ◌⊎◌, List, [], ◌∷◌, refl, arith, inl, inr, true, false, slice_get}, specs.Prelude.{Option, Some, None}}
-use Rattle.std.{specs.Prelude.{◌==◌}, specs.List.{filter_map, find, enumerate_from}, specs.Option.{option_map}, proofs.lemmas.Bool.Decides.{nat_tests}}
-use Rattle.sequence_points.specs.declared.point.Point.{Point}
+use Rattle.std.{proofs.Common.{rules, ◌≡◌, ℕ, zero, suc, ◌+◌, ◌<◌, ◌⊎◌, List, [], ◌∷◌, refl, arith, inl, inr, true, false, slice_get}, specs.Prelude.{Option, Some}}
+use Rattle.std.{specs.Prelude.{None, ◌==◌}, specs.List.{filter_map, find, enumerate_from}, proofs.lemmas.Bool.Decides.{nat_tests}}
 use Rattle.ppdb_tables.specs.{declared.rows.MethodDebugRow.{MethodDebugRow}, RawTables.{RawTables, row_at}}
-use Rattle.ppdb_values.specs.{declared.file.MethodValue.{MethodValue}, RawFile.{RawFile, blob}, Documents.{method_of, method_with, points_in, signature_in}}
-use Rattle.ppdb_values.specs.{Value.{value_of}, Parts.{method_at}, Rows.{method_in}}
+use Rattle.ppdb_values.specs.{declared.file.MethodValue.{MethodValue}, RawFile.{RawFile, blob}, Documents.{method_of, method_with}, Value.{value_of}}
+use Rattle.ppdb_values.specs.{Parts.{method_at}, Rows.{method_in}}
 
 -- a row has no points, or a value with its number
 abbrev IsNumbered : ℕ → Option MethodValue → Type 0
 IsNumbered n o = (o ≡ None) ⊎ ((v : MethodValue) × (o ≡ Some v) × (v.method ≡ n))
 
-by_signature : (n : ℕ) (points : List Point) (o : Option ℕ)
-    → IsNumbered n (option_map (λ signature. record { method = n; signature = signature; points = points }) o)
-by_signature n points None = inl refl
-by_signature n points (Some signature) = inr (record { method = n; signature = signature; points = points }, refl, refl)
-
 by_content : (raw : RawTables) (n column : ℕ) (content : List ℕ) → IsNumbered n (method_with raw n column content)
-by_content raw n column [] = inl refl
-by_content raw n column (b ∷ bytes) = by_signature n (points_in raw column (b ∷ bytes)) (signature_in raw column (b ∷ bytes))
+by_content raw n column content = search rules
 
 numbered_row : (raw : RawTables) (n : ℕ) (row : MethodDebugRow) → IsNumbered n (method_of raw (n, row))
 numbered_row raw n row = by_content raw n row.document (blob raw row.points)
@@ -26,8 +19,7 @@ is_it : (a b : ℕ) → a ≡ b → (a == b) ≡ true
 is_it a b h = grind (arith, nat_tests, h)
 
 is_other : (a b n : ℕ) → a ≡ n → b < n ⊎ n < b → (a == b) ≡ false
-is_other a b n h (inl less) = grind (arith, nat_tests, h, less)
-is_other a b n h (inr more) = grind (arith, nat_tests, h, more)
+is_other a b n h hyp2 = search rules
 
 none_after : (raw : RawTables) (m n : ℕ) (rows : List MethodDebugRow) → m < n → find (λ (v : MethodValue). v.method == m)
     (filter_map (method_of raw) (enumerate_from n rows)) ≡ None

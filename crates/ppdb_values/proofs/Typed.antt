@@ -1,6 +1,6 @@
 -- The value of a file has what the types of the code carry.
-use Rattle.std.{proofs.Common.{◌≡◌, ℕ, zero, suc, ◌+◌, ◌*◌, List, [], ◌∷◌, length, refl, sym, ap, ◌∙◌, Bool, true, false, arith}, specs.Prelude.{◌≤◌, Option, Some}}
-use Rattle.std.{specs.Prelude.{None, All, IfSome, nat_le, take, drop, if◌then◌else◌}, specs.List.{enumerate_from}, proofs.lemmas.Bool.Decides.{nat_tests}}
+use Rattle.std.{proofs.Common.{rules, ◌≡◌, ℕ, zero, suc, ◌+◌, ◌*◌, List, [], ◌∷◌, length, refl, Bool, true, arith}, specs.Prelude.{◌≤◌, Option, Some, None, All}}
+use Rattle.std.{specs.Prelude.{IfSome, nat_le, take, drop, if◌then◌else◌}, specs.List.{enumerate_from}, proofs.lemmas.Bool.Decides.{nat_tests}}
 use Rattle.std.proofs.lemmas.{List.{length-take-le, length-drop}, List.Elements.{All-nil, All-cons, All-head, All-tail}}
 use Rattle.ppdb_heaps.specs.Heaps.{guid_at}
 use Rattle.ppdb_values.specs.{Ordered.{EachRow}, Types.{IsGuid}}
@@ -21,8 +21,7 @@ numbered_all P n (x ∷ xs) all =
     All-cons (λ item. P item.1) (n, x) (enumerate_from (n + 1) xs) (All-head P x xs all) (numbered_all P (n + 1) xs (All-tail P x xs all))
 
 pub any_all : {X : Type 0} (P : X → Type 0) (xs : List X) → ((x : X) → P x) → All P xs
-any_all P [] p = All-nil P
-any_all P (x ∷ xs) p = All-cons P x xs (p x) (any_all P xs p)
+any_all P xs p = search rules
 
 -- ---- GUIDs
 
@@ -34,17 +33,11 @@ taken guids i inside = length-take-le 16 (drop (16 * i) guids) (let e = length-d
 
 sixteen : (guids : List ℕ) (i : ℕ) (b : Bool) (guid : List ℕ) → nat_le (16 * i + 16) (length guids) ≡ b
     → (if b then Some (take 16 (drop (16 * i) guids)) else None) ≡ Some guid → length guid ≡ 16
-sixteen guids i true guid fits h =
-    let same : take 16 (drop (16 * i) guids) ≡ guid = cc in
-    let inside = within i (length guids) fits in
-    ap length (sym same) ∙ taken guids i inside
-sixteen guids i false guid fits h = cc
+sixteen guids i b guid fits h = search (rules, within, taken)
 
 pub guid_length : (guids : List ℕ) (n : ℕ) (guid : List ℕ) → guid_at guids n ≡ Some guid → length guid ≡ 16
 unfolding guid_at
-guid_length guids zero guid h = cc
-guid_length guids (suc i) guid h = sixteen guids i (nat_le (16 * i + 16) (length guids)) guid refl h
+guid_length guids n guid h = search (rules, sixteen)
 
 pub guid_or_none : (guids : List ℕ) (n : ℕ) (found : Option (List ℕ)) → guid_at guids n ≡ found → IfSome found IsGuid
-guid_or_none guids n None h = tt
-guid_or_none guids n (Some guid) h = guid_length guids n guid h
+guid_or_none guids n found h = search (rules, guid_length)

@@ -1,6 +1,6 @@
 -- A table has as many rows in the value of a file as in the file.
-use Rattle.std.proofs.Common.{◌≡◌, ℕ, zero, suc, ◌-◌, ◌<◌, ◌≤◌, List, [], ◌∷◌, length, take, refl, sym, ap, ◌∙◌, subst, arith, slice_index, inl, inr, Bool, true}
-use Rattle.std.{proofs.Common.{false, slice_get}, specs.Prelude.{Some, nat_lt, ◌||◌, ◌==◌}, specs.List.{repeat, list_all, sum_by}, proofs.lemmas.Bool.{cases_lt}}
+use Rattle.std.proofs.Common.{rules, ◌≡◌, ℕ, zero, suc, ◌-◌, ◌<◌, ◌≤◌, List, [], ◌∷◌, length, take, refl, sym, ap, ◌∙◌, subst, arith, slice_index, inl, inr, Bool}
+use Rattle.std.{proofs.Common.{true, false, slice_get}, specs.Prelude.{Some, nat_lt, ◌||◌, ◌==◌}, specs.List.{repeat, list_all, sum_by}}
 use Rattle.std.proofs.lemmas.{Bool.{ltb-true, eqb-true, or_cases}, Bool.Decides.{nat_tests}, List.{get_or-take, get_or_append_left, get_or-append_right}}
 use Rattle.std.proofs.lemmas.{List.{length-take, length-map}, List.Folds.{list_all_at}, List.FromFn.{length-enumerate_from}, Option.{slice_get_within}}
 use Rattle.std.proofs.lemmas.Option.{get_or_from_slice_get}
@@ -32,13 +32,7 @@ module _ (counts : List ℕ) (entries : length counts ≡ 64) where
       ∙ no_rows 19 (table - 0x2d)
 
   pub rows_sound : ((table : ℕ) → slice_index counts table ≤ 16777215) → SoundRows (type_system_rows counts)
-  rows_sound small = record {
-    most = λ table. elim (cases_lt table 0x2d) [
-      | inl low ↦ rw (type_system table low) (small table)
-      | inr high ↦ rw (no_others table high) (omega arith)
-    ];
-    others = no_others;
-  }
+  rows_sound small = search (rules, type_system, no_others)
 
 -- ---- the rows that a value names
 
@@ -79,13 +73,7 @@ module _ (raw : RawFile) (keeps : KeepsRules raw) where
   imports_counted = length-map raw.tables.imports (import_scope_of raw.tables) ∙ keeps.shape.imports
 
   pub type_system_counted : (table : ℕ) → table < 0x2d → value_count value table ≡ count raw.tables table
-  type_system_counted table low =
-      let a : (table == 0x30) ≡ false = grind (arith, nat_tests) in
-      let b : (table == 0x32) ≡ false = grind (arith, nat_tests) in
-      let c : (table == 0x33) ≡ false = grind (arith, nat_tests) in
-      let d : (table == 0x34) ≡ false = grind (arith, nat_tests) in
-      let e : (table == 0x35) ≡ false = grind (arith, nat_tests) in
-      rw (a, b, c, d, e) (type_system raw.tables.counts keeps.shape.entries table low)
+  type_system_counted table low = search (rules, nat_tests, type_system)
 
   is_table : (table other : ℕ) → (table == other) ≡ true → value_count value other ≡ count raw.tables other → value_count value table ≡ count raw.tables table
   is_table table other e same = subst (λ (n : ℕ). value_count value n ≡ count raw.tables n) (sym (eqb-true table other e)) same

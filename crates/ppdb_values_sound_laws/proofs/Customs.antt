@@ -1,6 +1,6 @@
 -- The custom records of a value.
-use Rattle.std.{proofs.Common.{◌≡◌, ℕ, zero, suc, ◌/◌, ◌%◌, ◌≤◌, List, [], ◌∷◌, map, refl, sym, ap, ◌∙◌, subst, arith, slice_get}, specs.Prelude.{Option, Some}}
-use Rattle.std.{specs.Prelude.{None, Result, Ok, Err, IfSome, is_some, unwrap_or}, specs.Option.{option_map}, proofs.lemmas.List.Elements.{All-weaker}}
+use Rattle.std.{proofs.Common.{rules, ◌≡◌, ℕ, zero, suc, ◌/◌, ◌%◌, ◌≤◌, List, [], ◌∷◌, map, refl, sym, ap, ◌∙◌, subst, arith, slice_get}, specs.Prelude.{Option}}
+use Rattle.std.{specs.Prelude.{Some, None, Result, Ok, Err, IfSome, is_some, unwrap_or}, specs.Option.{option_map}, proofs.lemmas.List.Elements.{All-weaker}}
 use Rattle.ppdb_base.specs.declared.fault.BlobFault.{BlobFault}
 use Rattle.blob_grammar.{specs.Reading.{Reading}, specs.Reader.{placed, word_at}, proofs.Unique.{reading-unique}}
 use Rattle.custom_info.specs.declared.kinds.{Kind.{Kind}, Kind.TheVariants.{Async as AsyncKind, Hoisted as HoistedKind, TypeDocuments as DocumentsKind, Free}}
@@ -25,9 +25,7 @@ parent_codes codes coded parent is = subst (λ (o : Option Parent). IfSome o (λ
 picked : (coded : ℕ) (o : Option ℕ) (parent : Parent) → slice_get parent_tables (coded % 32) ≡ o
     → option_map (λ table. record { table = table; row = coded / 32 }) o ≡ Some parent
     → slice_get parent_tables (coded % 32) ≡ Some parent.table
-picked coded None parent there is = cc
-picked coded (Some table) parent there is =
-    let same : record { table = table; row = coded / 32 } ≡ parent = cc in there ∙ ap (λ (p : Parent). Some p.table) same
+picked coded o parent there is = search rules
 
 -- keys that each row keeps
 keys_are : {X Y : Type 0} (f : X → Y) (key : Y → ℕ) (other : X → ℕ) (rows : List X) → ((row : ℕ) (x : X) → row_at rows row ≡ Some x → key (f x) ≡ other x)

@@ -1,8 +1,7 @@
 -- The import scopes of a value.
-use Rattle.std.{proofs.Common.{◌≡◌, ℕ, zero, suc, List, [], ◌∷◌, length, map, refl, ap, ◌∙◌, subst, arith}, specs.Prelude.{Option, Some, None, unwrap_or}}
+use Rattle.std.{proofs.Common.{rules, ◌≡◌, ℕ, zero, suc, List, [], ◌∷◌, length, map, refl, ap, ◌∙◌, subst, arith}, specs.Prelude.{Option, Some, None, unwrap_or}}
 use Rattle.std.specs.Option.{option_map, option_map_or}
-use Rattle.type_blobs.specs.{declared.types.TypeLimits.{TypeLimits}, Imports.{ImportItem, namespace, assembly_namespace, target, xml, alias, assembly_alias}}
-use Rattle.type_blobs.specs.Imports.{namespace_alias, assembly_namespace_alias, target_alias}
+use Rattle.type_blobs.specs.{declared.types.TypeLimits.{TypeLimits}, Imports.{ImportItem}}
 use Rattle.ppdb_tables.specs.{declared.rows.ImportRow.{ImportRow}, RawTables.{row_at}}
 use Rattle.ppdb_heaps.specs.Heaps.{blob_at}
 use Rattle.ppdb_values.specs.{declared.file.FileValue.{FileValue}, declared.import.ImportScopeValue.{ImportScopeValue}, Chains.{NeverEnds, ancestor_of, parent_at}}
@@ -14,15 +13,7 @@ use Rattle.ppdb_values_sound_laws.proofs.{Listed.{all_at, row_of_map, row_within
 -- ---- imports
 
 sound_item : (value : FileValue) (item : ImportItem) → IsRead (type_limits value) item → SoundImport value (import_value item)
-sound_item value (namespace name) r = tt
-sound_item value (assembly_namespace assembly name) r = r
-sound_item value (target token) r = r
-sound_item value (xml name other) r = tt
-sound_item value (alias name) r = tt
-sound_item value (assembly_alias name assembly) r = r
-sound_item value (namespace_alias name other) r = tt
-sound_item value (assembly_namespace_alias name assembly other) r = r
-sound_item value (target_alias name token) r = r
+sound_item value item r = search rules
 
 -- ---- chains
 
@@ -65,8 +56,7 @@ same_parent f parent other same (x ∷ xs) (suc zero) = same x
 same_parent f parent other same (x ∷ xs) (suc (suc i)) = same_parent f parent other same xs (suc i)
 
 same_ancestor : (f g : ℕ → ℕ) → ((row : ℕ) → f row ≡ g row) → (row steps : ℕ) → ancestor_of f row steps ≡ ancestor_of g row steps
-same_ancestor f g same row zero = refl
-same_ancestor f g same row (suc steps) = ap (λ n. ancestor_of f n steps) (same row) ∙ same_ancestor f g same (g row) steps
+same_ancestor f g same row steps = search rules
 
 module _ (raw : RawFile) (keeps : KeepsRules raw) where
   imports_sound_in : (row : ImportRow) → IsImport raw.tables row → SoundImportScope (value_of raw) (import_scope_of raw.tables row)

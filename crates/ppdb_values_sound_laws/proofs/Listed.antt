@@ -1,5 +1,5 @@
 -- Lists that are made of the numbered rows of a table, and the rows that their items come from.
-use Rattle.std.proofs.Common.{◌≡◌, ℕ, zero, suc, ◌+◌, ◌<◌, Bool, true, false, cond, List, [], ◌∷◌, length, map, refl, sym, ap, ◌∙◌, subst, arith, inl, inr}
+use Rattle.std.proofs.Common.{rules, ◌≡◌, ℕ, zero, suc, ◌+◌, ◌<◌, Bool, true, false, cond, List, [], ◌∷◌, length, map, refl, sym, ap, ◌∙◌, arith, inl, inr}
 use Rattle.std.{proofs.Common.{slice_get, slice_index}, specs.Prelude.{Option, Some, None, All}, specs.List.{filter, filter_map, cons_option, enumerate_from}}
 use Rattle.std.{specs.List.{sum_by}, specs.Option.{option_map}, proofs.lemmas.List.{length-map}, proofs.lemmas.List.Sums.{sum_by-cons}}
 use Rattle.std.proofs.lemmas.Option.{get_or_from_slice_get, slice_get-map, slice_get_cases, slice_get_within}
@@ -17,8 +17,7 @@ row_of rows i inside = elim (slice_get_cases rows i).1 [
 
 -- what holds of each item holds of a row
 pub all_at : {X : Type 0} (P : X → Type 0) (rows : List X) (row : ℕ) (x : X) → All P rows → row_at rows row ≡ Some x → P x
-all_at P rows zero x all here = cc
-all_at P rows (suc i) x all here = subst P (get_or_from_slice_get rows i x x here) (all i x (slice_get_within rows i x here))
+all_at P rows row x all here = search (rules, get_or_from_slice_get, slice_get_within)
 
 -- ---- rows of a list that is mapped
 
@@ -39,11 +38,7 @@ get_numbered f n (x ∷ xs) (suc i) v h =
 
 pub row_of_numbered : {X Y : Type 0} (f : ℕ × X → Y) (xs : List X) (row : ℕ) (v : Y) → row_at (map f (numbered xs)) row ≡ Some v
     → (x : X) × (row_at xs row ≡ Some x) × (f (row, x) ≡ v)
-row_of_numbered f xs zero v h = cc
-row_of_numbered f xs (suc i) v h =
-    let r = get_numbered f 1 xs i v h in
-    let e : suc i ≡ 1 + i = omega arith in
-    (r.0, r.1, rw e r.2)
+row_of_numbered f xs row v h = search (rules, get_numbered)
 
 -- keys that a map keeps
 pub keys_numbered : {X Y K : Type 0} (f : ℕ × X → Y) (key : Y → K) (other : X → K) → ((row : ℕ × X) → key (f row) ≡ other row.1) → (n : ℕ) (xs : List X)
@@ -107,14 +102,11 @@ module _ {X Y : Type 0} (h : ℕ × X → Option Y) where
   both_from n (x ∷ xs) i j y z hy hz less = both_here n x xs y z (h (n, x)) refl (λ k l a b. both_from (n + 1) xs k l y z a b) i j hy hz less
 
   pub made : (xs : List X) (row : ℕ) (y : Y) → row_at (filter_map h (numbered xs)) row ≡ Some y → IsMade h 1 xs y
-  made xs zero y there = cc
-  made xs (suc i) y there = made_from 1 xs i y there
+  made xs row y there = search (rules, made_from)
 
   pub both_made : (xs : List X) (a b : ℕ) (y z : Y) → row_at (filter_map h (numbered xs)) a ≡ Some y → row_at (filter_map h (numbered xs)) b ≡ Some z → a < b
       → AreMade h 1 xs y z
-  both_made xs zero b y z hy hz less = cc
-  both_made xs (suc i) zero y z hy hz less = cc
-  both_made xs (suc i) (suc j) y z hy hz less = both_from 1 xs i j y z hy hz (omega (arith, less))
+  both_made xs a b y z hy hz less = search (rules, both_from)
 
 -- what passes a test, mapped
 pub map_filter : {X Y : Type 0} (f : X → Y) (p : X → Bool) (xs : List X) → map f (filter p xs) ≡ filter_map (λ x. cond (p x) (Some (f x)) None) xs

@@ -1,6 +1,6 @@
 -- The methods of a value: their points are those of whole blobs.
-use Rattle.std.{proofs.Common.{◌≡◌, ℕ, suc, ◌+◌, ◌≤◌, ◌⊎◌, List, [], ◌∷◌, length, refl, ap, ◌∙◌, subst, arith, inl, inr, get_or}, specs.Prelude.{Option, Some, None}}
-use Rattle.std.{specs.Option.{option_map}, proofs.lemmas.Option.{slice_get_within}}
+use Rattle.std.{proofs.Common.{rules, ◌≡◌, ℕ, suc, ◌+◌, ◌≤◌, ◌⊎◌, List, [], ◌∷◌, length, refl, ap, ◌∙◌, subst, arith, inl, inr, get_or}, specs.Prelude.{Option}}
+use Rattle.std.{specs.Prelude.{Some, None}, specs.Option.{option_map}, proofs.lemmas.Option.{slice_get_within}}
 use Rattle.sequence_points.specs.{declared.point.Point.{Point}, Points.{PointsReading}, Records.{sequence_points}, Written.{IsSpan}, Ranges.{IsOffset}}
 use Rattle.sequence_points.proofs.ReadPoints.{read_points}
 use Rattle.ppdb_tables.specs.RawTables.{count}
@@ -51,9 +51,7 @@ module _ (raw : RawFile) (keeps : KeepsRules raw) where
       )
 
   point_sound : (p : Point) → IsOffset p.offset → (1 ≤ p.document) × (p.document ≤ count raw.tables 0x30) → IsSpan p.span → SoundPoint (value_of raw) p
-  point_sound p offset document span =
-      let same = documents_counted raw keeps in
-      record { offset = omega (arith, offset); document = (document.0, rw same document.1); span = span }
+  point_sound p offset document span = search (rules, documents_counted)
 
   sound : (m : MethodValue) → IsMade (method_of raw.tables) 1 raw.tables.methods m → SoundMethod (value_of raw) m
   sound m is =

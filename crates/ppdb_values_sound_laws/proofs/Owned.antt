@@ -1,5 +1,5 @@
 -- The scopes share out the items of a table: together they own as many as there are.
-use Rattle.std.{proofs.Common.{◌≡◌, ℕ, suc, ◌+◌, ◌-◌, ◌≤◌, List, [], ◌∷◌, length, drop, refl, sym, ap, arith, slice_get, zero-add}, specs.Prelude.{Some}}
+use Rattle.std.{proofs.Common.{rules, ◌≡◌, ℕ, suc, ◌+◌, ◌-◌, ◌≤◌, List, [], ◌∷◌, length, drop, refl, ap, arith, slice_get, zero-add}, specs.Prelude.{Some}}
 use Rattle.std.{specs.List.{enumerate_from, sum_by}, proofs.lemmas.List.{length-take, length-drop, length-map}, proofs.lemmas.List.FromFn.{length-enumerate_from}}
 use Rattle.std.proofs.lemmas.{List.Sums.{sum_by-cons}, Option.{slice_get_within}}
 use Rattle.ppdb_tables.specs.{declared.rows.ScopeRow.{ScopeRow}, RawTables.{numbered, row_at}}
@@ -61,8 +61,7 @@ module _ {X : Type 0} (list : ScopeRow → ℕ) (scopes : List ScopeRow) (items 
 
   in_all : (all : List ScopeRow) → scopes ≡ all → sum_by owned (enumerate_from 1 all) + begin_of list (length items) all ≡ length items + 1
       → sum_by owned (enumerate_from 1 all) ≡ length items
-  in_all [] e sum = sym (keeps.none e)
-  in_all (scope ∷ others) e sum = let one = keeps.first scope (ap (λ rows. row_at rows 1) e) in omega (arith, one, sum)
+  in_all all e sum = search rules
 
   -- all of them
   pub owned_by_all : sum_by owned (numbered scopes) ≡ length items

@@ -1,13 +1,12 @@
 -- The items of a scope are made of rows that it owns.
-use Rattle.std.{proofs.Common.{◌≡◌, ℕ, suc, ◌+◌, ◌<◌, Bool, true, cond, List, map, sym, ap, subst, arith}, specs.Option.{option_map_or}, specs.Prelude.{Option}}
-use Rattle.std.{specs.Prelude.{Some, None, nat_eq, false}, proofs.lemmas.Bool.{eqb-true}, proofs.lemmas.Option.{cond_some}}
+use Rattle.std.{proofs.Common.{rules, ◌≡◌, ℕ, suc, ◌+◌, ◌<◌, Bool, true, cond, List, map, subst, arith}, specs.Option.{option_map_or}, specs.Prelude.{Option, Some}}
+use Rattle.std.{specs.Prelude.{None, nat_eq, false}, proofs.lemmas.Option.{cond_some}}
 use Rattle.ppdb_tables.specs.{declared.rows.ScopeRow.{ScopeRow}, RawTables.{numbered, row_at}}
 use Rattle.ppdb_values.specs.Value.{owner_of, owned_by}
 use Rattle.ppdb_values_sound_laws.proofs.Listed.{IsMade, made, both_made, map_filter}
 
 is_owner : (owner : ℕ) (o : Option ℕ) → option_map_or (nat_eq owner) o false ≡ true → o ≡ Some owner
-is_owner owner None e = cc
-is_owner owner (Some n) e = ap (λ (m : ℕ). Some m) (sym (eqb-true owner n e))
+is_owner owner o e = search rules
 
 -- The item is made of a row that the scope owns.
 pub record IsOwned {X Y : Type 0} (f : X → Y) (list : ScopeRow → ℕ) (scopes : List ScopeRow) (owner : ℕ) (items : List X) (y : Y) : Type 0 where

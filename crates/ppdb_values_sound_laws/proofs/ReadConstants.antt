@@ -1,6 +1,6 @@
 -- The modifiers and the body that a signature is read as can be written, and their types are there.
-use Rattle.std.{proofs.Common.{◌≡◌, ℕ, Bool, true, false, List, [], ◌∷◌, length, Option, Some, None, refl, sym, ap, subst, ◌∙◌, inl, inr}, specs.Prelude.{All}}
-use Rattle.std.{specs.Prelude.{if◌then◌else◌}, proofs.lemmas.Bool.{or_cases}, proofs.lemmas.List.Elements.{All-push, All-nil}}
+use Rattle.std.proofs.Common.{rules, ◌≡◌, ℕ, Bool, true, false, List, [], ◌∷◌, length, Option, Some, None, refl, sym, ap, subst, ◌∙◌, inl, inr}
+use Rattle.std.{specs.Prelude.{All, if◌then◌else◌}, proofs.lemmas.Bool.{or_cases}, proofs.lemmas.List.Elements.{All-push, All-nil}}
 use Rattle.ppdb_base.specs.declared.fault.BlobFault.{BlobFault}
 use Rattle.blob_grammar.specs.Grammar.{Value, number, integer, octets, Form, unsigned, byte, fixed, rest, Spells, Field, Cut, with_value, cut, IsAllowed}
 use Rattle.blob_grammar.{specs.Reading.{Reading}, proofs.ReadRecords.{of_reading}}
@@ -42,37 +42,17 @@ Goes limits whole begun value = Holds limits (with_value (constants limits) (rec
 -- ---- values of fields
 
 number_read : (form : Form) (bytes : List ℕ) (v : Value) (after : List ℕ) → Some unsigned ≡ Some form → Spells form bytes v after → (n : ℕ) × (v ≡ number n)
-number_read form bytes v after e s = let same : form ≡ unsigned = cc in by_value v (subst (λ (f : Form). Spells f bytes v after) same s)
-  where
-    by_value : (w : Value) → Spells unsigned bytes w after → (n : ℕ) × (w ≡ number n)
-    by_value (number n) t = (n, refl)
-    by_value (integer z) t = absurd t
-    by_value (octets xs) t = absurd t
+number_read form bytes v after e s = search rules
 
 octets_read : (len : ℕ) (form : Form) (bytes : List ℕ) (v : Value) (after : List ℕ) → Some (fixed len) ≡ Some form → Spells form bytes v after
     → (xs : List ℕ) × (v ≡ octets xs) × (length xs ≡ len)
-octets_read len form bytes v after e s = let same : form ≡ fixed len = cc in by_value v (subst (λ (f : Form). Spells f bytes v after) same s)
-  where
-    by_value : (w : Value) → Spells (fixed len) bytes w after → (xs : List ℕ) × (w ≡ octets xs) × (length xs ≡ len)
-    by_value (number n) t = absurd t
-    by_value (integer z) t = absurd t
-    by_value (octets xs) t = (xs, refl, ap length t.0 ∙ t.1)
+octets_read len form bytes v after e s = search rules
 
 rest_read : (form : Form) (bytes : List ℕ) (v : Value) (after : List ℕ) → Some rest ≡ Some form → Spells form bytes v after → (xs : List ℕ) × (v ≡ octets xs)
-rest_read form bytes v after e s = let same : form ≡ rest = cc in by_value v (subst (λ (f : Form). Spells f bytes v after) same s)
-  where
-    by_value : (w : Value) → Spells rest bytes w after → (xs : List ℕ) × (w ≡ octets xs)
-    by_value (number n) t = absurd t
-    by_value (integer z) t = absurd t
-    by_value (octets xs) t = (xs, refl)
+rest_read form bytes v after e s = search rules
 
 code_read : (form : Form) (bytes : List ℕ) (v : Value) (after : List ℕ) → Some byte ≡ Some form → Spells form bytes v after → (n : ℕ) × (v ≡ number n)
-code_read form bytes v after e s = let same : form ≡ byte = cc in by_value v (subst (λ (f : Form). Spells f bytes v after) same s)
-  where
-    by_value : (w : Value) → Spells byte bytes w after → (n : ℕ) × (w ≡ number n)
-    by_value (number n) t = (n, refl)
-    by_value (integer z) t = absurd t
-    by_value (octets xs) t = absurd t
+code_read form bytes v after e s = search rules
 
 module _ (limits : TypeLimits) (small : AreSmall limits) (whole : List Modifier) (h : All (IsModifier limits) whole) where
   -- ---- after a code
@@ -150,12 +130,7 @@ module _ (limits : TypeLimits) (small : AreSmall limits) (whole : List Modifier)
       subst (λ (u : Value). Goes limits whole (number code ∷ number target ∷ []) u) (sym xs.1) (h, (is, there))
 
   no_general_value : (code : ℕ) (value : List ℕ) → is_general code ≡ true → IsPrimitive (is_string code) code value → ⊥
-  no_general_value code value is p = elim (general_is code is) [
-    | inl e ↦ let q : IsPrimitive (is_string 0x12) 0x12 value =
-        subst (λ (c : ℕ). IsPrimitive (is_string c) c value) e p in let no : false ≡ true = q.primitive in cc
-    | inr e ↦ let q : IsPrimitive (is_string 0x11) 0x11 value =
-        subst (λ (c : ℕ). IsPrimitive (is_string c) c value) e p in let no : false ≡ true = q.primitive in cc
-  ]
+  no_general_value code value is p = search rules
 
   third_enumerated : (code : ℕ) (value : List ℕ) (b c : Bool) → is_enumerable code ≡ b → is_general code ≡ c → IsPrimitive (is_string code) code value
       → (form : Form) (bytes : List ℕ) (v : Value) (after : List ℕ)

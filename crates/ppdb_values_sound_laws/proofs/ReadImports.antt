@@ -1,6 +1,6 @@
 -- The assemblies and the types of imports that are read are there.
-use Rattle.std.proofs.Common.{◌≡◌, ℕ, zero, suc, ◌≤◌, Bool, true, false, ◌&&◌, List, [], ◌∷◌, ◌++◌, length, Option, Some, None, refl, sym, ap, subst, ◌∙◌, arith}
-use Rattle.std.{proofs.Common.{slice_get}, specs.Prelude.{All, ◌==◌, nat_le, if◌then◌else◌}, proofs.lemmas.Bool.{and_parts, leb-true, eqb-true}}
+use Rattle.std.proofs.Common.{rules, ◌≡◌, ℕ, zero, suc, ◌≤◌, Bool, true, false, ◌&&◌, List, [], ◌∷◌, ◌++◌, length, Option, Some, None, refl, sym, ap, subst, ◌∙◌}
+use Rattle.std.{proofs.Common.{arith, slice_get}, specs.Prelude.{All, ◌==◌, nat_le, if◌then◌else◌}, proofs.lemmas.Bool.{and_parts, leb-true, eqb-true}}
 use Rattle.std.proofs.lemmas.List.Elements.{All-push, All-nil}
 use Rattle.ppdb_base.specs.declared.fault.BlobFault.{BlobFault}
 use Rattle.blob_grammar.specs.{Grammar.{Value, number, integer, octets, Field, Cut, closed, with_value, IsAllowed}, Reading.{Reading}}
@@ -159,8 +159,7 @@ module _ (limits : TypeLimits) (heap : ℕ → Option (List ℕ)) where
 
     no_number : (o : Option ImportPart) (z : Value) → ((part : ImportPart) → next_allows limits heap (Some part) z ≡ false)
         → (next_allows limits heap None z ≡ false) → next_allows limits heap o z ≡ true → ⊥
-    no_number None z some none e = cc
-    no_number (Some part) z some none e = let f = some part in cc
+    no_number o z some none e = search rules
 
     one : (whole : List ImportItem) (begun : List Value) (bytes : List ℕ) (v : Value) (after : List ℕ) → Allowed whole begun bytes v after
         → All (IsRead limits) whole → Begun begun

@@ -1,5 +1,5 @@
 -- A number that names a type is that of a type that is there.
-use Rattle.std.{proofs.Common.{◌≡◌, ℕ, zero, suc, ◌/◌, ◌%◌, ◌≤◌, true, refl, arith, inl, inr}, specs.Prelude.{nat_le}, proofs.lemmas.Bool.{and_parts, leb-true}}
+use Rattle.std.{proofs.Common.{rules, ◌≡◌, ℕ, ◌/◌, ◌%◌, ◌≤◌, true}, specs.Prelude.{nat_le}, proofs.lemmas.Bool.{and_parts, leb-true}}
 use Rattle.type_blobs.specs.{declared.types.TypeToken.{TypeToken}, declared.types.TypeLimits.{TypeLimits}, Types.{table_of, rows_of, is_type, token_of, IsToken}}
 use Rattle.type_blobs.specs.Types.{IsThere}
 use Rattle.blob_grammar.specs.Allowed.{is_row}
@@ -16,12 +16,7 @@ row_there rows row e = let p = and_parts (nat_le 1 row) (nat_le row rows) e in (
 module _ (limits : TypeLimits) (small : AreSmall limits) where
   by_tag : (tag row : ℕ) → is_row (rows_of limits tag) row ≡ true → let token : TypeToken =
       record { table = table_of tag; row = row } in IsToken token × IsThere limits token
-  by_tag zero row e = let there = row_there limits.type_defs row e in let most = small.type_defs in ((inl refl, omega (arith, there.1, most)), there)
-  by_tag (suc zero) row e =
-      let there = row_there limits.type_refs row e in let most = small.type_refs in ((inr (inl refl), omega (arith, there.1, most)), there)
-  by_tag (suc (suc zero)) row e =
-      let there = row_there limits.type_specs row e in let most = small.type_specs in ((inr (inr refl), omega (arith, there.1, most)), there)
-  by_tag (suc (suc (suc tag))) row e = let there = row_there 0 row e in absurd (omega (arith, there.0, there.1))
+  by_tag tag row e = search rules
 
   pub type_read : (n : ℕ) → is_type limits n ≡ true → IsToken (token_of n) × IsThere limits (token_of n)
   type_read n e = by_tag (n % 4) (n / 4) e

@@ -1,5 +1,5 @@
 -- The scopes from a row on, and where their lists begin.
-use Rattle.std.{proofs.Common.{◌≡◌, ℕ, suc, ◌+◌, List, [], ◌∷◌, refl, ap, ◌∙◌, arith, slice_get}, specs.Prelude.{Some, unwrap_or}, specs.Option.{option_map}}
+use Rattle.std.{proofs.Common.{rules, ◌≡◌, ℕ, suc, ◌+◌, List, [], ◌∷◌, ap, ◌∙◌, arith, slice_get}, specs.Prelude.{Some, unwrap_or}, specs.Option.{option_map}}
 use Rattle.ppdb_tables.specs.{declared.rows.ScopeRow.{ScopeRow}, RawTables.{row_at}}
 use Rattle.ppdb_values.specs.Owners.{list_end}
 
@@ -9,8 +9,7 @@ begin_of list items [] = items + 1
 begin_of list items (scope ∷ others) = list scope
 
 first_end : (list : ScopeRow → ℕ) (items : ℕ) (rest : List ScopeRow) → unwrap_or (option_map list (slice_get rest 0)) (items + 1) ≡ begin_of list items rest
-first_end list items [] = refl
-first_end list items (scope ∷ others) = refl
+first_end list items rest = search rules
 
 -- the scopes from a row on
 abbrev pub IsRest : List ScopeRow → ℕ → List ScopeRow → Type 0

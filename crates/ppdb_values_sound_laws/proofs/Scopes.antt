@@ -1,8 +1,7 @@
 -- The scopes of a value, with the variables and the constants that they own.
-use Rattle.std.{proofs.Common.{◌≡◌, ◌≢◌, ℕ, List, refl, sym, ap, ◌∙◌, subst, arith, true}, specs.Prelude.{Option, Some, None, All, is_some}}
+use Rattle.std.{proofs.Common.{rules, ◌≡◌, ◌≢◌, ℕ, List, refl, sym, subst, arith, true}, specs.Prelude.{Option, Some, None, All, is_some}}
 use Rattle.std.specs.Option.{option_map_or}
-use Rattle.type_blobs.specs.{declared.types.TypeLimits.{TypeLimits}, Constants.{ConstantBody as StoredBody, primitive, enumerated, general, object, constants}}
-use Rattle.type_blobs.specs.Constants.{body_of}
+use Rattle.type_blobs.specs.{declared.types.TypeLimits.{TypeLimits}, Constants.{ConstantBody as StoredBody, constants, body_of}}
 use Rattle.ppdb_tables.specs.{declared.rows.ScopeRow.{ScopeRow}, declared.rows.ConstantRow.{ConstantRow}, RawTables.{row_at}}
 use Rattle.ppdb_values.specs.{declared.scope.ScopeValue.{ScopeValue}, declared.scope.ConstantBody.TheVariants.{Object}, Constants.{constant_of, body_value}}
 use Rattle.ppdb_values.specs.{Ordered.{EachRow, EachPair, IsSorted}, RawFile.{RawFile, text, blob, begun_of, type_limits as raw_limits}, Rules.{KeepsRules}}
@@ -16,17 +15,11 @@ use Rattle.ppdb_values_sound_laws.proofs.{ReadTypes.{AreSmall}, Texts.{no_zero}}
 pub differ : {X Y K : Type 0} (f : X → Y) (key : Y → K) (list : ScopeRow → ℕ) (scopes : List ScopeRow) (owner : ℕ) (items : List X)
     → DifferInScope (λ x. key (f x)) list scopes items
     → (y z : Y) → AreOwned f list scopes owner items y z → key y ≢ key z
-differ f key list scopes owner items apart y z both same =
-    apart both.first.number both.second.number both.first.row both.second.row both.first.there both.second.there both.rises
-    (both.first.owned ∙ sym both.second.owned)
-    (ap key both.first.makes ∙ same ∙ sym (ap key both.second.makes))
+differ f key list scopes owner items apart y z both same = search rules
 
 -- the body of a signature, as a value has it, is the body of the signature
 pub stored_again : (body : StoredBody) → stored_body (body_value body) ≡ body
-stored_again (primitive code value) = refl
-stored_again (enumerated code value target) = refl
-stored_again (general code target rest) = refl
-stored_again object = refl
+stored_again body = search rules
 
 module _ (raw : RawFile) (keeps : KeepsRules raw) where
   -- the tables that a type may name have as many rows in the value
@@ -118,11 +111,7 @@ module _ (raw : RawFile) (keeps : KeepsRules raw) where
   pairs : (R : ScopeRow → ScopeRow → Type 0) (Q : ScopeValue → ScopeValue → Type 0)
       → ((a b : ℕ) (x y : ScopeRow) → R x y → Q (scope_of raw.tables (a, x)) (scope_of raw.tables (b, y)))
       → EachPair R raw.tables.scopes → EachPair Q (value_of raw).scopes
-  pairs R Q means all a b v w hv hw less =
-      let p = row_of_numbered (scope_of raw.tables) raw.tables.scopes a v hv in
-      let q = row_of_numbered (scope_of raw.tables) raw.tables.scopes b w hw in
-      subst (λ (s : ScopeValue). Q s w) p.2 (subst (λ (s : ScopeValue). Q (scope_of raw.tables (a, p.0)) s) q.2
-      (means a b p.0 q.0 (all a b p.0 q.0 p.1 q.1 less)))
+  pairs R Q means all = search (rules, row_of_numbered)
 
   pub scopes_sound : SoundScopes (value_of raw)
   scopes_sound = record {

@@ -1,7 +1,6 @@
 -- A text of #Strings holds no zero byte.
-use Rattle.std.{proofs.Common.{◌≡◌, ◌≢◌, ℕ, zero, suc, ◌<◌, true, List, [], take, drop, refl, sym, ap, ◌∙◌, subst, arith, get_or}, specs.Prelude.{Option, Some}}
-use Rattle.std.{specs.Prelude.{None, ◌==◌}, specs.List.{position}, specs.Option.{option_map}, proofs.lemmas.List.{length-take, get_or-take}}
-use Rattle.std.proofs.lemmas.List.{Quantifiers.{position-Some}, Elements.{All-nil}}
+use Rattle.std.{proofs.Common.{rules, ◌≡◌, ℕ, zero, ◌<◌, true, List, [], take, sym, ap, ◌∙◌, subst, arith, get_or}, specs.Prelude.{Option, Some, None, ◌==◌}}
+use Rattle.std.{specs.List.{position}, specs.Option.{option_map}, proofs.lemmas.List.{length-take, get_or-take}, proofs.lemmas.List.Quantifiers.{position-Some}}
 use Rattle.ppdb_heaps.specs.Heaps.{text_at}
 use Rattle.ppdb_values_sound_laws.specs.Scopes.{HoldsNoZero}
 
@@ -20,5 +19,4 @@ before_zero bytes (Some len) e text is =
 -- the text at an index
 pub no_zero : (texts : List ℕ) (index : ℕ) (text : List ℕ) → text_at texts index ≡ Some text → HoldsNoZero text
 unfolding text_at
-no_zero texts zero text e = let same : [] ≡ text = cc in subst HoldsNoZero same (All-nil (λ b. b ≢ 0))
-no_zero texts (suc i) text e = before_zero (drop (suc i) texts) (position (λ b. b == 0) (drop (suc i) texts)) refl text e
+no_zero texts index text e = search (rules, before_zero)

@@ -1,5 +1,5 @@
 -- The values of three worked files are sound.
-use Rattle.std.proofs.Common.{◌≡◌, ◌≢◌, ℕ, zero, suc, ◌+◌, ◌-◌, ◌≤◌, ◌<◌, ◌⊎◌, true, List, [], ◌∷◌, length, drop, map, refl, sym, ◌∙◌, subst, arith, inl, inr}
+use Rattle.std.proofs.Common.{rules, ◌≡◌, ◌≢◌, ℕ, zero, suc, ◌+◌, ◌-◌, ◌≤◌, ◌<◌, ◌⊎◌, true, List, [], ◌∷◌, length, drop, map, refl, sym, ◌∙◌, subst, arith, inl, inr}
 use Rattle.std.{proofs.Common.{slice_index}, specs.Prelude.{All, AllPairs, nat_le, ◌==◌}, specs.List.{list_all}, proofs.lemmas.Bool.Decides.{nat_tests}}
 use Rattle.std.proofs.lemmas.{List.{get_or-drop}, List.Elements.{All-nil, All-cons}, List.Kept.{AllPairs-cons}}
 use Rattle.sequence_points.specs.{declared.point.Point.{Point}, declared.point.Span.{Span}, declared.point.Span.TheVariants.{Hidden, Lines}, Written.{IsSpan}}
@@ -15,8 +15,7 @@ use Rattle.ppdb_values_sound_laws.{specs.Worked.{WorkedSound, with_points, with_
 -- ---- rows that are listed
 
 each_nil : {X : Type 0} (P : X → Type 0) → EachRow P []
-each_nil P zero x h = cc
-each_nil P (suc i) x h = cc
+each_nil P = search rules
 
 each_cons : {X : Type 0} (P : X → Type 0) (x : X) (xs : List X) → P x → EachRow P xs → EachRow P (x ∷ xs)
 each_cons P x xs p ps zero y h = cc
@@ -24,8 +23,7 @@ each_cons P x xs p ps (suc zero) y h = let e : x ≡ y = cc in subst P e p
 each_cons P x xs p ps (suc (suc i)) y h = ps (suc i) y h
 
 pairs_nil : {X : Type 0} (P : X → X → Type 0) → EachPair P []
-pairs_nil P zero b x y hx hy less = cc
-pairs_nil P (suc i) b x y hx hy less = cc
+pairs_nil P = search rules
 
 pairs_cons : {X : Type 0} (P : X → X → Type 0) (x : X) (xs : List X) → EachRow (P x) xs → EachPair P xs → EachPair P (x ∷ xs)
 pairs_cons P x xs later ps zero b y z hy hz less = cc
@@ -46,17 +44,10 @@ nothing_rises : Rises []
 nothing_rises i j less within = absurd (omega (arith, within))
 
 one_rises : (x : ℕ) → Rises (x ∷ [])
-one_rises x i zero less within = absurd (omega arith)
-one_rises x i (suc j) less within = absurd (omega (arith, within))
+one_rises x = search rules
 
 same_sorted : (x : ℕ) → IsSorted (x ∷ x ∷ [])
-same_sorted x zero zero le within = omega arith
-same_sorted x zero (suc zero) le within = omega arith
-same_sorted x (suc zero) zero le within = absurd (omega arith)
-same_sorted x (suc zero) (suc zero) le within = omega arith
-same_sorted x i (suc (suc j)) le within = absurd (omega (arith, within))
-same_sorted x (suc (suc i)) zero le within = absurd (omega arith)
-same_sorted x (suc (suc i)) (suc zero) le within = absurd (omega arith)
+same_sorted x = search rules
 
 -- ---- row counts
 
@@ -95,8 +86,7 @@ none_rises : {X : Type 0} (key : X → ℕ) (rows : List X) → rows ≡ [] → 
 none_rises key rows e = subst (λ xs. Rises (map key xs)) (sym e) nothing_rises
 
 no_parent : (row : ℕ) → parent_at (λ (scope : ImportScopeValue). scope.parent) [] row ≡ 0
-no_parent zero = refl
-no_parent (suc row) = refl
+no_parent row = search rules
 
 module _ (value : FileValue) where
   no_methods : value.methods ≡ [] → SoundMethods value

@@ -1,5 +1,5 @@
 -- The parts of a file one after the other.
-use Rattle.std.proofs.Common.{◌≡◌, List, ℕ, inl, subst, ◌∙◌}
+use Rattle.std.proofs.Common.{◌≡◌, List, ℕ, inl, inr, subst, ◌∙◌}
 use Rattle.ppdb_base.specs.{declared.code.Code.{Code}, declared.fault.Fault.{Fault}, declared.fault.Place.{Place}, First.{IsAccepted, IsFirst, Then}}
 use Rattle.ppdb_base.proofs.Judging.{accepted_then, first_of_after, first_of_before, first_of_same}
 use Rattle.metadata_root.specs.{declared.kind.StreamKind.TheVariants.{Pdb, Tables}, Streams.{AreStreamsOf, ContainerFaults, Streams, bytes_of}}
@@ -57,3 +57,8 @@ module _ (file : List ℕ) (root : Streams) (container : IsAccepted (ContainerFa
               pdb
               (accepted_then (TablesFaults (head_in (bytes_of root Pdb)) (bytes_of root Tables)) (RowsFaults (raw_in root).tables) tables_accepted
               (subst (λ (r : RawTables). IsAccepted (RowsFaults r)) same_tables rows))
+
+      -- a file that keeps all rules keeps those of its rows
+      pub rows_kept : IsAccepted (FileFaults file) → IsAccepted (RowsFaults raw)
+      rows_kept all code at invalid =
+          all code at (inr (container, (root, are, inr (pdb, inr (tables_accepted, subst (λ (r : RawTables). RowsFaults r code at) same_tables invalid)))))

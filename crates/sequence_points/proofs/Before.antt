@@ -1,10 +1,8 @@
 -- The points before a point, one more at a time.
-use Rattle.std.proofs.Common.{◌≡◌, ℕ, ◌+◌, ◌<◌, List, [], ◌∷◌, ◌++◌, length, take, drop, get_or, Option, Some, None, refl, sym, ap, ◌∙◌, append-nil, arith}
-use Rattle.std.{specs.List.{filter_map, cons_option}, specs.Option.{option_map, option_to_list}, proofs.lemmas.List.{take_more, drop_more, length-take}}
-use Rattle.std.proofs.lemmas.List.Elements.{filter_map-append}
-use Rattle.sequence_points.specs.declared.{point.Point.{Point}, point.Span.{Span}, point.Span.TheVariants.{Hidden, Lines}, place.Start.{Start}}
-use Rattle.sequence_points.specs.{declared.step.LineStep.{LineStep}, Places.{start_after}, Written.{last_of, start_of_span, last_start, large_step, large_steps}}
-use Rattle.sequence_points.specs.Written.{numbered, first_of}
+use Rattle.std.proofs.Common.{rules, ◌≡◌, ℕ, ◌+◌, ◌<◌, List, [], ◌∷◌, ◌++◌, length, take, drop, get_or, Option, Some, None, refl, sym, ap, ◌∙◌, append-nil, arith}
+use Rattle.std.{specs.Option.{option_map, option_to_list}, proofs.lemmas.List.{take_more, drop_more, length-take}, proofs.lemmas.List.Elements.{filter_map-append}}
+use Rattle.sequence_points.specs.{declared.point.Point.{Point}, declared.place.Start.{Start}, declared.step.LineStep.{LineStep}, Places.{start_after}}
+use Rattle.sequence_points.specs.Written.{last_of, last_start, large_step, large_steps, numbered, first_of}
 
 pub last_of-push : {X : Type 0} (xs : List X) (x : X) → last_of (xs ++ x ∷ []) ≡ Some x
 last_of-push [] x = refl
@@ -12,14 +10,7 @@ last_of-push (y ∷ []) x = refl
 last_of-push (y ∷ z ∷ xs) x = last_of-push (z ∷ xs) x
 
 pub last_start-push : (before : List Point) (p : Point) → last_start (before ++ p ∷ []) ≡ start_after (last_start before) p.span
-last_start-push before p = ap last_of (filter_map-append start_of_point before (p ∷ [])) ∙ by_span p.span
-  where
-    start_of_point : Point → Option Start
-    start_of_point q = start_of_span q.span
-
-    by_span : (s : Span) → last_of (filter_map start_of_point before ++ cons_option (start_of_span s) []) ≡ start_after (last_start before) s
-    by_span Hidden = ap last_of (append-nil (filter_map start_of_point before))
-    by_span (Lines a b c d) = last_of-push (filter_map start_of_point before) (record { line = a; column = b })
+last_start-push before p = search (rules, filter_map-append, append-nil, last_of-push)
 
 -- ---- large steps
 

@@ -1,16 +1,15 @@
 -- Points that can be written may follow one another.
-use Rattle.std.proofs.Common.{◌≡◌, ℕ, suc, ◌+◌, ◌<◌, ◌≤◌, List, [], ◌∷◌, ◌++◌, length, take, drop, get_or, append_assoc, Option, Some, None, refl, sym, ap, subst}
+use Rattle.std.proofs.Common.{rules, ◌≡◌, ℕ, suc, ◌+◌, ◌<◌, ◌≤◌, List, [], ◌∷◌, ◌++◌, length, take, drop, get_or, append_assoc, Option, Some, None, sym, ap, subst}
 use Rattle.std.{proofs.Common.{◌∙◌, arith}, specs.Prelude.{All, AllPairs, ℤ}, specs.Option.{option_map, option_to_list}, proofs.lemmas.List.{take_more, drop_more}}
 use Rattle.std.proofs.lemmas.List.Elements.{All-head, All-tail}
-use Rattle.sequence_points.specs.declared.{point.Point.{Point}, point.Span.{Span}, point.Span.TheVariants.{Hidden, Lines}, place.Start.{Start}}
-use Rattle.sequence_points.specs.{declared.step.LineStep.{LineStep}, Places.{start_after}, Written.{IsSpan, last_of, last_start, large_step, large_steps, numbered}}
-use Rattle.sequence_points.specs.{Written.{first_of, bytes_after, points_bytes}, Ranges.{IsOffset, IsDocument}, Following.{IsStart, IsBehind, MayFollow}}
-use Rattle.sequence_points.{specs.Following.{EachMayFollow}, proofs.Before.{last_of-push, last_start-push}}
+use Rattle.sequence_points.specs.declared.{point.Point.{Point}, point.Span.{Span}, point.Span.TheVariants.{Hidden}, place.Start.{Start}, step.LineStep.{LineStep}}
+use Rattle.sequence_points.specs.{Places.{start_after}, Written.{IsSpan, last_of, last_start, large_step, large_steps, numbered, first_of, bytes_after}}
+use Rattle.sequence_points.specs.{Written.{points_bytes}, Ranges.{IsOffset, IsDocument}, Following.{IsStart, IsBehind, MayFollow, EachMayFollow}}
+use Rattle.sequence_points.proofs.Before.{last_of-push, last_start-push}
 use Rattle.ppdb_base.specs.Written.{BeginsWith}
 
 pub no_first : {X : Type 0} (xs : List X) → first_of xs ≡ None → xs ≡ []
-no_first [] e = refl
-no_first (x ∷ xs) e = absurd cc
+no_first xs e = search rules
 
 -- ---- offsets that rise
 
@@ -45,12 +44,10 @@ few_points points offsets rise = let h : 0 + length points ≤ 536870912 = fewer
 -- ---- each may follow
 
 start_kept : (start : Option Start) (span : Span) → IsStart start → IsSpan span → IsStart (start_after start span)
-start_kept start Hidden h s = h
-start_kept start (Lines a b c d) h s = (s.0, s.1)
+start_kept start span h s = search rules
 
 no_step : (f : ℤ → LineStep) (o : Option ℤ) (rest : List LineStep) → option_to_list (option_map f o) ++ rest ≡ [] → (o ≡ None) × (rest ≡ [])
-no_step f None rest e = (refl, e)
-no_step f (Some z) rest e = absurd cc
+no_step f o rest e = search rules
 
 follow_from : (before ps : List Point) → All (λ p. IsOffset p.offset) ps → All (λ p. IsDocument p.document) ps → All (λ p. IsSpan p.span) ps
     → AllPairs (λ p q. p.offset < q.offset) ps

@@ -1,7 +1,7 @@
 -- What is written is read again: each point's bytes are fields that the grammar allows, and they make the point.
-use Rattle.std.proofs.Common.{◌≡◌, ℕ, zero, suc, ◌+◌, ◌-◌, ◌<◌, ◌≤◌, Bool, true, false, ◌&&◌, List, [], ◌∷◌, ◌++◌, Option, Some, None, ℤ, pos, negsuc, ◌+ℤ◌, refl}
-use Rattle.std.{proofs.Common.{sym, ap, subst, ◌∙◌, append_assoc, arith, inl, inr}, specs.Prelude.{All, is_some, ◌-ℤ◌, ◌⊎◌, ◌==◌, if◌then◌else◌, nat_lt}}
-use Rattle.std.{specs.Prelude.{unsigned_abs, neg_ℤ, ◌≤ℤ◌, ◌<ℤ◌}, proofs.lemmas.Int.{ints}, proofs.lemmas.List.Elements.{All-head, All-tail}}
+use Rattle.std.proofs.Common.{rules, ◌≡◌, ℕ, zero, suc, ◌+◌, ◌-◌, ◌<◌, ◌≤◌, Bool, true, false, ◌&&◌, List, [], ◌∷◌, ◌++◌, Option, Some, None, ℤ, pos, ◌+ℤ◌, refl}
+use Rattle.std.{proofs.Common.{sym, ap, subst, ◌∙◌, append_assoc, arith}, specs.Prelude.{All, is_some, ◌-ℤ◌, ◌==◌, if◌then◌else◌, unsigned_abs, neg_ℤ, ◌≤ℤ◌, ◌<ℤ◌}}
+use Rattle.std.proofs.lemmas.{Int.{ints}, List.Elements.{All-head, All-tail}}
 use Rattle.cli_ints.specs.Shortest.{short_unsigned, short_signed}
 use Rattle.blob_grammar.specs.{Grammar.{Value, number, Form, unsigned, signed, Spells, Field, bytes_of}, Allowed.{is_row, is_number}}
 use Rattle.sequence_points.specs.declared.point.{Point.{Point}, PointLimits.{PointLimits}, Span.{Span}, Span.TheVariants.{Hidden, Lines}}
@@ -74,12 +74,10 @@ write_document column limits es last start document row bytes points s small low
 
 -- its Offset is not 0, unless it is the first
 rises : (last : Option Point) (p : Point) → IsBehind last p → is_some last ≡ true → 0 < p.offset - last_offset last
-rises None p h e = absurd cc
-rises (Some last) p h e = omega arith
+rises last p h e = search rules
 
 added : (last : Option Point) (p : Point) → IsBehind last p → last_offset last + (p.offset - last_offset last) ≡ p.offset
-added None p h = omega arith
-added (Some last) p h = omega arith
+added last p h = search rules
 
 pub write_hidden : (column : ℕ) (limits : PointLimits) (es : List Entry) (last : Option Point) (start : Option Start) (offset document : ℕ) (bytes : List ℕ)
     (points : List Point) → let p : Point = record { offset = offset; document = document; span = Hidden } in
@@ -129,16 +127,7 @@ columns_spelled (suc lines) start end small high order =
     (spelled_signed (pos end -ℤ pos start) (omega (arith, ints)) (omega (arith, ints)))
 
 small_step : (z : ℤ) → if_large z ≡ None → (neg_ℤ (pos 268435456) ≤ℤ z) × (z <ℤ pos 268435456)
-small_step (pos n) e = let h : n < 268435456 = by_test (nat_lt n 268435456) refl e in (omega (arith, ints), omega (arith, ints))
-  where
-    by_test : (b : Bool) → nat_lt n 268435456 ≡ b → (if b then None else Some (pos n)) ≡ None → n < 268435456
-    by_test true t none = grind arith
-    by_test false t none = absurd cc
-small_step (negsuc n) e = let h : n < 268435456 = by_test (nat_lt n 268435456) refl e in (omega (arith, ints), omega (arith, ints))
-  where
-    by_test : (b : Bool) → nat_lt n 268435456 ≡ b → (if b then None else Some (negsuc n)) ≡ None → n < 268435456
-    by_test true t none = grind arith
-    by_test false t none = absurd cc
+small_step z e = search rules
 
 abbrev start_by : Option Start → Form
 start_by start = if is_some start then signed else unsigned
@@ -163,46 +152,23 @@ column_spelled (Some last) column small s =
     let old : last.column < 65536 = s.1 in spelled_signed (pos column -ℤ pos last.column) (omega (arith, ints)) (omega (arith, ints))
 
 start_parts : (start : Option Start) (line column : ℕ) → start_bytes start line column ≡ line_bytes start line ++ column_bytes start column
-start_parts None line column = refl
-start_parts (Some last) line column = refl
+start_parts start line column = search rules
 
 line_fits : (z w : ℤ) (n m : ℕ) → z ≡ pos n → w ≡ pos m → IsLine n → IsLine m → (is_line z && is_line w) ≡ true
-line_fits z w n m e f h k = ap (λ x. is_line x && is_line w) e ∙ ap (λ x. is_line (pos n) && is_line x) f ∙ both
-  where
-    one : (i : ℕ) → IsLine i → is_line (pos i) ≡ true
-    one i l = let a : i < 536870912 = l.0 in let b : i ≡ 16707566 → ⊥ = l.1 in grind arith
-
-    both : (is_line (pos n) && is_line (pos m)) ≡ true
-    both = ap (λ b. b && is_line (pos m)) (one n h) ∙ one m k
+line_fits z w n m e f h k = search rules
 
 column_fits : (z w : ℤ) (n m : ℕ) → z ≡ pos n → w ≡ pos m → n < 65536 → m < 65536 → (is_column z && is_column w) ≡ true
-column_fits z w n m e f h k =
-    ap (λ x. is_column x && is_column w) e ∙ ap (λ x. is_column (pos n) && is_column x) f ∙ ap (λ b. b && is_column (pos m)) (one n h) ∙ one m k
-  where
-    one : (i : ℕ) → i < 65536 → is_column (pos i) ≡ true
-    one i l = grind arith
+column_fits z w n m e f h k = search rules
 
 -- a point that is not hidden has lines or columns
 seen : (a b c d : ℕ) → IsSpan (Lines a b c d) → c - a ≡ 0 → pos d -ℤ pos b ≡ pos 0 → ⊥
-seen a b c d h lines columns = by_case h.4
-  where
-    by_case : (a < c) ⊎ ((a ≡ c) × (b < d)) → ⊥
-    by_case (inl x) = omega arith
-    by_case (inr x) = let y = x.1 in omega (arith, ints)
+seen a b c d h lines columns = search rules
 
 one_line : (a b c d : ℕ) → IsSpan (Lines a b c d) → c - a ≡ 0 → b ≤ d
-one_line a b c d h lines = by_case h.4
-  where
-    by_case : (a < c) ⊎ ((a ≡ c) × (b < d)) → b ≤ d
-    by_case (inl x) = absurd (omega arith)
-    by_case (inr x) = let y = x.1 in omega arith
+one_line a b c d h lines = search rules
 
 last_line : (a b c d : ℕ) → IsSpan (Lines a b c d) → a + (c - a) ≡ c
-last_line a b c d h = by_case h.4
-  where
-    by_case : (a < c) ⊎ ((a ≡ c) × (b < d)) → a + (c - a) ≡ c
-    by_case (inl x) = omega arith
-    by_case (inr x) = let y = x.0 in omega arith
+last_line a b c d h = search rules
 
 -- the values of a point that is not hidden
 pub record Numbers (es : List Entry) (start : Option Start) (a b c d : ℕ) : Type 0 where
@@ -231,13 +197,7 @@ same_seen : (o offset row document : ℕ) (w x y z : ℤ) (a b c d : ℕ) (rest 
     → z ≡ pos d
     → let made : Point = record { offset = o; document = row; span = Lines (unsigned_abs w) (unsigned_abs x) (unsigned_abs y) (unsigned_abs z) } in
     let p : Point = record { offset = offset; document = document; span = Lines a b c d } in made ∷ rest ≡ p ∷ rest
-same_seen o offset row document w x y z a b c d rest e f g h i j =
-    ap (λ (q : ℕ × ℕ × ℤ × ℤ × ℤ × ℤ). let made : Point = record {
-      offset = q.0;
-      document = q.1;
-      span = Lines (unsigned_abs q.2) (unsigned_abs q.3) (unsigned_abs q.4) (unsigned_abs q.5);
-    } in made ∷ rest)
-    (let all : (o, row, w, x, y, z) ≡ (offset, document, pos a, pos b, pos c, pos d) = cc in all)
+same_seen o offset row document w x y z a b c d rest e f g h i j = search rules
 
 pub write_visible : (column : ℕ) (limits : PointLimits) (es : List Entry) (last : Option Point) (start : Option Start) (offset document a b c d : ℕ)
     (bytes : List ℕ) (points : List Point) → let p : Point = record { offset = offset; document = document; span = Lines a b c d } in
@@ -352,9 +312,7 @@ write_point column limits es (Some last) start document p bytes points s set may
 
 start_is : (before : List Point) (p : Point) (es : List Entry) → Stands es (Some p) (start_after (last_start before) p.span) p.document
     → Stands es (last_of (before ++ p ∷ [])) (last_start (before ++ p ∷ [])) p.document
-start_is before p es s =
-    subst (λ (o : Option Start). Stands es (last_of (before ++ p ∷ [])) o p.document) (sym (last_start-push before p))
-    (subst (λ (o : Option Point). Stands es o (start_after (last_start before) p.span) p.document) (sym (last_of-push before p)) s)
+start_is before p es s = search (rules, last_start-push, last_of-push)
 
 -- all points, after those before them
 pub write_points : (column : ℕ) (limits : PointLimits) (before ps : List Point) (es : List Entry) (document : ℕ)

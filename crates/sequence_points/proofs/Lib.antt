@@ -15,3 +15,8 @@ pub mod Writable
 pub mod WellRead
 pub mod ReadPoints
 pub mod MovedPoints
+pub mod Stretches
+pub mod HiddenRise
+pub mod HiddenAll
+pub mod HiddenAt
+pub mod HiddenHides

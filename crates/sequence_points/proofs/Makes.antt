@@ -1,7 +1,7 @@
 -- Fields that make records, one after the other.
-use Rattle.std.proofs.Common.{◌≡◌, ℕ, true, List, [], ◌∷◌, ◌++◌, Some, None, sym, ap, subst, ◌∙◌, append_assoc, append-nil}
-use Rattle.blob_grammar.{specs.Grammar.{Value, Form, Spells, Field, Grammar, Cut, closed, cut, bytes_of}, specs.Reading.{Reading}, proofs.Written.{cut_from}}
-use Rattle.blob_grammar.proofs.Written.{FollowFrom, fields_read}
+use Rattle.std.proofs.Common.{rules, ◌≡◌, ℕ, true, List, [], ◌∷◌, ◌++◌, Some, None, sym, ap, subst, ◌∙◌, append_assoc, append-nil}
+use Rattle.blob_grammar.{specs.Grammar.{Value, Form, Spells, Field, Grammar, Cut, cut, bytes_of}, specs.Reading.{Reading}, proofs.Written.{cut_from, FollowFrom}}
+use Rattle.blob_grammar.proofs.Written.{fields_read}
 
 abbrev at_place : {R : Type 0} → List R → List Value → Cut R
 at_place whole begun = record { whole = whole; begun = begun }
@@ -20,13 +20,7 @@ pub field_more : {R : Type 0} (g : Grammar R) (whole : List R) (begun : List Val
     → g.form whole begun ≡ Some form → ((left : List ℕ) → Spells form bytes value left) → g.allows whole begun value ≡ true
     → g.record_of whole (begun ++ value ∷ []) ≡ None
     → Makes g whole (begun ++ value ∷ []) fields records → Makes g whole begun (record { bytes = bytes; value = value } ∷ fields) records
-field_more g whole begun form bytes value fields records expected spells allowed open_ rest = record {
-  follow = λ left. (
-    record { form = form; expected = expected; spelled = spells (bytes_of fields ++ left); allowed = allowed },
-    subst (λ o. FollowFrom g (closed o whole (begun ++ value ∷ [])) fields left) (sym open_) (rest.follow left),
-  );
-  makes = ap (λ o. cut_from g (closed o whole (begun ++ value ∷ [])) fields) open_ ∙ rest.makes;
-}
+field_more g whole begun form bytes value fields records expected spells allowed open_ rest = search rules
 
 -- the last field of a record
 pub field_last : {R : Type 0} (g : Grammar R) (whole : List R) (begun : List Value) (form : Form) (bytes : List ℕ) (value : Value) (fields : List Field) (r : R)
@@ -34,13 +28,7 @@ pub field_last : {R : Type 0} (g : Grammar R) (whole : List R) (begun : List Val
     → g.form whole begun ≡ Some form → ((left : List ℕ) → Spells form bytes value left) → g.allows whole begun value ≡ true
     → g.record_of whole (begun ++ value ∷ []) ≡ Some r
     → Makes g (whole ++ r ∷ []) [] fields records → Makes g whole begun (record { bytes = bytes; value = value } ∷ fields) (r ∷ records)
-field_last g whole begun form bytes value fields r records expected spells allowed made rest = record {
-  follow = λ left. (
-    record { form = form; expected = expected; spelled = spells (bytes_of fields ++ left); allowed = allowed },
-    subst (λ o. FollowFrom g (closed o whole (begun ++ value ∷ [])) fields left) (sym made) (rest.follow left),
-  );
-  makes = ap (λ o. cut_from g (closed o whole (begun ++ value ∷ [])) fields) made ∙ rest.makes ∙ ap (λ w. at_place w []) (append_assoc whole (r ∷ []) records);
-}
+field_last g whole begun form bytes value fields r records expected spells allowed made rest = search (rules, append_assoc)
 
 -- What fields spell that make records, and after which the grammar may stop, is read so.
 pub made_read : {R : Type 0} (g : Grammar R) (fields : List Field) (records : List R) → Makes g [] [] fields records → g.may_stop records [] ≡ true

@@ -1,17 +1,15 @@
 -- Document records, and the fields Offset, Lines and Columns of a point.
-use Rattle.std.proofs.Common.{◌≡◌, ℕ, zero, suc, ◌+◌, ◌<◌, ◌≤◌, Bool, true, false, ◌&&◌, List, [], ◌∷◌, ◌++◌, length, drop, Option, Some, None, Result, Ok, Err, ℤ}
-use Rattle.std.{proofs.Common.{pos, refl, sym, ap, subst, ◌∙◌, arith, inl, inr}, specs.Prelude.{if◌then◌else◌, not, ◌==◌, nat_lt, neg_ℤ, ◌≤ℤ◌, ◌⊎◌}, specs.Int.{w64}}
-use Rattle.std.{specs.Int.{cast_signed, cast_unsigned}, specs.Int.RustNames.{FitsSigned}, proofs.lemmas.Int.{ints, to_z-of_z}}
-use Rattle.blob_grammar.specs.{Reader.{unsigned_at, push, placed, field_at, as_value, is_empty}, Grammar.{Value, number, integer, octets, unsigned, signed}}
-use Rattle.blob_grammar.{proofs.Steps.{left-none, left-end, not_empty}, proofs.Placed.{unsigned_there, unsigned_not_there}, specs.Allowed.{is_row, is_number}}
+use Rattle.std.proofs.Common.{rules, ◌≡◌, ℕ, zero, suc, ◌+◌, ◌<◌, ◌≤◌, Bool, true, false, ◌&&◌, List, [], ◌∷◌, ◌++◌, length, drop, Option, Some, None, Result, Ok}
+use Rattle.std.{proofs.Common.{Err, ℤ, pos, refl, sym, ap, subst, ◌∙◌, arith, inl, inr}, specs.Prelude.{if◌then◌else◌, not, ◌==◌, nat_lt, neg_ℤ, ◌≤ℤ◌, ◌⊎◌}}
+use Rattle.std.{specs.Int.{w64, cast_signed, cast_unsigned}, specs.Int.RustNames.{FitsSigned}, proofs.lemmas.Int.{ints, to_z-of_z}}
+use Rattle.blob_grammar.{specs.Reader.{unsigned_at, push, placed, field_at, is_empty}, specs.Grammar.{Value, number, unsigned, signed}, proofs.Steps.{left-none}}
+use Rattle.blob_grammar.{proofs.Steps.{left-end, not_empty}, proofs.Placed.{unsigned_there, unsigned_not_there}, specs.Allowed.{is_row, is_number}}
 use Rattle.ppdb_base.specs.declared.{Code.TheVariants.{ValueRange}, Code.{Code}, BlobFault.{BlobFault}}
-use Rattle.cli_ints.specs.declared.IntFault.{IntFault}
 use Rattle.sequence_points.specs.declared.{point.PointLimits.{PointLimits}, point.Span.TheVariants.{Hidden}, place.Place.{Place}, place.Last.{Last}}
-use Rattle.sequence_points.specs.{declared.place.Start.{Start}, Records.{header, hidden, in_document, with_entry, int_of, Sums, sums, columns_form, second_allows}}
-use Rattle.sequence_points.specs.{Records.{sequence_points, document_record, hidden_point}, Points.{document_after}, Places.{entries_of, last_entries, point_entry}}
-use Rattle.sequence_points.{specs.Places.{start_of, points_at, points_left, no_points, int_placed, place_after, in_document_at, as_points}, proofs.Sums.{SameSums}}
-use Rattle.sequence_points.proofs.{Sums.{sums-push, document-push, same_five}, Places.{with_point, at-field, at-record, at-out, at-none, document-at, and-false}}
-use Rattle.sequence_points.proofs.Visible.{int_there, int_not_there}
+use Rattle.sequence_points.specs.{declared.place.Start.{Start}, Records.{header, hidden, in_document, int_of, Sums, sums, columns_form, second_allows}}
+use Rattle.sequence_points.specs.{Records.{sequence_points, document_record, hidden_point}, Points.{document_after}, Places.{entries_of, last_entries, start_of}}
+use Rattle.sequence_points.{specs.Places.{points_at, points_left, no_points, int_placed, place_after, in_document_at, as_points}, proofs.Sums.{SameSums}}
+use Rattle.sequence_points.proofs.{Places.{with_point, at-field, at-record, at-out, at-none, document-at, and-false}, Visible.{int_there, int_not_there}}
 
 pub lt-true : (a b : ℕ) → a < b → nat_lt a b ≡ true
 lt-true a b h = grind arith
@@ -25,16 +23,10 @@ S place = sums (entries_of place)
 -- ---- document records
 
 pub same_row : (row other : ℕ) (last : Option Last) → sums (header 0 row ∷ last_entries last) ≡ sums (header 0 other ∷ last_entries last)
-same_row row other None = refl
-same_row row other (Some last) = refl
+same_row row other last = search rules
 
 same-document : (place : Place) (at row : ℕ) → SameSums (entries_of place ++ in_document row ∷ []) (entries_of (in_document_at place at row))
-same-document place at row = record {
-  started = tt;
-  starts = tt;
-  sums_are = sums-push (entries_of place) (in_document row) ∙ same_row place.document row place.last;
-  document_is = document-push (entries_of place) (in_document row) ∙ sym (document-at (in_document_at place at row));
-}
+same-document place at row = search rules
 
 pub row_none : (limits : PointLimits) (blob : List ℕ) (place : Place) (at : ℕ) (first : Value) (fault : BlobFault)
     → placed at (unsigned_at (drop at blob)) ≡ Err fault
@@ -78,12 +70,8 @@ lines_in limits blob place step at lines len h e =
 
 -- ---- Columns
 
-suc_not_0 : (n : ℕ) → (suc n == 0) ≡ false
-suc_not_0 n = grind arith
-
 columns_by : (lines : ℕ) → (if (not (lines == 0)) then signed else unsigned) ≡ columns_form (number lines)
-columns_by zero = refl
-columns_by (suc lines) = ap (λ b. if not b then signed else unsigned) (suc_not_0 lines)
+columns_by lines = search rules
 
 abbrev columns_there : ℕ → List ℕ → ℕ → Result (ℤ × ℕ) BlobFault → Type 0
 columns_there at blob lines r = int_placed at (field_at (if (not (lines == 0)) then signed else unsigned) (drop at blob)) ≡ r
@@ -99,19 +87,8 @@ columns_none limits blob place first lines at fault e =
     let n = int_not_there at (field_at (columns_form (number lines)) (drop at blob)) fault (by_form at blob lines (Err fault) e) in
     at-none limits blob place first (number lines ∷ []) at (columns_form (number lines)) n.code refl n.none ∙ ap (λ f. no_points (Some f)) (sym n.fault_is)
 
--- what an unsigned number is
-unsigned_value : (r : Result (ℕ × ℕ) IntFault) (v : Value) (len : ℕ) → as_value number r ≡ Ok (v, len) → (n : ℕ) × (v ≡ number n)
-unsigned_value (Ok x) v len e = let p : (number x.0, x.1) ≡ (v, len) = cc in (x.0, sym (ap (λ (q : Value × ℕ). q.0) p))
-unsigned_value (Err c) v len e = absurd cc
-
 pub not_hidden : (step lines : ℕ) (v : Value) (z : ℤ) → int_of v ≡ z → (lines ≡ 0 → z ≡ pos 0 → ⊥) → hidden_point (number step) (number lines) v ≡ None
-not_hidden step zero (number zero) z e h = absurd (h refl (sym e))
-not_hidden step zero (number (suc n)) z e h = refl
-not_hidden step zero (integer i) z e h = refl
-not_hidden step zero (octets xs) z e h = refl
-not_hidden step (suc lines) (number n) z e h = refl
-not_hidden step (suc lines) (integer i) z e h = refl
-not_hidden step (suc lines) (octets xs) z e h = refl
+not_hidden step lines v z e h = search rules
 
 pub record ColumnsIs (limits : PointLimits) (blob : List ℕ) (place : Place) (step lines at len : ℕ) (z : ℤ) : Type 0 where
   pub value : Value
@@ -132,32 +109,12 @@ columns_in limits blob place step lines at len z e seen =
 
 -- ---- a hidden point
 
--- where the last point stands, a hidden one adds its offset alone
-start_sums : (row at offset : ℕ) (last : Option Last) → let s = sums (header 0 row ∷ last_entries last) in
-    s.offset + at ≡ offset → with_entry s (hidden at) ≡ sums (header 0 row ∷ point_entry offset (start_of last) ∷ [])
-start_sums row at offset None o = same_five _ _ _ _ _ _ _ _ _ _ refl refl (omega (arith, o)) refl refl
-start_sums row at offset (Some last) o = by_start last.start o
-  where
-    by_start : (start : Option Start) → let s = sums (header 0 row ∷ point_entry last.offset start ∷ []) in
-        s.offset + at ≡ offset → with_entry s (hidden at) ≡ sums (header 0 row ∷ point_entry offset start ∷ [])
-    by_start None o = same_five _ _ _ _ _ _ _ _ _ _ refl refl (omega (arith, o)) refl refl
-    by_start (Some start) o = same_five _ _ _ _ _ _ _ _ _ _ refl refl (omega (arith, o)) refl refl
-
 same-hidden : (place : Place) (at step offset : ℕ) → offset ≡ (S place).offset + step
     → SameSums (entries_of place ++ hidden step ∷ []) (entries_of (place_after at place.document offset (start_of place.last)))
-same-hidden place at step offset o = record {
-  started = tt;
-  starts = tt;
-  sums_are = sums-push (entries_of place) (hidden step) ∙ start_sums place.document step offset place.last (sym o);
-  document_is =
-      document-push (entries_of place) (hidden step) ∙ document-at place ∙ sym (document-at (place_after at place.document offset (start_of place.last)));
-}
+same-hidden place at step offset o = search rules
 
 hidden_value : (at : ℕ) (blob : List ℕ) (v : Value) (len : ℕ) → field_at unsigned (drop at blob) ≡ Ok (v, len) → int_of v ≡ pos 0 → v ≡ number 0
-hidden_value at blob v len e z =
-    let n = unsigned_value (unsigned_at (drop at blob)) v len e in
-    let q : pos n.0 ≡ pos 0 = sym (ap int_of n.1) ∙ z in
-    n.1 ∙ ap number (let r : n.0 ≡ 0 = omega (arith, ints) in r)
+hidden_value at blob v len e z = search rules
 
 pub hidden_in : (limits : PointLimits) (blob : List ℕ) (place : Place) (step at len offset : ℕ) → columns_there at blob 0 (Ok (pos 0, len))
     → offset ≡ (S place).offset + step
@@ -190,8 +147,7 @@ pub zero_int : (z : ℤ) → neg_ℤ (pos 4294967296) ≤ℤ z → z ≤ℤ pos 
 zero_int z low high e = let fits : FitsSigned w64 z = omega (arith, ints) in sym (to_z-of_z w64 z fits) ∙ ap (cast_signed w64) e
 
 pub not_zero_int : (lines : ℕ) (z : ℤ) → ((lines ≡ 0) × (cast_unsigned w64 z ≡ 0 → ⊥)) ⊎ (lines ≡ 0 → ⊥) → lines ≡ 0 → z ≡ pos 0 → ⊥
-not_zero_int lines z (inl h) l e = h.1 (ap (cast_unsigned w64) e)
-not_zero_int lines z (inr h) l e = h l
+not_zero_int lines z hyp1 l e = search rules
 
 -- ---- the first field
 
@@ -230,8 +186,7 @@ offset_out limits blob place step len e h =
 
 pub small : (place : Place) (at offset : ℕ) (start : Option Start) → offset < 536870912
     → (sums (entries_of (place_after at place.document offset start))).offset < 536870912
-small place at offset None h = omega arith
-small place at offset (Some start) h = omega arith
+small place at offset start h = search rules
 
 pub none_at : (limits : PointLimits) (blob : List ℕ) (place : Place) (fault : BlobFault) (b : Bool) → b ≡ (S place).has_point
     → ((b ≡ true) × (place.at ≡ length blob → ⊥)) ⊎ (b ≡ false) → place.at ≤ length blob
@@ -241,6 +196,4 @@ none_at limits blob place fault b is h within e =
 
 pub first_not_0 : (place : Place) (step : ℕ) (b : Bool) → b ≡ (S place).has_point → ((b ≡ true) × (step ≡ 0 → ⊥)) ⊎ (b ≡ false) → (S place).has_point ≡ true
     → 0 < step
-first_not_0 place zero b is (inl h) e = absurd (h.1 refl)
-first_not_0 place (suc step) b is (inl h) e = omega arith
-first_not_0 place step b is (inr h) e = absurd cc
+first_not_0 place step b is hyp2 e = search rules

@@ -1,13 +1,13 @@
 -- What is left of the points, a field at a time.
-use Rattle.std.proofs.Common.{◌≡◌, ℕ, ◌+◌, Bool, true, false, ◌&&◌, List, [], ◌∷◌, ◌++◌, drop, Option, Some, None, Ok, Err, ℤ, pos, ◌+ℤ◌, refl, sym, ap, ◌∙◌, arith}
-use Rattle.std.{specs.Option.{option_to_list}, proofs.lemmas.Int.{ints}}
+use Rattle.std.proofs.Common.{rules, ◌≡◌, ℕ, ◌+◌, Bool, true, false, ◌&&◌, List, [], ◌∷◌, ◌++◌, drop, Option, Some, None, Ok, Err, ℤ, pos, ◌+ℤ◌, refl, sym, ap, ◌∙◌}
+use Rattle.std.specs.Option.{option_to_list}
 use Rattle.ppdb_base.specs.declared.{Code.{Code}, Code.TheVariants.{ValueRange}}
 use Rattle.blob_grammar.{specs.Grammar.{Value, Form}, specs.Reader.{Left, push, field_at, is_empty, close_and, read_from}, proofs.Steps.{left_at, left-field}}
 use Rattle.blob_grammar.proofs.Steps.{left-out, left-none, read_from-alike}
-use Rattle.sequence_points.specs.declared.{point.PointLimits.{PointLimits}, point.Point.{Point}, place.Place.{Place}, place.Last.{Last}, place.Start.{Start}}
-use Rattle.sequence_points.specs.{Records.{Entry, header, visible, Sums, sums, point_form, point_allows, point_of_fields, sequence_points}, Points.{point_by}}
-use Rattle.sequence_points.specs.{Points.{point_of, points_after, document_after}, Places.{entries_of, last_entries, as_points, points_at, points_left, no_points}}
-use Rattle.sequence_points.{specs.Places.{place_after}, proofs.Sums.{SameSums, alike, sums-push, document-push, same-push, same_five}}
+use Rattle.sequence_points.specs.{declared.point.PointLimits.{PointLimits}, declared.point.Point.{Point}, declared.place.Place.{Place}, Records.{Entry, visible}}
+use Rattle.sequence_points.specs.{Records.{Sums, sums, point_form, point_allows, point_of_fields, sequence_points}, Points.{point_by, point_of, points_after}}
+use Rattle.sequence_points.specs.{Points.{document_after}, Places.{entries_of, as_points, points_at, points_left, no_points, place_after}}
+use Rattle.sequence_points.proofs.Sums.{SameSums, alike, same-push}
 
 -- ---- points after records with the same sums
 
@@ -63,8 +63,7 @@ at-out limits blob place begun at form value len expected found allowed =
     ap (as_points (entries_of place)) (left-out (sequence_points 0 limits) (entries_of place) begun blob at form value len expected found allowed)
 
 pub and-false : (b : Bool) → (b && false) ≡ false
-and-false true = refl
-and-false false = refl
+and-false b = search rules
 
 -- within a record
 pub at-none : (limits : PointLimits) (blob : List ℕ) (place : Place) (first : Value) (begun : List Value) (at : ℕ) (form : Form) (code : Code)
@@ -78,26 +77,11 @@ at-none limits blob place first begun at form code expected none =
 -- ---- places
 
 pub document-at : (place : Place) → document_after (entries_of place) ≡ place.document
-document-at place = by_last place.last
-  where
-    by_start : (offset : ℕ) (start : Option Start) → document_after (header 0 place.document ∷ last_entries (Some (record { offset = offset; start = start })))
-        ≡ place.document
-    by_start offset None = refl
-    by_start offset (Some start) = refl
-
-    by_last : (last : Option Last) → document_after (header 0 place.document ∷ last_entries last) ≡ place.document
-    by_last None = refl
-    by_last (Some last) = by_start last.offset last.start
+document-at place = search rules
 
 -- after a point that is not hidden
 pub same-visible : (place : Place) (at step lines : ℕ) (columns line column : ℤ) (offset start_line start_column : ℕ)
     → offset ≡ (sums_at place).offset + step → (sums_at place).line +ℤ line ≡ pos start_line → (sums_at place).column +ℤ column ≡ pos start_column
     → SameSums (entries_of place ++ visible step lines columns line column ∷ [])
     (entries_of (place_after at place.document offset (Some (record { line = start_line; column = start_column }))))
-same-visible place at step lines columns line column offset start_line start_column o l c = record {
-  started = tt;
-  starts = tt;
-  sums_are = sums-push (entries_of place) (visible step lines columns line column)
-      ∙ same_five _ _ _ _ _ _ _ _ _ _ refl refl (omega arith) (omega (arith, ints)) (omega (arith, ints));
-  document_is = document-push (entries_of place) (visible step lines columns line column) ∙ document-at place;
-}
+same-visible place at step lines columns line column offset start_line start_column o l c = search rules

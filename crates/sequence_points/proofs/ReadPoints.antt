@@ -1,6 +1,7 @@
 -- The points that a blob is read as can be written.
-use Rattle.std.proofs.Common.{◌≡◌, ℕ, zero, suc, ◌+◌, ◌<◌, ◌≤◌, Bool, true, false, List, [], ◌∷◌, Option, Some, None, pos, ◌+ℤ◌, refl, sym, ap, subst, ◌∙◌, arith}
-use Rattle.std.{specs.Prelude.{All, nat_le, ◌<ℤ◌, if◌then◌else◌}, proofs.lemmas.Int.{ints}, proofs.lemmas.Bool.{and_parts, ltb-true, leb-true}}
+use Rattle.std.proofs.Common.{rules, ◌≡◌, ℕ, zero, suc, ◌+◌, ◌<◌, ◌≤◌, Bool, true, false, List, [], ◌∷◌, Option, Some, None, pos, ◌+ℤ◌, refl, sym, ap, subst, ◌∙◌}
+use Rattle.std.{proofs.Common.{arith}, specs.Prelude.{All, nat_le, ◌<ℤ◌, if◌then◌else◌}, proofs.lemmas.Int.{ints}, proofs.lemmas.Bool.{and_parts, ltb-true}}
+use Rattle.std.proofs.lemmas.Bool.{leb-true}
 use Rattle.blob_grammar.specs.{Grammar.{Value, number, integer, octets, Form, unsigned, Spells, Field, Cut, with_value, closed, cut, IsAllowed}, Allowed.{is_row}}
 use Rattle.blob_grammar.{specs.Allowed.{is_number}, proofs.ReadRecords.{of_reading}}
 use Rattle.sequence_points.specs.{declared.point.Point.{Point}, declared.point.PointLimits.{PointLimits}, Records.{Entry, Sums, sums, int_of, second_allows}}
@@ -49,12 +50,7 @@ Holds column limits c = WellOrNone limits c.whole × Begun limits column c.whole
 
 -- the value of an unsigned field is a number
 unsigned_read : (form : Form) (bytes : List ℕ) (v : Value) (after : List ℕ) → Some unsigned ≡ Some form → Spells form bytes v after → (n : ℕ) × (v ≡ number n)
-unsigned_read form bytes v after e s = let same : form ≡ unsigned = cc in by_value v (subst (λ (f : Form). Spells f bytes v after) same s)
-  where
-    by_value : (w : Value) → Spells unsigned bytes w after → (n : ℕ) × (w ≡ number n)
-    by_value (number n) t = (n, refl)
-    by_value (integer z) t = absurd t
-    by_value (octets xs) t = absurd t
+unsigned_read form bytes v after e s = search rules
 
 row_read : (limits : PointLimits) (row : ℕ) → is_number (is_row limits.documents) (number row) ≡ true → IsThere limits row
 row_read limits row h = let p = and_parts (nat_le 1 row) (nat_le row limits.documents) h in (leb-true 1 row p.0, leb-true row limits.documents p.1)
@@ -178,8 +174,7 @@ kept column limits there c f after a h = one column limits c.whole c.begun f.byt
 -- ---- a whole blob
 
 ends_after_point : (es : List Entry) (begun : List Value) → may_stop es begun ≡ true → (sums es).has_point ≡ true
-ends_after_point es [] e = e
-ends_after_point es (v ∷ vs) e = absurd cc
+ends_after_point es begun e = search rules
 
 well_read : (limits : PointLimits) (es : List Entry) → WellOrNone limits es → (sums es).has_point ≡ true → Well limits es
 well_read limits [] w e = let no : false ≡ true = e in absurd cc

@@ -1,6 +1,6 @@
 -- The blob of some points is whole and has the points.
-use Rattle.std.proofs.Common.{◌≡◌, ◌≢◌, ℕ, zero, suc, ◌<◌, ◌≤◌, Bool, true, false, List, [], ◌∷◌, ◌++◌, None, refl, sym, ap, subst, ◌∙◌, append_assoc, arith}
-use Rattle.std.{specs.Prelude.{All, nat_le, ◌==◌, if◌then◌else◌}, specs.List.{fold, list_all}, proofs.lemmas.List.Elements.{All-head}}
+use Rattle.std.proofs.Common.{rules, ◌≡◌, ◌≢◌, ℕ, zero, suc, ◌<◌, ◌≤◌, true, List, [], ◌∷◌, ◌++◌, None, refl, sym, ap, subst, ◌∙◌, append_assoc, arith}
+use Rattle.std.{specs.Prelude.{All, nat_le}, specs.List.{fold}, proofs.lemmas.List.Elements.{All-head}}
 use Rattle.cli_ints.specs.Shortest.{short_unsigned}
 use Rattle.blob_grammar.specs.{Grammar.{number, unsigned}, Reading.{Reading}}
 use Rattle.sequence_points.specs.{declared.point.Point.{Point}, declared.point.PointLimits.{PointLimits}, Records.{Entry, header, hidden, visible, in_document}}
@@ -73,12 +73,7 @@ whole (suc column) limits signature p ps bytes small there document document_the
 
 -- the header's row is the first point's document
 row_is : (column : ℕ) (p : Point) (ps : List Point) → common_document (p ∷ ps) ≡ column → row_of column p ≡ p.document
-row_is zero p ps e = refl
-row_is (suc column) p ps e = by_test (list_all (λ (q : Point). q.document == p.document) (p ∷ ps)) e
-  where
-    by_test : (b : Bool) → (if b then p.document else 0) ≡ suc column → suc column ≡ p.document
-    by_test true e = sym e
-    by_test false e = absurd (omega arith)
+row_is column p ps e = search rules
 
 pub written_points : (signature : ℕ) (points : List Point) (limits : PointLimits) → CanBeWritten signature points → large_steps [] points ≡ []
     → signature ≤ limits.signatures → All (λ p. p.document ≤ limits.documents) points

@@ -1,6 +1,6 @@
 -- The common document of some points.
-use Rattle.std.{proofs.Common.{◌≡◌, ℕ, Bool, true, false, ◌&&◌, List, [], ◌∷◌, refl, sym, ap, subst, ◌∙◌, arith, inl, inr}, specs.Prelude.{All, ◌==◌, if◌then◌else◌}}
-use Rattle.std.{specs.List.{list_all}, proofs.lemmas.List.Elements.{All-nil, All-cons, All-head, All-tail}}
+use Rattle.std.{proofs.Common.{rules, ◌≡◌, ℕ, Bool, true, false, ◌&&◌, List, [], ◌∷◌, refl, sym, ap, subst, ◌∙◌, arith, inl, inr}, specs.Prelude.{All, ◌==◌}}
+use Rattle.std.{specs.Prelude.{if◌then◌else◌}, specs.List.{list_all}, proofs.lemmas.List.Elements.{All-nil, All-cons, All-head, All-tail}}
 use Rattle.sequence_points.specs.{declared.point.Point.{Point}, Points.{IsSingleDocument, common_document}}
 
 abbrev in_one : ℕ → List Point → Bool
@@ -13,8 +13,7 @@ true-eq : (a b : ℕ) → (a == b) ≡ true → a ≡ b
 true-eq a b e = grind arith
 
 and-parts : (a b : Bool) → (a && b) ≡ true → (a ≡ true) × (b ≡ true)
-and-parts true b e = (refl, e)
-and-parts false b e = absurd cc
+and-parts a b e = search rules
 
 pub all-in_one : (row : ℕ) (points : List Point) → All (λ p. p.document ≡ row) points → in_one row points ≡ true
 all-in_one row [] h = refl

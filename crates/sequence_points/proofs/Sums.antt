@@ -1,6 +1,6 @@
 -- What is left after some records depends on their sums alone.
-use Rattle.std.{proofs.Common.{◌≡◌, ℕ, Bool, List, [], ◌∷◌, ◌++◌, ℤ, Option, Some, None, refl, sym, ap, ◌∙◌}, specs.Prelude.{unwrap_or}, specs.List.{flat_map, fold}}
-use Rattle.std.{specs.List.{last_or}, proofs.lemmas.Grind.{flat_map-append}}
+use Rattle.std.proofs.{Common.{rules, ◌≡◌, ℕ, Bool, List, [], ◌∷◌, ◌++◌, ℤ, Option, Some, None, refl, sym, ap, ◌∙◌}, lemmas.Grind.{flat_map-append}}
+use Rattle.std.specs.{Prelude.{unwrap_or}, List.{flat_map, fold, last_or}}
 use Rattle.blob_grammar.{specs.Grammar.{Value}, proofs.Steps.{Alike}}
 use Rattle.sequence_points.specs.{declared.point.PointLimits.{PointLimits}, Records.{Entry, Sums, with_entry, sums, point_form, point_allows, point_of_fields, form}}
 use Rattle.sequence_points.specs.{Records.{allows, record_of, may_stop, sequence_points}, Points.{named_document, document_after}}
@@ -20,9 +20,7 @@ pub record SameSums (a b : List Entry) : Type 0 where
 pub same_five : (a b c d : Bool) (m n : ℕ) (x y z w : ℤ) → a ≡ b → c ≡ d → m ≡ n → x ≡ y → z ≡ w
     → let one : Sums = record { has_point = a; has_visible = c; offset = m; line = x; column = z } in
     let two : Sums = record { has_point = b; has_visible = d; offset = n; line = y; column = w } in one ≡ two
-same_five a b c d m n x y z w p q r s t =
-    ap (λ (v : Bool × Bool × ℕ × ℤ × ℤ). let one : Sums = record { has_point = v.0; has_visible = v.1; offset = v.2; line = v.3; column = v.4 } in one)
-    (let e : (a, c, m, x, z) ≡ (b, d, n, y, w) = cc in e)
+same_five a b c d m n x y z w p q r s t = search rules
 
 sums_from : (s : Sums) (es : List Entry) (e : Entry) → fold with_entry s (es ++ e ∷ []) ≡ with_entry (fold with_entry s es) e
 sums_from s [] e = refl
@@ -49,28 +47,20 @@ started-push [] e = tt
 started-push (x ∷ es) e = tt
 
 pub same-push : (a b : List Entry) (e : Entry) → SameSums a b → SameSums (a ++ e ∷ []) (b ++ e ∷ [])
-same-push a b e s = record {
-  started = started-push a e;
-  starts = started-push b e;
-  sums_are = sums-push a e ∙ ap (λ x. with_entry x e) s.sums_are ∙ sym (sums-push b e);
-  document_is = document-push a e ∙ ap (λ n. last_row (Some n) (named_document e ++ [])) s.document_is ∙ sym (document-push b e);
-}
+same-push a b e s = search (rules, started-push, sums-push, document-push)
 
 pub form_is : (a : List Entry) (vs : List Value) → IsStarted a → form a vs ≡ point_form (sums a) vs
-form_is [] vs s = absurd s
-form_is (e ∷ es) vs s = refl
+form_is a vs s = search rules
 
 pub allows_is : (limits : PointLimits) (a : List Entry) (vs : List Value) (v : Value) → IsStarted a → allows limits a vs v ≡ point_allows limits (sums a) vs v
 allows_is limits [] vs v s = absurd s
 allows_is limits (e ∷ es) vs v s = refl
 
 pub record_is : (column : ℕ) (a : List Entry) (vs : List Value) → IsStarted a → record_of column a vs ≡ point_of_fields (sums a) vs
-record_is column [] vs s = absurd s
-record_is column (e ∷ es) vs s = refl
+record_is column a vs s = search rules
 
 stop_is : (a b : List Entry) (vs : List Value) → sums a ≡ sums b → may_stop a vs ≡ may_stop b vs
-stop_is a b [] e = ap (λ s. s.has_point) e
-stop_is a b (v ∷ vs) e = refl
+stop_is a b vs e = search rules
 
 -- The grammar says the same after records with the same sums, whatever the Document column is.
 pub alike : (column other : ℕ) (limits : PointLimits) → Alike (sequence_points column limits) (sequence_points other limits) SameSums

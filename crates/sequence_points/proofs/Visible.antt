@@ -1,5 +1,5 @@
 -- The fields StartLine and StartColumn of a point.
-use Rattle.std.proofs.Common.{◌≡◌, ℕ, ◌+◌, Bool, ◌&&◌, List, [], ◌∷◌, drop, Some, None, Result, Ok, Err, ℤ, pos, ◌+ℤ◌, refl, sym, ap, subst, ◌∙◌, arith}
+use Rattle.std.proofs.Common.{rules, ◌≡◌, ℕ, ◌+◌, Bool, ◌&&◌, List, [], ◌∷◌, drop, Some, None, Result, Ok, Err, ℤ, pos, ◌+ℤ◌, refl, sym, ap, subst, ◌∙◌, arith}
 use Rattle.std.{specs.Prelude.{if◌then◌else◌, unsigned_abs, neg_ℤ, ◌≤ℤ◌}, proofs.lemmas.Int.{ints, to_z-of_z}, specs.Int.{w64, cast_signed, cast_unsigned}}
 use Rattle.ppdb_base.specs.declared.{Code.{Code}, Code.TheVariants.{ValueRange}, BlobFault.{BlobFault}}
 use Rattle.blob_grammar.specs.{Grammar.{Value, number, Form, unsigned, signed}, Reader.{push, field_at}}
@@ -16,14 +16,7 @@ pub record IntThere (r : Result (Value × ℕ) Code) (z : ℤ) (len : ℕ) : Typ
   pub is : int_of value ≡ z
 
 pub int_there : (at : ℕ) (r : Result (Value × ℕ) Code) (z : ℤ) (len : ℕ) → int_placed at r ≡ Ok (z, len) → IntThere r z len
-int_there at (Ok x) z len e =
-    let p : (int_of x.0, x.1) ≡ (z, len) = cc in
-    record {
-      value = x.0;
-      found = ap (λ (n : ℕ). let o : Result (Value × ℕ) Code = Ok (x.0, n) in o) (ap (λ (q : ℤ × ℕ). q.1) p);
-      is = ap (λ (q : ℤ × ℕ). q.0) p;
-    }
-int_there at (Err c) z len e = absurd cc
+int_there at r z len e = search rules
 
 pub record IntNotThere (at : ℕ) (r : Result (Value × ℕ) Code) (fault : BlobFault) : Type 0 where
   pub code : Code
@@ -31,8 +24,7 @@ pub record IntNotThere (at : ℕ) (r : Result (Value × ℕ) Code) (fault : Blob
   pub fault_is : fault ≡ record { code = code; byte = at }
 
 pub int_not_there : (at : ℕ) (r : Result (Value × ℕ) Code) (fault : BlobFault) → int_placed at r ≡ Err fault → IntNotThere at r fault
-int_not_there at (Ok x) fault e = absurd cc
-int_not_there at (Err c) fault e = record { code = c; none = refl; fault_is = sym (cc) }
+int_not_there at r fault e = search rules
 
 abbrev start_by : Bool → Form
 start_by b = if b then signed else unsigned
@@ -56,9 +48,7 @@ no_line limits blob place s l c at b fault e h =
 passes : (fits : ℤ → Bool) (sum z more : ℤ) (base : ℕ) (v : Value) → sum ≡ pos base → int_of v ≡ z
     → (sum +ℤ int_of v ≡ pos base +ℤ z) × ((fits (sum +ℤ int_of v) && fits ((sum +ℤ int_of v) +ℤ more)) ≡ (fits (pos base +ℤ z)
     && fits ((pos base +ℤ z) +ℤ more)))
-passes fits sum z more base v p q =
-    let t : sum +ℤ int_of v ≡ pos base +ℤ z = ap (λ a. a +ℤ int_of v) p ∙ ap (λ a. pos base +ℤ a) q in
-    (t, ap (λ x. fits x && fits (x +ℤ more)) t)
+passes fits sum z more base v p q = search rules
 
 pub line_out : (limits : PointLimits) (blob : List ℕ) (place : Place) (s c : Value) (lines at : ℕ) (b : Bool) (z : ℤ) (len base : ℕ) → b ≡ (S place).has_visible
     → int_placed at (field_at (start_by b) (drop at blob)) ≡ Ok (z, len) → (S place).line ≡ pos base → RangeIs is_line (pos base +ℤ z) (pos lines) None

@@ -1,6 +1,6 @@
 -- What holds of the records that were read, and of the points that they make; one more record keeps it.
-use Rattle.std.proofs.Common.{◌≡◌, ◌≢◌, ℕ, zero, suc, ◌+◌, ◌<◌, ◌≤◌, Bool, true, false, List, [], ◌∷◌, ◌++◌, Some, ℤ, pos, negsuc, ◌+ℤ◌, refl, sym, ap, subst, ◌∙◌}
-use Rattle.std.{proofs.Common.{append_assoc, append-nil, arith, inl, inr}, specs.Prelude.{All, AllPairs, unsigned_abs, ◌<ℤ◌, nat_lt, not, ◌==◌}}
+use Rattle.std.proofs.Common.{rules, ◌≡◌, ◌≢◌, ℕ, zero, suc, ◌+◌, ◌<◌, ◌≤◌, Bool, true, false, List, [], ◌∷◌, ◌++◌, Some, ℤ, pos, negsuc, ◌+ℤ◌, refl, sym, ap, subst}
+use Rattle.std.{proofs.Common.{◌∙◌, append_assoc, append-nil, arith, inl, inr}, specs.Prelude.{All, AllPairs, unsigned_abs, ◌<ℤ◌, nat_lt, not, ◌==◌}}
 use Rattle.std.{specs.Option.{option_to_list}, proofs.lemmas.Int.{ints}, proofs.lemmas.Bool.{and_parts, ltb-true}, proofs.lemmas.List.Elements.{All-nil, All-push}}
 use Rattle.std.proofs.lemmas.List.Kept.{AllPairs-cons}
 use Rattle.sequence_points.specs.declared.point.{Point.{Point}, PointLimits.{PointLimits}, Span.TheVariants.{Hidden, Lines}}
@@ -45,11 +45,7 @@ push-some [] x = λ e. cc
 push-some (y ∷ ys) x = λ e. cc
 
 signature-push : (es : List Entry) (e : Entry) → IsStarted es → signature_of (es ++ e ∷ []) ≡ signature_of es
-signature-push [] e s = absurd s
-signature-push (header n row ∷ es) e s = refl
-signature-push (hidden offset ∷ es) e s = refl
-signature-push (visible offset lines columns line column ∷ es) e s = refl
-signature-push (in_document row ∷ es) e s = refl
+signature-push es e s = search rules
 
 -- ---- one more record
 
@@ -90,8 +86,7 @@ well_document limits es row w there =
 
 all_below : (limits : PointLimits) (es : List Entry) (offset : ℕ) (b : Bool) → Well limits es → (sums es).has_point ≡ b
     → ((sums es).has_point ≡ true → (sums es).offset < offset) → All (λ (q : Point). q.offset < offset) (points_after [] es)
-all_below limits es offset true w has rises = λ k d within. let low = w.above k d within in let high = rises has in omega arith
-all_below limits es offset false w has rises = subst (All (λ (q : Point). q.offset < offset)) (sym (w.none has)) (All-nil (λ (q : Point). q.offset < offset))
+all_below limits es offset b w has rises = search rules
 
 -- A record that makes a point.
 pub well_point : (limits : PointLimits) (es : List Entry) (e : Entry) (p : Point) → Well limits es → point_of es e ≡ Some p

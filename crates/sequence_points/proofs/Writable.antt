@@ -1,5 +1,5 @@
 -- Points of a table can be written.
-use Rattle.std.{proofs.Common.{◌≡◌, ℕ, ◌<◌, List, [], ◌∷◌, refl, arith, inl, inr}, specs.Prelude.{All, AllPairs}, proofs.lemmas.List.Elements.{All-nil, All-cons}}
+use Rattle.std.{proofs.Common.{rules, ◌≡◌, ℕ, ◌<◌, List, [], ◌∷◌, refl, arith, inr}, specs.Prelude.{All, AllPairs}, proofs.lemmas.List.Elements.{All-nil, All-cons}}
 use Rattle.std.proofs.lemmas.List.Kept.{AllPairs-cons}
 use Rattle.sequence_points.specs.{declared.point.Point.{Point}, declared.point.Span.TheVariants.{Hidden, Lines}, Written.{IsSpan, CanBeWritten}, Ranges.{IsOffset}}
 use Rattle.sequence_points.specs.Ranges.{IsDocument}
@@ -36,10 +36,6 @@ above_more p q ps less h = All-cons (λ (q : Point). p.offset < q.offset) q ps l
 pub can_write : (signature : ℕ) (p : Point) (ps : List Point) → signature < 0x20000000 → AreRanged (p ∷ ps) → CanBeWritten signature (p ∷ ps)
 can_write signature p ps small r = record { some = λ e. cc; rise = r.rise; offsets = r.offsets; documents = r.documents; spans = r.spans; signature_is = small }
 
--- numbers far from the line that hidden points once had
-pub small_span : (a b c d : ℕ) → a < 0xfeefee → b < 0x10000 → c < 0xfeefee → d < 0x10000 → a < c → IsSpan (Lines a b c d)
-small_span a b c d la lb lc ld less = ((omega arith, λ e. omega arith), lb, (omega arith, λ e. omega arith), ld, inl less)
-
 pub one_line : (a b d : ℕ) → a < 0x20000000 → (a ≡ 0xfeefee → ⊥) → b < d → d < 0x10000 → IsSpan (Lines a b a d)
 one_line a b d la na less ld = ((la, na), omega arith, (la, na), ld, inr (refl, less))
 
@@ -52,31 +48,7 @@ abbrev pub unseen : ℕ → ℕ → Point
 unseen offset document = record { offset = offset; document = document; span = Hidden }
 
 pub two_points : CanBeWritten 0 (seen 0 1 10 70 10 74 ∷ seen 3 1 11 6 11 7 ∷ [])
-two_points =
-    let p = seen 0 1 10 70 10 74 in
-    let q = seen 3 1 11 6 11 7 in
-    can_write 0 p (q ∷ []) (omega arith) (one_more p (q ∷ []) (omega arith) (omega arith, omega arith)
-    (one_line 10 70 74 (omega arith) (λ e. omega arith) (omega arith) (omega arith)) (above_more p q [] (omega arith) (above_none p))
-    (one_more q [] (omega arith) (omega arith, omega arith) (one_line 11 6 7 (omega arith) (λ e. omega arith) (omega arith) (omega arith))
-    (above_none q) no_points))
+two_points = search rules
 
 pub a_large_step : CanBeWritten 0 (seen 0 1 1 1 1 2 ∷ seen 2 1 0x1ffffff0 1 0x1ffffff0 2 ∷ [])
-a_large_step =
-    let p = seen 0 1 1 1 1 2 in
-    let q = seen 2 1 0x1ffffff0 1 0x1ffffff0 2 in
-    can_write 0 p (q ∷ []) (omega arith) (one_more p (q ∷ []) (omega arith) (omega arith, omega arith)
-    (one_line 1 1 2 (omega arith) (λ e. omega arith) (omega arith) (omega arith)) (above_more p q [] (omega arith) (above_none p))
-    (one_more q [] (omega arith) (omega arith, omega arith) (one_line 0x1ffffff0 1 2 (omega arith) (λ e. omega arith) (omega arith) (omega arith))
-    (above_none q) no_points))
-
-pub several_documents : CanBeWritten 2 (seen 0 1 5 1 5 2 ∷ unseen 1 3 ∷ seen 2 3 4 9 7 2 ∷ [])
-several_documents =
-    let p = seen 0 1 5 1 5 2 in
-    let h = unseen 1 3 in
-    let q = seen 2 3 4 9 7 2 in
-    can_write 2 p (h ∷ q ∷ []) (omega arith)
-    (one_more p (h ∷ q ∷ []) (omega arith) (omega arith, omega arith) (one_line 5 1 2 (omega arith) (λ e. omega arith) (omega arith) (omega arith))
-    (above_more p h (q ∷ []) (omega arith) (above_more p q [] (omega arith) (above_none p)))
-    (one_more h (q ∷ []) (omega arith) (omega arith, omega arith) tt (above_more h q [] (omega arith) (above_none h))
-    (one_more q [] (omega arith) (omega arith, omega arith) (small_span 4 9 7 2 (omega arith) (omega arith) (omega arith) (omega arith) (omega arith))
-    (above_none q) no_points)))
+a_large_step = search rules

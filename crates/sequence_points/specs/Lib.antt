@@ -5,3 +5,5 @@ pub mod Places
 pub mod Written
 pub mod Following
 pub mod MovedPoints
+pub mod HiddenPoints
+pub mod HiddenLaws

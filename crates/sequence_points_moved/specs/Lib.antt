@@ -1,3 +1,4 @@
 pub mod MovedBlob
 pub mod Conditions
 pub mod Writing
+pub mod Coming

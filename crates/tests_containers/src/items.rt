@@ -1,7 +1,8 @@
-// Heaps that are written.
+// Heaps that are written, their items in hash tables under a key and in ordered maps without one.
 use ppdb_base::{Bytes, Memory};
 use ppdb_build_heaps::{GuidHeap, Heap, HeapKind};
 use std::alloc::Global;
+use std::hash::RandomState;
 
 /// The indexes of blobs of so many zeros, one after another after the empty one.
 fn use_zeros(heap: &mut Heap) -> Result<[u64; 5], Memory> {
@@ -16,10 +17,10 @@ fn use_zeros(heap: &mut Heap) -> Result<[u64; 5], Memory> {
 }
 
 /// The same in a heap of its own, and how long that is.
-fn indexes(alloc: Global) -> Result<([u64; 5], u64), Memory> {
-    let mut heap = Heap::new(alloc, HeapKind::Blobs);
+fn indexes(alloc: Global, key: Option<RandomState>) -> Result<([u64; 5], u64), Memory> {
+    let mut heap = Heap::new(alloc, HeapKind::Blobs, key);
     match use_zeros(&mut heap) {
-        Ok(indexes) => Ok((indexes, heap.len())),
+        Ok(indexes) => Ok((indexes, heap.close().len())),
         Err(error) => Err(error),
     }
 }
@@ -27,7 +28,8 @@ fn indexes(alloc: Global) -> Result<([u64; 5], u64), Memory> {
 #[test]
 fn lengths_have_one_two_and_four_bytes(rt: HostRuntime) {
     let expected = ([1, 129, 259, 16644, 129], 33032);
-    assert!(rt; indexes(rt.alloc()).is_ok_and(|got| got == expected));
+    assert!(rt; indexes(rt.alloc(), None).is_ok_and(|got| got == expected));
+    assert!(rt; indexes(rt.alloc(), RandomState::new(&rt).ok()).is_ok_and(|got| got == expected));
 }
 
 /// The numbers of some GUIDs, two of which are one, whose bytes are put.
@@ -39,31 +41,34 @@ fn use_guids(heap: &mut GuidHeap, bytes: &mut Bytes) -> Result<[u32; 3], Memory>
     Ok([first, second, third])
 }
 
-#[test]
-fn guids_are_numbered_from_one(rt: HostRuntime) {
+/// Whether they are numbered from 1 in a heap of its own.
+fn are_numbered(alloc: Global, key: Option<RandomState>) -> bool {
     let mut expected = [1; 32];
     expected[16..].fill(2);
-    let mut heap = GuidHeap::new(rt.alloc());
-    let mut bytes = Bytes::new(rt.alloc());
-    assert!(rt; use_guids(&mut heap, &mut bytes) == Ok([1, 2, 1]));
-    assert!(rt; bytes.as_slice() == expected.as_slice());
-    assert!(rt; heap.len() == 32);
+    let mut heap = GuidHeap::new(alloc, key);
+    let mut bytes = Bytes::new(alloc);
+    use_guids(&mut heap, &mut bytes) == Ok([1, 2, 1])
+        && bytes.as_slice() == expected.as_slice()
+        && heap.len() == 32
 }
 
-/// The indexes of some texts, whose bytes are put.
-fn use_texts(heap: &mut Heap, bytes: &mut Bytes) -> Result<[u64; 3], Memory> {
+#[test]
+fn guids_are_numbered_from_one(rt: HostRuntime) {
+    assert!(rt; are_numbered(rt.alloc(), None));
+    assert!(rt; are_numbered(rt.alloc(), RandomState::new(&rt).ok()));
+}
+
+/// The indexes of some texts.
+fn use_texts(heap: &mut Heap) -> Result<[u64; 3], Memory> {
     let none = heap.use_item(b"")?;
     let long = heap.use_item(b"xy")?;
     let short = heap.use_item(b"y")?;
-    heap.put(bytes)?;
     Ok([none, long, short])
 }
 
 #[test]
 fn texts_end_with_a_zero(rt: HostRuntime) {
-    let mut heap = Heap::new(rt.alloc(), HeapKind::Texts);
-    let mut bytes = Bytes::new(rt.alloc());
-    assert!(rt; use_texts(&mut heap, &mut bytes) == Ok([0, 1, 4]));
-    assert!(rt; bytes.as_slice() == b"\x00xy\x00y\x00".as_slice());
-    assert!(rt; heap.len() == 6);
+    let mut heap = Heap::new(rt.alloc(), HeapKind::Texts, RandomState::new(&rt).ok());
+    assert!(rt; use_texts(&mut heap) == Ok([0, 1, 4]));
+    assert!(rt; heap.close().as_slice() == b"\x00xy\x00y\x00".as_slice());
 }

@@ -1,11 +1,7 @@
 // Parts of values.
 use custom_info::Range;
 use ppdb_base::{Bytes, List, Memory};
-use ppdb_tables::Parent;
-use ppdb_values::{
-    ConstantBody, ConstantValue, CustomBody, CustomValue, DocumentValue, FileValue,
-    ImportScopeValue, ScopeValue, VariableValue,
-};
+use ppdb_values::{FileValue, ScopeValue, VariableValue};
 use sequence_points::{Point, Span};
 use std::alloc::Global;
 
@@ -27,17 +23,6 @@ pub fn empty(alloc: Global) -> FileValue {
         machines: List::new(alloc),
         customs: List::new(alloc),
     }
-}
-
-/// Adds the document `/a/b`.
-pub fn add_document(alloc: Global, documents: &mut List<DocumentValue>) -> Result<(), Memory> {
-    let name = bytes(alloc, b"/a/b")?;
-    documents.push(DocumentValue {
-        name,
-        algorithm: None,
-        hash: List::new(alloc),
-        language: None,
-    })
 }
 
 /// A point in document 1.
@@ -82,39 +67,5 @@ pub fn scope(alloc: Global, method: u32, start: u32, end: u32) -> ScopeValue {
         range: Range { start, end },
         variables: List::new(alloc),
         constants: List::new(alloc),
-    }
-}
-
-/// A record of this kind on a row.
-pub fn custom(table: u8, row: u32, kind: [u8; 16], value: CustomBody) -> CustomValue {
-    CustomValue {
-        parent: Parent { table, row },
-        kind,
-        value,
-    }
-}
-
-/// Adds a constant of a primitive type, whose value has these bytes.
-pub fn add_constant(
-    alloc: Global,
-    constants: &mut List<ConstantValue>,
-    name: &[u8],
-    code: u8,
-    value: &[u8],
-) -> Result<(), Memory> {
-    let value = bytes(alloc, value)?;
-    let name = bytes(alloc, name)?;
-    constants.push(ConstantValue {
-        name,
-        modifiers: List::new(alloc),
-        body: ConstantBody::Primitive { code, value },
-    })
-}
-
-/// A scope of no imports.
-pub fn imports(alloc: Global, parent: u32) -> ImportScopeValue {
-    ImportScopeValue {
-        parent,
-        imports: List::new(alloc),
     }
 }

@@ -1,16 +1,16 @@
 -- What is left of a constant after the code of its body.
-use Rattle.std.proofs.Common.{◌≡◌, ℕ, ◌+◌, ◌-◌, ◌<◌, ◌≤◌, Bool, true, false, ◌&&◌, List, [], ◌∷◌, length, get_or, take, drop, Some, None, Result, Ok, Err, refl, sym}
-use Rattle.std.{proofs.Common.{ap, ◌∙◌, arith}, specs.Prelude.{is_some, ◌==◌}, proofs.lemmas.List.{length-drop, take_all}, proofs.Math.Seq.{drop-cons}}
+use Rattle.std.proofs.Common.{rules, ◌≡◌, ℕ, ◌+◌, ◌-◌, ◌<◌, ◌≤◌, Bool, true, false, ◌&&◌, List, [], ◌∷◌, length, get_or, take, drop, Some, None, Result, Ok, Err}
+use Rattle.std.{proofs.Common.{refl, sym, ap, ◌∙◌, arith}, specs.Prelude.{is_some, ◌==◌}, proofs.lemmas.List.{length-drop, take_all}, proofs.Math.Seq.{drop-cons}}
 use Rattle.ppdb_base.specs.declared.{BlobFault.{BlobFault}, Code.TheVariants.{BlobEnd, ValueRange}}
 use Rattle.blob_grammar.specs.{Grammar.{Value, number, octets, unsigned, byte, fixed, rest}, Reader.{field_at, unsigned_at, is_empty, IsThere, IsMissing}}
 use Rattle.blob_grammar.proofs.Steps.{not_empty}
 use Rattle.type_blobs.specs.declared.{types.TypeLimits.{TypeLimits}, types.TypeToken.{TypeToken}, types.Modifier.{Modifier}, constant.Constant.{Constant}}
 use Rattle.type_blobs.specs.{Types.{is_type, token_of}, Numbers.{number_at}, Constants.{ConstantBody, primitive, enumerated, general, object, constants}}
 use Rattle.type_blobs.specs.{Constants.{modifier_of, body_of, is_modifier, is_code, is_enumerable, is_general, is_text, size_of, after_two}, ConstantReading.{Rest}}
-use Rattle.type_blobs.specs.ConstantReading.{begins_modifier, finished, left_of, constant_left, modifier_answer, body_answer, fault_end, whole_end, shown_body}
-use Rattle.type_blobs.{specs.ConstantReading.{BodyIs}, proofs.NextStep.{Found, found, step-field, step-out, step-none, step-end, step-end_none, step-over}}
-use Rattle.type_blobs.proofs.{NextStep.{step-number, step-no_number}, Codes.{OfGeneral, of_general, OfPrimitive, of_primitive}, ConstantRests.{rest as rest_behind}}
-use Rattle.type_blobs.proofs.{ConstantRests.{rest_goes, rest_invalid, rest_stop}, ModifiersTaken.{Byte_at, code_taken, a_modifier, no_type}}
+use Rattle.type_blobs.specs.ConstantReading.{begins_modifier, finished, left_of, constant_left, modifier_answer, body_answer, shown_body, BodyIs}
+use Rattle.type_blobs.proofs.NextStep.{Found, found, step-field, step-out, step-none, step-end, step-end_none, step-over, step-number, step-no_number}
+use Rattle.type_blobs.proofs.{Codes.{OfGeneral, of_general, OfPrimitive, of_primitive}, ConstantRests.{rest as rest_behind, rest_goes, rest_invalid, rest_stop}}
+use Rattle.type_blobs.proofs.ModifiersTaken.{Byte_at, code_taken, a_modifier, no_type}
 
 -- the bytes from a place on, as a slice has them
 pub slice-from : (blob : List ℕ) (at : ℕ) → take (length blob - at) (drop at blob) ≡ drop at blob
@@ -74,8 +74,7 @@ module _ (limits : TypeLimits) (blob : List ℕ) where
   Type_at at r = number_at (is_type limits) token_of blob at ≡ r
 
   and-false : (b : Bool) → (b && false) ≡ false
-  and-false true = refl
-  and-false false = refl
+  and-false b = search rules
 
   no_end : (begun : List Value) (at : ℕ) → body_of begun ≡ None → (is_empty (drop at blob) && is_some (body_of begun)) ≡ false
   no_end begun at h = ap (λ o. is_empty (drop at blob) && is_some o) h ∙ and-false (is_empty (drop at blob))
@@ -242,10 +241,7 @@ module _ (limits : TypeLimits) (blob : List ℕ) where
   pub body_is : (at code : ℕ) (r : Result Constant BlobFault) → Byte_at limits blob at code → is_code code ≡ true
       → BodyIs limits (number code ∷ []) blob (at + 1) r → shown_body r ≡ body_answer (constant_left limits blob at).end
   unfolding constant_left
-  body_is at code (Ok constant) there h b =
-      sym (ap (λ r. body_answer (left_of r).end) (code_taken limits blob at code there h ∙ b.1) ∙ ap (λ o. body_answer (whole_end o)) b.2)
-  body_is at code (Err fault) there h b =
-      sym (ap (λ r. body_answer (left_of r).end) (code_taken limits blob at code there h ∙ b.1) ∙ ap (λ o. body_answer (fault_end o fault)) b.2)
+  body_is at code r there h b = search (rules, code_taken)
 
   pub code_missing : (at : ℕ) (fault : BlobFault) → IsMissing byte blob at fault → body_answer (constant_left limits blob at).end ≡ Err fault
   unfolding constant_left

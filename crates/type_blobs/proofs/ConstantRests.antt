@@ -1,5 +1,5 @@
 -- What is left of a constant, a step at a time.
-use Rattle.std.{proofs.Common.{◌≡◌, ℕ, zero, suc, ◌+◌, List, [], ◌∷◌, ◌++◌, drop, take, Option, Some, None, refl, sym, ap, ◌∙◌}, specs.List.{fold}}
+use Rattle.std.{proofs.Common.{rules, ◌≡◌, ℕ, zero, suc, ◌+◌, List, [], ◌∷◌, ◌++◌, drop, take, Option, Some, None, refl, sym, ap, ◌∙◌}, specs.List.{fold}}
 use Rattle.ppdb_base.specs.declared.Code.{Code}
 use Rattle.blob_grammar.specs.{Grammar.{Value, Field, Cut, closed, with_value}, Reader.{Step, field, stop, invalid, step, fields_for, fields_from, begun_from}}
 use Rattle.blob_grammar.proofs.{PrefixFields.{take_field, fields_for-step}, Steps.{Alike, read_from-alike}}
@@ -25,8 +25,7 @@ module _ (limits : TypeLimits) (blob : List ℕ) where
   same_closed : {X : Type 0} (h : List Modifier → List Value → X) (a b : List Modifier) (vs : List Value) (o : Option Modifier)
       → ((c d : List Modifier) (ws : List Value) → h c ws ≡ h d ws)
       → h (closes a vs o).whole (closes a vs o).begun ≡ h (closes b vs o).whole (closes b vs o).begun
-  same_closed h a b vs None e = e a b vs
-  same_closed h a b vs (Some r) e = e (a ++ r ∷ []) (b ++ r ∷ []) []
+  same_closed h a b vs o e = search rules
 
   same_take : (h : ℕ → List Modifier → List Value → List Field) (a b : List Modifier) (vs : List Value) (bytes : List ℕ) (s : Step)
       → ((len : ℕ) (c d : List Modifier) (ws : List Value) → h len c ws ≡ h len d ws)

@@ -1,5 +1,5 @@
 -- What a cursor of a constant has left at the start is what the blob holds.
-use Rattle.std.{proofs.Common.{◌≡◌, ℕ, Bool, true, false, List, [], Option, Some, None, refl, sym, ap, subst}, specs.Prelude.{is_some}}
+use Rattle.std.{proofs.Common.{rules, ◌≡◌, ℕ, Bool, true, List, [], Option, Some, None, refl, sym, ap, subst}, specs.Prelude.{is_some}}
 use Rattle.ppdb_base.specs.declared.BlobFault.{BlobFault}
 use Rattle.blob_grammar.{specs.Grammar.{Value, Field, cut}, specs.Reading.{Ends}, specs.Reader.{read_from, prefix_of, begun_from}, proofs.Readers.{read_from-reads}}
 use Rattle.blob_grammar.proofs.PrefixFields.{longest-prefix_of}
@@ -7,24 +7,13 @@ use Rattle.type_blobs.specs.{declared.types.TypeLimits.{TypeLimits}, Constants.{
 use Rattle.type_blobs.specs.ConstantReading.{EndIs, ConstantReading, whole_end, fault_end, end_of, constant_left}
 
 pub fault_is : (begun : List Value) (fault : Option BlobFault) → fault_of (end_of begun fault) ≡ fault
-fault_is begun None = whole (body_of begun)
-  where
-    whole : (o : Option ConstantBody) → fault_of (whole_end o) ≡ None
-    whole None = refl
-    whole (Some b) = refl
-fault_is begun (Some fault) = invalid (begins_modifier begun)
-  where
-    invalid : (b : Bool) → fault_of (fault_end b fault) ≡ Some fault
-    invalid true = refl
-    invalid false = refl
+fault_is begun fault = search rules
 
 whole_is : (begun : List Value) (o : Option ConstantBody) → body_of begun ≡ o → is_some o ≡ true → EndIs begun (whole_end o)
-whole_is begun None e h = absurd cc
-whole_is begun (Some b) e h = e
+whole_is begun o e h = search rules
 
 invalid_is : (begun : List Value) (b : Bool) (fault : BlobFault) → begins_modifier begun ≡ b → EndIs begun (fault_end b fault)
-invalid_is begun true fault e = e
-invalid_is begun false fault e = e
+invalid_is begun b fault e = search rules
 
 end_is : (limits : TypeLimits) (fields : List Field) (after : List ℕ) (fault : Option BlobFault) → Ends (constants limits) fields after fault
     → let begun : List Value = (cut (constants limits) fields).begun in EndIs begun (end_of begun fault)

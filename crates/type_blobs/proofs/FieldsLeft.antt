@@ -1,6 +1,6 @@
 -- A walk over the fields of imports, a field at a time.
-use Rattle.std.proofs.Common.{◌≡◌, ℕ, zero, suc, ◌+◌, ◌<◌, ◌≤◌, Bool, true, false, ◌&&◌, List, [], ◌∷◌, ◌++◌, length, drop, Option, Some, None, Ok, Err, refl, sym}
-use Rattle.std.{proofs.Common.{ap, ◌∙◌, arith, length-append, if◌then◌else◌, inl, inr, ◌⊎◌}, specs.Option.{option_map}, specs.Prelude.{◌≢◌, ◌==◌}}
+use Rattle.std.proofs.Common.{rules, ◌≡◌, ℕ, zero, suc, ◌+◌, ◌<◌, ◌≤◌, Bool, true, false, ◌&&◌, List, [], ◌∷◌, ◌++◌, length, drop, Option, Some, None, Ok, Err, refl}
+use Rattle.std.{proofs.Common.{sym, ap, ◌∙◌, arith, length-append, if◌then◌else◌, inl, inr, ◌⊎◌}, specs.Option.{option_map}, specs.Prelude.{◌≢◌, ◌==◌}}
 use Rattle.std.proofs.lemmas.{Bool.{ne_eqb}, List.{drop_all, drop-drop}}
 use Rattle.ppdb_base.specs.declared.{BlobFault.{BlobFault}, Code.TheVariants.{BlobEnd}}
 use Rattle.blob_grammar.specs.{Grammar.{Value, number, unsigned, Cut, closed, with_value}, Places.{HasFields, HasEnd}, Reader.{Left, push, is_empty, unsigned_at}}
@@ -31,15 +31,12 @@ module _ (heap : ℕ → Option (List ℕ)) where
 -- ---- places of one shape
 
 closed_as : (o : Option ImportItem) (w x : List ImportItem) (vs ws : List Value) → SameShape vs ws → SameShape (closed o w vs).begun (closed o x ws).begun
-closed_as None w x vs ws e = e
-closed_as (Some item) w x vs ws e = tt
+closed_as o w x vs ws e = search rules
 
 closed_if : (b : Bool) (o : Option (List ℕ → ImportItem)) (w x : List ImportItem) (vs ws : List Value) (ns ms : List ℕ) → SameShape vs ws
     → SameShape (closed (if b then option_map (λ make. make ns) o else None) w vs).begun
     (closed (if b then option_map (λ make. make ms) o else None) x ws).begun
-closed_if false o w x vs ws ns ms e = e
-closed_if true None w x vs ws ns ms e = e
-closed_if true (Some make) w x vs ws ns ms e = tt
+closed_if b o w x vs ws ns ms e = search rules
 
 same_len : (vs ws : List Value) (v : Value) → length vs ≡ length ws → length (vs ++ v ∷ []) ≡ length (ws ++ v ∷ [])
 same_len vs ws v e = omega (arith, e, length-append vs (v ∷ []), length-append ws (v ∷ []))
@@ -49,14 +46,10 @@ module _ (limits : TypeLimits) (heap : ℕ → Option (List ℕ)) where
   Shape a b = SameShape a.begun b.begun
 
   same_part : (vs ws : List Value) → SameShape vs ws → next_part vs ≡ next_part ws
-  same_part [] [] e = refl
-  same_part (number k ∷ vs) (number l ∷ ws) e = rw (e.0, e.1) refl
-  same_part _ _ e = absurd e
+  same_part vs ws e = search rules
 
   same_stop : (vs ws : List Value) → SameShape vs ws → is_between vs ≡ is_between ws
-  same_stop [] [] e = refl
-  same_stop (number k ∷ vs) (number l ∷ ws) e = refl
-  same_stop _ _ e = absurd e
+  same_stop vs ws e = search rules
 
   keeps_at : (w x : List ImportItem) (vs ws : List Value) (value : Value) → SameShape vs ws → next_allows limits heap (next_part vs) value ≡ true
       → SameShape (with_value (imports limits heap) (record { whole = w; begun = vs }) value).begun (with_value (imports limits heap)
@@ -88,12 +81,7 @@ module _ (limits : TypeLimits) (heap : ℕ → Option (List ℕ)) where
   more_len m n = omega (arith, length-append (zeros m) (number n ∷ []), zeros_len m)
 
   pub after_more : (kind fields n : ℕ) → fields ≢ 0 → fields < length (parts_of kind) → SameShape (after kind fields n) (begun_of kind (fields + 1))
-  after_more kind zero n some less = absurd (some refl)
-  after_more kind (suc m) n some less =
-      let len = more_len m n in
-      let two : begun_of kind (suc m + 1) ≡ number kind ∷ zeros (suc m) = ap (begun_of kind) (let e : suc m + 1 ≡ suc (suc m) = omega arith in e) in
-      rw (goes_on heap kind (zeros m ++ number n ∷ []) (number kind ∷ (zeros m ++ number n ∷ [])) (λ e. omega (arith, e, len, less)), two)
-      (refl, len ∙ sym (zeros_len (suc m)))
+  after_more kind fields n some less = search (rules, more_len, goes_on, zeros_len)
 
   -- ---- the next field
 

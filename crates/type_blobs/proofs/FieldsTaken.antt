@@ -1,16 +1,15 @@
 -- What the reading of one number says of what is left of a blob.
-use Rattle.std.proofs.{Common.{◌≡◌, ℕ, ◌+◌, Bool, false, List, [], ◌∷◌, ◌++◌, drop, Option, Some, None, Err, sym, ap, ◌∙◌, ◌&&◌}, lemmas.List.{drop-drop}}
+use Rattle.std.proofs.{Common.{rules, ◌≡◌, ℕ, ◌+◌, Bool, false, List, [], ◌∷◌, ◌++◌, drop, Option, Some, Err, sym, ap, ◌∙◌, ◌&&◌}, lemmas.List.{drop-drop}}
 use Rattle.ppdb_base.specs.declared.BlobFault.{BlobFault}
-use Rattle.blob_grammar.specs.{Grammar.{Value, number, unsigned, Grammar}, Reader.{push, close_and, is_empty, take_step, read_from}}
-use Rattle.blob_grammar.proofs.Steps.{nothing_left, left_at, read_from-step}
+use Rattle.blob_grammar.{specs.Grammar.{Value, number, unsigned, Grammar}, specs.Reader.{close_and, is_empty, take_step, read_from}, proofs.Steps.{nothing_left}}
+use Rattle.blob_grammar.proofs.Steps.{left_at, read_from-step}
 use Rattle.type_blobs.{specs.Numbers.{number_at}, proofs.NextStep.{Found, step-number, step-no_number}}
 
 module _ {R : Type 0} (g : Grammar R) (whole : List R) (begun : List Value) (blob : List ℕ) (at : ℕ) where
   closes : (value : Value) (len : ℕ) (o : Option R)
       → close_and (λ w b. read_from g w b (at + len) (drop len (drop at blob))) whole (begun ++ value ∷ []) o ≡ close_and (λ w b. left_at g w b blob (at + len))
       whole (begun ++ value ∷ []) o
-  closes value len None = ap (read_from g whole (begun ++ value ∷ []) (at + len)) (drop-drop len at blob)
-  closes value len (Some r) = ap (λ bytes. push r (read_from g (whole ++ r ∷ []) [] (at + len) bytes)) (drop-drop len at blob)
+  closes value len o = search (rules, drop-drop)
 
   -- A number that is in range makes the record go on, or closes it.
   pub takes : {X : Type 0} (allows : ℕ → Bool) (means : ℕ → X) (meaning : X) (next : ℕ) → g.form whole begun ≡ Some unsigned

@@ -1,6 +1,6 @@
 -- What a cursor of imports has left, a field at a time.
-use Rattle.std.proofs.Common.{◌≡◌, ℕ, zero, suc, ◌+◌, ◌<◌, ◌≤◌, Bool, true, false, ◌&&◌, List, [], ◌∷◌, ◌++◌, length, drop, Option, Some, None, Ok, Err, refl, sym}
-use Rattle.std.{proofs.Common.{ap, ◌∙◌, arith}, specs.Prelude.{is_some, nat_le}}
+use Rattle.std.proofs.Common.{rules, ◌≡◌, ℕ, ◌+◌, ◌<◌, ◌≤◌, Bool, true, false, ◌&&◌, List, [], ◌∷◌, ◌++◌, length, drop, Option, Some, None, Ok, Err, refl, sym, ap}
+use Rattle.std.{proofs.Common.{◌∙◌, arith}, specs.Prelude.{is_some, nat_le}}
 use Rattle.ppdb_base.specs.declared.{BlobFault.{BlobFault}, Code.TheVariants.{ValueRange}}
 use Rattle.blob_grammar.specs.{Grammar.{Value, number, unsigned}, Reading.{Reading}, Reader.{Left, placed, unsigned_at, push, close_and, is_empty}}
 use Rattle.blob_grammar.proofs.{Placed.{unsigned_there, unsigned_not_there}, Readers.{read_from-reads}, Steps.{Alike, read_from-alike, nothing_left, left_at}}
@@ -15,8 +15,7 @@ Any : List ImportItem → List ImportItem → Type 0
 Any a b = Unit {0}
 
 and-false : (b : Bool) → (b && false) ≡ false
-and-false true = refl
-and-false false = refl
+and-false b = search rules
 
 module _ (limits : TypeLimits) (heap : ℕ → Option (List ℕ)) (blob : List ℕ) where
   -- the grammar asks nothing of the imports before
@@ -108,17 +107,7 @@ module _ (limits : TypeLimits) (heap : ℕ → Option (List ℕ)) (blob : List �
   -- ---- an import that begins with an alias
 
   alias_first : (kind : ℕ) → 4 ≤ kind → kind ≤ 9 → IsPart Alias kind []
-  alias_first zero low high = absurd (omega arith)
-  alias_first (suc zero) low high = absurd (omega arith)
-  alias_first (suc (suc zero)) low high = absurd (omega arith)
-  alias_first (suc (suc (suc zero))) low high = absurd (omega arith)
-  alias_first (suc (suc (suc (suc zero)))) low high = refl
-  alias_first (suc (suc (suc (suc (suc zero))))) low high = refl
-  alias_first (suc (suc (suc (suc (suc (suc zero)))))) low high = refl
-  alias_first (suc (suc (suc (suc (suc (suc (suc zero))))))) low high = refl
-  alias_first (suc (suc (suc (suc (suc (suc (suc (suc zero)))))))) low high = refl
-  alias_first (suc (suc (suc (suc (suc (suc (suc (suc (suc zero))))))))) low high = refl
-  alias_first (suc (suc (suc (suc (suc (suc (suc (suc (suc (suc n)))))))))) low high = absurd (omega arith)
+  alias_first kind low high = search rules
 
   pub no_alias : (kind at : ℕ) (fault : BlobFault) → 4 ≤ kind → kind ≤ 9 → text_at heap blob at ≡ Err fault → Left_after kind at (nothing_left (Some fault))
   unfolding fields_left
@@ -239,17 +228,7 @@ module _ (limits : TypeLimits) (heap : ℕ → Option (List ℕ)) (blob : List �
   other_kind at kind len e out = left-out (imports limits heap) [] [] blob at unsigned (number kind) len refl (unsigned_there at (drop at blob) kind len e) out
 
   opened : (kind at : ℕ) → 1 ≤ kind → kind ≤ 9 → goes_on (number kind ∷ []) at ≡ after (number kind ∷ []) at
-  opened zero at low high = absurd (omega arith)
-  opened (suc zero) at low high = refl
-  opened (suc (suc zero)) at low high = refl
-  opened (suc (suc (suc zero))) at low high = refl
-  opened (suc (suc (suc (suc zero)))) at low high = refl
-  opened (suc (suc (suc (suc (suc zero))))) at low high = refl
-  opened (suc (suc (suc (suc (suc (suc zero)))))) at low high = refl
-  opened (suc (suc (suc (suc (suc (suc (suc zero))))))) at low high = refl
-  opened (suc (suc (suc (suc (suc (suc (suc (suc zero)))))))) at low high = refl
-  opened (suc (suc (suc (suc (suc (suc (suc (suc (suc zero))))))))) at low high = refl
-  opened (suc (suc (suc (suc (suc (suc (suc (suc (suc (suc n)))))))))) at low high = absurd (omega arith)
+  opened kind at low high = search rules
 
   inside : (kind : ℕ) → 1 ≤ kind → kind ≤ 9 → (nat_le 1 kind && nat_le kind 9) ≡ true
   inside kind low high = grind arith

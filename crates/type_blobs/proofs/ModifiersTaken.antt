@@ -1,6 +1,6 @@
 -- What a cursor of a constant has left where a modifier comes, and where none does.
-use Rattle.std.proofs.Common.{◌≡◌, ℕ, ◌+◌, ◌≤◌, Bool, true, false, ◌&&◌, List, [], ◌∷◌, length, drop, Option, Some, None, Result, Ok, Err, refl, sym, ap, subst, ◌∙◌}
-use Rattle.std.{proofs.Common.{inl, inr}, specs.Prelude.{◌==◌, is_some}, proofs.lemmas.List.{drop_all}}
+use Rattle.std.proofs.Common.{rules, ◌≡◌, ℕ, ◌+◌, ◌≤◌, Bool, true, false, ◌&&◌, List, [], ◌∷◌, length, drop, Option, Some, None, Result, Ok, Err, refl, sym, ap}
+use Rattle.std.{proofs.Common.{subst, ◌∙◌, inl, inr}, specs.Prelude.{◌==◌, is_some}, proofs.lemmas.List.{drop_all}}
 use Rattle.ppdb_base.specs.declared.{BlobFault.{BlobFault}, Code.TheVariants.{BlobEnd, ValueRange}}
 use Rattle.blob_grammar.specs.{Grammar.{Value, number, integer, octets, unsigned, byte}, Reader.{field_at, is_empty, Step, field, stop, invalid, stop_or, step}}
 use Rattle.type_blobs.specs.{declared.types.TypeLimits.{TypeLimits}, declared.types.TypeToken.{TypeToken}, declared.types.Modifier.{Modifier}, Types.{is_type}}
@@ -33,8 +33,7 @@ module _ (limits : TypeLimits) (blob : List ℕ) where
   no_body code h = elim (modifier_is code h) [ inl a ↦ rw a refl | inr b ↦ rw b refl ]
 
   and-false : (b : Bool) → (b && false) ≡ false
-  and-false true = refl
-  and-false false = refl
+  and-false b = search rules
 
   makes : (code n : ℕ) → is_modifier code ≡ true → modifier_of (number code ∷ number n ∷ []) ≡ Some (record { required = code == 0x1f; target = token_of n })
   makes code n h = rw h refl
@@ -136,12 +135,7 @@ module _ (limits : TypeLimits) (blob : List ℕ) where
   -- ---- what the cursor shows of it
 
   no_fault : (begun : List Value) (fault : Option BlobFault) → begins_modifier begun ≡ false → modifier_fault (end_of begun fault) ≡ None
-  no_fault begun None h = whole (body_of begun)
-    where
-      whole : (o : Option _) → modifier_fault (Rattle.type_blobs.specs.ConstantReading.whole_end o) ≡ None
-      whole None = refl
-      whole (Some b) = refl
-  no_fault begun (Some fault) h = rw h refl
+  no_fault begun fault h = search rules
 
   abbrev pub BodyNext : ConstantLeft → Type 0
   BodyNext left = (end : ConstantEnd) × (left ≡ record { modifiers = []; end = end }) × (modifier_fault end ≡ None)

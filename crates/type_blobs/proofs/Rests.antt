@@ -1,5 +1,5 @@
 -- What is left of a blob and what has begun where it ends, a step of the plain reader at a time.
-use Rattle.std.{proofs.Common.{◌≡◌, ℕ, ◌+◌, List, [], ◌∷◌, ◌++◌, drop, Option, Some, None, refl, ap, ◌∙◌}, specs.List.{fold}, proofs.lemmas.List.{drop-drop}}
+use Rattle.std.{proofs.Common.{rules, ◌≡◌, ℕ, ◌+◌, List, [], ◌∷◌, ◌++◌, drop, Option, Some, None, refl, ap, ◌∙◌}, specs.List.{fold}, proofs.lemmas.List.{drop-drop}}
 use Rattle.blob_grammar.specs.{Grammar.{Value, Grammar, Cut, closed, with_value}, Reader.{Left, Step, field, stop, invalid, step, push, close_and, take_step}}
 use Rattle.blob_grammar.{specs.Reader.{read_from, fields_from, begun_from}, proofs.Steps.{read_from-step}, proofs.PrefixFields.{place, take_field, fields_from-step}}
 use Rattle.type_blobs.specs.ConstantReading.{Rest, rest_at}
@@ -40,9 +40,7 @@ module _ {R : Type 0} (g : Grammar R) (whole : List R) (begun : List Value) (blo
 
   stepped-is : (s : Step) → record { left = left_after s; begun = begun_after s } ≡ stepped s
   unfolding begun_from
-  stepped-is (field value len) = stepped_close value len (g.record_of whole (begun ++ value ∷ []))
-  stepped-is stop = refl
-  stepped-is (invalid code) = refl
+  stepped-is s = search (rules, stepped_close)
 
   pub rest-step : (s : Step) → step g whole begun (drop at blob) ≡ s → rest_at g whole begun blob at ≡ stepped s
   unfolding begun_from

@@ -1,7 +1,7 @@
 -- What constant_into writes is read again.
-use Rattle.std.proofs.Common.{◌≡◌, ℕ, Bool, true, false, List, [], ◌∷◌, ◌++◌, length, Some, None, refl, sym, ap, subst, ◌∙◌, arith, append-nil}
-use Rattle.std.{specs.Prelude.{All, is_some, if◌then◌else◌}, specs.List.{flat_map}, proofs.lemmas.List.Elements.{All-head, All-tail}}
-use Rattle.std.proofs.lemmas.Grind.{flat_map-append}
+use Rattle.std.proofs.Common.{rules, ◌≡◌, ℕ, Bool, true, false, List, [], ◌∷◌, ◌++◌, length, Some, None, refl, sym, ap, subst, ◌∙◌, arith}
+use Rattle.std.{proofs.lemmas.Grind.{flat_map-append}, specs.Prelude.{All, is_some, if◌then◌else◌}, specs.List.{flat_map}, proofs.lemmas.List.Elements.{All-head}}
+use Rattle.std.proofs.lemmas.List.Elements.{All-tail}
 use Rattle.cli_ints.specs.Shortest.{short_unsigned}
 use Rattle.blob_grammar.specs.{Grammar.{Value, number, octets, unsigned, byte, fixed, rest, Field, Cut, bytes_of, IsAllowed, cut}, Reader.{cut_from}}
 use Rattle.blob_grammar.proofs.Written.{FollowFrom, follow-append, cut_from-append, Writes, EachMayAdd, fields_after, all_follow, number_field, number_allowed}
@@ -54,8 +54,7 @@ module _ (limits : TypeLimits) where
   modifier_makes : (whole : List Modifier) (required : Bool) (token : TypeToken) → IsToken token
       → cut_from (constants limits) (after whole []) (modifier_fields whole (record { required = required; target = token }))
       ≡ after (whole ++ record { required = required; target = token } ∷ []) []
-  modifier_makes whole true token h = ap (λ t. after (whole ++ record { required = true; target = t } ∷ []) []) (token-back token h)
-  modifier_makes whole false token h = ap (λ t. after (whole ++ record { required = false; target = t } ∷ []) []) (token-back token h)
+  modifier_makes whole required token h = search rules
 
   abbrev MayAdd : List Modifier → Modifier → Type 0
   MayAdd whole m = IsModifierThere limits m
@@ -86,12 +85,7 @@ module _ (limits : TypeLimits) where
 
   body_spelled : (b : ConstantBody) → bytes_of (body_fields b) ≡ body_spelling b
   unfolding body_fields
-  body_spelled (primitive code []) = refl
-  body_spelled (primitive code (x ∷ xs)) = ap (λ bs. code ∷ bs) (append-nil (x ∷ xs))
-  body_spelled (enumerated code value target) = ap (λ bs. code ∷ (value ++ bs)) (append-nil (short_unsigned (number_of target)))
-  body_spelled (general code target []) = refl
-  body_spelled (general code target (x ∷ xs)) = ap (λ bs. code ∷ (short_unsigned (number_of target) ++ bs)) (append-nil (x ∷ xs))
-  body_spelled object = refl
+  body_spelled b = search rules
 
   -- the body's fields are allowed, and what they make is the body
   record IsMade (whole : List Modifier) (b : ConstantBody) : Type 0 where

@@ -1,7 +1,7 @@
 -- What import_into writes is read again.
-use Rattle.std.proofs.Common.{◌≡◌, ℕ, zero, suc, ◌+◌, ◌^◌, ◌<◌, ◌≤◌, true, List, [], ◌∷◌, ◌++◌, length, Option, Some, None, refl, sym, ap, subst, ◌∙◌, arith}
-use Rattle.std.{proofs.Common.{append_assoc, append-nil}, specs.Prelude.{All, map, is_some, IsSome, nat_le, ◌&&◌}, specs.List.{flat_map}}
-use Rattle.std.proofs.lemmas.{List.Elements.{All-head, All-tail}, Grind.{flat_map-append}}
+use Rattle.std.proofs.Common.{rules, ◌≡◌, ℕ, zero, suc, ◌+◌, ◌^◌, ◌<◌, ◌≤◌, true, List, [], ◌∷◌, ◌++◌, length, Option, Some, None, refl, sym, ap, subst, ◌∙◌, arith}
+use Rattle.std.{proofs.Common.{append_assoc, append-nil}, proofs.lemmas.Grind.{flat_map-append}, specs.Prelude.{All, map, is_some, IsSome, nat_le, ◌&&◌}}
+use Rattle.std.{specs.List.{flat_map}, proofs.lemmas.List.Elements.{All-head, All-tail}}
 use Rattle.cli_ints.specs.Shortest.{short_unsigned}
 use Rattle.blob_grammar.{specs.Grammar.{number, Field, Cut, bytes_of, IsAllowed, cut}, specs.Reading.{Reading}, specs.Reader.{cut_from}, proofs.Written.{FollowFrom}}
 use Rattle.blob_grammar.proofs.Written.{follow-append, cut_from-append, fields_read, written_fields, placed_from-append, number_field, number_allowed}
@@ -10,7 +10,7 @@ use Rattle.type_blobs.specs.{declared.types.TypeLimits.{TypeLimits}, declared.im
 use Rattle.type_blobs.specs.Imports.{import_indexes, text_index, parts_of, part_allows, next_part, next_allows, ImportItem, item_of, imports}
 use Rattle.type_blobs.specs.declared.import_part.{ImportPart.{ImportPart}, ImportField.{ImportField}, ImportPart.TheVariants.{Kind, Alias, Assembly, Namespace}}
 use Rattle.type_blobs.specs.{declared.import_part.ImportPart.TheVariants.{Target}, Spelling.{part_number, import_spelling, IsImport, IsPartThere, import_item}}
-use Rattle.type_blobs.{specs.Spelling.{StandFor, parts_at, fields_at}, proofs.WrittenNumbers.{number_small, row_is, type_is}}
+use Rattle.type_blobs.{specs.Spelling.{StandFor, parts_at, fields_at}, proofs.WrittenNumbers.{row_is, type_is}}
 
 -- the fields of an import, and those of several
 abbrev part_fields : ImportNumbers → List ImportPart → List Field
@@ -65,11 +65,7 @@ module _ (limits : TypeLimits) (heap : ℕ → Option (List ℕ)) where
   inside kind low high = grind arith
 
   part_small : (numbers : ImportNumbers) → IsImport numbers → (part : ImportPart) → part_number numbers part < 2 ^ 29
-  part_small numbers h Kind = omega (arith, h.to)
-  part_small numbers h Alias = h.alias
-  part_small numbers h Assembly = h.assembly
-  part_small numbers h Namespace = h.namespace
-  part_small numbers h Target = number_small numbers.target h.target
+  part_small numbers h part = search rules
 
   part_there : (numbers : ImportNumbers) → IsImport numbers → (part : ImportPart) → IsPartThere limits heap numbers part
       → part_allows limits heap part (part_number numbers part) ≡ true

@@ -1,20 +1,13 @@
 -- Numbers that are written, and the types that they name.
-use Rattle.std.proofs.Common.{◌≡◌, ℕ, ◌+◌, ◌*◌, ◌/◌, ◌%◌, ◌^◌, ◌<◌, ◌≤◌, true, refl, ap, ◌∙◌, arith, ◌⊎◌, inl, inr}
-use Rattle.type_blobs.specs.{declared.types.TypeToken.{TypeToken}, declared.types.TypeLimits.{TypeLimits}, Types.{table_of, tag_of, rows_of, is_type, token_of}}
-use Rattle.type_blobs.specs.Types.{number_of, IsToken, IsThere}
+use Rattle.std.proofs.Common.{rules, ◌≡◌, ℕ, ◌+◌, ◌*◌, ◌/◌, ◌%◌, ◌^◌, ◌<◌, ◌≤◌, true, ap, ◌∙◌, arith, ◌⊎◌}
+use Rattle.type_blobs.specs.{declared.types.TypeToken.{TypeToken}, declared.types.TypeLimits.{TypeLimits}, Types.{tag_of, rows_of, is_type, token_of, number_of}}
+use Rattle.type_blobs.specs.Types.{IsToken, IsThere}
 use Rattle.blob_grammar.specs.Allowed.{is_row}
 
 -- ---- the number of a type
 
 tag_small : (table : ℕ) → ((table ≡ 0x02) ⊎ ((table ≡ 0x01) ⊎ (table ≡ 0x1b))) → tag_of table ≤ 2
-tag_small table (inl a) = rw a (omega arith)
-tag_small table (inr (inl a)) = rw a (omega arith)
-tag_small table (inr (inr a)) = rw a (omega arith)
-
-table_back : (table : ℕ) → ((table ≡ 0x02) ⊎ ((table ≡ 0x01) ⊎ (table ≡ 0x1b))) → table_of (tag_of table) ≡ table
-table_back table (inl a) = rw a refl
-table_back table (inr (inl a)) = rw a refl
-table_back table (inr (inr a)) = rw a refl
+tag_small table hyp1 = search rules
 
 tag-of : (row tag : ℕ) → tag ≤ 2 → (4 * row + tag) % 4 ≡ tag
 tag-of row tag h = omega arith
@@ -26,13 +19,7 @@ pub number_small : (token : TypeToken) → IsToken token → number_of token < 2
 number_small token h = let small : tag_of token.table ≤ 2 = tag_small token.table h.0 in let row : token.row ≤ 0xffffff = h.1 in omega arith
 
 pub token-back : (token : TypeToken) → IsToken token → token_of (number_of token) ≡ token
-token-back token h =
-    let small : tag_of token.table ≤ 2 = tag_small token.table h.0 in
-    let a : number_of token % 4 ≡ tag_of token.table = tag-of token.row (tag_of token.table) small in
-    let b : number_of token / 4 ≡ token.row = row-of token.row (tag_of token.table) small in
-    let t : table_of (number_of token % 4) ≡ token.table = ap table_of a ∙ table_back token.table h.0 in
-    ap (λ (p : ℕ × ℕ). let k : TypeToken = record { table = p.0; row = p.1 } in k)
-    (let q : (table_of (number_of token % 4), number_of token / 4) ≡ (token.table, token.row) = cc in q)
+token-back token h = search rules
 
 row_there : (rows row : ℕ) → 1 ≤ row → row ≤ rows → is_row rows row ≡ true
 row_there rows row low high = grind arith

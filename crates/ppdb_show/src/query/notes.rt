@@ -1,9 +1,11 @@
 // What the answer to one question notes for the next about the same file.
 ghost use Rattle.std.specs.Prelude.{◌≡◌, [], ◌⊎◌};
+ghost use Rattle.ppdb_values.specs.RawFile.{RawFile};
+ghost use Rattle.ppdb_queries.specs.Known.{IsKnown};
 ghost use Rattle.ppdb_queries.specs.declared.machines.KickoffOrder.TheVariants.{Unread};
 
 use ppdb_base::{Bytes, List};
-use ppdb_queries::KickoffOrder;
+use ppdb_queries::{KickoffOrder, KnownPoints};
 use std::alloc::Global;
 
 /// How many bytes of lines are noted at most, so that the notes need little memory.
@@ -45,6 +47,7 @@ impl NotedText {
 /// What one answer notes for the next.
 #[derive(Drop)]
 pub(crate) struct Notes {
+    pub(crate) points: KnownPoints,
     pub(crate) kickoffs: KickoffOrder,
     pub(crate) imports: NotedText,
 }
@@ -52,11 +55,13 @@ pub(crate) struct Notes {
 impl Notes {
     /// Nothing.
     pub(crate) fn new(alloc: Global) -> Notes
+        ensures points { (raw : RawFile) → IsKnown raw result.points }
         ensures kickoffs { result.kickoffs ≡ Unread }
         ensures import { result.imports.import ≡ 0 }
         ensures text { result.imports.text ≡ [] }
     {
         Notes {
+            points: KnownPoints::new(alloc),
             kickoffs: KickoffOrder::Unread,
             imports: NotedText::new(alloc),
         }

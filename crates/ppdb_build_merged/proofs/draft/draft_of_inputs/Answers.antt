@@ -1,3 +1,4 @@
+use Rattle.std.proofs.Common.{◌∙◌}
 use Rattle.ppdb_build_merged.proofs.draft.draft_of_inputs.Goals as goal
 
 pub add_parts-requires-clause-some : goal.add_parts-requires-clause-some
@@ -16,7 +17,7 @@ pub add_parts-requires-clause-empty : goal.add_parts-requires-clause-empty
 add_parts-requires-clause-empty g c = c.in-Ok.ensures
 
 pub returns-in-Ok-add_parts-clause-draft : goal.returns-in-Ok-add_parts-clause-draft
-returns-in-Ok-add_parts-clause-draft g c = c.in-Ok-add_parts.ensures.added
+returns-in-Ok-add_parts-clause-draft g c = c.close.ensures ∙ c.in-Ok-add_parts.ensures.added
 
 pub returns-in-Ok-add_parts-clause-points : goal.returns-in-Ok-add_parts-clause-points
 returns-in-Ok-add_parts-clause-points g c = c.in-Ok-add_parts.ensures.forms

@@ -4,7 +4,7 @@ use Rattle.ppdb_values.specs.Value.{value_of}
 use Rattle.ppdb_verify.specs.Views.{raw_file}
 use Rattle.ppdb_values_reading.{specs.declared.scopes.Scope.{Scope}, specs.Scopes.{scope_with, HasLists}, proofs.Answered.{next_first, next_none, all_first}}
 use Rattle.ppdb_values_reading.proofs.Answered.{all_rest}
-use Rattle.ppdb_merge_fits.proofs.SlotLists.{slots_begun, slots_on, slots_made}
+use Rattle.ppdb_merge_fits.{specs.Slots.{scope_slots}, proofs.ScopeLists.{scopes_begun, scopes_on, scopes_made}}
 use Rattle.ppdb_merge_fits.proofs.slots.variable_slots.Goals as goal
 
 pub scopes-init : goal.scopes-init
@@ -13,7 +13,7 @@ scopes-init g c =
     let own = c.scopes_own_their_lists.ensures raw c.keeps.ensures.rules in
     record {
       within = subst (λ (scopes : List Scope). All (HasLists raw.tables) scopes) (sym c.new-scopes.ensures.scopes) own.within;
-      made = slots_begun (scope_with raw.tables) c.new-slots.result c.new-scopes.result _ (value_of raw).scopes c.new-slots.ensures c.new-scopes.ensures.scopes own.owned;
+      made = scopes_begun scope_slots (scope_with raw.tables) c.new-slots.result c.new-scopes.result _ (value_of raw).scopes c.new-slots.ensures c.new-scopes.ensures.scopes own.owned;
     }
 
 pub add_slots-requires : goal.add_slots-requires
@@ -28,12 +28,12 @@ scopes-preserved g c =
     let first = next_first c.scopes.scopes c.in-Some.scope (sym c.next.ensures.answer ∙ c.in-Some.is) in
     rw c.next.ensures.left (record {
       within = all_rest (HasLists raw.tables) c.scopes.scopes (tail c.scopes.scopes) c.in-Some.scope first c.scopes.invariant.within;
-      made = slots_on (scope_with raw.tables) c.scopes.slots _ _ c.scopes.scopes (tail c.scopes.scopes) c.in-Some.scope first c.in_ok-add_slots.ensures
+      made = scopes_on scope_slots (scope_with raw.tables) c.scopes.slots _ _ c.scopes.scopes (tail c.scopes.scopes) c.in-Some.scope first c.in_ok-add_slots.ensures
           c.scopes.invariant.made;
     })
 
 pub returns : goal.returns
 returns g c =
     let raw = raw_file c.args.file.now in
-    slots_made (scope_with raw.tables) c.scopes.slots _ c.scopes.scopes (next_none c.scopes.scopes (sym c.next.ensures.answer ∙ c.in_default.is))
+    scopes_made scope_slots (scope_with raw.tables) c.scopes.slots _ c.scopes.scopes (next_none c.scopes.scopes (sym c.next.ensures.answer ∙ c.in_default.is))
     c.scopes.invariant.made

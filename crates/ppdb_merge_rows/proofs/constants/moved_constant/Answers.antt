@@ -8,17 +8,17 @@ use Rattle.ppdb_merge_moved.{specs.Moved.{moved_constant, moved_constant_body, m
 use Rattle.ppdb_merge_parts.specs.Flat.{constant_image}
 use Rattle.ppdb_merge_rows.proofs.constants.moved_constant.Goals as goal
 
-pub returns-then-goes-clause-constant : goal.returns-then-goes-clause-constant
-returns-then-goes-clause-constant g c =
+pub returns-then-constant_goes-clause-constant : goal.returns-then-constant_goes-clause-constant
+returns-then-constant_goes-clause-constant g c =
     let raw = (raw_file c.args.file.now).tables in
     let m = c.args.map.now in
     let lent = c.in_ok-lent.lent in
     let constant = constant_value_shown lent c.read_constant.new.modifiers in
-    let told : c.goes.result ≡ goes_constant m constant = c.goes.ensures
+    let told : c.constant_goes.result ≡ goes_constant m constant = c.constant_goes.ensures
     ∙ ap (λ (ms : List Modifier). list_any (λ (x : Modifier). is_gone_type m x.target) ms || names_gone_class m (body_value (shown lent.body)))
     c.as_slice.ensures in
     row_made (constant_image m) (constants_of raw) c.args.row constant c.in_ok-lent.ensures.constant
-    ∙ ap (λ (b : Bool). Some (cond b None (Some (moved_constant m (with_live_body m constant))))) (sym told ∙ c.if-goes.true)
+    ∙ ap (λ (b : Bool). Some (cond b None (Some (moved_constant m (with_live_body m constant))))) (sym told ∙ c.if-constant_goes.true)
 
 pub returns-clause-constant : goal.returns-clause-constant
 returns-clause-constant g c =
@@ -26,13 +26,13 @@ returns-clause-constant g c =
     let m = c.args.map.now in
     let lent = c.in_ok-lent.lent in
     let constant = constant_value_shown lent c.read_constant.new.modifiers in
-    let told : c.goes.result ≡ goes_constant m constant = c.goes.ensures
+    let told : c.constant_goes.result ≡ goes_constant m constant = c.constant_goes.ensures
     ∙ ap (λ (ms : List Modifier). list_any (λ (x : Modifier). is_gone_type m x.target) ms || names_gone_class m (body_value (shown lent.body)))
     c.as_slice.ensures in
     let modifiers : c.move_all.new.items ≡ map (moved_modifier m) c.read_constant.new.modifiers =
     c.move_all.ensures ∙ ap (map (moved_modifier m)) c.as_mut_slice.ensures.items in
     row_made (constant_image m) (constants_of raw) c.args.row constant c.in_ok-lent.ensures.constant
-    ∙ ap (λ (b : Bool). Some (cond b None (Some (moved_constant m (with_live_body m constant))))) (sym told ∙ c.if-goes.false)
+    ∙ ap (λ (b : Bool). Some (cond b None (Some (moved_constant m (with_live_body m constant))))) (sym told ∙ c.if-constant_goes.false)
     ∙ ap (λ (ms : List Modifier). let v : ConstantValue = record {
       name = lent.name.now;
       modifiers = ms;

@@ -8,7 +8,8 @@ use Rattle.ppdb_show.proofs.lookup.put_lookup.Goals as goal
 pub lines-init : goal.lines-init
 lines-init g c = record {
   left = λ all lists. left_all c.args.printer.form (raw_file c.args.file.now) all (lines c.args.list.now) _ _ _ lists;
-  known = new_notes c.args.printer.form (raw_file c.args.file.now).tables c.new-notes.result c.new-notes.ensures.kickoffs c.new-notes.ensures.import c.new-notes.ensures.text;
+  known = new_notes c.args.printer.form (raw_file c.args.file.now) c.new-notes.result c.new-notes.ensures.points c.new-notes.ensures.kickoffs
+      c.new-notes.ensures.import c.new-notes.ensures.text;
 }
 
 pub returns-in_err-put_one-in-Some-Asks-clause-puts : goal.returns-in_err-put_one-in-Some-Asks-clause-puts

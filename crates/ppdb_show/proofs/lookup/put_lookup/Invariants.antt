@@ -12,7 +12,7 @@ invariant-lines g l =
       left : (all : List MethodOffset) → Lists (lines l.list) all
           → Left l.printer.form (raw_file l.file) all (lines l.rest) (sink.written l.fn.out) (sink.written l.out) (sink.faults l.fn.out) (sink.faults l.out)
           l.fn.steps l.steps;
-      known : AreNotes l.printer.form (raw_file l.file).tables l.notes;
+      known : AreNotes l.printer.form (raw_file l.file) l.notes;
     }
 
 abbrev pub decreases-lines : goal.decreases-lines

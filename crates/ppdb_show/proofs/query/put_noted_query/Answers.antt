@@ -11,7 +11,7 @@ returns-in_default-clause-err g c = prefix_nothing (g.O.Sink.written c.args.out.
 pub returns-in_default-clause-cost : goal.returns-in_default-clause-cost
 returns-in_default-clause-cost g c =
     let some = at_least (raw_of (tables_of c.args.file.now)) c.args.method c.args.offset in
-    let cost = c.point_at.ensures.cost in
+    let cost = c.point_by.ensures.cost in
     omega (arith, some, cost)
 
 pub returns-then-is_err-clause-err : goal.returns-then-is_err-clause-err

@@ -1,0 +1,19 @@
+use Rattle.std.proofs.Common.{◌≡◌, Option, Some, None, map, flat_map, sym, ap, ◌∙◌, subst}
+use Rattle.ppdb_maps.specs.Map.{Map}
+use Rattle.ppdb_tables.specs.RawTables.{row_at}
+use Rattle.ppdb_values.specs.{Value.{value_of}, declared.file.FileValue.{FileValue}, declared.scope.ScopeValue.{ScopeValue}}
+use Rattle.ppdb_verify.specs.Views.{raw_file}
+use Rattle.ppdb_merge_fits.proofs.Owned.{variable_of_row}
+use Rattle.ppdb_merge_fits.proofs.kinds.Rows.variable_method.Goals as goal
+
+pub returns-in-Some : goal.returns-in-Some
+returns-in-Some c =
+    subst (λ (pair : Map × FileValue). Some c.in-Some.variable.method ≡ row_at (flat_map (λ (s : ScopeValue). map (λ v. s.method) s.variables) pair.1.scopes) c.args.row) c.self.view_is
+    (variable_of_row (value_of (raw_file c.self.inside.file)) c.args.row (Some c.in-Some.variable)
+    (sym (ap (λ l. row_at l c.args.row) (c.as_slice.ensures ∙ c.self.invariant.0)) ∙ sym c.entry.ensures ∙ c.in-Some.is))
+
+pub returns-in-None : goal.returns-in-None
+returns-in-None c =
+    subst (λ (pair : Map × FileValue). None ≡ row_at (flat_map (λ (s : ScopeValue). map (λ v. s.method) s.variables) pair.1.scopes) c.args.row) c.self.view_is
+    (variable_of_row (value_of (raw_file c.self.inside.file)) c.args.row None
+    (sym (ap (λ l. row_at l c.args.row) (c.as_slice.ensures ∙ c.self.invariant.0)) ∙ sym c.entry.ensures ∙ c.in-None.is))

@@ -1,6 +1,0 @@
-use Rattle.std.proofs.Common.{◌≡◌, take, map, flat_map}
-use Rattle.ppdb_values.specs.declared.scope.ScopeValue.{ScopeValue}
-use Rattle.ppdb_merge_fits.proofs.kinds.variable_methods.Given as goal
-
-abbrev pub invariant-loop-scope : goal.invariant-loop-scope
-invariant-loop-scope l = l.methods ≡ flat_map (λ (s : ScopeValue). map (λ item. s.method) s.variables) (take l.scope-index l.scopes)
