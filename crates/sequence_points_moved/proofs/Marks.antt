@@ -5,7 +5,7 @@ use Rattle.ppdb_base.specs.Offsets.{Offsets}
 use Rattle.ppdb_base.specs.Offsets.{is_image_between}
 use Rattle.sequence_points.specs.{declared.point.Point.{Point}, MovedPoints.{first_offset}}
 use Rattle.sequence_points.specs.HiddenPoints.{and_hidden, first_start, hidden_after, hidden_before, mark_at, no_offset, stretches_between, with_hidden}
-use Rattle.sequence_points_moved.specs.{declared.shown.Shown.{Shown}, Coming.{after_last, moved_left, shown_left}, MovedBlob.{moved_in}, Writing.{coming}}
+use Rattle.sequence_points_moved.specs.Coming.{after_last}
 
 -- all points that are left at the beginning
 pub at_start : (o : Offsets) (h : List (ℕ × ℕ)) (ps : List Point) → after_last o h None 0 ps ≡ with_hidden o h ps
@@ -66,20 +66,3 @@ before_none o h p from ps none = ap (λ g. hidden_before o p g ++ and_hidden o h
 -- the next point that moved, and what is left after it
 pub moved_next : (o : Offsets) (h : List (ℕ × ℕ)) (p : Point) (ps : List Point) → and_hidden o h (p ∷ ps) ≡ p ∷ after_last o h (Some p) p.offset ps
 moved_next o h p ps = refl
-
--- what is left, where no resumption comes next
-pub left_after : (o : Offsets) (h : List (ℕ × ℕ)) (documents : List ℕ) (shown : Shown) (last : Option Point) → shown.resumed ≡ None → shown.last ≡ last
-    → shown_left o h documents shown ≡ after_last o h last shown.from (moved_left o documents shown)
-left_after o h documents shown last none is =
-    ap (λ r. option_to_list r ++ after_last o h shown.last shown.from (moved_left o documents shown)) none
-    ∙ ap (λ l. after_last o h l shown.from (moved_left o documents shown)) is
-
--- the moved points that are left, where one comes next
-pub moved_first : (o : Offsets) (documents : List ℕ) (shown : Shown) (next : Option Point) → shown.next ≡ next
-    → moved_left o documents shown ≡ coming next (moved_in o documents shown.points)
-moved_first o documents shown next is = ap (λ n. coming n (moved_in o documents shown.points)) is
-
-pub left_before : (o : Offsets) (h : List (ℕ × ℕ)) (documents : List ℕ) (shown : Shown) (first : Point) → shown.resumed ≡ None → shown.last ≡ None
-    → shown.next ≡ Some first → shown_left o h documents shown ≡ after_last o h None shown.from (first ∷ moved_in o documents shown.points)
-left_before o h documents shown first none last next =
-    left_after o h documents shown None none last ∙ ap (after_last o h None shown.from) (moved_first o documents shown (Some first) next)

@@ -1,6 +1,6 @@
 -- What is left of the points of a method that are written one after another.
 use Rattle.std.specs.{Prelude.{ℕ, ◌++◌, List, [], ◌∷◌, Option, Some, None}, Option.option_to_list}
-use Rattle.ppdb_base.specs.Offsets.{Offsets}
+use Rattle.ppdb_base.specs.Offsets.Offsets
 use Rattle.sequence_points.specs.{declared.point.Point.Point, MovedPoints.first_offset}
 use Rattle.sequence_points.specs.HiddenPoints.{hidden_after, hidden_before, and_hidden, no_offset, stretches_between}
 use Rattle.sequence_points_moved.specs.{MovedBlob.moved_in, Writing.coming, declared.shown.Shown.Shown}

@@ -2,7 +2,7 @@
 use Rattle.std.specs.Prelude.{◌≡◌, ℕ, ◌<◌, ◌++◌, List, None, All}
 use Rattle.ppdb_base.specs.Offsets.{Offsets, IsNextImage, old_size}
 use Rattle.sequence_points.specs.{declared.point.{Point.Point, PointLimits.PointLimits}, Points.PointsReading, Ranges.number_limit}
-use Rattle.sequence_points_moved.specs.MovedBlob.{shown_in}
+use Rattle.sequence_points_moved.specs.MovedBlob.shown_in
 
 -- The blob reads whole, as this signature and these points.
 abbrev pub ReadsAs : ℕ → PointLimits → List ℕ → ℕ → List Point → Type 0

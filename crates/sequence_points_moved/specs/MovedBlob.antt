@@ -2,7 +2,7 @@
 use Rattle.std.specs.Prelude.{◌≡◌, ℕ, ◌-◌, ◌≤◌, List, [], ◌∷◌, map, get_or, Some}
 use Rattle.ppdb_base.specs.Offsets.{Offsets, Rise, old_size, is_kept_between}
 use Rattle.sequence_points.specs.{declared.point.Point.Point, declared.writer.PointError.{PointError, TheVariants.{Step, Memory}}, MovedPoints.moved_points}
-use Rattle.sequence_points.specs.HiddenPoints.{with_hidden}
+use Rattle.sequence_points.specs.HiddenPoints.with_hidden
 use Rattle.sequence_points.specs.Written.{points_blob, large_steps, numbered, first_of}
 
 -- the point in the new row of its document: `documents` has the new row of each old one, and rows count from 1

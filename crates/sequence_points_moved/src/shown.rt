@@ -4,9 +4,9 @@ ghost use Rattle.std.specs.Prelude.{◌≡◌, ◌++◌, ℕ, List, [], ◌∷�
 ghost use Rattle.ppdb_base.specs.Offsets.{is_image_between};
 ghost use Rattle.sequence_points.specs.declared.point.Point.{Point};
 ghost use Rattle.sequence_points.specs.MovedPoints.{first_offset};
-ghost use Rattle.sequence_points.specs.HiddenPoints.{and_hidden, first_start, mark_at, no_offset, stretches_between};
+ghost use Rattle.sequence_points.specs.HiddenPoints.{and_hidden, first_start, mark_at, no_offset, stretches_between, with_hidden};
 ghost use Rattle.sequence_points_moved.specs.Coming.{moved_left, shown_left};
-ghost use Rattle.sequence_points_moved.specs.MovedBlob.{shown_in};
+ghost use Rattle.sequence_points_moved.specs.MovedBlob.{moved_in};
 ghost use Rattle.sequence_points_moved.specs.Writing.{CanAllMove, coming};
 
 use crate::ahead::Ahead;
@@ -58,7 +58,7 @@ impl<'a> Shown<'a> {
     ) -> Shown<'a>
         requires { CanAllMove (G.offsets image.now) documents.now points }
         ensures left { shown_left (G.offsets image.now) (G.stretches image.now) documents.now result
-            ≡ shown_in (G.offsets image.now) (G.stretches image.now) documents.now points.entry }
+            ≡ with_hidden (G.offsets image.now) (G.stretches image.now) (moved_in (G.offsets image.now) documents.now points.entry) }
         ensures can { CanAllMove (G.offsets image.now) documents.now result.points }
     {
         let next = next_moved(&mut points, documents, image);
@@ -89,15 +89,11 @@ impl<'a> Shown<'a> {
         ensures none { IfNone result ((points : List Point)
             → stretches_between from (first_offset no_offset (coming self.now.next points)) (G.stretches image.now) ≡ []) }
     {
-        match image.hidden(from) {
-            Some(stretch) => {
-                if stretch.0 < self.end() {
-                    Some(stretch)
-                } else {
-                    None
-                }
-            }
-            None => None,
+        let stretch = image.hidden(from)?;
+        if stretch.0 < self.end() {
+            Some(stretch)
+        } else {
+            None
         }
     }
 
@@ -130,9 +126,7 @@ impl<'a> Shown<'a> {
         ensures points { self.new.points ≡ self.old.points }
         ensures next { self.new.next ≡ self.old.next }
     {
-        let Some(stretch) = self.stretch(self.from, image) else {
-            return None;
-        };
+        let stretch = self.stretch(self.from, image)?;
         self.from = stretch.1;
         if self.resumes(stretch.1, image) {
             self.resumed = Some(Point {
@@ -205,9 +199,7 @@ impl<'a> Shown<'a> {
         if let Some(mark) = self.mark(documents, image) {
             return Some(mark);
         }
-        let Some(point) = self.next else {
-            return None;
-        };
+        let point = self.next?;
         self.last = Some(point);
         self.from = point.offset;
         self.next = next_moved(&mut self.points, documents, image);
