@@ -74,11 +74,3 @@ has_image o rise from to is = of (is_image_between o from to) (are o rise from t
     of : (b : Bool) → ImagesAre (kept_runs o) from to b → b ≡ true → (x : ℕ) × (y : ℕ) × Kept o x y × (from ≤ y) × (y < to)
     of true found e = (found.offset, found.image, found.moves, found.after, found.before)
     of false empty e = absurd cc
-
--- a kept offset with its image between makes the test true
-pub is_image : (o : Offsets) → Rise o → (from to x y : ℕ) → Kept o x y → from ≤ y → y < to → is_image_between o from to ≡ true
-is_image o rise from to x y kept after before = of (is_image_between o from to) (are o rise from to)
-  where
-    of : (b : Bool) → ImagesAre (kept_runs o) from to b → b ≡ true
-    of true found = refl
-    of false empty = absurd (empty x y kept after before)

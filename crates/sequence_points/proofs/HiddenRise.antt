@@ -2,19 +2,16 @@
 use Rattle.std.proofs.Common.{◌≡◌, ℕ, suc, ◌+◌, ◌<◌, ◌≤◌, ◌⊎◌, Bool, true, false, List, [], ◌∷◌, ◌++◌, map, filter, refl, sym, ap, ◌∙◌, arith, inl, inr}
 use Rattle.std.{specs.Prelude.{All, AllPairs, cond, nat_lt, not, ◌&&◌}, proofs.lemmas.Bool.{ltb-true, and_parts}, proofs.lemmas.List.Kept.{AllPairs-cons, AllPairs-filter}}
 use Rattle.std.proofs.lemmas.List.Elements.{All-nil, All-cons, All-head, All-tail, All-filter}
-use Rattle.ppdb_base.specs.Offsets.{Offsets, Rise, Kept}
-use Rattle.ppdb_base.proofs.Images.{has_image}
-use Rattle.ppdb_base.specs.Offsets.{AreApart, is_image_between}
+use Rattle.ppdb_base.{specs.Offsets.{Offsets, Rise, Kept, AreApart, is_image_between}, proofs.Images.{has_image}}
 use Rattle.sequence_points.specs.{declared.point.Point.{Point}, MovedPoints.{PointsRise, first_offset}}
 use Rattle.sequence_points.specs.HiddenPoints.{and_hidden, first_start, hidden_after, hidden_before, mark_at, no_offset, stretches_between, with_hidden}
-use Rattle.sequence_points.proofs.Follows.{pairs-head, pairs-tail}
-use Rattle.sequence_points.proofs.Stretches.{stretches-head, stretches-tail}
+use Rattle.sequence_points.proofs.{Follows.{pairs-head, pairs-tail}, Stretches.{stretches-head, stretches-tail}}
 
 -- the points rise, from an offset on and before another
-pub record Placed (low end : ℕ) (points : List Point) : Type 0 where
-  pub rise : PointsRise points
-  pub least : All (λ q. low ≤ q.offset) points
-  pub below : All (λ q. q.offset < end) points
+record Placed (low end : ℕ) (points : List Point) : Type 0 where
+  rise : PointsRise points
+  least : All (λ q. low ≤ q.offset) points
+  below : All (λ q. q.offset < end) points
 
 none_placed : (low end : ℕ) → Placed low end []
 none_placed low end = record {
@@ -75,7 +72,7 @@ pub record Between (low end : ℕ) (ss : List (ℕ × ℕ)) : Type 0 where
   pub least : All (λ s. low ≤ s.0) ss
   pub below : All (λ s. s.0 < end) ss
 
-pub others_between : (low end : ℕ) (s : ℕ × ℕ) (ss : List (ℕ × ℕ)) → Between low end (s ∷ ss) → Between (s.1 + 1) end ss
+others_between : (low end : ℕ) (s : ℕ × ℕ) (ss : List (ℕ × ℕ)) → Between low end (s ∷ ss) → Between (s.1 + 1) end ss
 others_between low end s ss h = record {
   rise = stretches-tail s ss h.rise;
   some = All-tail (λ (t : ℕ × ℕ). t.0 < t.1) s ss h.some;
@@ -118,7 +115,7 @@ between offsets ss from to apart free = record {
     after s e (inr le) = absurd (let above = ends_above from to s e in omega arith)
 
 -- from the beginning
-pub from_start : (offsets : Offsets) (ss : List (ℕ × ℕ)) (to : ℕ) → AreApart offsets ss → Between 0 to (stretches_between 0 to ss)
+from_start : (offsets : Offsets) (ss : List (ℕ × ℕ)) (to : ℕ) → AreApart offsets ss → Between 0 to (stretches_between 0 to ss)
 from_start offsets ss to apart = record {
   rise = AllPairs-filter (λ (s t : ℕ × ℕ). s.1 < t.0) (λ s. nat_lt 0 s.1 && nat_lt s.0 to) ss apart.rise;
   some = All-filter (λ s. nat_lt 0 s.1 && nat_lt s.0 to) (λ (s : ℕ × ℕ). s.0 < s.1) ss apart.some;
@@ -135,7 +132,7 @@ starts_within : (low end : ℕ) (ss : List (ℕ × ℕ)) → Between low end ss 
 starts_within low end [] h = omega arith
 starts_within low end (s ∷ ss) h = let below : s.0 < end = All-head (λ (t : ℕ × ℕ). t.0 < end) s ss h.below in omega arith
 
-pub after_placed : (o : Offsets) → Rise o → (p : Point) (low end : ℕ) (ss : List (ℕ × ℕ)) → Between low end ss → Placed low end (hidden_after o p end ss)
+after_placed : (o : Offsets) → Rise o → (p : Point) (low end : ℕ) (ss : List (ℕ × ℕ)) → Between low end ss → Placed low end (hidden_after o p end ss)
 after_placed o rise p low end [] h = none_placed low end
 after_placed o rise p low end (s ∷ ss) h =
     by_test (is_image_between o s.1 (first_start end ss)) refl (after_placed o rise p (s.1 + 1) end ss others)
@@ -162,7 +159,7 @@ after_placed o rise p low end (s ∷ ss) h =
     by_test false is rest = placed_cons low end (mark_at p.document s) (hidden_after o p end ss) least begins
         (from_lower (s.1 + 1) (s.0 + 1) end (hidden_after o p end ss) (omega (arith, nonempty)) rest)
 
-pub before_placed : (o : Offsets) (p : Point) (low : ℕ) (ss : List (ℕ × ℕ)) → Between low p.offset ss → Placed low p.offset (hidden_before o p ss)
+before_placed : (o : Offsets) (p : Point) (low : ℕ) (ss : List (ℕ × ℕ)) → Between low p.offset ss → Placed low p.offset (hidden_before o p ss)
 before_placed o p low [] h = none_placed low p.offset
 before_placed o p low (s ∷ ss) h =
     by_test (not (is_image_between o s.1 p.offset)) (before_placed o p (s.1 + 1) ss (others_between low p.offset s ss h))
@@ -183,7 +180,7 @@ before_placed o p low (s ∷ ss) h =
 abbrev pub IsFree : List (ℕ × ℕ) → Point → Type 0
 IsFree stretches p = All (λ s. (p.offset < s.0) ⊎ (s.1 ≤ p.offset)) stretches
 
-pub and_placed : (o : Offsets) → Rise o → (ss : List (ℕ × ℕ)) → AreApart o ss → (ps : List Point) → PointsRise ps → All (IsFree ss) ps
+and_placed : (o : Offsets) → Rise o → (ss : List (ℕ × ℕ)) → AreApart o ss → (ps : List Point) → PointsRise ps → All (IsFree ss) ps
     → All (λ q. q.offset < no_offset) ps → Placed (first_offset no_offset ps) no_offset (and_hidden o ss ps)
 and_placed o rise ss apart [] above free small = none_placed no_offset no_offset
 and_placed o rise ss apart (p ∷ ps) above free small =

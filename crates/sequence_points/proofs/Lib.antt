@@ -18,5 +18,3 @@ pub mod MovedPoints
 pub mod Stretches
 pub mod HiddenRise
 pub mod HiddenAll
-pub mod HiddenAt
-pub mod HiddenHides

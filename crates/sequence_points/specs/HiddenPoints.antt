@@ -1,9 +1,8 @@
 -- The points that say where no source belongs to new code (docs/FORMAT.md, "Moving"; Portable PDB v1.0, "Sequence Points Blob": a
 -- point holds up to the next one). A hidden stretch (a, b) is the new offsets from a to before b.
-use Rattle.std.specs.Prelude.{◌≡◌, ℕ, ◌&&◌, ◌++◌, IfSome, max, not, cond, nat_le, nat_lt, List, [], ◌∷◌, filter, fold, map}
-use Rattle.ppdb_base.specs.Offsets.{Offsets}
-use Rattle.ppdb_base.specs.Offsets.{is_image_between}
-use Rattle.sequence_points.specs.{declared.point.{Point.Point, Span.TheVariants.Hidden}, MovedPoints.first_offset, Written.last_of}
+use Rattle.std.specs.Prelude.{ℕ, ◌&&◌, ◌++◌, not, cond, nat_lt, List, [], ◌∷◌, map, filter}
+use Rattle.ppdb_base.specs.Offsets.{Offsets, is_image_between}
+use Rattle.sequence_points.specs.{declared.point.{Point.Point, Span.TheVariants.Hidden}, MovedPoints.first_offset}
 
 -- an offset that no point and no stretch comes to
 abbrev pub no_offset : ℕ
@@ -45,11 +44,3 @@ abbrev pub with_hidden : Offsets → List (ℕ × ℕ) → List Point → List P
 with_hidden offsets stretches [] = []
 with_hidden offsets stretches (p ∷ ps) =
     hidden_before offsets p (stretches_between 0 p.offset stretches) ++ and_hidden offsets stretches (p ∷ ps)
-
--- Where a point that lies at `from` begins again for the image y: at `from`, or at the greatest end, not above y, of a stretch that begins above `from`.
-abbrev pub said_from : List (ℕ × ℕ) → ℕ → ℕ → ℕ
-said_from stretches from y = fold max from (map (λ s. s.1) (filter (λ s. nat_lt from s.0 && nat_le s.1 y) stretches))
-
--- Where a hidden stretch holds an offset, the last point that is not after it is hidden, or there is none.
-abbrev pub HidesAt : ℕ → List Point → Type 0
-HidesAt x points = IfSome (last_of (filter (λ (p : Point). nat_le p.offset x) points)) (λ p. p.span ≡ Hidden)

@@ -6,4 +6,3 @@ pub mod Written
 pub mod Following
 pub mod MovedPoints
 pub mod HiddenPoints
-pub mod HiddenLaws

@@ -18,7 +18,7 @@ pub use laws::{
     points_are_read_once, read_points_are_in_range, read_points_can_be_written,
     written_points_are_read,
 };
-pub use moved::{hidden_points_are_right, points_move_in_order};
+pub use moved::points_move_in_order;
 pub use place::Start;
 pub use point::{Point, PointLimits, Span, single_document};
 pub use step::{large_step, start_after};

@@ -1,8 +1,7 @@
 -- The points at the stretches lie in the new documents of the points that they follow.
 use Rattle.std.{proofs.Common.{◌≡◌, ℕ, Bool, true, false, List, [], ◌∷◌, ◌++◌, map, filter, refl, sym, ap, ◌∙◌}, specs.Prelude.{cond, not}}
 use Rattle.std.proofs.lemmas.List.{map-append}
-use Rattle.ppdb_base.specs.Offsets.{Offsets}
-use Rattle.ppdb_base.specs.Offsets.{is_image_between}
+use Rattle.ppdb_base.specs.Offsets.{Offsets, is_image_between}
 use Rattle.sequence_points.specs.{declared.point.Point.{Point}, MovedPoints.{first_offset}}
 use Rattle.sequence_points.specs.HiddenPoints.{and_hidden, first_start, hidden_after, hidden_before, mark_at, no_offset, stretches_between, with_hidden}
 use Rattle.sequence_points_moved.specs.MovedBlob.{in_new_document}
@@ -20,7 +19,7 @@ module _ (o : Offsets) (documents : List ℕ) where
     where
       by_test : (b : Bool) → hidden_after o (in_new_document documents p) end ss ≡ map (in_new_document documents) (hidden_after o p end ss)
           → cond b (record (in_new_document documents p) { offset = s.1 } ∷ hidden_after o (in_new_document documents p) end ss)
-          (hidden_after o (in_new_document documents p) end ss)
+              (hidden_after o (in_new_document documents p) end ss)
           ≡ map (in_new_document documents) (cond b (record p { offset = s.1 } ∷ hidden_after o p end ss) (hidden_after o p end ss))
       by_test true rest = ap (λ qs. record (in_new_document documents p) { offset = s.1 } ∷ qs) rest
       by_test false rest = rest
@@ -36,11 +35,11 @@ module _ (o : Offsets) (documents : List ℕ) where
       let n = first_offset no_offset ps in
       let gap = stretches_between p.offset n stretches in
       ap (λ qs. in_new_document documents p ∷ qs) (
-      ap (λ m. hidden_after o (in_new_document documents p) m (stretches_between p.offset m stretches)
-      ++ and_hidden o stretches (map (in_new_document documents) ps)) (first_same no_offset ps)
-      ∙ ap (λ qs. qs ++ and_hidden o stretches (map (in_new_document documents) ps)) (after_same p n gap)
-      ∙ ap (λ qs. map (in_new_document documents) (hidden_after o p n gap) ++ qs) (and_same stretches ps)
-      ∙ sym (map-append (in_new_document documents) (hidden_after o p n gap) (and_hidden o stretches ps))
+        ap (λ m. hidden_after o (in_new_document documents p) m (stretches_between p.offset m stretches)
+            ++ and_hidden o stretches (map (in_new_document documents) ps)) (first_same no_offset ps)
+        ∙ ap (λ qs. qs ++ and_hidden o stretches (map (in_new_document documents) ps)) (after_same p n gap)
+        ∙ ap (λ qs. map (in_new_document documents) (hidden_after o p n gap) ++ qs) (and_same stretches ps)
+        ∙ sym (map-append (in_new_document documents) (hidden_after o p n gap) (and_hidden o stretches ps))
       )
 
   -- the points that have moved may be put into their new documents before or after

@@ -1,11 +1,10 @@
 -- The next point among those that moved and those at the stretches.
 use Rattle.std.proofs.Common.{◌≡◌, ℕ, Bool, true, false, List, [], ◌∷◌, ◌++◌, map, filter, Option, Some, None, refl, sym, ap, ◌∙◌}
 use Rattle.std.{specs.Prelude.{cond, not}, specs.Option.{option_to_list}}
-use Rattle.ppdb_base.specs.Offsets.{Offsets}
-use Rattle.ppdb_base.specs.Offsets.{is_image_between}
+use Rattle.ppdb_base.specs.Offsets.{Offsets, is_image_between}
 use Rattle.sequence_points.specs.{declared.point.Point.{Point}, MovedPoints.{first_offset}}
 use Rattle.sequence_points.specs.HiddenPoints.{and_hidden, first_start, hidden_after, hidden_before, mark_at, no_offset, stretches_between, with_hidden}
-use Rattle.sequence_points_moved.specs.Coming.{after_last}
+use Rattle.sequence_points_moved.specs.{Coming.{after_last}, Writing.{coming}}
 
 -- all points that are left at the beginning
 pub at_start : (o : Offsets) (h : List (ℕ × ℕ)) (ps : List Point) → after_last o h None 0 ps ≡ with_hidden o h ps
@@ -48,7 +47,7 @@ before_next o h p from ps s b cut tested =
     let marks = map (mark_at p.document) (filter (λ t. not (is_image_between o t.1 p.offset)) gap) in
     ap (λ g. hidden_before o p g ++ and_hidden o h (p ∷ ps)) cut
     ∙ ap (λ t. map (mark_at p.document) (cond (not t) (s ∷ filter (λ t. not (is_image_between o t.1 p.offset)) gap)
-    (filter (λ t. not (is_image_between o t.1 p.offset)) gap)) ++ and_hidden o h (p ∷ ps)) (sym tested)
+        (filter (λ t. not (is_image_between o t.1 p.offset)) gap)) ++ and_hidden o h (p ∷ ps)) (sym tested)
     ∙ by_test b
   where
     by_test : (t : Bool) →

@@ -42,11 +42,7 @@ fn moved_point(point: Point, offset: u32, documents: &[u32]) -> Point
 
 /// The next point that is kept, at its image and in its new document.
 #[inline(always)]
-pub(crate) fn next_moved<G: OffsetImage>(
-    points: &mut Ahead<'_>,
-    documents: &[u32],
-    image: &G,
-) -> Option<Point>
+pub(crate) fn next_moved<G: OffsetImage>(points: &mut Ahead<'_>, documents: &[u32], image: &G) -> Option<Point>
     requires points { CanAllMove (G.offsets image.now) documents.now points.old }
     ensures next { moved_in (G.offsets image.now) documents.now points.old ≡ coming result (moved_in (G.offsets image.now) documents.now points.new) }
     ensures points { CanAllMove (G.offsets image.now) documents.now points.new }

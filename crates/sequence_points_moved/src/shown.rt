@@ -51,11 +51,7 @@ fn is_image_between<G: OffsetImage>(from: u32, to: u32, image: &G) -> bool
 
 impl<'a> Shown<'a> {
     /// The points that are left of old ones.
-    pub(crate) fn new<G: OffsetImage>(
-        mut points: Ahead<'a>,
-        documents: &[u32],
-        image: &G,
-    ) -> Shown<'a>
+    pub(crate) fn new<G: OffsetImage>(mut points: Ahead<'a>, documents: &[u32], image: &G) -> Shown<'a>
         requires { CanAllMove (G.offsets image.now) documents.now points }
         ensures left { shown_left (G.offsets image.now) (G.stretches image.now) documents.now result
             ≡ with_hidden (G.offsets image.now) (G.stretches image.now) (moved_in (G.offsets image.now) documents.now points.entry) }
@@ -110,12 +106,7 @@ impl<'a> Shown<'a> {
     }
 
     /// The mark at the next stretch after the moved point that came last.
-    fn mark_after<G: OffsetImage>(
-        &mut self,
-        last: Point,
-        documents: &[u32],
-        image: &G,
-    ) -> Option<Point>
+    fn mark_after<G: OffsetImage>(&mut self, last: Point, documents: &[u32], image: &G) -> Option<Point>
         requires last { self.old.last ≡ Some last }
         requires none { self.old.resumed ≡ None }
         ensures some { IfSome result (λ point. shown_left (G.offsets image.now) (G.stretches image.now) documents.now self.old
@@ -139,12 +130,7 @@ impl<'a> Shown<'a> {
     }
 
     /// The mark at the next stretch before the first moved point that has one.
-    fn mark_before<G: OffsetImage>(
-        &mut self,
-        first: Point,
-        documents: &[u32],
-        image: &G,
-    ) -> Option<Point>
+    fn mark_before<G: OffsetImage>(&mut self, first: Point, documents: &[u32], image: &G) -> Option<Point>
         requires first { self.old.next ≡ Some first }
         requires last { self.old.last ≡ None }
         requires none { self.old.resumed ≡ None }
