@@ -10,13 +10,13 @@ use Rattle.sequence_points.proofs.{Follows.{pairs-head, pairs-tail}, Stretches.{
 -- the points rise, from an offset on and before another
 record Placed (low end : ℕ) (points : List Point) : Type 0 where
   rise : PointsRise points
-  least : All (λ q. low ≤ q.offset) points
+  low : All (λ q. low ≤ q.offset) points
   below : All (λ q. q.offset < end) points
 
 none_placed : (low end : ℕ) → Placed low end []
 none_placed low end = record {
   rise = λ i j d less within. absurd (omega arith);
-  least = All-nil (λ (q : Point). low ≤ q.offset);
+  low = All-nil (λ (q : Point). low ≤ q.offset);
   below = All-nil (λ (q : Point). q.offset < end);
 }
 
@@ -33,12 +33,12 @@ higher end above points le h = λ k d there. next _ (h k d there)
     next n h = omega arith
 
 from_lower : (low lower end : ℕ) (points : List Point) → lower ≤ low → Placed low end points → Placed lower end points
-from_lower low lower end points le h = record { rise = h.rise; least = weaker low lower points le h.least; below = h.below }
+from_lower low lower end points le h = record { rise = h.rise; low = weaker low lower points le h.low; below = h.below }
 
 placed_cons : (low end : ℕ) (q : Point) (ps : List Point) → low ≤ q.offset → q.offset < end → Placed (q.offset + 1) end ps → Placed low end (q ∷ ps)
 placed_cons low end q ps le less rest = record {
-  rise = AllPairs-cons (λ (x y : Point). x.offset < y.offset) q ps (λ k d there. next q.offset _ (rest.least k d there)) rest.rise;
-  least = All-cons (λ (x : Point). low ≤ x.offset) q ps le (weaker (q.offset + 1) low ps (omega arith) rest.least);
+  rise = AllPairs-cons (λ (x y : Point). x.offset < y.offset) q ps (λ k d there. next q.offset _ (rest.low k d there)) rest.rise;
+  low = All-cons (λ (x : Point). low ≤ x.offset) q ps le (weaker (q.offset + 1) low ps (omega arith) rest.low);
   below = All-cons (λ (x : Point). x.offset < end) q ps less rest.below;
 }
   where
@@ -48,7 +48,7 @@ placed_cons low end q ps le less rest = record {
 placed_tail : (low end : ℕ) (q : Point) (ps : List Point) → Placed low end (q ∷ ps) → Placed (q.offset + 1) end ps
 placed_tail low end q ps h = record {
   rise = pairs-tail q ps h.rise;
-  least = λ k d there. next q.offset _ (pairs-head q ps h.rise k d there);
+  low = λ k d there. next q.offset _ (pairs-head q ps h.rise k d there);
   below = All-tail (λ (x : Point). x.offset < end) q ps h.below;
 }
   where
@@ -59,24 +59,24 @@ placed_append : (low mid end : ℕ) (xs ys : List Point) → low ≤ mid → mid
 placed_append low mid end [] ys le within h others = from_lower mid low end ys le others
 placed_append low mid end (x ∷ xs) ys le within h others =
     let below : x.offset < mid = All-head (λ (q : Point). q.offset < mid) x xs h.below in
-    let least : low ≤ x.offset = All-head (λ (q : Point). low ≤ q.offset) x xs h.least in
+    let least : low ≤ x.offset = All-head (λ (q : Point). low ≤ q.offset) x xs h.low in
     placed_cons low end x (xs ++ ys) least (omega arith)
     (placed_append (x.offset + 1) mid end xs ys (omega arith) within (placed_tail low mid x xs h) others)
 
 -- ---- the stretches between two offsets
 
 -- They rise, none is empty, and each begins from an offset on and before another.
-pub record Between (low end : ℕ) (ss : List (ℕ × ℕ)) : Type 0 where
-  pub rise : AllPairs (λ s t. s.1 < t.0) ss
-  pub some : All (λ s. s.0 < s.1) ss
-  pub least : All (λ s. low ≤ s.0) ss
-  pub below : All (λ s. s.0 < end) ss
+record Between (low end : ℕ) (ss : List (ℕ × ℕ)) : Type 0 where
+  rise : AllPairs (λ s t. s.1 < t.0) ss
+  some : All (λ s. s.0 < s.1) ss
+  low : All (λ s. low ≤ s.0) ss
+  below : All (λ s. s.0 < end) ss
 
 others_between : (low end : ℕ) (s : ℕ × ℕ) (ss : List (ℕ × ℕ)) → Between low end (s ∷ ss) → Between (s.1 + 1) end ss
 others_between low end s ss h = record {
   rise = stretches-tail s ss h.rise;
   some = All-tail (λ (t : ℕ × ℕ). t.0 < t.1) s ss h.some;
-  least = λ k d there. next s.1 _ (stretches-head s ss h.rise k d there);
+  low = λ k d there. next s.1 _ (stretches-head s ss h.rise k d there);
   below = All-tail (λ (t : ℕ × ℕ). t.0 < end) s ss h.below;
 }
   where
@@ -86,12 +86,12 @@ others_between low end s ss h = record {
 -- what passes a filter passes its test
 passed : (from to : ℕ) (ss : List (ℕ × ℕ)) → All (λ s. (nat_lt from s.1 && nat_lt s.0 to) ≡ true) (stretches_between from to ss)
 passed from to [] = All-nil (λ (s : ℕ × ℕ). (nat_lt from s.1 && nat_lt s.0 to) ≡ true)
-passed from to (s ∷ ss) = by_test (nat_lt from s.1 && nat_lt s.0 to) refl (passed from to ss)
+passed from to (s ∷ ss) = by_test (nat_lt from s.1 && nat_lt s.0 to) refl
   where
-    by_test : (b : Bool) → (nat_lt from s.1 && nat_lt s.0 to) ≡ b → All (λ t. (nat_lt from t.1 && nat_lt t.0 to) ≡ true) (stretches_between from to ss)
+    by_test : (b : Bool) → (nat_lt from s.1 && nat_lt s.0 to) ≡ b
         → All (λ t. (nat_lt from t.1 && nat_lt t.0 to) ≡ true) (cond b (s ∷ stretches_between from to ss) (stretches_between from to ss))
-    by_test true e rest = All-cons (λ (t : ℕ × ℕ). (nat_lt from t.1 && nat_lt t.0 to) ≡ true) s (stretches_between from to ss) e rest
-    by_test false e rest = rest
+    by_test true e = All-cons (λ (t : ℕ × ℕ). (nat_lt from t.1 && nat_lt t.0 to) ≡ true) s (stretches_between from to ss) e (passed from to ss)
+    by_test false e = passed from to ss
 
 ends_above : (from to : ℕ) (s : ℕ × ℕ) → (nat_lt from s.1 && nat_lt s.0 to) ≡ true → from < s.1
 ends_above from to s e = ltb-true from s.1 (and_parts (nat_lt from s.1) (nat_lt s.0 to) e).0
@@ -105,7 +105,7 @@ pub between : (offsets : Offsets) (ss : List (ℕ × ℕ)) (from to : ℕ) → A
 between offsets ss from to apart free = record {
   rise = AllPairs-filter (λ (s t : ℕ × ℕ). s.1 < t.0) (λ s. nat_lt from s.1 && nat_lt s.0 to) ss apart.rise;
   some = All-filter (λ s. nat_lt from s.1 && nat_lt s.0 to) (λ (s : ℕ × ℕ). s.0 < s.1) ss apart.some;
-  least = λ k d there. after _ (passed from to ss k d there)
+  low = λ k d there. after _ (passed from to ss k d there)
       (All-filter (λ s. nat_lt from s.1 && nat_lt s.0 to) (λ (s : ℕ × ℕ). (from < s.0) ⊎ (s.1 ≤ from)) ss free k d there);
   below = λ k d there. begins_below from to _ (passed from to ss k d there);
 }
@@ -119,12 +119,12 @@ from_start : (offsets : Offsets) (ss : List (ℕ × ℕ)) (to : ℕ) → AreApar
 from_start offsets ss to apart = record {
   rise = AllPairs-filter (λ (s t : ℕ × ℕ). s.1 < t.0) (λ s. nat_lt 0 s.1 && nat_lt s.0 to) ss apart.rise;
   some = All-filter (λ s. nat_lt 0 s.1 && nat_lt s.0 to) (λ (s : ℕ × ℕ). s.0 < s.1) ss apart.some;
-  least = λ k d there. not_below _;
+  low = λ k d there. least _;
   below = λ k d there. begins_below 0 to _ (passed 0 to ss k d there);
 }
   where
-    not_below : (n : ℕ) → 0 ≤ n
-    not_below n = omega arith
+    least : (n : ℕ) → 0 ≤ n
+    least n = omega arith
 
 -- ---- the points at them
 
@@ -135,7 +135,7 @@ starts_within low end (s ∷ ss) h = let below : s.0 < end = All-head (λ (t : �
 after_placed : (o : Offsets) → Rise o → (p : Point) (low end : ℕ) (ss : List (ℕ × ℕ)) → Between low end ss → Placed low end (hidden_after o p end ss)
 after_placed o rise p low end [] h = none_placed low end
 after_placed o rise p low end (s ∷ ss) h =
-    by_test (is_image_between o s.1 (first_start end ss)) refl (after_placed o rise p (s.1 + 1) end ss others)
+    by_test (is_image_between o s.1 (first_start end ss)) refl
   where
     others : Between (s.1 + 1) end ss
     others = others_between low end s ss h
@@ -144,37 +144,42 @@ after_placed o rise p low end (s ∷ ss) h =
     nonempty = All-head (λ (t : ℕ × ℕ). t.0 < t.1) s ss h.some
 
     least : low ≤ s.0
-    least = All-head (λ (t : ℕ × ℕ). low ≤ t.0) s ss h.least
+    least = All-head (λ (t : ℕ × ℕ). low ≤ t.0) s ss h.low
 
     begins : s.0 < end
     begins = All-head (λ (t : ℕ × ℕ). t.0 < end) s ss h.below
 
-    ends : is_image_between o s.1 (first_start end ss) ≡ true → s.1 < end
-    ends is = let image = has_image o rise s.1 (first_start end ss) is in omega (arith, image.3, image.4, starts_within (s.1 + 1) end ss others)
+    rest : Placed (s.1 + 1) end (hidden_after o p end ss)
+    rest = after_placed o rise p (s.1 + 1) end ss others
 
-    by_test : (b : Bool) → is_image_between o s.1 (first_start end ss) ≡ b → Placed (s.1 + 1) end (hidden_after o p end ss)
+    ends : is_image_between o s.1 (first_start end ss) ≡ true → s.1 < end
+    ends is = let image = has_image o rise s.1 (first_start end ss) is in omega (arith, image.2.2.1, image.2.2.2, starts_within (s.1 + 1) end ss others)
+
+    by_test : (b : Bool) → is_image_between o s.1 (first_start end ss) ≡ b
         → Placed low end (mark_at p.document s ∷ cond b (record p { offset = s.1 } ∷ hidden_after o p end ss) (hidden_after o p end ss))
-    by_test true is rest = placed_cons low end (mark_at p.document s) (record p { offset = s.1 } ∷ hidden_after o p end ss) least begins
+    by_test true is = placed_cons low end (mark_at p.document s) (record p { offset = s.1 } ∷ hidden_after o p end ss) least begins
         (placed_cons (s.0 + 1) end (record p { offset = s.1 }) (hidden_after o p end ss) (omega (arith, nonempty)) (ends is) rest)
-    by_test false is rest = placed_cons low end (mark_at p.document s) (hidden_after o p end ss) least begins
+    by_test false is = placed_cons low end (mark_at p.document s) (hidden_after o p end ss) least begins
         (from_lower (s.1 + 1) (s.0 + 1) end (hidden_after o p end ss) (omega (arith, nonempty)) rest)
 
 before_placed : (o : Offsets) (p : Point) (low : ℕ) (ss : List (ℕ × ℕ)) → Between low p.offset ss → Placed low p.offset (hidden_before o p ss)
 before_placed o p low [] h = none_placed low p.offset
-before_placed o p low (s ∷ ss) h =
-    by_test (not (is_image_between o s.1 p.offset)) (before_placed o p (s.1 + 1) ss (others_between low p.offset s ss h))
+before_placed o p low (s ∷ ss) h = by_test (not (is_image_between o s.1 p.offset))
   where
     nonempty : s.0 < s.1
     nonempty = All-head (λ (t : ℕ × ℕ). t.0 < t.1) s ss h.some
 
     least : low ≤ s.0
-    least = All-head (λ (t : ℕ × ℕ). low ≤ t.0) s ss h.least
+    least = All-head (λ (t : ℕ × ℕ). low ≤ t.0) s ss h.low
 
-    by_test : (b : Bool) → Placed (s.1 + 1) p.offset (hidden_before o p ss) → Placed low p.offset
+    rest : Placed (s.1 + 1) p.offset (hidden_before o p ss)
+    rest = before_placed o p (s.1 + 1) ss (others_between low p.offset s ss h)
+
+    by_test : (b : Bool) → Placed low p.offset
         (map (mark_at p.document) (cond b (s ∷ filter (λ t. not (is_image_between o t.1 p.offset)) ss) (filter (λ t. not (is_image_between o t.1 p.offset)) ss)))
-    by_test true rest = placed_cons low p.offset (mark_at p.document s) (hidden_before o p ss) least (All-head (λ (t : ℕ × ℕ). t.0 < p.offset) s ss h.below)
+    by_test true = placed_cons low p.offset (mark_at p.document s) (hidden_before o p ss) least (All-head (λ (t : ℕ × ℕ). t.0 < p.offset) s ss h.below)
         (from_lower (s.1 + 1) (s.0 + 1) p.offset (hidden_before o p ss) (omega (arith, nonempty)) rest)
-    by_test false rest = from_lower (s.1 + 1) low p.offset (hidden_before o p ss) (omega (arith, nonempty, least)) rest
+    by_test false = from_lower (s.1 + 1) low p.offset (hidden_before o p ss) (omega (arith, nonempty, least)) rest
 
 -- a point lies at an offset that no stretch holds
 abbrev pub IsFree : List (ℕ × ℕ) → Point → Type 0

@@ -62,21 +62,24 @@ next_stretch from to (t ∷ ts) s rise some is less = elim (cases_lt from t.1) [
   | inl inside ↦
       let at : Some t ≡ Some s = sym (ap (λ b. cond b (Some t) (stretch_from ts from)) (lt-ltb from t.1 inside)) ∙ is in
       let same : t ≡ s = cc in
-      subst (λ (u : ℕ × ℕ). stretches_between from to (t ∷ ts) ≡ u ∷ stretches_between u.1 to (t ∷ ts)) same (first inside (rw same less))
+      subst (λ (u : ℕ × ℕ). stretches_between from to (t ∷ ts) ≡ u ∷ stretches_between u.1 to (t ∷ ts)) same (first (rw same less))
   | inr past ↦
       let later = sym (ap (λ b. cond b (Some t) (stretch_from ts from)) (le-ltb from t.1 past)) ∙ is in
       let above = found_above from ts s later in
       ap (λ b. cond (b && nat_lt t.0 to) (t ∷ stretches_between from to ts) (stretches_between from to ts)) (le-ltb from t.1 past)
       ∙ next_stretch from to ts s (stretches-tail t ts rise) (All-tail (λ (u : ℕ × ℕ). u.0 < u.1) t ts some) later less
-      ∙ ap (λ b. s ∷ cond (b && nat_lt t.0 to) (t ∷ stretches_between s.1 to ts) (stretches_between s.1 to ts)) (sym (le-ltb s.1 t.1 (omega (arith, above))))
+      ∙ ap (λ b. s ∷ cond (b && nat_lt t.0 to) (t ∷ stretches_between s.1 to ts) (stretches_between s.1 to ts)) (sym (le-ltb s.1 t.1 (omega arith)))
 ]
   where
-    first : from < t.1 → t.0 < to → stretches_between from to (t ∷ ts) ≡ t ∷ stretches_between t.1 to (t ∷ ts)
-    first inside begins =
-        ap (λ b. cond (b && nat_lt t.0 to) (t ∷ stretches_between from to ts) (stretches_between from to ts)) (lt-ltb from t.1 inside)
-        ∙ ap (λ b. cond b (t ∷ stretches_between from to ts) (stretches_between from to ts)) (lt-ltb t.0 to begins)
-        ∙ ap (λ us. t ∷ us) (others_are from to t ts inside rise (All-tail (λ (u : ℕ × ℕ). u.0 < u.1) t ts some))
-        ∙ ap (λ b. t ∷ cond (b && nat_lt t.0 to) (t ∷ stretches_between t.1 to ts) (stretches_between t.1 to ts)) (sym (le-ltb t.1 t.1 (omega arith)))
+    first : t.0 < to → stretches_between from to (t ∷ ts) ≡ t ∷ stretches_between t.1 to (t ∷ ts)
+    first begins = elim (cases_lt from t.1) [
+      | inl inside ↦
+          ap (λ b. cond (b && nat_lt t.0 to) (t ∷ stretches_between from to ts) (stretches_between from to ts)) (lt-ltb from t.1 inside)
+          ∙ ap (λ b. cond b (t ∷ stretches_between from to ts) (stretches_between from to ts)) (lt-ltb t.0 to begins)
+          ∙ ap (λ us. t ∷ us) (others_are from to t ts inside rise (All-tail (λ (u : ℕ × ℕ). u.0 < u.1) t ts some))
+          ∙ ap (λ b. t ∷ cond (b && nat_lt t.0 to) (t ∷ stretches_between t.1 to ts) (stretches_between t.1 to ts)) (sym (le-ltb t.1 t.1 (omega arith)))
+      | inr past ↦ absurd (let above = found_above from (t ∷ ts) s is in omega arith)
+    ]
 
 -- none, where the first begins at the end or after it
 pub past_end : (from to : ℕ) (ss : List (ℕ × ℕ)) (s : ℕ × ℕ) → AllPairs (λ s t. s.1 < t.0) ss → All (λ s. s.0 < s.1) ss

@@ -1,8 +1,8 @@
 -- A point that stays lies at the image of a kept offset.
-use Rattle.std.proofs.Common.{◌≡◌, ℕ, ◌<◌, ◌≤◌, Bool, true, false, List, [], ◌∷◌, Option, Some, None, refl, ap, arith}
-use Rattle.std.{specs.Prelude.{cond, unwrap_or, All}, proofs.lemmas.List.Elements.{All-nil, All-cons, All-head, All-tail}}
+use Rattle.std.proofs.Common.{◌≡◌, ℕ, ◌<◌, ◌≤◌, Bool, true, false, List, [], ◌∷◌, Option, Some, None, refl, arith}
+use Rattle.std.{specs.Prelude.{cond, All}, proofs.lemmas.List.Elements.{All-nil, All-cons, All-head, All-tail}}
 use Rattle.ppdb_base.specs.Offsets.{Offsets, every, gone, lined, Rise, Kept as Moved, Stops, KeepsBetween, stop_runs, next_image, moved, is_kept_between, old_size}
-use Rattle.ppdb_base.{proofs.Moved.{is_kept, kept_below, kept_stops}, proofs.Stops.{next_is, NextIs}}
+use Rattle.ppdb_base.{proofs.Moved.{is_kept, kept_below, kept_stops, moved_some}, proofs.Stops.{next_is, NextIs}}
 use Rattle.sequence_points.specs.{declared.point.Point.{Point}, MovedPoints.{first_offset, moved_points}}
 use Rattle.sequence_points_moved.proofs.Until.{stop_is_kept}
 
@@ -23,7 +23,7 @@ at_kept o rise x end is = of (next_image o x) (next_is 0 0 (stop_runs o) rise x)
     of None none same = absurd (omega (arith, none found.offset found.image (kept_stops o found.offset found.image found.moves), found.after))
     of (Some y) next same =
         let le : next.stop ≤ found.offset = next.least found.offset found.image (kept_stops o found.offset found.image found.moves) found.after in
-        (next.stop, rw (ap (λ (n : Option ℕ). unwrap_or n 0) same) (stays o rise found.offset found.image next.stop y found.moves le next.stops))
+        (next.stop, rw (moved_some o x y same) (stays o rise found.offset found.image next.stop y found.moves le next.stops))
 
 -- what holds of each point where it moves to holds of all that stay
 pub all_moved : (o : Offsets) (P Q : Point → Type 0)
