@@ -7,4 +7,3 @@ pub mod Moved
 pub mod Stops
 pub mod Tree
 pub mod Written
-pub mod Images

@@ -15,6 +15,3 @@ pub mod Writable
 pub mod WellRead
 pub mod ReadPoints
 pub mod MovedPoints
-pub mod Stretches
-pub mod HiddenRise
-pub mod HiddenAll

@@ -5,4 +5,3 @@ pub mod Places
 pub mod Written
 pub mod Following
 pub mod MovedPoints
-pub mod HiddenPoints

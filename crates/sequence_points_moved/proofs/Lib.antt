@@ -9,6 +9,3 @@ pub mod Readings
 pub mod Movable
 pub mod Blobs
 pub mod SeenPoints
-pub mod Marks
-pub mod Commutes
-pub mod Free

@@ -2,14 +2,12 @@
 use Rattle.std.{proofs.Common.{◌≡◌, ℕ, ◌<◌, ◌≤◌, ◌-◌, Bool, true, false, List, [], ◌∷◌, length, map, sym, subst, ◌∙◌, arith}, specs.Prelude.{cond, All, AllPairs}}
 use Rattle.std.{specs.Prelude.{get_or}, proofs.lemmas.List.Elements.{All-nil, All-cons, All-head, All-tail, All-map, All-get_or}}
 use Rattle.std.proofs.lemmas.List.Kept.{AllPairs-cons}
-use Rattle.ppdb_base.specs.Offsets.{Offsets, AreApart, Rise, moved, is_kept_between, old_size}
+use Rattle.ppdb_base.specs.Offsets.{Offsets, Rise, moved, is_kept_between, old_size}
 use Rattle.sequence_points.specs.{declared.point.Point.{Point}, declared.point.PointLimits.{PointLimits}, MovedPoints.{first_offset, moved_points}}
 use Rattle.sequence_points.{specs.Ranges.{IsOffset, IsDocument}, specs.Written.{AreInRange, CanBeWritten, IsSpan}, proofs.Follows.{pairs-head, pairs-tail}}
-use Rattle.sequence_points.proofs.{HiddenAll.{all_hidden}, HiddenRise.{IsFree, hidden_rise}, MovedPoints.{moved-rise}, ReadPoints.{points_in_range}}
-use Rattle.sequence_points.specs.HiddenPoints.{no_offset, with_hidden}
-use Rattle.sequence_points_moved.specs.{MovedBlob.{in_new_document, moved_in, shown_in}, Conditions.{ReadsAs, IsWhole, EachPoint, EachShown, HasImage}}
-use Rattle.sequence_points_moved.specs.Writing.{CanMove, CanAllMove, IsWritable}
-use Rattle.sequence_points_moved.proofs.{Commutes.{hidden_same}, Free.{all_moved, at_kept}, Stays.{at_image, image_small}}
+use Rattle.sequence_points.proofs.{MovedPoints.{moved-rise}, ReadPoints.{points_in_range}}
+use Rattle.sequence_points_moved.specs.{MovedBlob.{in_new_document, moved_in}, Conditions.{ReadsAs, IsWhole, EachPoint, HasImage}, Writing.{CanMove, CanAllMove}}
+use Rattle.sequence_points_moved.{specs.Writing.{IsWritable}, proofs.Stays.{at_image, image_small}}
 
 -- points that can be written where there is one
 pub writable_head : (all : List Point) (p : Point) (ps : List Point) → all ≡ p ∷ ps → IsWritable all → CanBeWritten 0 (p ∷ ps)
@@ -38,49 +36,30 @@ rise_map documents (p ∷ ps) h =
 new_document : (documents : List ℕ) (row : ℕ) → All IsDocument documents → 1 ≤ row → row ≤ length documents → IsDocument (get_or documents (row - 1) 0)
 new_document documents row rows first there = All-get_or IsDocument documents (row - 1) 0 (omega arith) rows
 
--- the points that have moved lie at offsets that no stretch holds
-free : (o : Offsets) → Rise o → (stretches : List (ℕ × ℕ)) → AreApart o stretches → (documents : List ℕ) (points : List Point)
-    → All (CanMove o documents) points → All (IsFree stretches) (moved_points o points)
-free o rise stretches apart documents points each =
-    all_moved o (CanMove o documents) (IsFree stretches)
-    (λ p end can is. let kept = at_kept o rise p.offset end is in apart.images kept.0 (moved o p.offset) kept.1) points each
-
-small : (o : Offsets) → Rise o → (documents : List ℕ) (points : List Point) → All (CanMove o documents) points
-    → All (λ q. q.offset < no_offset) (moved_points o points)
-small o rise documents points each =
-    all_moved o (CanMove o documents) (λ q. q.offset < no_offset) (λ p end can is. omega (arith, image_small o rise p.offset can.image)) points each
-
-pub writable : (o : Offsets) → Rise o → (stretches : List (ℕ × ℕ)) → AreApart o stretches → (documents : List ℕ) → All IsDocument documents → (points : List Point)
-    → AreInRange points → All (λ p. p.offset < old_size o) points → All (CanMove o documents) points
-    → All (λ p. IsOffset p.offset) (shown_in o stretches documents points) → IsWritable (shown_in o stretches documents points)
-writable o rise stretches apart documents rows points read below each offsets some = record {
+pub writable : (o : Offsets) → Rise o → (documents : List ℕ) → All IsDocument documents → (points : List Point)
+    → AreInRange points → All (λ p. p.offset < old_size o) points
+    → All (CanMove o documents) points → IsWritable (moved_in o documents points)
+writable o rise documents rows points read below each some = record {
   some = some;
-  rise = rise_map documents (with_hidden o stretches (moved_points o points))
-      (hidden_rise o rise stretches apart (moved_points o points) (moved-rise o points rise read.rise below) (free o rise stretches apart documents points each)
-      (small o rise documents points each));
-  offsets = offsets;
-  documents = subst (All (λ (p : Point). IsDocument p.document)) (hidden_same o documents stretches (moved_points o points))
-      (all_hidden o (λ (p : Point). IsDocument p.document) (λ p s h. h) (λ p n h. h) stretches (moved_in o documents points)
-      (moved_all o documents (CanMove o documents) (λ (p : Point). IsDocument p.document)
-      (λ p h. new_document documents p.document rows h.first h.there) points each));
-  spans = subst (All (λ (p : Point). IsSpan p.span)) (hidden_same o documents stretches (moved_points o points))
-      (all_hidden o (λ (p : Point). IsSpan p.span) (λ p s h. tt) (λ p n h. h) stretches (moved_in o documents points)
-      (moved_all o documents (λ (p : Point). IsSpan p.span) (λ (p : Point). IsSpan p.span) (λ p h. h) points read.spans));
+  rise = rise_map documents (moved_points o points) (moved-rise o points rise read.rise below);
+  offsets = moved_all o documents (CanMove o documents) (λ (p : Point). IsOffset p.offset) (λ p h. image_small o rise p.offset h.image) points each;
+  documents = moved_all o documents (CanMove o documents) (λ (p : Point). IsDocument p.document)
+      (λ p h. new_document documents p.document rows h.first h.there) points each;
+  spans = moved_all o documents (λ (p : Point). IsSpan p.span) (λ (p : Point). IsSpan p.span) (λ p h. h) points read.spans;
   signature_is = omega arith;
 }
 
 -- what is asked of the blob and of the map, of the points themselves
-pub record Ready (o : Offsets) (stretches : List (ℕ × ℕ)) (documents : List ℕ) (points : List Point) : Type 0 where
+pub record Ready (o : Offsets) (documents : List ℕ) (points : List Point) : Type 0 where
   pub all : CanAllMove o documents points
-  pub writable : IsWritable (shown_in o stretches documents points)
+  pub writable : IsWritable (moved_in o documents points)
 
-pub ready : (o : Offsets) → Rise o → (stretches : List (ℕ × ℕ)) → AreApart o stretches → (column : ℕ) (limits : PointLimits) (blob documents : List ℕ) (points : List Point) → column ≤ limits.documents
+pub ready : (o : Offsets) → Rise o → (column : ℕ) (limits : PointLimits) (blob documents : List ℕ) (points : List Point) → column ≤ limits.documents
     → IsWhole column limits blob
     → length documents ≡ limits.documents → All IsDocument documents
     → EachPoint (λ p. p.offset < old_size o) column limits blob → EachPoint (λ p. HasImage o p.offset) column limits blob
-    → EachShown o stretches documents (λ p. IsOffset p.offset) column limits blob
-    → ((signature : ℕ) (others : List Point) → ReadsAs column limits blob signature others → points ≡ others) → Ready o stretches documents points
-ready o rise stretches apart column limits blob documents points there whole len rows below images small same =
+    → ((signature : ℕ) (others : List Point) → ReadsAs column limits blob signature others → points ≡ others) → Ready o documents points
+ready o rise column limits blob documents points there whole len rows below images same =
     let at = same whole.0 whole.1 whole.2 in
     let read = points_in_range column limits blob whole.0 whole.1 there whole.2 in
     let image = images whole.0 whole.1 whole.2 in
@@ -90,8 +69,5 @@ ready o rise stretches apart column limits blob documents points there whole len
       first = row.0;
       there = omega (arith, row.1, len);
     } in
-    subst (Ready o stretches documents) (sym at)
-    (record {
-      all = record { rise = read.0.rise; each = each };
-      writable = writable o rise stretches apart documents rows whole.1 read.0 (below whole.0 whole.1 whole.2) each (small whole.0 whole.1 whole.2);
-    })
+    subst (Ready o documents) (sym at)
+    (record { all = record { rise = read.0.rise; each = each }; writable = writable o rise documents rows whole.1 read.0 (below whole.0 whole.1 whole.2) each })

@@ -2,7 +2,6 @@
 use Rattle.std.specs.Prelude.{◌≡◌, ℕ, ◌<◌, ◌++◌, List, None, All}
 use Rattle.ppdb_base.specs.Offsets.{Offsets, IsNextImage, old_size}
 use Rattle.sequence_points.specs.{declared.point.{Point.Point, PointLimits.PointLimits}, Points.PointsReading, Ranges.number_limit}
-use Rattle.sequence_points_moved.specs.MovedBlob.shown_in
 
 -- The blob reads whole, as this signature and these points.
 abbrev pub ReadsAs : ℕ → PointLimits → List ℕ → ℕ → List Point → Type 0
@@ -15,11 +14,6 @@ IsWhole column limits blob = (signature : ℕ) × (points : List Point) × Reads
 -- P holds of each point of the blob.
 abbrev pub EachPoint : (Point → Type 0) → ℕ → PointLimits → List ℕ → Type 0
 EachPoint P column limits blob = (signature : ℕ) (points : List Point) → ReadsAs column limits blob signature points → All P points
-
--- P holds of each point that is written of those of the blob.
-abbrev pub EachShown : Offsets → List (ℕ × ℕ) → List ℕ → (Point → Type 0) → ℕ → PointLimits → List ℕ → Type 0
-EachShown offsets stretches documents P column limits blob =
-    (signature : ℕ) (points : List Point) → ReadsAs column limits blob signature points → All P (shown_in offsets stretches documents points)
 
 -- There is a stop at or after the offset, and the image of the first such can be written.
 pub record HasImage (offsets : Offsets) (offset : ℕ) : Type 0 where

@@ -1,4 +1,3 @@
 pub mod MovedBlob
 pub mod Conditions
 pub mod Writing
-pub mod Coming

@@ -5,8 +5,6 @@
 mod ahead;
 mod laws;
 mod moving;
-mod next;
-mod shown;
 mod writer;
 
 pub use laws::kept_to_the_end;

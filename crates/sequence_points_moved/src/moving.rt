@@ -4,35 +4,79 @@ ghost use Rattle.std.specs.Prelude.{◌≡◌, ◌<◌, ◌≤◌, ◌^◌, ◌+
 ghost use Rattle.ppdb_base.specs.Offsets.{old_size};
 ghost use Rattle.sequence_points.specs.declared.point.Point.{Point};
 ghost use Rattle.sequence_points.specs.Points.{common_document};
-ghost use Rattle.sequence_points.specs.Ranges.{IsDocument, IsOffset};
+ghost use Rattle.sequence_points.specs.MovedPoints.{first_offset};
+ghost use Rattle.sequence_points.specs.Ranges.{IsDocument};
 ghost use Rattle.sequence_points.specs.Written.{CanBeWritten, large_steps};
 ghost use Rattle.ppdb_base.specs.Written.{BeginsWith};
-ghost use Rattle.sequence_points_moved.specs.MovedBlob.{shown_in, moved_blob, IsFirstStep};
-ghost use Rattle.sequence_points_moved.specs.Conditions.{ReadsAs, IsWhole, EachPoint, EachShown, HasImage};
-ghost use Rattle.sequence_points_moved.specs.Coming.{shown_left};
-ghost use Rattle.sequence_points_moved.specs.Writing.{CanAllMove, IsWalked, IsBlobIn, IsWritable, header_in};
+ghost use Rattle.sequence_points_moved.specs.MovedBlob.{in_new_document, moved_in, moved_blob, IsFirstStep};
+ghost use Rattle.sequence_points_moved.specs.Conditions.{ReadsAs, IsWhole, EachPoint, HasImage};
+ghost use Rattle.sequence_points_moved.specs.Writing.{CanAllMove, image_until, IsWalked, IsBlobIn, IsWritable, coming, header_in};
 
 use crate::ahead::Ahead;
-use crate::shown::Shown;
 use crate::writer::Written;
 use blob_grammar::number_into;
 use ppdb_base::{Bytes, Memory, OffsetImage};
 use sequence_points::{Point, PointCursor, PointError, PointLimits};
 
+/// The new offset of a point before the points that are left, or None if it is removed. Most are at kept offsets: one search finds these.
+fn image_before<G: OffsetImage>(offset: u32, points: &mut Ahead<'_>, image: &G) -> Option<u32>
+    requires below { offset < old_size (G.offsets image.now) }
+    requires holds { offset < first_offset 4294967295 points.old }
+    ensures image { result ≡ image_until (G.offsets image.now) offset (first_offset 4294967295 points.old) }
+    ensures points { points.new ≡ points.old }
+{
+    if let Some(found) = image.image(offset) {
+        return Some(found);
+    }
+    if image.kept_between(offset, points.end()) {
+        image.next_image(offset)
+    } else {
+        None
+    }
+}
+
+/// The point at its image and in its new document.
+fn moved_point(point: Point, offset: u32, documents: &[u32]) -> Point
+    requires first { 1 ≤ point.document }
+    requires there { point.document ≤ length documents.now }
+    ensures { result ≡ in_new_document documents.now (record point { offset = offset }) }
+{
+    Point {
+        offset,
+        document: documents[(point.document - 1) as usize],
+        span: point.span,
+    }
+}
+
+/// The next point that is kept, at its image and in its new document.
+#[inline(always)]
+fn next_moved<G: OffsetImage>(points: &mut Ahead<'_>, documents: &[u32], image: &G) -> Option<Point>
+    requires points { CanAllMove (G.offsets image.now) documents.now points.old }
+    ensures next { moved_in (G.offsets image.now) documents.now points.old ≡ coming result (moved_in (G.offsets image.now) documents.now points.new) }
+    ensures points { CanAllMove (G.offsets image.now) documents.now points.new }
+{
+    'points: while let Some(point) = points.pop() {
+        if let Some(offset) = image_before(point.offset, points, image) {
+            return Some(moved_point(point, offset, documents));
+        }
+    }
+    None
+}
+
 /// Appends the points that are kept, of which `first` is the first. Where they are to have one document (`in_one`), it stops before a
 /// point of another document, and answers false.
 fn points_into<G: OffsetImage>(
-    mut points: Shown<'_>,
+    mut points: Ahead<'_>,
     first: Point,
     in_one: bool,
     documents: &[u32],
     image: &G,
     into: &mut Bytes,
 ) -> Result<bool, PointError>
-    requires points { CanAllMove (G.offsets image.now) documents.now points.points }
-    requires written { CanBeWritten 0 (first ∷ shown_left (G.offsets image.now) (G.stretches image.now) documents.now points) }
-    ensures walked { IfOk result (IsWalked in_one (first ∷ shown_left (G.offsets image.now) (G.stretches image.now) documents.now points.entry) into.old into.new) }
-    ensures step { IfErr result (IsFirstStep (first ∷ shown_left (G.offsets image.now) (G.stretches image.now) documents.now points.entry)) }
+    requires points { CanAllMove (G.offsets image.now) documents.now points }
+    requires written { CanBeWritten 0 (first ∷ moved_in (G.offsets image.now) documents.now points) }
+    ensures walked { IfOk result (IsWalked in_one (first ∷ moved_in (G.offsets image.now) documents.now points.entry) into.old into.new) }
+    ensures step { IfErr result (IsFirstStep (first ∷ moved_in (G.offsets image.now) documents.now points.entry)) }
     ensures prefix { BeginsWith into.old into.new }
 {
     let mut written = Written::new();
@@ -42,7 +86,7 @@ fn points_into<G: OffsetImage>(
             return Ok(false);
         }
         written.push(point, into)?;
-        next = points.pop(documents, image);
+        next = next_moved(&mut points, documents, image);
     }
     Ok(true)
 }
@@ -72,22 +116,22 @@ fn column_of(first: Point, in_one: bool) -> u32
 /// Appends the header and the points that are kept, and answers their Document column. Where they are to have one document (`in_one`) and
 /// have several, it stops and answers None.
 fn begin_blob<G: OffsetImage>(
-    mut points: Shown<'_>,
+    mut points: Ahead<'_>,
     in_one: bool,
     documents: &[u32],
     signature: u32,
     image: &G,
     into: &mut Bytes,
 ) -> Result<Option<u32>, PointError>
-    requires points { CanAllMove (G.offsets image.now) documents.now points.points }
-    requires written { IsWritable (shown_left (G.offsets image.now) (G.stretches image.now) documents.now points) }
+    requires points { CanAllMove (G.offsets image.now) documents.now points }
+    requires written { IsWritable (moved_in (G.offsets image.now) documents.now points) }
     requires signature { signature < 536870912 }
-    requires several { in_one ≡ false → common_document (shown_left (G.offsets image.now) (G.stretches image.now) documents.now points) ≡ 0 }
-    ensures blob { IfOk result (IsBlobIn in_one signature (shown_left (G.offsets image.now) (G.stretches image.now) documents.now points.entry) into.old into.new) }
-    ensures step { IfErr result (IsFirstStep (shown_left (G.offsets image.now) (G.stretches image.now) documents.now points.entry)) }
+    requires several { in_one ≡ false → common_document (moved_in (G.offsets image.now) documents.now points) ≡ 0 }
+    ensures blob { IfOk result (IsBlobIn in_one signature (moved_in (G.offsets image.now) documents.now points.entry) into.old into.new) }
+    ensures step { IfErr result (IsFirstStep (moved_in (G.offsets image.now) documents.now points.entry)) }
     ensures prefix { BeginsWith into.old into.new }
 {
-    let Some(first) = points.pop(documents, image) else {
+    let Some(first) = next_moved(&mut points, documents, image) else {
         return Ok(Some(0));
     };
     match header_into(signature, first, in_one, into) {
@@ -104,20 +148,20 @@ fn begin_blob<G: OffsetImage>(
 /// Appends the blob of the points that are kept, and answers their Document column. Where they are to have one document (`in_one`) and
 /// have several, it answers None; then, and after a refusal, `into` is unchanged.
 fn blob_into<G: OffsetImage>(
-    points: Shown<'_>,
+    points: Ahead<'_>,
     in_one: bool,
     documents: &[u32],
     signature: u32,
     image: &G,
     into: &mut Bytes,
 ) -> Result<Option<u32>, PointError>
-    requires points { CanAllMove (G.offsets image.now) documents.now points.points }
-    requires written { IsWritable (shown_left (G.offsets image.now) (G.stretches image.now) documents.now points) }
+    requires points { CanAllMove (G.offsets image.now) documents.now points }
+    requires written { IsWritable (moved_in (G.offsets image.now) documents.now points) }
     requires signature { signature < 536870912 }
-    requires several { in_one ≡ false → common_document (shown_left (G.offsets image.now) (G.stretches image.now) documents.now points) ≡ 0 }
-    ensures blob { IfOk result (IsBlobIn in_one signature (shown_left (G.offsets image.now) (G.stretches image.now) documents.now points.entry) into.old into.new) }
+    requires several { in_one ≡ false → common_document (moved_in (G.offsets image.now) documents.now points) ≡ 0 }
+    ensures blob { IfOk result (IsBlobIn in_one signature (moved_in (G.offsets image.now) documents.now points.entry) into.old into.new) }
     ensures none { IfOk result (λ r. IfNone r (into.new ≡ into.old)) }
-    ensures step { IfErr result (IsFirstStep (shown_left (G.offsets image.now) (G.stretches image.now) documents.now points.entry)) }
+    ensures step { IfErr result (IsFirstStep (moved_in (G.offsets image.now) documents.now points.entry)) }
     ensures unchanged { OnErr result (into.new ≡ into.old) }
 {
     let len = into.len();
@@ -173,22 +217,21 @@ pub fn moved_points_into<G: OffsetImage>(
     requires signature { signature < 0x20000000 }
     requires below { EachPoint (λ p. p.offset < old_size (G.offsets image.now)) column limits blob.now }
     requires images { EachPoint (λ p. HasImage (G.offsets image.now) p.offset) column limits blob.now }
-    requires small { EachShown (G.offsets image.now) (G.stretches image.now) documents.now (λ p. IsOffset p.offset) column limits blob.now }
     ensures moved { OnOk result ((old : ℕ) (points : List Point) → ReadsAs column limits blob.now old points
-        → into.new ≡ into.old ++ moved_blob signature (shown_in (G.offsets image.now) (G.stretches image.now) documents.now points)) }
+        → into.new ≡ into.old ++ moved_blob signature (moved_in (G.offsets image.now) documents.now points)) }
     ensures column { IfOk result (λ row. (old : ℕ) (points : List Point) → ReadsAs column limits blob.now old points
-        → row ≡ common_document (shown_in (G.offsets image.now) (G.stretches image.now) documents.now points)) }
+        → row ≡ common_document (moved_in (G.offsets image.now) documents.now points)) }
     ensures steps { OnOk result ((old : ℕ) (points : List Point) → ReadsAs column limits blob.now old points
-        → large_steps [] (shown_in (G.offsets image.now) (G.stretches image.now) documents.now points) ≡ []) }
+        → large_steps [] (moved_in (G.offsets image.now) documents.now points) ≡ []) }
     ensures step { IfErr result (λ e. (old : ℕ) (points : List Point) → ReadsAs column limits blob.now old points
-        → IsFirstStep (shown_in (G.offsets image.now) (G.stretches image.now) documents.now points) e) }
+        → IsFirstStep (moved_in (G.offsets image.now) documents.now points) e) }
     ensures unchanged { OnErr result (into.new ≡ into.old) }
 {
-    let points = Shown::new(points_of(blob, column, limits), documents, image);
+    let points = points_of(blob, column, limits);
     if let Some(document) = blob_into(points, true, documents, signature, image, into)? {
         return Ok(document);
     }
-    let points = Shown::new(points_of(blob, column, limits), documents, image);
+    let points = points_of(blob, column, limits);
     match blob_into(points, false, documents, signature, image, into)? {
         Some(document) => Ok(document),
         None => unreachable!(),

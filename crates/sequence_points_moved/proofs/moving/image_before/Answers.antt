@@ -1,7 +1,7 @@
 use Rattle.std.{proofs.Common.{subst}, specs.Prelude.{◌↔◌, IsTrue}}
 use Rattle.ppdb_base.specs.Offsets.{KeepsBetween}
 use Rattle.sequence_points_moved.proofs.Until.{at_stop, at_next, at_none}
-use Rattle.sequence_points_moved.proofs.next.image_before.Goals as goal
+use Rattle.sequence_points_moved.proofs.moving.image_before.Goals as goal
 
 pub returns-in-Some-clause-image : goal.returns-in-Some-clause-image
 returns-in-Some-clause-image g c =

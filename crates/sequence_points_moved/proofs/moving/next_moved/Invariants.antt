@@ -1,6 +1,6 @@
 use Rattle.std.proofs.Common.{◌≡◌, length}
 use Rattle.sequence_points_moved.specs.{MovedBlob.{moved_in}, Writing.{CanAllMove}}
-use Rattle.sequence_points_moved.proofs.next.next_moved.Given as goal
+use Rattle.sequence_points_moved.proofs.moving.next_moved.Given as goal
 
 abbrev pub invariant-points : goal.invariant-points
 invariant-points g l = record {

@@ -1,6 +1,6 @@
 use Rattle.std.proofs.Common.{refl, ◌∙◌}
 use Rattle.sequence_points_moved.proofs.{Stays.{stays, goes}, Left.{first_can, others_can, before_next}}
-use Rattle.sequence_points_moved.proofs.next.next_moved.Goals as goal
+use Rattle.sequence_points_moved.proofs.moving.next_moved.Goals as goal
 
 pub image_before-requires-clause-below : goal.image_before-requires-clause-below
 image_before-requires-clause-below g c =
