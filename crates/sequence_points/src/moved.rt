@@ -7,6 +7,7 @@ ghost use Rattle.sequence_points.specs.MovedPoints.{MovedPointsRise, MovedPoints
 
 /// Points move to where the offsets that they hold at are kept, and in the same order.
 pub fn points_move_in_order()
-    ensures rise { (offsets : Offsets) (points : List Point) → Rise offsets → MovedPointsRise offsets points }
+    ensures rise { (offsets : Offsets) (points : List Point) → Rise offsets
+        → MovedPointsRise offsets points }
     ensures worked { MovedPointsWorked }
 {}

@@ -1,10 +1,14 @@
--- The points of a method at new offsets and in new documents, and their one canonical blob (Portable PDB v1.0, "Sequence Points Blob").
+-- The points of a method at new offsets and in new documents, and their one canonical blob
+-- (Portable PDB v1.0, "Sequence Points Blob").
 use Rattle.std.specs.Prelude.{◌≡◌, ℕ, ◌-◌, ◌≤◌, List, [], ◌∷◌, map, get_or, Some}
 use Rattle.ppdb_base.specs.Offsets.{Offsets, Rise, old_size, is_kept_between}
-use Rattle.sequence_points.specs.{declared.point.Point.Point, declared.writer.PointError.{PointError, TheVariants.{Step, Memory}}, MovedPoints.moved_points}
+use Rattle.sequence_points.specs.declared.{point.Point.Point, writer.PointError.PointError}
+use Rattle.sequence_points.specs.declared.writer.PointError.TheVariants.{Step, Memory}
+use Rattle.sequence_points.specs.MovedPoints.{moved_points}
 use Rattle.sequence_points.specs.Written.{points_blob, large_steps, numbered, first_of}
 
--- the point in the new row of its document: `documents` has the new row of each old one, and rows count from 1
+-- the point in the new row of its document: `documents` has the new row of each old one, and rows
+-- count from 1
 abbrev pub in_new_document : List ℕ → Point → Point
 in_new_document documents p = record p { document = get_or documents (p.document - 1) 0 }
 

@@ -1,6 +1,7 @@
 //! Moves the points of a blob, from blob to blob.
 
-ghost use Rattle.std.specs.Prelude.{◌≡◌, ◌<◌, ◌≤◌, ◌^◌, ◌++◌, ℕ, false, cond, List, [], ◌∷◌, length, All, IfNone, IfOk, IfErr, OnOk, OnErr};
+ghost use Rattle.std.specs.Prelude.{◌≡◌, ◌<◌, ◌≤◌, ◌^◌, ◌++◌, ℕ, false, cond, List, [], ◌∷◌};
+ghost use Rattle.std.specs.Prelude.{length, All, IfNone, IfOk, IfErr, OnOk, OnErr};
 ghost use Rattle.ppdb_base.specs.Offsets.{old_size};
 ghost use Rattle.sequence_points.specs.declared.point.Point.{Point};
 ghost use Rattle.sequence_points.specs.Points.{common_document};
@@ -8,9 +9,11 @@ ghost use Rattle.sequence_points.specs.MovedPoints.{first_offset};
 ghost use Rattle.sequence_points.specs.Ranges.{IsDocument};
 ghost use Rattle.sequence_points.specs.Written.{CanBeWritten, large_steps};
 ghost use Rattle.ppdb_base.specs.Written.{BeginsWith};
-ghost use Rattle.sequence_points_moved.specs.MovedBlob.{in_new_document, moved_in, moved_blob, IsFirstStep};
+ghost use Rattle.sequence_points_moved.specs.MovedBlob.{in_new_document, moved_in, moved_blob};
+ghost use Rattle.sequence_points_moved.specs.MovedBlob.{IsFirstStep};
 ghost use Rattle.sequence_points_moved.specs.Conditions.{ReadsAs, IsWhole, EachPoint, HasImage};
-ghost use Rattle.sequence_points_moved.specs.Writing.{CanAllMove, image_until, IsWalked, IsBlobIn, IsWritable, coming, header_in};
+ghost use Rattle.sequence_points_moved.specs.Writing.{CanAllMove, image_until, IsWalked, IsBlobIn};
+ghost use Rattle.sequence_points_moved.specs.Writing.{IsWritable, coming, header_in};
 
 use crate::ahead::Ahead;
 use crate::writer::Written;
@@ -18,11 +21,13 @@ use blob_grammar::number_into;
 use ppdb_base::{Bytes, Memory, OffsetImage};
 use sequence_points::{Point, PointCursor, PointError, PointLimits};
 
-/// The new offset of a point before the points that are left, or None if it is removed. Most are at kept offsets: one search finds these.
+/// The new offset of a point before the points that are left, or None if it is removed. Most are at
+/// kept offsets: one search finds these.
 fn image_before<G: OffsetImage>(offset: u32, points: &mut Ahead<'_>, image: &G) -> Option<u32>
     requires below { offset < old_size (G.offsets image.now) }
     requires holds { offset < first_offset 4294967295 points.old }
-    ensures image { result ≡ image_until (G.offsets image.now) offset (first_offset 4294967295 points.old) }
+    ensures image { result
+        ≡ image_until (G.offsets image.now) offset (first_offset 4294967295 points.old) }
     ensures points { points.new ≡ points.old }
 {
     if let Some(found) = image.image(offset) {
@@ -52,7 +57,8 @@ fn moved_point(point: Point, offset: u32, documents: &[u32]) -> Point
 #[inline(always)]
 fn next_moved<G: OffsetImage>(points: &mut Ahead<'_>, documents: &[u32], image: &G) -> Option<Point>
     requires points { CanAllMove (G.offsets image.now) documents.now points.old }
-    ensures next { moved_in (G.offsets image.now) documents.now points.old ≡ coming result (moved_in (G.offsets image.now) documents.now points.new) }
+    ensures next { moved_in (G.offsets image.now) documents.now points.old
+        ≡ coming result (moved_in (G.offsets image.now) documents.now points.new) }
     ensures points { CanAllMove (G.offsets image.now) documents.now points.new }
 {
     'points: while let Some(point) = points.pop() {
@@ -63,8 +69,8 @@ fn next_moved<G: OffsetImage>(points: &mut Ahead<'_>, documents: &[u32], image: 
     None
 }
 
-/// Appends the points that are kept, of which `first` is the first. Where they are to have one document (`in_one`), it stops before a
-/// point of another document, and answers false.
+/// Appends the points that are kept, of which `first` is the first. Where they are to have one
+/// document (`in_one`), it stops before a point of another document, and answers false.
 fn points_into<G: OffsetImage>(
     mut points: Ahead<'_>,
     first: Point,
@@ -74,9 +80,12 @@ fn points_into<G: OffsetImage>(
     into: &mut Bytes,
 ) -> Result<bool, PointError>
     requires points { CanAllMove (G.offsets image.now) documents.now points }
-    requires written { CanBeWritten 0 (first ∷ moved_in (G.offsets image.now) documents.now points) }
-    ensures walked { IfOk result (IsWalked in_one (first ∷ moved_in (G.offsets image.now) documents.now points.entry) into.old into.new) }
-    ensures step { IfErr result (IsFirstStep (first ∷ moved_in (G.offsets image.now) documents.now points.entry)) }
+    requires written { CanBeWritten 0 (first
+        ∷ moved_in (G.offsets image.now) documents.now points) }
+    ensures walked { IfOk result (IsWalked in_one (first
+        ∷ moved_in (G.offsets image.now) documents.now points.entry) into.old into.new) }
+    ensures step { IfErr result
+        (IsFirstStep (first ∷ moved_in (G.offsets image.now) documents.now points.entry)) }
     ensures prefix { BeginsWith into.old into.new }
 {
     let mut written = Written::new();
@@ -113,8 +122,8 @@ fn column_of(first: Point, in_one: bool) -> u32
     if in_one { first.document } else { 0 }
 }
 
-/// Appends the header and the points that are kept, and answers their Document column. Where they are to have one document (`in_one`) and
-/// have several, it stops and answers None.
+/// Appends the header and the points that are kept, and answers their Document column. Where they
+/// are to have one document (`in_one`) and have several, it stops and answers None.
 fn begin_blob<G: OffsetImage>(
     mut points: Ahead<'_>,
     in_one: bool,
@@ -126,9 +135,12 @@ fn begin_blob<G: OffsetImage>(
     requires points { CanAllMove (G.offsets image.now) documents.now points }
     requires written { IsWritable (moved_in (G.offsets image.now) documents.now points) }
     requires signature { signature < 536870912 }
-    requires several { in_one ≡ false → common_document (moved_in (G.offsets image.now) documents.now points) ≡ 0 }
-    ensures blob { IfOk result (IsBlobIn in_one signature (moved_in (G.offsets image.now) documents.now points.entry) into.old into.new) }
-    ensures step { IfErr result (IsFirstStep (moved_in (G.offsets image.now) documents.now points.entry)) }
+    requires several { in_one ≡ false
+        → common_document (moved_in (G.offsets image.now) documents.now points) ≡ 0 }
+    ensures blob { IfOk result (IsBlobIn in_one signature
+        (moved_in (G.offsets image.now) documents.now points.entry) into.old into.new) }
+    ensures step { IfErr result
+        (IsFirstStep (moved_in (G.offsets image.now) documents.now points.entry)) }
     ensures prefix { BeginsWith into.old into.new }
 {
     let Some(first) = next_moved(&mut points, documents, image) else {
@@ -145,8 +157,9 @@ fn begin_blob<G: OffsetImage>(
     }
 }
 
-/// Appends the blob of the points that are kept, and answers their Document column. Where they are to have one document (`in_one`) and
-/// have several, it answers None; then, and after a refusal, `into` is unchanged.
+/// Appends the blob of the points that are kept, and answers their Document column. Where they are
+/// to have one document (`in_one`) and have several, it answers None; then, and after a refusal,
+/// `into` is unchanged.
 fn blob_into<G: OffsetImage>(
     points: Ahead<'_>,
     in_one: bool,
@@ -158,10 +171,13 @@ fn blob_into<G: OffsetImage>(
     requires points { CanAllMove (G.offsets image.now) documents.now points }
     requires written { IsWritable (moved_in (G.offsets image.now) documents.now points) }
     requires signature { signature < 536870912 }
-    requires several { in_one ≡ false → common_document (moved_in (G.offsets image.now) documents.now points) ≡ 0 }
-    ensures blob { IfOk result (IsBlobIn in_one signature (moved_in (G.offsets image.now) documents.now points.entry) into.old into.new) }
+    requires several { in_one ≡ false
+        → common_document (moved_in (G.offsets image.now) documents.now points) ≡ 0 }
+    ensures blob { IfOk result (IsBlobIn in_one signature
+        (moved_in (G.offsets image.now) documents.now points.entry) into.old into.new) }
     ensures none { IfOk result (λ r. IfNone r (into.new ≡ into.old)) }
-    ensures step { IfErr result (IsFirstStep (moved_in (G.offsets image.now) documents.now points.entry)) }
+    ensures step { IfErr result
+        (IsFirstStep (moved_in (G.offsets image.now) documents.now points.entry)) }
     ensures unchanged { OnErr result (into.new ≡ into.old) }
 {
     let len = into.len();
@@ -184,7 +200,8 @@ fn points_of<'a>(blob: &'a [u8], column: u32, limits: PointLimits) -> Ahead<'a>
     requires short { length blob.now < 2 ^ 32 }
     requires column { column ≤ limits.documents }
     requires whole { IsWhole column limits blob.now }
-    ensures { (signature : ℕ) (points : List Point) → ReadsAs column limits blob.now signature points → result ≡ points }
+    ensures { (signature : ℕ) (points : List Point)
+        → ReadsAs column limits blob.now signature points → result ≡ points }
 {
     match PointCursor::new(blob, column, limits) {
         Ok(cursor) => Ahead::new(cursor),
@@ -192,9 +209,10 @@ fn points_of<'a>(blob: &'a [u8], column: u32, limits: PointLimits) -> Ahead<'a>
     }
 }
 
-/// Appends the canonical blob of the points of a blob that are kept, each where it moves to and in the new row of its document, and answers
-/// the new Document column. Where no point is kept it appends nothing. `documents` has the new row of each Document row. After a refusal
-/// `into` is unchanged.
+/// Appends the canonical blob of the points of a blob that are kept, each where it moves to and in
+/// the new row of its document, and answers the new Document column. Where no point is kept it
+/// appends nothing. `documents` has the new row of each Document row. After a refusal `into` is
+/// unchanged.
 ///
 /// # Errors
 ///
@@ -215,15 +233,22 @@ pub fn moved_points_into<G: OffsetImage>(
     requires documents { length documents.now ≡ limits.documents }
     requires rows { All IsDocument documents.now }
     requires signature { signature < 0x20000000 }
-    requires below { EachPoint (λ p. p.offset < old_size (G.offsets image.now)) column limits blob.now }
-    requires images { EachPoint (λ p. HasImage (G.offsets image.now) p.offset) column limits blob.now }
-    ensures moved { OnOk result ((old : ℕ) (points : List Point) → ReadsAs column limits blob.now old points
-        → into.new ≡ into.old ++ moved_blob signature (moved_in (G.offsets image.now) documents.now points)) }
-    ensures column { IfOk result (λ row. (old : ℕ) (points : List Point) → ReadsAs column limits blob.now old points
+    requires below { EachPoint
+        (λ p. p.offset < old_size (G.offsets image.now)) column limits blob.now }
+    requires images { EachPoint
+        (λ p. HasImage (G.offsets image.now) p.offset) column limits blob.now }
+    ensures moved { OnOk result ((old : ℕ) (points : List Point)
+        → ReadsAs column limits blob.now old points
+        → into.new ≡ into.old
+        ++ moved_blob signature (moved_in (G.offsets image.now) documents.now points)) }
+    ensures column { IfOk result (λ row. (old : ℕ) (points : List Point)
+        → ReadsAs column limits blob.now old points
         → row ≡ common_document (moved_in (G.offsets image.now) documents.now points)) }
-    ensures steps { OnOk result ((old : ℕ) (points : List Point) → ReadsAs column limits blob.now old points
+    ensures steps { OnOk result ((old : ℕ) (points : List Point)
+        → ReadsAs column limits blob.now old points
         → large_steps [] (moved_in (G.offsets image.now) documents.now points) ≡ []) }
-    ensures step { IfErr result (λ e. (old : ℕ) (points : List Point) → ReadsAs column limits blob.now old points
+    ensures step { IfErr result (λ e. (old : ℕ) (points : List Point)
+        → ReadsAs column limits blob.now old points
         → IsFirstStep (moved_in (G.offsets image.now) documents.now points) e) }
     ensures unchanged { OnErr result (into.new ≡ into.old) }
 {

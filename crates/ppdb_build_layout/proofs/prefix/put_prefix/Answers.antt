@@ -1,10 +1,10 @@
 use Rattle.std.proofs.Common.{◌≡◌, ℕ, ◌≤◌, List, ◌++◌, length, refl, ap, ◌∙◌, arith, append_assoc}
 use Rattle.ppdb_build_layout.{specs.Bytes.{prefix_bytes, pdb_stream, tables_stream, root_prefix, headers, stream_headers}, proofs.Lengths.{length-prefix}}
-use Rattle.ppdb_base.specs.Told.{told}
+use Rattle.ppdb_base.specs.Reported.{reported}
 use Rattle.ppdb_build_layout.proofs.prefix.put_prefix.Goals as goal
 
 -- a number that is reported is that number, where it is small
-exact : (x n m : ℕ) → x ≡ told n → n ≤ m → m ≤ 134217728 → x ≡ n
+exact : (x n m : ℕ) → x ≡ reported n → n ≤ m → m ≤ 134217728 → x ≡ n
 exact x n m e le small = omega (arith, e, le, small)
 
 pub put_root-requires : goal.put_root-requires
