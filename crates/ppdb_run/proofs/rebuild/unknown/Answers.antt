@@ -1,4 +1,4 @@
-use Rattle.std.proofs.Common.{List, ◌≡◌, ap, ◌∙◌, slice_get, subst, IfOk}
+use Rattle.std.proofs.Common.{◌≡◌, ap, ◌∙◌, slice_get, subst, IfOk}
 use Rattle.ppdb_maps.specs.Map.{Map}
 use Rattle.ppdb_values.specs.Value.{value_of}
 use Rattle.ppdb_verify.specs.Views.{raw_file}
