@@ -1,11 +1,10 @@
 -- Lines that are read one after another.
 use Rattle.std.proofs.Common.{rules, ℕ, ◌≡◌, ◌<◌, ◌+◌, ◌++◌, List, [], ◌∷◌, Result, Ok, Err, length, append_assoc, length-append, refl, sym, ap, ◌∙◌, subst, arith}
 use Rattle.std.specs.{Prelude.{MatchResult}, Str.Lines.{lines}}
-use Rattle.ppdb_maps.specs.Forms.{Tells, Values, silent, reported, run_line, rows_line, row_line, method_line, drop_line, slots_line, slot_line, signature_line}
-use Rattle.ppdb_maps.specs.{Forms.{IsHead, document_line, link_line, cross_line, gone_line, shares_line}, Cuts.{IsLineOf}, Rules.{by_lines}, Text.{Read, start}}
-use Rattle.ppdb_maps.specs.{Text.{further, Refused, at_line, at_head}, Drafts.{Holds, AddsLine, HasLength}, Loops.{TextAdded, TextRefused, IsAt, RefusedIn}}
-use Rattle.ppdb_maps.specs.{Loops.{RefusedAs}, Reading.{RefusedAlone}, declared.draft.Draft.{Draft}, declared.line.Form.{Form}, declared.line.Line.{Line}}
-use Rattle.ppdb_maps.specs.declared.refusal.{Refusal.{Refusal}, Refusal.TheVariants.{Breaks as refused, Memory as no_memory}, MapError.{MapError}}
+use Rattle.ppdb_maps.specs.{Forms.{Tells, Values, silent, reported, IsHead}, Cuts.{IsLineOf}, Rules.{by_lines}, Text.{Read, start, further, Refused, at_line}}
+use Rattle.ppdb_maps.specs.{Text.{at_head}, Drafts.{Holds, AddsLine, HasLength}, Loops.{TextAdded, TextRefused, IsAt, RefusedIn, RefusedAs}, Reading.{RefusedAlone}}
+use Rattle.ppdb_maps.specs.declared.{draft.Draft.{Draft}, line.Form.{Form}, line.Line.{Line}, refusal.Refusal.{Refusal}}
+use Rattle.ppdb_maps.specs.declared.refusal.{Refusal.TheVariants.{Breaks as refused, Memory as no_memory}, MapError.{MapError}}
 use Rattle.ppdb_maps.{specs.declared.refusal.MapError.TheVariants.{Line as refused_line, Memory as out_of_memory}, proofs.Saying.{breaks_said}}
 
 -- a run that a line says has an offset

@@ -8,9 +8,9 @@ use Rattle.ppdb_maps.specs.{Forms.{shares_line, silent, reported}, declared.entr
 use Rattle.ppdb_maps.specs.declared.line.{Form.{Form}, Form.TheVariants.{TableRows, RowMove, MethodSizes, OffsetRun, MethodDrop, MethodSlots, SlotMove}}
 use Rattle.ppdb_maps.specs.declared.line.{Form.TheVariants.{MethodSignature, DocumentRename, LinkValue, CrossMove, RowGone, Sharing}, Line.{Line}}
 use Rattle.ppdb_maps.specs.{declared.line.Line.TheVariants.{Cross, Kept, Document, Link}, Cuts.{AreWordsOf}, Reading.{FitsForm, values_of}, Rules.{kind_of, Breaks}}
-use Rattle.ppdb_maps.specs.Rules.{BreaksLine, BreaksFirst, no_form, no_value, by_lines, second, alone, run_alone, run_early, run_long, drop_named, names_dropped}
-use Rattle.ppdb_maps.specs.declared.{rule.Rule.{Rule}, rule.Rule.TheVariants.{UnknownForm, NumberFaults}, words.Words.{Words}}
-use Rattle.ppdb_maps.proofs.{Numbers.{one_number, one_table}, Spelled.{one_spelling}}
+use Rattle.ppdb_maps.specs.{Rules.{BreaksLine, BreaksFirst, no_form, no_value, by_lines, second}, declared.rule.Rule.{Rule}}
+use Rattle.ppdb_maps.{specs.declared.rule.Rule.TheVariants.{UnknownForm, NumberFaults}, specs.declared.words.Words.{Words}, proofs.Numbers.{one_number, one_table}}
+use Rattle.ppdb_maps.proofs.Spelled.{one_spelling}
 
 pub rows_values : (a b : List ℕ) (line : Line) → Values TableRows (a ∷ b ∷ []) line → ((t : ℕ) × IsTable a t) × ((n : ℕ) × IsNumber b 0 MAX_ROWS n)
 rows_values a b line (rows_line t n) = ((_, t), (_, n))

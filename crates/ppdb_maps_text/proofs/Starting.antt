@@ -1,10 +1,10 @@
 -- The rows of a table that have a line.
-use Rattle.std.proofs.Common.{rules, ℕ, ◌≡◌, ◌&&◌, ◌||◌, ◌++◌, Bool, true, false, List, [], ◌∷◌, Option, Some, None, refl, sym, ap, ◌∙◌, map}
-use Rattle.std.{specs.Prelude.{nat_eq, is_some}, specs.List.{AllByRecursion, find}, specs.Option.{option_map}, proofs.lemmas.Bool.{eq-eqb}}
+use Rattle.std.{proofs.Common.{rules, ℕ, ◌≡◌, ◌&&◌, ◌||◌, ◌++◌, Bool, true, List, [], ◌∷◌, Option, refl, sym, ap, ◌∙◌, map}, specs.Prelude.{nat_eq, is_some}}
+use Rattle.std.{specs.List.{AllByRecursion, find}, specs.Option.{option_map}, proofs.lemmas.Bool.{eq-eqb}}
 use Rattle.ppdb_maps.specs.{declared.entries.RowLine.{RowLine}, declared.entries.CrossLine.{CrossLine}, declared.entries.GoneLine.{GoneLine}, Map.{Map, count_of}}
 use Rattle.ppdb_maps.{specs.Map.{row_line, cross_line, has_gone_line, rows_of, crossed_of, gone_of}, specs.Readable.{IsReadable}, proofs.OneList.{any_is}}
 use Rattle.ppdb_maps_text.{specs.MapTexts.{olds_of}, proofs.Found.{has, has_append, has_ascending, has_key, find_filter}, proofs.Orders.{Up, ascending_up}}
-use Rattle.ppdb_maps_text.proofs.OneLine.{has_line, OneLine, by_row, by_cross, by_gone, one_line}
+use Rattle.ppdb_maps_text.proofs.OneLine.{has_line, OneLine, one_line}
 
 -- ---- the rows with a line
 

@@ -3,8 +3,8 @@ use Rattle.std.proofs.Common.{◌≡◌, ℕ, ◌||◌, ◌++◌, Bool, true, fa
 use Rattle.std.{specs.Prelude.{option_map, option_to_list, unwrap_or}, specs.List.{list_any}, proofs.lemmas.List.{map-append}}
 use Rattle.ppdb_maps.specs.Map.{Map}
 use Rattle.ppdb_tables.specs.RawTables.{row_at}
-use Rattle.ppdb_values.specs.declared.{file.FileValue.{FileValue}, scope.ConstantValue.{ConstantValue}, scope.ScopeValue.{ScopeValue}}
-use Rattle.ppdb_values.{specs.declared.scope.VariableValue.{VariableValue}, proofs.Mapped.{row_map}}
+use Rattle.ppdb_values.specs.declared.{file.FileValue.{FileValue}, scope.ScopeValue.{ScopeValue}, scope.VariableValue.{VariableValue}}
+use Rattle.ppdb_values.proofs.Mapped.{row_map}
 use Rattle.ppdb_merge_annotated.specs.NamedRows.{goes_constant}
 use Rattle.ppdb_merge_fits.specs.{declared.used.MethodSlot.{MethodSlot}, declared.used.OwnedConstant.{OwnedConstant}, Owned.{owned_by, owned_constants}}
 use Rattle.ppdb_merge_fits.{specs.Slots.{variable_slots}, proofs.ScopeLists.{of_row}}

@@ -1,6 +1,6 @@
 -- Images of rows: in the same table, or in one that the row's lines name.
-use Rattle.std.proofs.Common.{rules, ◌≡◌, ℕ, zero, suc, ◌≤◌, ◌⊎◌, inl, inr, ◌&&◌, ◌||◌, not, Bool, List, [], ◌∷◌, true, false, cond, Option, Some, None, refl, sym}
-use Rattle.std.{proofs.Common.{◌∙◌, ap, subst, arith}, specs.Prelude.{nat_eq, IfSome}, specs.List.{find, list_any, AllByRecursion}, specs.Option.{option_map}}
+use Rattle.std.proofs.Common.{rules, ◌≡◌, ℕ, zero, suc, ◌≤◌, ◌⊎◌, inl, inr, ◌&&◌, ◌||◌, Bool, List, [], ◌∷◌, true, false, cond, Option, Some, None, refl, sym, ◌∙◌}
+use Rattle.std.{proofs.Common.{ap, subst, arith}, specs.Prelude.{nat_eq, IfSome}, specs.List.{find, list_any, AllByRecursion}, specs.Option.{option_map}}
 use Rattle.std.proofs.lemmas.Bool.{eqb-true, eq-eqb, and_parts, or_cases, both_ways}
 use Rattle.ppdb_maps.specs.declared.{entries.CrossLine.{CrossLine}, entries.GoneLine.{GoneLine}, entries.RowLine.{RowLine}, image.RowImage.{RowImage}}
 use Rattle.ppdb_maps.specs.{declared.image.RowImage.TheVariants.{Row, Missing}, Forms.{Crosses}, Map.{Map, row_image, row_within, row_line, cross_line}}

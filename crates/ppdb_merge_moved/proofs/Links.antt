@@ -1,5 +1,5 @@
 -- What is linked to a method is moved with it.
-use Rattle.std.proofs.Common.{rules, ◌≡◌, ℕ, ◌≢◌, ◌||◌, not, Bool, true, false, cond, List, [], ◌∷◌, Option, Some, None, refl, sym, ◌∙◌, ap, subst, map}
+use Rattle.std.proofs.Common.{rules, ◌≡◌, ℕ, ◌≢◌, ◌||◌, Bool, true, false, cond, List, [], ◌∷◌, Option, Some, None, refl, sym, ◌∙◌, ap, subst, map}
 use Rattle.std.specs.{Prelude.{nat_eq, is_none}, List.{filter, filter_map, find, cons_option}, Option.{option_map, option_and_then}}
 use Rattle.std.proofs.lemmas.Bool.{ne_eqb, eqb-true, and_parts}
 use Rattle.ppdb_base.specs.Offsets.{gone}

@@ -1,5 +1,5 @@
 -- A text of #Strings holds no zero byte.
-use Rattle.std.{proofs.Common.{rules, ◌≡◌, ℕ, zero, ◌<◌, true, List, [], take, sym, ap, ◌∙◌, subst, arith, get_or}, specs.Prelude.{Option, Some, None, ◌==◌}}
+use Rattle.std.{proofs.Common.{rules, ◌≡◌, ℕ, ◌<◌, true, List, take, sym, ap, ◌∙◌, subst, arith, get_or}, specs.Prelude.{Option, Some, None, ◌==◌}}
 use Rattle.std.{specs.List.{position}, specs.Option.{option_map}, proofs.lemmas.List.{length-take, get_or-take}, proofs.lemmas.List.Quantifiers.{position-Some}}
 use Rattle.ppdb_heaps.specs.Heaps.{text_at}
 use Rattle.ppdb_values_sound.specs.Scopes.{HoldsNoZero}

@@ -1,4 +1,4 @@
-use Rattle.std.{proofs.Common.{◌≡◌, Option, Some, None, map, flat_map, sym, ap, ◌∙◌, subst}, specs.Prelude.{option_to_list, false}, specs.List.{list_any}}
+use Rattle.std.{proofs.Common.{◌≡◌, Some, None, flat_map, sym, ap, ◌∙◌, subst}, specs.Prelude.{option_to_list, false}, specs.List.{list_any}}
 use Rattle.ppdb_maps.specs.Map.{Map}
 use Rattle.ppdb_tables.specs.RawTables.{row_at}
 use Rattle.ppdb_values.specs.{Value.{value_of}, declared.file.FileValue.{FileValue}, declared.scope.ScopeValue.{ScopeValue}}
