@@ -21,6 +21,3 @@ pub use laws::blob_end_law;
 pub use numbers::{byte_field, signed_field, unsigned_field, word_field};
 pub use octets::fixed_field;
 pub use places::PlacedIndex;
-
-#[cfg(test)]
-mod tests;

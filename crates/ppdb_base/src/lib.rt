@@ -32,6 +32,3 @@ pub use offsets::{OffsetImage, Run};
 pub use sink::{Sink, WriteError};
 pub use steady::{SteadyFolder, SteadySink};
 pub use steps::{CounterPermit, Steps};
-
-#[cfg(test)]
-mod tests;

@@ -7,6 +7,3 @@ mod rows;
 
 pub use keys::{Key, set_in_order};
 pub use rows::new_rows;
-
-#[cfg(test)]
-mod tests;

@@ -6,6 +6,3 @@ mod layout;
 
 pub use column::{Column, PARENT_TABLES, Sizes};
 pub use layout::{RowLayout, written_cells_are_read};
-
-#[cfg(test)]
-mod tests;

@@ -4,7 +4,5 @@
 
 mod packed;
 mod reading;
-#[cfg(test)]
-mod tests;
 
 pub use packed::PackedPoints;

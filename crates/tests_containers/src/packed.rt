@@ -2,9 +2,9 @@
 ghost use Rattle.std.specs.Prelude.{◌≡◌};
 ghost use Rattle.sequence_points_packed.specs.Packed.{MayBeWritten};
 
-use crate::PackedPoints;
 use ppdb_base::{Bytes, List, Memory};
 use sequence_points::{Point, Span};
+use sequence_points_packed::PackedPoints;
 use std::alloc::Global;
 use std::process::Abort;
 

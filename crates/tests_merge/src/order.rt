@@ -1,5 +1,5 @@
-use crate::{Key, new_rows, set_in_order};
 use ppdb_base::Memory;
+use ppdb_merge_order::{Key, new_rows, set_in_order};
 
 fn key(image: u32, input: u32, row: u32) -> Key {
     Key { image, input, row }

@@ -1,5 +1,5 @@
-use crate::{Column, RowLayout, Sizes};
 use ppdb_base::Bytes;
+use row_layout::{Column, RowLayout, Sizes};
 use std::test::Fail;
 
 const DOCUMENT: [Column; 4] = [Column::Blob, Column::Guid, Column::Blob, Column::Guid];

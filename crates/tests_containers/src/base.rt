@@ -1,4 +1,4 @@
-use crate::{
+use ppdb_base::{
     Bytes, Code, Folder, List, Memory, MemoryFolder, MemorySink, ReadError, Sink, SteadyFolder,
     SteadySink, WriteError, put_escaped,
 };

@@ -1,4 +1,6 @@
-use crate::{byte_field, character_field, fixed_field, signed_field, unsigned_field, word_field};
+use blob_grammar::{
+    byte_field, character_field, fixed_field, signed_field, unsigned_field, word_field,
+};
 use ppdb_base::{BlobFault, Code};
 use std::process::Abort;
 

@@ -1,6 +1,6 @@
 ghost use Rattle.std.specs.Prelude.{◌<◌, ◌^◌, ◌≤ℤ◌, ◌<ℤ◌, pos, neg_ℤ};
 
-use crate::{IntFault, read_signed, read_unsigned, spell_signed, spell_unsigned};
+use cli_ints::{IntFault, read_signed, read_unsigned, spell_signed, spell_unsigned};
 use std::process::Abort;
 
 fn is_unsigned(rt: &impl Abort, value: u32, bytes: &[u8])
