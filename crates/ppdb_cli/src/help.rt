@@ -394,7 +394,7 @@ impl fmt::Display for Hint<'_> {
             Hint::Form(name, topic) => {
                 let form = topic.form();
                 let remark = topic.remark();
-                write!(f, "ppdb: usage: {form}{note}; more: ppdb help {name}")
+                write!(f, "ppdb: usage: {form}{remark}; more: ppdb help {name}")
             }
         }
     }
