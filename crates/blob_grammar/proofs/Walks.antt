@@ -13,12 +13,12 @@ push_all xs left = record { items = xs ++ left.items; fault = left.fault }
 
 module _ {R X : Type 0} (g : Grammar R) (tell : PlacedField → List X) where
   -- what a walk reports of a field
-  abbrev pub told : Cut R → ℕ → Value → List X
-  told place at value = tell (record { byte = at; before = place.begun; value = value })
+  abbrev pub reported : Cut R → ℕ → Value → List X
+  reported place at value = tell (record { byte = at; before = place.begun; value = value })
 
   -- what is left after a step
   abbrev pub after_step : Cut R → ℕ → List ℕ → Step → Left X
-  after_step place at bytes (field value len) = push_all (told place at value) (fields_left g tell (with_value g place value) (at + len) (drop len bytes))
+  after_step place at bytes (field value len) = push_all (reported place at value) (fields_left g tell (with_value g place value) (at + len) (drop len bytes))
   after_step place at bytes stop = nothing_left None
   after_step place at bytes (invalid code) = nothing_left (Some (record { code = code; byte = at }))
 
@@ -53,7 +53,7 @@ module _ {R X : Type 0} (g : Grammar R) (tell : PlacedField → List X) where
   -- A field that is there and allowed.
   pub walk-field : (place : Cut R) (at : ℕ) (bytes : List ℕ) (form : Form) (value : Value) (len : ℕ)
       → g.form place.whole place.begun ≡ Some form → field_at form bytes ≡ Ok (value, len) → g.allows place.whole place.begun value ≡ true
-      → fields_left g tell place at bytes ≡ push_all (told place at value) (fields_left g tell (with_value g place value) (at + len) (drop len bytes))
+      → fields_left g tell place at bytes ≡ push_all (reported place at value) (fields_left g tell (with_value g place value) (at + len) (drop len bytes))
   walk-field place at bytes form value len expected found allowed = search (rules, to_step)
 
   -- A field that is there and not allowed.
@@ -89,7 +89,7 @@ module _ {R X : Type 0} (g : Grammar R) (tell : PlacedField → List X) where
     pub form : (a b : Cut R) → E a b → g.form a.whole a.begun ≡ g.form b.whole b.begun
     pub allows : (a b : Cut R) (value : Value) → E a b → g.allows a.whole a.begun value ≡ g.allows b.whole b.begun value
     pub may_stop : (a b : Cut R) → E a b → g.may_stop a.whole a.begun ≡ g.may_stop b.whole b.begun
-    pub tells : (a b : Cut R) (at : ℕ) (value : Value) → E a b → told a at value ≡ told b at value
+    pub tells : (a b : Cut R) (at : ℕ) (value : Value) → E a b → reported a at value ≡ reported b at value
     pub keeps : (a b : Cut R) (value : Value) → E a b → g.allows a.whole a.begun value ≡ true → E (with_value g a value) (with_value g b value)
 
   -- Places of which one has begun what the other has, after records that the grammar takes for the same.

@@ -1,5 +1,7 @@
 ghost use Rattle.std.specs.Prelude.{◌≡◌, ◌≤◌, ◌<◌, ◌^◌, length, take, IfOk, IfErr};
-ghost use Rattle.blob_grammar.specs.Grammar.{octets, character, is_in as in_range, is_second as second_fits, is_character as is_well_formed};
+ghost use Rattle.blob_grammar.specs.Grammar.{octets, character, is_in as in_range};
+ghost use Rattle.blob_grammar.specs.Grammar.{is_second as second_fits};
+ghost use Rattle.blob_grammar.specs.Grammar.{is_character as is_well_formed};
 ghost use Rattle.blob_grammar.specs.Reader.{character_len as len_of_character, IsThere, IsMissing};
 
 use crate::fault::fault_at;
@@ -12,7 +14,8 @@ fn is_in(low: u8, high: u8, b: u8) -> bool
     low <= b && b <= high
 }
 
-/// Whether a character that begins with the first byte may go on with the second (Unicode, table 3-7).
+/// Whether a character that begins with the first byte may go on with the second (Unicode, table
+/// 3-7).
 fn is_second(first: u8, b: u8) -> bool
     ensures { result ≡ second_fits first b }
 {
@@ -72,11 +75,13 @@ fn character_len(bytes: &[u8]) -> usize
     }
 }
 
-/// The UTF-8 character at a place of a blob. Bytes that begin none are out of range; `BlobEnd` is reported only at the blob's end.
+/// The UTF-8 character at a place of a blob. Bytes that begin none are out of range; `BlobEnd` is
+/// reported only at the blob's end.
 pub fn character_field(blob: &[u8], at: usize) -> Result<&[u8], BlobFault>
     requires within { at ≤ length blob.now }
     requires short { length blob.now < 2 ^ 32 }
-    ensures found { IfOk result (λ bytes. IsThere character blob.now at (octets bytes.now) (length bytes.now)) }
+    ensures found { IfOk result
+        (λ bytes. IsThere character blob.now at (octets bytes.now) (length bytes.now)) }
     ensures missing { IfErr result (IsMissing character blob.now at) }
 {
     let left = &blob[at..];

@@ -23,7 +23,8 @@ pub trait BlobCursor {
 
     ghost kept: { Self → Kept };
 
-    /// The next item; None where no more come, else the blob's fault. From there on the answer stays the same.
+    /// The next item; None where no more come, else the blob's fault. From there on the answer
+    /// stays the same.
     fn next_item(&mut self) -> Result<Option<Self::Item>, BlobFault>
         ensures answer { seen_as seen result ≡ answer (left self.old) }
         ensures left { left self.new ≡ rest_of (left self.old) }

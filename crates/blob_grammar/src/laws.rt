@@ -5,8 +5,10 @@ ghost use Rattle.blob_grammar.specs.Ending.{EndsInside};
 
 use ppdb_base::Code;
 
-/// Where a blob is at fault by `BlobEnd`, it ends inside the field that may come there, or before it.
+/// Where a blob is at fault by `BlobEnd`, it ends inside the field that may come there, or before
+/// it.
 pub fn blob_end_law()
-    ensures inside { (form : Form) (after : List ℕ) → All (λ b. b < 256) after → form ≢ fixed 0 → IsFaultOf Code.BlobEnd (Some form) after → EndsInside form after }
+    ensures inside { (form : Form) (after : List ℕ) → All (λ b. b < 256) after → form ≢ fixed 0
+        → IsFaultOf Code.BlobEnd (Some form) after → EndsInside form after }
     ensures nothing { (after : List ℕ) → IsFaultOf Code.BlobEnd None after → after ≡ [] }
 {}

@@ -1,4 +1,5 @@
-//! Blobs as lists of fields: what they hold, where they are at fault, the fields that cursors read, and the numbers that writers append.
+//! Blobs as lists of fields: what they hold, where they are at fault, the fields that cursors read,
+//! and the numbers that writers append.
 #![tactic(auto)]
 
 mod allowed;

@@ -1,6 +1,7 @@
 ghost use Rattle.std.specs.Prelude.{◌≡◌, ◌≤◌, ◌<◌, ◌^◌, ◌+◌, length, drop, IfOk, IfErr};
 ghost use Rattle.blob_grammar.specs.Grammar.{byte, number};
-ghost use Rattle.blob_grammar.specs.Reader.{placed, unsigned_at, signed_at, word_at, IsThere, IsMissing};
+ghost use Rattle.blob_grammar.specs.Reader.{placed, unsigned_at, signed_at, word_at, IsThere};
+ghost use Rattle.blob_grammar.specs.Reader.{IsMissing};
 
 use crate::fault::fault_at;
 use byteorder::{ByteOrder, LittleEndian};

@@ -1,7 +1,10 @@
--- The breaks as a walk over the rows of MethodDebugInformation gives them (Portable PDB v1.0, "MethodDebugInformation Table").
-use Rattle.std.specs.Prelude.{ℕ, ◌-◌, List, [], ◌++◌, Option, Some, None, length, drop, filter_map, flat_map}
+-- The breaks as a walk over the rows of MethodDebugInformation gives them (Portable PDB v1.0,
+-- "MethodDebugInformation Table").
+use Rattle.std.specs.Prelude.{ℕ, ◌-◌, List, [], ◌++◌, Option, Some, None, length, drop, filter_map}
+use Rattle.std.specs.Prelude.{flat_map}
 use Rattle.sequence_points.specs.declared.point.Point.{Point}
-use Rattle.ppdb_tables.specs.{declared.rows.MethodDebugRow.MethodDebugRow, RawTables.{RawTables, numbered}}
+use Rattle.ppdb_tables.specs.{declared.rows.MethodDebugRow.MethodDebugRow, RawTables.RawTables}
+use Rattle.ppdb_tables.specs.RawTables.{numbered}
 use Rattle.ppdb_values.specs.{declared.file.MethodValue.MethodValue, Documents.method_of}
 use Rattle.ppdb_queries.specs.Cursors.{Walk}
 use Rattle.break_lines.specs.{declared.item.Break.Break, Breaks.break_of}
@@ -22,9 +25,11 @@ abbrev pub breaks_now : Option (List Break) → List Break
 breaks_now None = []
 breaks_now (Some breaks) = breaks
 
--- the rest of the breaks of the row that a walk is in, and those of the rows after the first so many
+-- the rest of the breaks of the row that a walk is in, and those of the rows after the first so
+-- many
 abbrev pub breaks_left : RawTables → ℕ → ℕ → Option (List Break) → ℕ → Walk Break
 breaks_left raw document line now done = record {
-  items = breaks_now now ++ flat_map (breaks_at_row raw document line) (drop done (numbered raw.methods));
+  items = breaks_now now
+      ++ flat_map (breaks_at_row raw document line) (drop done (numbered raw.methods));
   rows = length raw.methods - done;
 }

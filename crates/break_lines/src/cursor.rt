@@ -16,7 +16,7 @@ use crate::method::MethodBreaks;
 use ppdb_base::Steps;
 use ppdb_tables::{DOCUMENT, METHOD_DEBUG};
 use ppdb_verify::Verified;
-use ppdb_verify_rows::{copy_of, count, method_debug, points_of};
+use ppdb_verify_readers::{copy_of, count, method_debug, points_of};
 use std::marker::Model;
 use std::sync::ledger::Ledger;
 
@@ -33,7 +33,8 @@ fn method_breaks<'a, L: Ledger>(
     steps: &mut Steps<L>,
 ) -> Option<MethodBreaks<'a>>
     requires { HasRow (raw_file file.now).tables 0x31 method }
-    ensures breaks { (row : MethodDebugRow) → row_at (raw_file file.now).tables.methods method ≡ Some row
+    ensures breaks { (row : MethodDebugRow)
+        → row_at (raw_file file.now).tables.methods method ≡ Some row
         → breaks_now result ≡ breaks_at_row (raw_file file.now).tables document line (method, row) }
     ensures step { steps.new ≡ steps.old + 1 }
 {
@@ -79,7 +80,8 @@ impl<'a> Model for BreakCursor<'a> {
 
     ghost Value = { Walk Break };
 
-    ghost view = { λ s. breaks_left (raw_of (tables_of s.file)) s.document s.line s.current s.done };
+    ghost view = { λ s.
+        breaks_left (raw_of (tables_of s.file)) s.document s.line s.current s.done };
 
     ghost invariant = { λ s. s.done ≤ length (raw_of (tables_of s.file)).methods };
 }
@@ -96,7 +98,7 @@ impl<'a> BreakCursor<'a> {
             if let Some(found) = next_now(&mut self.current) {
                 return Some(found);
             }
-            let _ = self.file.keeps();
+            let _ = self.file.facts();
             if self.done == count(&self.file, METHOD_DEBUG) {
                 return None;
             }
@@ -107,8 +109,8 @@ impl<'a> BreakCursor<'a> {
     }
 }
 
-/// The breaks of a line of a document, by method and IL offset. A walk to the end reads in all at most as many rows as
-/// MethodDebugInformation has.
+/// The breaks of a line of a document, by method and IL offset. A walk to the end reads in all at
+/// most as many rows as MethodDebugInformation has.
 ///
 /// # Errors
 ///
@@ -118,9 +120,11 @@ pub fn breaks_at<'a>(
     document: u32,
     line: u32,
 ) -> Result<BreakCursor<'a>, NoDocument>
-    ensures none { OnErr result ((document ≡ 0) ⊎ (count_of (raw_file file.now).tables 0x30 < document)) }
+    ensures none { OnErr result ((document ≡ 0)
+        ⊎ (count_of (raw_file file.now).tables 0x30 < document)) }
     ensures there { OnOk result (HasRow (raw_file file.now).tables 0x30 document) }
-    ensures breaks { IfOk result (λ breaks. breaks.items ≡ breaks_in (value_of (raw_file file.now)) document line) }
+    ensures breaks { IfOk result
+        (λ breaks. breaks.items ≡ breaks_in (value_of (raw_file file.now)) document line) }
     ensures rows { IfOk result (λ breaks. breaks.rows ≡ length (raw_file file.now).tables.methods) }
 {
     if document == 0 || count(file, DOCUMENT) < document {

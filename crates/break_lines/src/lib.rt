@@ -1,5 +1,6 @@
-//! Where a debugger may stop for a line of a document: the document by its name, and the sequence points that cover the line, one
-//! after the other. No call takes memory; each counts the rows that it reads.
+//! Where a debugger may stop for a line of a document: the document by its name, and the sequence
+//! points that cover the line, one after the other. No call takes memory; each counts the rows that
+//! it reads.
 #![tactic(auto)]
 
 mod cursor;

@@ -12,13 +12,15 @@ use ppdb_base::Steps;
 use ppdb_heaps::NameCursor;
 use ppdb_tables::DOCUMENT;
 use ppdb_verify::Verified;
-use ppdb_verify_rows::{count, document};
+use ppdb_verify_readers::{count, document};
 use std::sync::ledger::Ledger;
 
 /// What follows two texts, one after the other, in a third; None where it does not begin with them.
 fn after_both<'t>(text: &'t [u8], first: &[u8], second: &[u8]) -> Option<&'t [u8]>
-    ensures { MatchOption result ((more : List ℕ) → bytes_eq ((first.now ++ second.now) ++ more) text.now ≡ false)
-        (λ rest. (more : List ℕ) → bytes_eq ((first.now ++ second.now) ++ more) text.now ≡ bytes_eq more rest.now) }
+    ensures { MatchOption result ((more : List ℕ)
+        → bytes_eq ((first.now ++ second.now) ++ more) text.now ≡ false)
+        (λ rest. (more : List ℕ)
+        → bytes_eq ((first.now ++ second.now) ++ more) text.now ≡ bytes_eq more rest.now) }
 {
     text.strip_prefix(first)?.strip_prefix(second)
 }
@@ -42,8 +44,8 @@ pub fn has_name(name: NameCursor<'_>, text: &[u8]) -> bool
     rest.is_empty()
 }
 
-/// The row of the document with a name; None where no document has it. In all at most as many rows are read as
-/// Document has.
+/// The row of the document with a name; None where no document has it. In all at most as many rows
+/// are read as Document has.
 pub fn document_named<L: Ledger>(
     file: &Verified<'_>,
     name: &[u8],
@@ -53,10 +55,10 @@ pub fn document_named<L: Ledger>(
     ensures later { steps.old ≤ steps.new }
     ensures cost { steps.new ≤ steps.old + count_of (raw_file file.now).tables 0x30 }
 {
-    let _ = file.keeps();
+    let _ = file.facts();
     'rows: for row in 1..count(file, DOCUMENT) + 1 {
         let cells = document(file, row, steps);
-        if has_name(ppdb_verify_rows::name(file, row, &cells), name) {
+        if has_name(ppdb_verify_readers::name(file, row, &cells), name) {
             return Some(row);
         }
     }

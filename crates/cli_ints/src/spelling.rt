@@ -1,4 +1,5 @@
-ghost use Rattle.std.specs.Prelude.{◌≡◌, ◌<◌, ◌≤◌, ◌*◌, ◌≤ℤ◌, ◌<ℤ◌, List, ℕ, length, take, pos, neg_ℤ};
+ghost use Rattle.std.specs.Prelude.{◌≡◌, ◌<◌, ◌≤◌, ◌*◌, ◌≤ℤ◌, ◌<ℤ◌, List, ℕ, length, take, pos};
+ghost use Rattle.std.specs.Prelude.{neg_ℤ};
 ghost use Rattle.cli_ints.specs.Compressed.{SpellsUnsigned, SpellsSigned, IsShortest, unrotated};
 ghost use Rattle.cli_ints.specs.Shortest.{short_unsigned, short_signed};
 

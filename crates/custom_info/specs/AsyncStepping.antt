@@ -1,12 +1,16 @@
 -- Async Method Stepping Information (Portable PDB v1.0, CustomDebugInformation Table).
-use Rattle.std.specs.{Prelude.{ℕ, zero, suc, List, [], ◌∷◌, ◌++◌, map, Option, Some, None, Bool, false, nat_le, drop, ◌<◌, ◌≤◌, flat_map, option_map}, Int.{w32, to_le_bytes}}
+use Rattle.std.specs.Prelude.{ℕ, zero, suc, List, [], ◌∷◌, ◌++◌, map, Option, Some, None, Bool}
+use Rattle.std.specs.{Prelude.{false, nat_le, drop, ◌<◌, ◌≤◌, flat_map, option_map}, Int.w32}
+use Rattle.std.specs.Int.{to_le_bytes}
 use Rattle.cli_ints.specs.Shortest.{short_unsigned}
-use Rattle.blob_grammar.specs.{Grammar.{Value, number, Form, word, unsigned, Grammar}, Reader.{Left, read_from}, Allowed.{is_row, is_number, is_between}}
+use Rattle.blob_grammar.specs.{Grammar.{Value, number, Form, word, unsigned, Grammar}, Reader.Left}
+use Rattle.blob_grammar.specs.{Reader.read_from, Allowed.{is_row, is_number, is_between}}
 use Rattle.custom_info.specs.{Fields.is_offset, declared.stepping.AsyncStep.AsyncStep}
 
 -- ---- the steps
 
--- A step is the offset where the method pauses, the offset where it resumes, and the method that resumes.
+-- A step is the offset where the method pauses, the offset where it resumes, and the method that
+-- resumes.
 abbrev pub step_form : List Value → Option Form
 step_form [] = Some word
 step_form (pause ∷ []) = Some word
@@ -18,7 +22,8 @@ step_allows methods (pause ∷ resume ∷ []) value = is_number (is_row methods)
 step_allows methods _ value = is_number is_offset value
 
 abbrev pub step_of : List Value → Option AsyncStep
-step_of (number pause ∷ number resume ∷ number method ∷ []) = Some (record { pause = pause; resume = resume; method = method })
+step_of (number pause ∷ number resume ∷ number method ∷ []) =
+    Some (record { pause = pause; resume = resume; method = method })
 step_of _ = None
 
 -- Any number of steps.
@@ -68,7 +73,8 @@ may_stop [] begun = false
 may_stop (first ∷ others) begun = is_between begun
 
 abbrev pub async_stepping : ℕ → Grammar Entry
-async_stepping methods = record { form = form; allows = allows methods; record_of = entry_of; may_stop = may_stop }
+async_stepping methods =
+    record { form = form; allows = allows methods; record_of = entry_of; may_stop = may_stop }
 
 -- a blob's entries: one handler, and the steps
 abbrev pub entries_of : Option ℕ → List AsyncStep → List Entry
@@ -90,12 +96,15 @@ abbrev pub IsHandler : Option ℕ → Type 0
 IsHandler None = Unit {0}
 IsHandler (Some offset) = offset < 0x8000_0000
 
--- A step that can be written: offsets below 2 ^ 31, and a method that has a spelling (ECMA-335 II.23.2).
+-- A step that can be written: offsets below 2 ^ 31, and a method that has a spelling (ECMA-335
+-- II.23.2).
 abbrev pub IsStep : AsyncStep → Type 0
-IsStep step = (step.pause < 0x8000_0000) × (step.resume < 0x8000_0000) × (1 ≤ step.method) × (step.method < 0x2000_0000)
+IsStep step = (step.pause < 0x8000_0000) × (step.resume < 0x8000_0000) × (1 ≤ step.method)
+    × (step.method < 0x2000_0000)
 
 abbrev pub step_spelling : AsyncStep → List ℕ
-step_spelling step = to_le_bytes w32 step.pause ++ to_le_bytes w32 step.resume ++ short_unsigned step.method
+step_spelling step =
+    to_le_bytes w32 step.pause ++ to_le_bytes w32 step.resume ++ short_unsigned step.method
 
 abbrev pub async_spelling : Option ℕ → List AsyncStep → List ℕ
 async_spelling handler steps = to_le_bytes w32 (stored_of handler) ++ flat_map step_spelling steps

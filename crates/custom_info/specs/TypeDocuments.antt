@@ -1,6 +1,7 @@
 -- Type Definition Documents (Portable PDB v1.0, CustomDebugInformation Table).
 use Rattle.std.specs.Prelude.{ℕ, List, [], ◌∷◌, Option, Some, None, drop, ◌<◌, ◌≤◌}
-use Rattle.blob_grammar.specs.{Grammar.{Value, number, unsigned, Grammar}, Reader.{Left, read_from}, Allowed.{is_row, is_number, is_between}}
+use Rattle.blob_grammar.specs.{Grammar.{Value, number, unsigned, Grammar}, Reader.{Left, read_from}}
+use Rattle.blob_grammar.specs.Allowed.{is_row, is_number, is_between}
 
 abbrev pub row_of : List Value → Option ℕ
 row_of (number row ∷ []) = Some row

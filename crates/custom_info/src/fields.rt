@@ -1,5 +1,6 @@
 // Fields that hold a row or an IL offset.
-ghost use Rattle.std.specs.Prelude.{◌≡◌, ◌≤◌, ◌<◌, ◌^◌, ◌+◌, ◌++◌, length, drop, if◌then◌else◌, Ok, Err, IfOk, OnOk, OnErr};
+ghost use Rattle.std.specs.Prelude.{◌≡◌, ◌≤◌, ◌<◌, ◌^◌, ◌+◌, ◌++◌, length, drop, if◌then◌else◌, Ok};
+ghost use Rattle.std.specs.Prelude.{Err, IfOk, OnOk, OnErr};
 ghost use Rattle.std.specs.Int.{w32, to_le_bytes};
 ghost use Rattle.blob_grammar.specs.Reader.{unsigned_at};
 ghost use Rattle.blob_grammar.specs.Reader.{placed, word_at};
@@ -20,7 +21,8 @@ pub fn field_where(
     at: usize,
 ) -> Result<(u32, usize), BlobFault>
     requires { at < 2 ^ 32 }
-    ensures { result ≡ (if is_allowed then Ok field else Err (record { code = Code.ValueRange; byte = at })) }
+    ensures { result
+        ≡ (if is_allowed then Ok field else Err (record { code = Code.ValueRange; byte = at })) }
 {
     if is_allowed {
         Ok(field)

@@ -110,13 +110,15 @@ pub enum Kind {
     Hoisted,
     /// Type definition documents, which are read.
     TypeDocuments,
-    /// A kind that is passed on unread: one of the ten listed ones, or one that the user has marked.
+    /// A kind that is passed on unread: one of the ten listed ones, or one that the user has
+    /// marked.
     Free,
     /// Any other kind.
     Unknown,
 }
 
-/// The kind that a GUID names, its bytes as they lie in a file. A mark on a kind that is read changes nothing.
+/// The kind that a GUID names, its bytes as they lie in a file. A mark on a kind that is read
+/// changes nothing.
 pub fn kind_of(guid: &[u8; 16], marks: &Marks) -> Kind
     ensures { result ≡ the_kind marks.now guid.now }
 {

@@ -1,4 +1,5 @@
-//! Custom debug information of Portable PDB files: which kinds there are, and the three that are read, both ways.
+//! Custom debug information of Portable PDB files: which kinds there are, and the three that are
+//! read, both ways.
 #![tactic(auto)]
 
 mod fields;

@@ -30,7 +30,8 @@ impl Marks {
         }
     }
 
-    /// Marks a GUID, its bytes as they lie in a file. To mark it again changes no answer; after a refusal the marks are unchanged.
+    /// Marks a GUID, its bytes as they lie in a file. To mark it again changes no answer; after a
+    /// refusal the marks are unchanged.
     pub fn add(&mut self, guid: [u8; 16]) -> Result<(), Memory>
         ensures ok { OnOk result (self.new ≡ self.old ++ guid ∷ []) }
         ensures err { OnErr result (self.new ≡ self.old) }

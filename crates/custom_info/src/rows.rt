@@ -1,5 +1,6 @@
 // Type definition documents.
-ghost use Rattle.std.specs.Prelude.{◌≡◌, ◌≤◌, ◌<◌, ◌^◌, ℕ, length, ◌++◌, All, OnOk, OnErr, flat_map};
+ghost use Rattle.std.specs.Prelude.{◌≡◌, ◌≤◌, ◌<◌, ◌^◌, ℕ, length, ◌++◌, All, OnOk, OnErr};
+ghost use Rattle.std.specs.Prelude.{flat_map};
 ghost use Rattle.cli_ints.specs.Shortest.{short_unsigned};
 ghost use Rattle.blob_grammar.specs.Reading.{Reading};
 ghost use Rattle.blob_grammar.specs.Reader.{Left, NextIs, answer, rest_of};
@@ -53,7 +54,8 @@ impl<'a> RowCursor<'a> {
         }
     }
 
-    /// The next row; None at the end of a whole blob, else the blob's fault. From there on the answer stays the same.
+    /// The next row; None at the end of a whole blob, else the blob's fault. From there on the
+    /// answer stays the same.
     pub fn next(&mut self) -> Result<Option<u32>, BlobFault>
         ensures answer { result ≡ answer self.old }
         ensures left { self.new ≡ rest_of self.old }

@@ -1,10 +1,12 @@
 // State machine hoisted local scopes.
-ghost use Rattle.std.specs.Prelude.{◌≡◌, ◌≤◌, ◌<◌, ◌^◌, ◌+◌, length, drop, ◌++◌, All, OnOk, OnErr, IfOk, true, flat_map};
+ghost use Rattle.std.specs.Prelude.{◌≡◌, ◌≤◌, ◌<◌, ◌^◌, ◌+◌, length, drop, ◌++◌, All, OnOk, OnErr};
+ghost use Rattle.std.specs.Prelude.{IfOk, true, flat_map};
 ghost use Rattle.blob_grammar.specs.Reading.{Reading};
 ghost use Rattle.blob_grammar.specs.Reader.{Left, NextIs, answer, rest_of, placed, word_at};
 ghost use Rattle.custom_info.specs.Fields.{checked};
 ghost use Rattle.custom_info.specs.declared.slots.Slot.{Slot};
-ghost use Rattle.custom_info.specs.HoistedScopes.{hoisted_scopes, slots_left, is_length, slot_with, IsSlot, slot_spelling};
+ghost use Rattle.custom_info.specs.HoistedScopes.{hoisted_scopes, slots_left, is_length, slot_with};
+ghost use Rattle.custom_info.specs.HoistedScopes.{IsSlot, slot_spelling};
 
 use crate::fields::{OFFSET_LIMIT, field_where, word_into};
 use crate::written::{Written, all_into};
@@ -93,7 +95,8 @@ impl<'a> SlotCursor<'a> {
         SlotCursor { blob, at: 0 }
     }
 
-    /// The next slot; None at the end of a whole blob, else the blob's fault. From there on the answer stays the same.
+    /// The next slot; None at the end of a whole blob, else the blob's fault. From there on the
+    /// answer stays the same.
     pub fn next(&mut self) -> Result<Option<Slot>, BlobFault>
         ensures answer { result ≡ answer self.old }
         ensures left { self.new ≡ rest_of self.old }
@@ -141,7 +144,8 @@ impl Written for Slot {
     }
 }
 
-/// Appends slots, each as its start and its length, an empty one as zeros. After a refusal the bytes are unchanged.
+/// Appends slots, each as its start and its length, an empty one as zeros. After a refusal the
+/// bytes are unchanged.
 pub fn slots_into(slots: &[Slot], into: &mut Bytes) -> Result<(), Memory>
     requires { All IsSlot slots.now }
     ensures ok { OnOk result (into.new ≡ into.old ++ flat_map slot_spelling slots.now) }

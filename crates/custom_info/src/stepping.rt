@@ -1,10 +1,13 @@
 // Async method stepping information.
-ghost use Rattle.std.specs.Prelude.{◌≡◌, ◌≤◌, ◌<◌, ◌^◌, ◌+◌, length, ◌++◌, All, OnOk, OnErr, IfOk, IfErr, [], Some};
+ghost use Rattle.std.specs.Prelude.{◌≡◌, ◌≤◌, ◌<◌, ◌^◌, ◌+◌, length, ◌++◌, All, OnOk, OnErr, IfOk};
+ghost use Rattle.std.specs.Prelude.{IfErr, [], Some};
 ghost use Rattle.blob_grammar.specs.Reading.{Reading};
 ghost use Rattle.blob_grammar.specs.Reader.{NextIs, answer, rest_of, placed, word_at};
 ghost use Rattle.custom_info.specs.Fields.{checked};
-ghost use Rattle.custom_info.specs.AsyncStepping.{async_stepping, steps_left, is_stored, handler_of as the_handler, stored_of};
-ghost use Rattle.custom_info.specs.AsyncStepping.{entries_of, IsHandler, IsStep, step_spelling, async_spelling};
+ghost use Rattle.custom_info.specs.AsyncStepping.{async_stepping, steps_left, is_stored};
+ghost use Rattle.custom_info.specs.AsyncStepping.{handler_of as the_handler, stored_of};
+ghost use Rattle.custom_info.specs.AsyncStepping.{entries_of, IsHandler, IsStep, step_spelling};
+ghost use Rattle.custom_info.specs.AsyncStepping.{async_spelling};
 
 use crate::fields::{OFFSET_LIMIT, field_where, offset_field, row_field, word_into};
 use crate::written::{Written, all_into};
@@ -86,17 +89,21 @@ impl<'a> Model for AsyncCursor<'a> {
 
     ghost Value = { Stepping };
 
-    ghost view = { λ c. record { handler = c.handler; left = steps_left c.methods c.blob.now c.at } };
+    ghost view = { λ c.
+        record { handler = c.handler; left = steps_left c.methods c.blob.now c.at } };
 
     ghost invariant = { λ c. (c.at ≤ length c.blob.now) × (length c.blob.now < 2 ^ 32) };
 }
 
 impl<'a> AsyncCursor<'a> {
-    /// A cursor of a blob, for a file with so many methods; or the blob's fault, where it is at the handler.
+    /// A cursor of a blob, for a file with so many methods; or the blob's fault, where it is at the
+    /// handler.
     pub fn new(blob: &'a [u8], methods: u32) -> Result<AsyncCursor<'a>, BlobFault>
         requires { length blob.now < 2 ^ 32 }
-        ensures ok { IfOk result (λ c. Reading (async_stepping methods) blob.now (entries_of c.handler c.left.items) c.left.fault) }
-        ensures err { IfErr result (λ fault. Reading (async_stepping methods) blob.now [] (Some fault)) }
+        ensures ok { IfOk result (λ c. Reading (async_stepping methods) blob.now
+            (entries_of c.handler c.left.items) c.left.fault) }
+        ensures err { IfErr result
+            (λ fault. Reading (async_stepping methods) blob.now [] (Some fault)) }
     {
         let (stored, at) = handler_field(blob)?;
         Ok(AsyncCursor {
@@ -114,7 +121,8 @@ impl<'a> AsyncCursor<'a> {
         self.handler
     }
 
-    /// The next step; None at the end of a whole blob, else the blob's fault. From there on the answer stays the same.
+    /// The next step; None at the end of a whole blob, else the blob's fault. From there on the
+    /// answer stays the same.
     pub fn next(&mut self) -> Result<Option<AsyncStep>, BlobFault>
         ensures answer { result ≡ answer self.old.left }
         ensures left { self.new ≡ record self.old { left = rest_of self.old.left } }
@@ -161,7 +169,8 @@ impl Written for AsyncStep {
     }
 }
 
-/// Appends a handler and steps: offsets as four bytes, methods in their shortest form. After a refusal the bytes are unchanged.
+/// Appends a handler and steps: offsets as four bytes, methods in their shortest form. After a
+/// refusal the bytes are unchanged.
 pub fn async_into(handler: Option<u32>, steps: &[AsyncStep], into: &mut Bytes) -> Result<(), Memory>
     requires handler { IsHandler handler }
     requires steps { All IsStep steps.now }

@@ -16,7 +16,8 @@ unfolding IsStrictlySortedBy
 few most [] up all = omega arith
 few most (k ∷ ks) up all = omega (arith, above_few k most ks all.0 up.0 up.1 all.1)
 
-slots_least : (xs : List SlotImage) → AllByRecursion (λ (x : SlotImage). x.old ≤ MAX_SLOT) xs → AllByRecursion (λ k. k ≤ MAX_SLOT) (map (λ (x : SlotImage). x.old) xs)
+slots_least : (xs : List SlotImage) → AllByRecursion (λ (x : SlotImage). x.old ≤ MAX_SLOT) xs
+    → AllByRecursion (λ k. k ≤ MAX_SLOT) (map (λ (x : SlotImage). x.old) xs)
 slots_least [] all = tt
 slots_least (x ∷ xs) all = (all.0, slots_least xs all.1)
 

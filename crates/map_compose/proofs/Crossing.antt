@@ -3,7 +3,7 @@ use Rattle.std.proofs.Common.{ℕ, zero, suc, ◌≡◌, ◌+◌, ◌<◌, ◌�
 use Rattle.std.{proofs.Common.{subst, arith, inl, inr}, specs.Prelude.{not, nat_eq, is_some}, specs.List.{cons_option, filter_map, find, flat_map, list_any}}
 use Rattle.std.{specs.List.{range_with_len, slice_get}, specs.Option.{option_or}, proofs.lemmas.Bool.{false≢true, eq-eqb, eqb-true}}
 use Rattle.ppdb_maps.specs.declared.{entries.CrossLine.{CrossLine}, image.RowImage.{RowImage}, image.RowImage.TheVariants.{Row, Gone, Missing}}
-use Rattle.ppdb_maps.{specs.Map.{Map, count_of, row_line, has_gone_line, told_image, line_image, row_image, is_dropped}, proofs.OneMap.{same_or_apart}}
+use Rattle.ppdb_maps.{specs.Map.{Map, count_of, row_line, has_gone_line, said_image, line_image, row_image, is_dropped}, proofs.OneMap.{same_or_apart}}
 use Rattle.ppdb_maps_text.specs.MapTexts.{has_items, olds_of}
 use Rattle.map_compose.specs.Composed.{tables, composed, composed_count, image_then, own_assembly, composed_image, sources, sources_of, cross_lined, gone_lined}
 use Rattle.map_compose.specs.{Composed.{cross_entries, gone_entries}, Leaving.{has_leaving, leaves, rows_leave}, Parts.{source}}
@@ -85,15 +85,15 @@ row_stays m crossed gone table old = by (nat_eq table 0x06 && is_dropped m old) 
     itself : (row : ℕ) → leaves table (Row table row) ≡ false
     itself row = ap (λ b. cond b false true) (eq-eqb table table refl)
 
-    lined : (a : Option ℕ) → leaves table (told_image table a None false) ≡ false
+    lined : (a : Option ℕ) → leaves table (said_image table a None false) ≡ false
     lined None = refl
     lined (Some new) = itself new
 
     line : leaves table (line_image m table old) ≡ false
     line =
-        ap (λ b. leaves table (told_image table (row_line m table old) b (has_gone_line m table old)))
+        ap (λ b. leaves table (said_image table (row_line m table old) b (has_gone_line m table old)))
         (ap (find (λ (r : CrossLine). nat_eq r.table table && nat_eq r.old old)) crossed)
-        ∙ ap (λ b. leaves table (told_image table (row_line m table old) None b))
+        ∙ ap (λ b. leaves table (said_image table (row_line m table old) None b))
         (ap (list_any (λ r. nat_eq r.table table && nat_eq r.old old)) gone)
         ∙ lined (row_line m table old)
 

@@ -6,7 +6,7 @@ use Rattle.std.proofs.lemmas.Bool.{eqb-true, and_parts}
 use Rattle.ppdb_base.specs.Offsets.{every, gone, Moves, Kept, kept_runs, all_offsets}
 use Rattle.ppdb_maps.specs.declared.entries.{Count.{Count}, RowLine.{RowLine}, CrossLine.{CrossLine}, GoneLine.{GoneLine}}
 use Rattle.ppdb_maps.specs.declared.{image.RowImage.{RowImage}, image.RowImage.TheVariants.{Row as RowOf, Gone, Missing}, entries.SlotImage.{SlotImage}}
-use Rattle.ppdb_maps.specs.{declared.entries.SignatureImage.{SignatureImage}, Map.{Map, MethodLine, count_of, row_line, cross_line, has_gone_line, told_image}}
+use Rattle.ppdb_maps.specs.{declared.entries.SignatureImage.{SignatureImage}, Map.{Map, MethodLine, count_of, row_line, cross_line, has_gone_line, said_image}}
 use Rattle.ppdb_maps.specs.Map.{line_image, row_within, row_image, method_line, is_dropped, has_slots, slot_line, slot_image, offsets_in, rows_of, slots_of}
 use Rattle.ppdb_maps.{specs.Map.{signature_line}, specs.Readable.{IsReadable, IsCount}, specs.Says.{sizes_of}, proofs.Parts.{line_offsets}, proofs.OneList.{any_is}}
 use Rattle.ppdb_maps.proofs.OneMap.{same_or_apart}
@@ -14,7 +14,8 @@ use Rattle.map_compose.specs.{Runs.{met, longest}, Composed.{tables, composed_co
 use Rattle.map_compose.specs.Composed.{row_lined, cross_lined, gone_lined, row_entries, cross_entries, gone_entries, spoken_of, of_image, drops_one, has_image}
 use Rattle.map_compose.specs.Composed.{second_line, composed_runs, sized, composed_line, has_slot_lines, composed_slot, slot_sources, slot_entry, slot_entries}
 use Rattle.map_compose.specs.{Composed.{slotted_methods, composed, signature_then, composed_signature, signature_entry, signed}, Composition.{Follows}}
-use Rattle.map_compose.{specs.Composition.{ComposedComposes, sizes_then}, specs.Laws.{Apart, MovesOn}, proofs.Imaging.{within, by_image, within_lined, told_lined}}
+use Rattle.map_compose.{specs.Composition.{ComposedComposes, sizes_then}, specs.Laws.{Apart, MovesOn}, proofs.Imaging.{within, by_image, within_lined}}
+use Rattle.map_compose.proofs.Imaging.{reported_lined}
 use Rattle.map_compose.proofs.{Imaging.{image_within, lineless, own_itself, may_cross, image_kept}, Meeting.{runs_compose}, Named.{names_are, named_are}}
 use Rattle.ppdb_maps_text.proofs.Found.{has, given, made_found, filter_map_map, flat_found, has_append, has_filter, has_ascending, has_key, find_filter}
 use Rattle.ppdb_maps_text.{specs.MapTexts.{olds_of}, proofs.Starting.{olds_have as lines_have}}
@@ -368,9 +369,9 @@ gone_there f s table old =
 pub lined_image : (f s : Map) (table old : ℕ)
     → line_image (composed f s) table old ≡ cond (has table tables && has old (sources_of f s table)) (composed_image f s table old) Missing
 lined_image f s table old =
-    ap (λ a. told_image table a (cross_line (composed f s) table old) (has_gone_line (composed f s) table old)) (rows_there f s table old)
-    ∙ ap (λ b. told_image table (given t (given k (within table image))) b (has_gone_line (composed f s) table old)) (crossed_there f s table old)
-    ∙ ap (told_image table (given t (given k (within table image))) (given t (given k (cross_entry f s table old)))) (gone_there f s table old)
+    ap (λ a. said_image table a (cross_line (composed f s) table old) (has_gone_line (composed f s) table old)) (rows_there f s table old)
+    ∙ ap (λ b. said_image table (given t (given k (within table image))) b (has_gone_line (composed f s) table old)) (crossed_there f s table old)
+    ∙ ap (said_image table (given t (given k (within table image))) (given t (given k (cross_entry f s table old)))) (gone_there f s table old)
     ∙ of t k
   where
     image : RowImage
@@ -382,11 +383,11 @@ lined_image f s table old =
     k : Bool
     k = has old (sources_of f s table)
 
-    of : (a b : Bool) → told_image table (given a (given b (within table image))) (given a (given b (cross_lined table old image)))
+    of : (a b : Bool) → said_image table (given a (given b (within table image))) (given a (given b (cross_lined table old image)))
         (is_some (given a (given b (gone_lined table old image)))) ≡ cond (a && b) image Missing
     of false b = refl
     of true false = refl
-    of true true = told_lined table old image
+    of true true = reported_lined table old image
 
 -- ---- the image of a row, by its line, whether its method is dropped, and the table's count
 

@@ -2,7 +2,7 @@
 use Rattle.std.proofs.Common.{rules, ℕ, ◌≡◌, ◌&&◌, ◌||◌, Bool, true, false, cond, Option, Some, None, refl, sym, ap, ◌∙◌, subst, arith, inl, inr}
 use Rattle.std.{specs.Prelude.{not, nat_eq, is_some}, specs.Option.{option_map, option_and_then}, proofs.lemmas.Bool.{false≢true, eq-eqb, ne_eqb, eqb-true}}
 use Rattle.ppdb_maps.specs.declared.{entries.RowLine.{RowLine}, entries.CrossLine.{CrossLine}, image.RowImage.{RowImage}, image.RowImage.TheVariants.{Row, Gone}}
-use Rattle.ppdb_maps.specs.{declared.image.RowImage.TheVariants.{Missing}, Forms.{Crosses}, Map.{Map, count_of, row_line, cross_line, has_gone_line, told_image}}
+use Rattle.ppdb_maps.specs.{declared.image.RowImage.TheVariants.{Missing}, Forms.{Crosses}, Map.{Map, count_of, row_line, cross_line, has_gone_line, said_image}}
 use Rattle.ppdb_maps.specs.{Map.{line_image, row_within, row_image, is_dropped}, Readable.{IsReadable, IsRow}}
 use Rattle.ppdb_maps_text.proofs.OneLine.{has_line, cross_found, gone_found, leaves_table}
 use Rattle.map_compose.specs.Composed.{image_then, own_assembly, composed_image, row_lined, cross_lined, gone_lined}
@@ -31,14 +31,14 @@ within_lined table old (Row to new) = of (nat_eq to table)
     of b = search rules
 
 -- by its lines an image is itself
-pub told_lined : (table old : ℕ) (image : RowImage)
-    → told_image table (within table image) (cross_lined table old image) (is_some (gone_lined table old image)) ≡ image
-told_lined table old Gone = refl
-told_lined table old Missing = refl
-told_lined table old (Row to new) = of (nat_eq to table) refl
+pub reported_lined : (table old : ℕ) (image : RowImage)
+    → said_image table (within table image) (cross_lined table old image) (is_some (gone_lined table old image)) ≡ image
+reported_lined table old Gone = refl
+reported_lined table old Missing = refl
+reported_lined table old (Row to new) = of (nat_eq to table) refl
   where
     of : (b : Bool) → nat_eq to table ≡ b
-        → told_image table (cond b (Some new) None) (cond b None (Some (record { table = table; old = old; to = to; new = new }))) false ≡ Row to new
+        → said_image table (cond b (Some new) None) (cond b None (Some (record { table = table; old = old; to = to; new = new }))) false ≡ Row to new
     of true is = ap (λ t. Row t new) (sym (eqb-true to table is))
     of false is = refl
 
@@ -48,7 +48,7 @@ pub image_within : (m : Map) (table old image : ℕ) → row_within m table old 
 image_within m table old image is = of (nat_eq table 0x06 && is_dropped m old) (count_of m table) (row_line m table old) is
   where
     of : (b : Bool) (c a : Option ℕ) → by_row a old b c ≡ Some image
-        → by_image table old (told_image table a (cross_line m table old) (has_gone_line m table old)) b c ≡ Row table image
+        → by_image table old (said_image table a (cross_line m table old) (has_gone_line m table old)) b c ≡ Row table image
     of true c a is = absurd (cc)
     of false None a is = let e : old ≡ image = cc in ap (Row table) e
     of false (Some n) None is = absurd (cc)
@@ -60,7 +60,7 @@ lineless m table old n count is =
     ap (by_image table old (line_image m table old) (nat_eq table 0x06 && is_dropped m old)) count
     ∙ by_drop (nat_eq table 0x06 && is_dropped m old) ∙ of (row_line m table old) (cross_line m table old) (has_gone_line m table old) is
   where
-    of : (a : Option ℕ) (b : Option CrossLine) (c : Bool) → (is_some a || (is_some b || c)) ≡ false → told_image table a b c ≡ Missing
+    of : (a : Option ℕ) (b : Option CrossLine) (c : Bool) → (is_some a || (is_some b || c)) ≡ false → said_image table a b c ≡ Missing
     of a b c is = search rules
 
     by_drop : (b : Bool) → cond b Missing (line_image m table old) ≡ line_image m table old
@@ -79,7 +79,7 @@ pub reaches : (m : Map) → IsReadable m → (table old : ℕ) → Reaches m tab
 reaches m readable table old = of (nat_eq table 0x06 && is_dropped m old) (count_of m table) refl refl
   where
     lined : (a : Option ℕ) (b : Option CrossLine) (c : Bool) → row_line m table old ≡ a → cross_line m table old ≡ b → has_gone_line m table old ≡ c
-        → row_within m table old ≡ a → Reaches m table old (told_image table a b c)
+        → row_within m table old ≡ a → Reaches m table old (said_image table a b c)
     lined (Some new) b c row cross gone within = stayed within
     lined None (Some line) c row cross gone within =
         let h = cross_found m readable table old line cross in crossed line within h.table_is h.of.2 h.of.1

@@ -16,7 +16,7 @@ made_join {X} {Y} make (x ∷ xs) ys = of (make x) (made_join make xs ys)
     of (Some y) e = ap (λ l. y ∷ l) e
 
 module _ {X Y : Type 0} (key : X → ℕ) (make : X → Option Y) (says : Y → Line) (lines : ℕ → List Line)
-    (told : (x : X) → map says (cons_option (make x) []) ≡ lines (key x)) where
+    (reported : (x : X) → map says (cons_option (make x) []) ≡ lines (key x)) where
   key_of : (xs : List X) (i k : ℕ) → option_map key (slice_get xs i) ≡ Some k → (x : X) × ((slice_get xs i ≡ Some x) × (key x ≡ k))
   key_of xs i k is = of (slice_get xs i) refl is
     where
@@ -35,7 +35,7 @@ module _ {X Y : Type 0} (key : X → ℕ) (make : X → Option Y) (says : Y → 
       says_same old new (map says (filter_map make (take i xs)) ++ lines k) (map says (filter_map make (take (i + 1) xs)))
       (sym (ap (λ l. map says (filter_map make l)) (take_more xs i x.0 x.1.0) ∙ ap (map says) (made_join make (take i xs) (x.0 ∷ []))
       ∙ map-append says (filter_map make (take i xs)) (filter_map make (x.0 ∷ []))
-      ∙ ap (λ l. map says (filter_map make (take i xs)) ++ l) (told x.0 ∙ ap lines x.1.1)))
+      ∙ ap (λ l. map says (filter_map make (take i xs)) ++ l) (reported x.0 ∙ ap lines x.1.1)))
       (says_then old mid new (map says (filter_map make (take i xs))) (lines k) h put)
 
   pub made_done : (xs : List X) (i : ℕ) (old new : Counted) → option_map key (slice_get xs i) ≡ None
@@ -48,9 +48,9 @@ module _ {X Y : Type 0} (key : X → ℕ) (make : X → Option Y) (says : Y → 
 
 -- ---- slots
 
-slot_told : (f s : Map) (method : ℕ) (x : SlotImage) → map slot_says (cons_option (slot_entry f s method x) [])
+slot_reported : (f s : Map) (method : ℕ) (x : SlotImage) → map slot_says (cons_option (slot_entry f s method x) [])
     ≡ slot_image_says method x.old (composed_slot f s method x.old)
-slot_told f s method x = of (composed_slot f s method x.old)
+slot_reported f s method x = of (composed_slot f s method x.old)
   where
     of : (o : Option ℕ) → map slot_says (cons_option (option_map (λ new. record { method = method; old = x.old; new = new }) o) [])
         ≡ slot_image_says method x.old o
@@ -70,10 +70,10 @@ pub slots_next : (f s : Map) (method : ℕ) (xs : List SlotImage) (i k : ℕ) (o
     → PutsLines old new (map slot_says (filter_map (slot_entry f s method) (take (i + 1) xs)))
 slots_next f s method xs i k old mid new is h put =
     made_next old_slot (slot_entry f s method) slot_says (λ n. slot_image_says method n (composed_slot f s method n))
-    (slot_told f s method) xs i k old mid new is h put
+    (slot_reported f s method) xs i k old mid new is h put
 
 pub slots_done : (f s : Map) (method : ℕ) (xs : List SlotImage) (i : ℕ) (old new : Counted) → option_map (λ (x : SlotImage). x.old) (slice_get xs i) ≡ None
     → PutsLines old new (map slot_says (filter_map (slot_entry f s method) (take i xs)))
     → PutsLines old new (map slot_says (filter_map (slot_entry f s method) xs))
 slots_done f s method xs i old new is h =
-    made_done old_slot (slot_entry f s method) slot_says (λ n. slot_image_says method n (composed_slot f s method n)) (slot_told f s method) xs i old new is h
+    made_done old_slot (slot_entry f s method) slot_says (λ n. slot_image_says method n (composed_slot f s method n)) (slot_reported f s method) xs i old new is h

@@ -392,7 +392,8 @@ module _ (f s : Map) (f_readable : IsReadable f) (s_readable : IsReadable s) whe
           twice line next from also crosses onward a apart = elim crosses [
             | inl types ↦ elim onward [
               | inl more ↦ inl (subst IsTypeTable from types.0, subst IsTypeTable a more.1, λ e. apart (sym e))
-              | inr own ↦ absurd (no_type 0x23 (subst IsTypeTable (sym also ∙ own.0) types.1) (λ e. omega (arith, e)) (λ e. omega (arith, e)) (λ e. omega (arith, e)))
+              | inr own ↦ absurd
+                  (no_type 0x23 (subst IsTypeTable (sym also ∙ own.0) types.1) (λ e. omega (arith, e)) (λ e. omega (arith, e)) (λ e. omega (arith, e)))
             ]
             | inr own ↦ elim onward [
               | inl more ↦ absurd (no_type 0x20 (subst IsTypeTable (also ∙ own.1) more.0) (λ e. omega (arith, e)) (λ e. omega (arith, e)) (λ e. omega (arith, e)))

@@ -5,7 +5,7 @@ use Rattle.std.{specs.List.Sorted.{IsStrictlySortedBy}, specs.Option.{option_map
 use Rattle.std.proofs.lemmas.List.{append-nil}
 use Rattle.ppdb_maps.specs.declared.entries.{Count.{Count}, RowLine.{RowLine}, CrossLine.{CrossLine}, GoneLine.{GoneLine}}
 use Rattle.ppdb_maps.specs.declared.{image.RowImage.TheVariants.{Missing}, entries.SlotImage.{SlotImage}, entries.SignatureImage.{SignatureImage}, line.Line.{Line}}
-use Rattle.ppdb_maps.specs.{declared.line.Line.TheVariants.{Rows, Dropped, Slots}, Map.{Map, MethodLine, row_line, cross_line, has_gone_line, told_image}}
+use Rattle.ppdb_maps.specs.{declared.line.Line.TheVariants.{Rows, Dropped, Slots}, Map.{Map, MethodLine, row_line, cross_line, has_gone_line, said_image}}
 use Rattle.ppdb_maps.specs.{Map.{line_image, method_line, count_of, is_dropped, row_within, rows_of, signature_line}, Readable.{IsReadable, IsRow}}
 use Rattle.ppdb_maps.proofs.OneMap.{same_or_apart}
 use Rattle.ppdb_maps_text.{specs.MapTexts.{count_says, slots_say, method_says, map_text, ended, version_of, head_text, image_says, olds_of}, proofs.Found.{given}}
@@ -225,15 +225,15 @@ module _ (f s : Map) (f_readable : IsReadable f) (s_readable : IsReadable s) whe
   unlined_says k o is =
       of (row_line (composed f s) k o) (cross_line (composed f s) k o) (has_gone_line (composed f s) k o) is
     where
-      of : (a : Option ℕ) (b : Option CrossLine) (c : Bool) → (is_some a || (is_some b || c)) ≡ false → image_says k o (told_image k a b c) ≡ []
+      of : (a : Option ℕ) (b : Option CrossLine) (c : Bool) → (is_some a || (is_some b || c)) ≡ false → image_says k o (said_image k a b c) ≡ []
       of (Some x) b c is = absurd (false≢true (sym is))
       of None (Some l) c is = absurd (false≢true (sym is))
       of None None true is = absurd (false≢true (sym is))
       of None None false is = refl
 
-  rows_told : (k : ℕ) → has k tables ≡ true
+  rows_reported : (k : ℕ) → has k tables ≡ true
       → flat_map (λ o. image_says k o (line_image (composed f s) k o)) (olds_of (composed f s) k) ≡ rows_say f s k
-  rows_told k there =
+  rows_reported k there =
       ap (flat_map (λ o. image_says k o (line_image (composed f s) k o))) (lined_olds k)
       ∙ flat_filter (λ o. image_says k o (line_image (composed f s) k o)) (has_line (composed f s) k) (unlined_says k) (sources_of f s k)
       ∙ flat_same (λ o. image_says k o (line_image (composed f s) k o)) (λ o. image_says k o (composed_image f s k o))
@@ -253,7 +253,7 @@ module _ (f s : Map) (f_readable : IsReadable f) (s_readable : IsReadable s) whe
         record { table = k; rows = n },
         (
           ap (option_map (λ rows. record { table = k; rows = rows })) is,
-          ap (λ ls. Rows k n ∷ ls) (rows_told k there) ∙ sym (ap (counted_says f s k) is),
+          ap (λ ls. Rows k n ∷ ls) (rows_reported k there) ∙ sym (ap (counted_says f s k) is),
         ),
       )
 
@@ -271,8 +271,8 @@ module _ (f s : Map) (f_readable : IsReadable f) (s_readable : IsReadable s) whe
           by true e = ap (λ l. Dropped n ∷ l) e
           by false e = e
 
-  slots_told : flat_map (slots_say (composed f s)) (composed f s).slotted ≡ flat_map (part_says SlotLines f s) (all_numbers SlotLines f s)
-  slots_told =
+  slots_reported : flat_map (slots_say (composed f s)) (composed f s).slotted ≡ flat_map (part_says SlotLines f s) (all_numbers SlotLines f s)
+  slots_reported =
       flat_same (slots_say (composed f s)) (slots_of_both f s) (λ k. has k (slotted_methods f s) ≡ true) each (slotted_methods f s)
       (within_itself (slotted_methods f s))
       ∙ ap (flat_map (slots_of_both f s)) (part_same SlotLines f s (has_slot_lines f s) f_readable
@@ -292,8 +292,8 @@ module _ (f s : Map) (f_readable : IsReadable f) (s_readable : IsReadable s) whe
           (sym (has_filter (has_slot_lines f s) k (spoken_of f f.slotted s.slotted)) ∙ there)).1)
 
   -- each signature says one line
-  pub signatures_told : map signature_says (composed f s).signatures ≡ flat_map (part_says Signatures f s) (all_numbers Signatures f s)
-  signatures_told =
+  pub signatures_reported : map signature_says (composed f s).signatures ≡ flat_map (part_says Signatures f s) (all_numbers Signatures f s)
+  signatures_reported =
       one_each (composed f s).signatures
       ∙ flat_made (λ x. signature_says x ∷ []) (signature_entry f s) (signature_of_both f s) (λ k. Unit {0})
       (λ k u. of k (composed_signature f s k) refl) (spoken_of f (signed f) (signed s)) (all_unit (spoken_of f (signed f) (signed s)))
@@ -318,8 +318,8 @@ module _ (f s : Map) (f_readable : IsReadable f) (s_readable : IsReadable s) whe
         (ap (option_map (λ new. record { method = k; new = new })) is, sym (ap (signed_says k) is)),
       )
 
-  lines_told : flat_map method_says (composed f s).methods ≡ flat_map (part_says Methods f s) (all_numbers Methods f s)
-  lines_told =
+  lines_reported : flat_map method_says (composed f s).methods ≡ flat_map (part_says Methods f s) (all_numbers Methods f s)
+  lines_reported =
       flat_made method_says (composed_line f s) (line_of_both f s) (λ k. Unit {0}) (λ k u. of k (composed_line f s k) refl)
       (spoken_of f (part_numbers Methods f) (part_numbers Methods s))
       (all_unit (spoken_of f (part_numbers Methods f) (part_numbers Methods s)))
@@ -360,9 +360,9 @@ module _ (f s : Map) (f_readable : IsReadable f) (s_readable : IsReadable s) whe
       (ap (λ l. shares ++ (value ++ (l ++ (map (λ k. Dropped k) c.drops ++ (own_slots ++ (map signature_says c.signatures ++ (names ++ own_lines)))))))
       tables_say
       ∙ ap (λ l. shares ++ (value ++ (rows ++ (l ++ (own_slots ++ (map signature_says c.signatures ++ (names ++ own_lines))))))) drops_say
-      ∙ ap (λ l. shares ++ (value ++ (rows ++ (drops ++ (l ++ (map signature_says c.signatures ++ (names ++ own_lines))))))) slots_told
-      ∙ ap (λ l. shares ++ (value ++ (rows ++ (drops ++ (slots ++ (l ++ (names ++ own_lines))))))) signatures_told
-      ∙ ap (λ l. shares ++ (value ++ (rows ++ (drops ++ (slots ++ (signatures ++ (names ++ l))))))) lines_told)
+      ∙ ap (λ l. shares ++ (value ++ (rows ++ (drops ++ (l ++ (map signature_says c.signatures ++ (names ++ own_lines))))))) slots_reported
+      ∙ ap (λ l. shares ++ (value ++ (rows ++ (drops ++ (slots ++ (l ++ (names ++ own_lines))))))) signatures_reported
+      ∙ ap (λ l. shares ++ (value ++ (rows ++ (drops ++ (slots ++ (signatures ++ (names ++ l))))))) lines_reported)
       ∙ ap (λ l. head ++ l) (lines_join shares (value ++ (rows ++ (drops ++ (slots ++ (signatures ++ (names ++ lines))))))
       ∙ ap (λ l. lines_text shares ++ l) (lines_join value (rows ++ (drops ++ (slots ++ (signatures ++ (names ++ lines)))))
       ∙ ap (λ l. lines_text value ++ l) (lines_join rows (drops ++ (slots ++ (signatures ++ (names ++ lines))))

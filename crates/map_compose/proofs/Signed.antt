@@ -5,7 +5,7 @@ use Rattle.ppdb_maps.specs.{declared.entries.SignatureImage.{SignatureImage}, de
 use Rattle.ppdb_maps.specs.{Map.{row_within, signature_line}, Readable.{IsReadable}}
 use Rattle.ppdb_maps_text.{specs.MapTexts.{has_items, version_of}, proofs.Parts.{signature_says}}
 use Rattle.map_compose.specs.{declared.part.Part.TheVariants.{Signatures}, Composed.{composed, has_image, of_image, signature_then, composed_signature}}
-use Rattle.map_compose.{specs.Parts.{part_says, all_numbers}, specs.Says.{signed_says, has_names}, proofs.Named.{both_named}, proofs.Saying.{signatures_told}}
+use Rattle.map_compose.{specs.Parts.{part_says, all_numbers}, specs.Says.{signed_says, has_names}, proofs.Named.{both_named}, proofs.Saying.{signatures_reported}}
 
 -- what the `signature` lines of these methods say
 abbrev pub signed_lines : Map → Map → List ℕ → List Line
@@ -72,7 +72,7 @@ unsigned m is = of m.shares (is_some m.link) (has_items m.crossed) (has_items m.
 
 module _ (f s : Map) (f_readable : IsReadable f) (s_readable : IsReadable s) where
   pub none_signed : signed_lines f s (all_numbers Signatures f s) ≡ [] → has_items (composed f s).signatures ≡ false
-  none_signed is = none_of (composed f s).signatures (signatures_told f s f_readable s_readable ∙ is)
+  none_signed is = none_of (composed f s).signatures (signatures_reported f s f_readable s_readable ∙ is)
 
   -- the first method with a line decides
   pub some_signed : (ns rest : List ℕ) (method : ℕ) → signed_lines f s (all_numbers Signatures f s) ≡ signed_lines f s ns → ns ≡ method ∷ rest
@@ -83,11 +83,11 @@ module _ (f s : Map) (f_readable : IsReadable f) (s_readable : IsReadable s) whe
       of None at some = absurd (cc)
       of (Some new) at some =
           some_of (composed f s).signatures (Signature method new) (signed_lines f s rest)
-          (signatures_told f s f_readable s_readable ∙ are ∙ ap (signed_lines f s) is ∙ ap (λ o. signed_says method o ++ signed_lines f s rest) at)
+          (signatures_reported f s f_readable s_readable ∙ are ∙ ap (signed_lines f s) is ∙ ap (λ o. signed_says method o ++ signed_lines f s rest) at)
 
   -- where the version is 3, nothing is put
   pub three_signed : version_of (composed f s) ≡ 3 → signed_lines f s (all_numbers Signatures f s) ≡ []
-  three_signed is = sym (signatures_told f s f_readable s_readable) ∙ none_says (composed f s).signatures (unsigned (composed f s) is)
+  three_signed is = sym (signatures_reported f s f_readable s_readable) ∙ none_says (composed f s).signatures (unsigned (composed f s) is)
 
 -- maps without `signature` lines make none
 no_line : (m : Map) (method : ℕ) → m.signatures ≡ [] → signature_line m method ≡ None

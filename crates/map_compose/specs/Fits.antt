@@ -1,4 +1,5 @@
--- How many names a map has, and how long they are: those of a map text are no more and no longer than its bytes.
+-- How many names a map has, and how long they are: those of a map text are no more and no longer
+-- than its bytes.
 use Rattle.std.specs.{Prelude.{ℕ, ◌≤◌, List, IfSome, length}, List.AllByRecursion}
 use Rattle.ppdb_maps.specs.{declared.entries.NameLine.NameLine, Map.Map}
 use Rattle.ppdb_base.specs.declared.limits.TheConstants.{MAX_FILE_BYTES}

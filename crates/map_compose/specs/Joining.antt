@@ -1,10 +1,15 @@
 -- What is put of runs of which each is held back until it is known that none goes on with it.
-use Rattle.std.specs.{Prelude.{◌≡◌, ◌⊎◌, ℕ, ◌+◌, ◌<◌, ◌≤◌, ◌++◌, nat_eq, List, [], ◌∷◌, Option, Some, None, option_to_list, option_copied, map, length, flat_map, find, option_map}, Borrow.Bor}
+use Rattle.std.specs.Prelude.{◌≡◌, ◌⊎◌, ℕ, ◌+◌, ◌<◌, ◌≤◌, ◌++◌, nat_eq, List, [], ◌∷◌, Option, Some}
+use Rattle.std.specs.Prelude.{None, option_to_list, option_copied, map, length, flat_map, find}
+use Rattle.std.specs.{Prelude.option_map, Borrow.Bor}
 use Rattle.std.specs.List.{AllByRecursion}
-use Rattle.ppdb_base.specs.{declared.offsets.Run.Run, Offsets.{Offsets, every, gone, lined, RiseFrom, end_of, new_end_of}}
-use Rattle.ppdb_maps.specs.{declared.line.Line.TheVariants.Kept, Map.{Map, MethodLine, method_line}, Readable.IsReadable}
+use Rattle.ppdb_base.specs.{declared.offsets.Run.Run, Offsets.{Offsets, every, gone, lined}}
+use Rattle.ppdb_base.specs.Offsets.{RiseFrom, end_of, new_end_of}
+use Rattle.ppdb_maps.specs.{declared.line.Line.TheVariants.Kept, Map.{Map, MethodLine, method_line}}
+use Rattle.ppdb_maps.specs.Readable.{IsReadable}
 use Rattle.ppdb_maps_text.specs.declared.counted.Counted.{Counted}
-use Rattle.map_compose.specs.{declared.joined.{JoinedRuns.JoinedRuns, JoinedLine.JoinedLine}, Runs.{met, longest}, Lengths.{SumsOf, sums_from}, Says.PutsLines}
+use Rattle.map_compose.specs.declared.joined.{JoinedRuns.JoinedRuns, JoinedLine.JoinedLine}
+use Rattle.map_compose.specs.{Runs.{met, longest}, Lengths.{SumsOf, sums_from}, Says.PutsLines}
 use Rattle.ppdb_base.specs.declared.limits.TheConstants.{MAX_OFFSET}
 
 -- a run of a map that a text has
@@ -16,14 +21,17 @@ pub record AreRuns (runs : List Run) : Type 0 where
   pub rise : RiseFrom 0 0 runs
   pub short : AllByRecursion IsShort runs
 
--- the runs that were given up and the one that is held are the longest form of the runs that came; none is held only where none came
+-- the runs that were given up and the one that is held are the longest form of the runs that came;
+-- none is held only where none came
 pub record Holding (came given : List Run) (held : Option Run) : Type 0 where
   pub are : longest came ≡ given ++ option_to_list held
   pub none : held ≡ None → came ≡ []
 
--- whatever runs came before: what was given up and what is held are the longest form also with these runs after them
+-- whatever runs came before: what was given up and what is held are the longest form also with
+-- these runs after them
 abbrev pub JoinsRuns : Option Run → Option Run → List Run → List Run → Type 0
-JoinsRuns old new given runs = (came prefix : List Run) → Holding came prefix old → Holding (came ++ runs) (prefix ++ given) new
+JoinsRuns old new given runs = (came prefix : List Run) → Holding came prefix old
+    → Holding (came ++ runs) (prefix ++ given) new
 
 -- the run that was held is given up or joined, and one run more is taken in
 abbrev pub JoinsOne : Option Run → Run → Option Run → Run → Type 0
@@ -51,7 +59,8 @@ HoldsEnd (Some run) other = EndsAlike run other
 abbrev pub places : ℕ → List MethodLine → List JoinedLine
 places from [] = []
 places from (line ∷ lines) =
-    record { method = line.method; start = from; end = from + length (longest line.runs) } ∷ places (from + length (longest line.runs)) lines
+    record { method = line.method; start = from; end = from + length (longest line.runs) }
+    ∷ places (from + length (longest line.runs)) lines
 
 pub record AreJoinedOf (joined : JoinedRuns) (m : Map) : Type 0 where
   pub runs : joined.runs.items ≡ flat_map (λ (line : MethodLine). longest line.runs) m.methods
@@ -76,7 +85,8 @@ runs_of (Some runs) = runs
 -- the sums of the longest runs of one method, where they are there
 abbrev pub LendsSums : JoinedRuns → ℕ → Option (List ℕ) → Type 0
 LendsSums joined method result = (m : Map) → IsReadable m → AreJoinedOf joined m
-    → SumsOf result (runs_of (option_map (λ (line : MethodLine). longest line.runs) (method_line m method)))
+    → SumsOf result
+    (runs_of (option_map (λ (line : MethodLine). longest line.runs) (method_line m method)))
 
 -- ---- the runs that a line keeps, and after it those of another
 

@@ -1,5 +1,6 @@
 -- Names in the order of their bytes, each once.
-use Rattle.std.specs.{Prelude.{ℕ, List, [], ◌∷◌}, Cmp.Lexicographic.slice_cmp, Ordering.{nat_cmp, match_ordering}, declared.cmp.Ordering.Ordering}
+use Rattle.std.specs.{Prelude.{ℕ, List, [], ◌∷◌}, Cmp.Lexicographic.slice_cmp, Ordering.nat_cmp}
+use Rattle.std.specs.{Ordering.match_ordering, declared.cmp.Ordering.Ordering}
 
 -- the first byte that differs decides, and a name stands before those that it begins
 abbrev pub name_cmp : List ℕ → List ℕ → Ordering

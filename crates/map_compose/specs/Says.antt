@@ -1,10 +1,14 @@
 -- What the lines of the map of two maps say of a table and of a method.
-use Rattle.std.specs.Prelude.{ℕ, ◌≤◌, ◌||◌, Bool, cond, List, [], ◌∷◌, Option, Some, None, is_some, slice_get, map, flat_map, option_and_then}
+use Rattle.std.specs.Prelude.{ℕ, ◌≤◌, ◌||◌, Bool, cond, List, [], ◌∷◌, Option, Some, None, is_some}
+use Rattle.std.specs.Prelude.{slice_get, map, flat_map, option_and_then}
 use Rattle.ppdb_maps.specs.declared.entries.SlotImage.{SlotImage}
-use Rattle.ppdb_maps.specs.declared.line.Line.{Line, TheVariants.{Rows, Dropped, Slots, Slot, Signature, Document}}
+use Rattle.ppdb_maps.specs.declared.line.{Line.Line, Line.TheVariants.{Rows, Dropped, Slots, Slot}}
+use Rattle.ppdb_maps.specs.declared.line.Line.TheVariants.{Signature, Document}
 use Rattle.ppdb_maps.specs.Map.{Map, MethodLine, row_within, slot_image}
-use Rattle.ppdb_maps_text.specs.{MapTexts.{ended, line_text, image_says, method_says}, declared.counted.Counted.Counted, Putting.Puts}
-use Rattle.map_compose.specs.Composed.{composed_count, composed_image, sources_of, has_image, composed_line, drops_one, has_slot_lines, slot_entries}
+use Rattle.ppdb_maps_text.specs.MapTexts.{ended, line_text, image_says, method_says}
+use Rattle.ppdb_maps_text.specs.{declared.counted.Counted.Counted, Putting.Puts}
+use Rattle.map_compose.specs.Composed.{composed_count, composed_image, sources_of, has_image}
+use Rattle.map_compose.specs.Composed.{composed_line, drops_one, has_slot_lines, slot_entries}
 use Rattle.map_compose.specs.Composed.{composed_signature, document_entries}
 
 -- the text of lines, each ended by LF
@@ -19,7 +23,8 @@ pub record PutsLines (old new : Counted) (says : List Line) : Type 0 where
 
 -- the lines of rows of the table
 abbrev pub images_say : Map → Map → ℕ → List ℕ → List Line
-images_say f s table olds = flat_map (λ old. image_says table old (composed_image f s table old)) olds
+images_say f s table olds =
+    flat_map (λ old. image_says table old (composed_image f s table old)) olds
 
 abbrev pub rows_say : Map → Map → ℕ → List Line
 rows_say f s table = images_say f s table (sources_of f s table)
@@ -50,10 +55,12 @@ abbrev pub drop_of_both : Map → Map → ℕ → List Line
 drop_of_both f s method = cond (drops_one f s method) (Dropped method ∷ []) []
 
 abbrev pub slot_images : Map → Map → ℕ → List Line
-slot_images f s method = map (λ (x : SlotImage). Slot x.method x.old x.new) (slot_entries f s method)
+slot_images f s method =
+    map (λ (x : SlotImage). Slot x.method x.old x.new) (slot_entries f s method)
 
 abbrev pub slots_of_both : Map → Map → ℕ → List Line
-slots_of_both f s method = cond (has_slot_lines f s method) (Slots method ∷ slot_images f s method) []
+slots_of_both f s method =
+    cond (has_slot_lines f s method) (Slots method ∷ slot_images f s method) []
 
 -- the line of a method with a local signature
 abbrev pub signed_says : ℕ → Option ℕ → List Line

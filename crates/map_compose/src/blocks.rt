@@ -5,7 +5,8 @@ ghost use Rattle.ppdb_maps.specs.declared.line.Line.TheVariants.{Kept};
 ghost use Rattle.map_compose.specs.Joining.{IsShort, AreRuns, Joins};
 ghost use Rattle.map_compose.specs.Laws.{Apart};
 ghost use Rattle.map_compose.specs.Lengths.{IsPast, Inside, AreSums, new_digits, runs_length};
-ghost use Rattle.map_compose.specs.Lengths.{taken_on as taken, old_digits as digits_of_old, not_less as count_from};
+ghost use Rattle.map_compose.specs.Lengths.{taken_on as taken, old_digits as digits_of_old};
+ghost use Rattle.map_compose.specs.Lengths.{not_less as count_from};
 ghost use Rattle.map_compose.specs.Runs.{meet};
 ghost use Rattle.map_compose.specs.Says.{PutsLines};
 
@@ -82,7 +83,8 @@ pub fn count_inside(
     requires sums { AreSums sums.now others.now }
     requires two { 2 ≤ length others.now }
     requires past { IsPast text.now }
-    ensures { OnOk result (Joins held.old held.new text.old text.new (filter_map (meet run) others.now)) }
+    ensures { OnOk result
+        (Joins held.old held.new text.old text.new (filter_map (meet run) others.now)) }
 {
     let last = others.len() - 1;
     let digits = sums[last] - sums[1];

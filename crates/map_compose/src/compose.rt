@@ -29,8 +29,8 @@ fn counted_map(alloc: Global, first: &MapText, second: &MapText) -> Result<Count
     requires other { NamesFit MAX_FILE_BYTES second.now }
     ensures { IfOk result (λ text. Counts text (map_text (composed first.now second.now))) }
 {
-    let _ = first.keeps();
-    let _ = second.keeps();
+    let _ = first.facts();
+    let _ = second.facts();
     let mut gathered = Gathered::of(alloc, second)?;
     let mut text = Counted::new(alloc);
     let version = version_by_both(first, second);
@@ -50,8 +50,9 @@ fn counted_map(alloc: Global, first: &MapText, second: &MapText) -> Result<Count
 ///
 /// # Errors
 ///
-/// The sizes of a method differ, the text is too long, or there was no memory left. The last is also answered if a name of one of the
-/// maps is longer than a map text may be, or if it has more names than a map text may have bytes.
+/// The sizes of a method differ, the text is too long, or there was no memory left. The last is
+/// also answered if a name of one of the maps is longer than a map text may be, or if it has more
+/// names than a map text may have bytes.
 pub fn compose_maps(alloc: Global, first: &MapText, second: &MapText) -> Result<Bytes, ComposeError>
     ensures text { IfOk result (λ text. text ≡ map_text (composed first.now second.now)) }
     ensures read { IfOk result (λ text. IsMapOf text (composed first.now second.now)) }
@@ -60,8 +61,8 @@ pub fn compose_maps(alloc: Global, first: &MapText, second: &MapText) -> Result<
     ensures short { IfOk result (λ text. length text ≤ MAX_FILE_BYTES) }
     ensures refused { IfErr result (RefusesFor first.now second.now) }
 {
-    let _ = first.keeps();
-    let _ = second.keeps();
+    let _ = first.facts();
+    let _ = second.facts();
     if let Some(found) = first_differing(first, second) {
         return Err(ComposeError::SizesDiffer {
             method: found.method,

@@ -1,5 +1,6 @@
 // The `shares` and the `link` line and the `document` lines of the map of two maps.
-ghost use Rattle.std.specs.Prelude.{◌≡◌, ◌≤◌, ◌<◌, ◌||◌, cond, [], ◌∷◌, length, map, option_to_list, MatchOption, OnOk, option_copied, slice_get};
+ghost use Rattle.std.specs.Prelude.{◌≡◌, ◌≤◌, ◌<◌, ◌||◌, cond, [], ◌∷◌, length, map};
+ghost use Rattle.std.specs.Prelude.{option_to_list, MatchOption, OnOk, option_copied, slice_get};
 ghost use Rattle.ppdb_maps.specs.declared.line.Line.TheVariants.{Document, Link, Shares};
 ghost use Rattle.ppdb_maps_text.specs.MapTexts.{ended, line_text};
 ghost use Rattle.ppdb_maps_text.specs.Putting.{Puts};
@@ -31,10 +32,11 @@ fn next_name<'a>(first: &'a MapText, second: &'a MapText, passed: &mut Passed) -
     requires own { length (named first.now) ≤ MAX_FILE_BYTES }
     requires other { length (named second.now) ≤ MAX_FILE_BYTES }
     ensures { MatchOption result (names_left first.now second.now passed.old ≡ [])
-        (λ name. names_left first.now second.now passed.old ≡ name.now ∷ names_left first.now second.now passed.new) }
+        (λ name. names_left first.now second.now passed.old ≡ name.now
+        ∷ names_left first.now second.now passed.new) }
 {
-    let _ = first.keeps();
-    let _ = second.keeps();
+    let _ = first.facts();
+    let _ = second.facts();
     let own = name_at(first, passed.own);
     let other = name_at(second, passed.other);
     match (own, other) {
@@ -65,8 +67,8 @@ fn next_name<'a>(first: &'a MapText, second: &'a MapText, passed: &mut Passed) -
     }
 }
 
-/// Puts the `document` line of a name. Past the longest text it is counted, and the name that it gets
-/// is not spelled again.
+/// Puts the `document` line of a name. Past the longest text it is counted, and the name that it
+/// gets is not spelled again.
 fn put_name(
     first: &MapText,
     second: &MapText,
@@ -77,8 +79,10 @@ fn put_name(
     requires own { NamesFit MAX_FILE_BYTES first.now }
     requires other { NamesFit MAX_FILE_BYTES second.now }
     requires short { IsShort name.now }
-    requires lengths { MAX_FILE_BYTES < text.now.length → lengths.now.lengths.items ≡ new_lengths second.now }
-    ensures { OnOk result (Puts text.old text.new (ended (line_text (Document (document_entry first.now second.now name.now))))) }
+    requires lengths { MAX_FILE_BYTES < text.now.length
+        → lengths.now.lengths.items ≡ new_lengths second.now }
+    ensures { OnOk result (Puts text.old text.new
+        (ended (line_text (Document (document_entry first.now second.now name.now))))) }
 {
     let middle = first.moved_name(name);
     if !text.is_past() {
@@ -121,7 +125,8 @@ fn link_by_both<'a>(first: &'a MapText, second: &'a MapText) -> Option<&'a [u8]>
 
 /// Puts the `link` line, where one of the maps has one.
 pub fn put_link(first: &MapText, second: &MapText, text: &mut Counted) -> Result<(), Memory>
-    ensures { OnOk result (PutsLines text.old text.new (map Link (option_to_list (composed_link first.now second.now)))) }
+    ensures { OnOk result (PutsLines text.old text.new
+        (map Link (option_to_list (composed_link first.now second.now)))) }
 {
     match link_by_both(first, second) {
         None => Ok(()),
@@ -131,7 +136,8 @@ pub fn put_link(first: &MapText, second: &MapText, text: &mut Counted) -> Result
 
 /// Puts the `shares` line, where one of the maps has it.
 pub fn put_shares(first: &MapText, second: &MapText, text: &mut Counted) -> Result<(), Memory>
-    ensures { OnOk result (PutsLines text.old text.new (cond (first.now.shares || second.now.shares) (Shares ∷ []) [])) }
+    ensures { OnOk result (PutsLines text.old text.new
+        (cond (first.now.shares || second.now.shares) (Shares ∷ []) [])) }
 {
     if first.shares() || second.shares() {
         text.put_shares()

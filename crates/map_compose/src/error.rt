@@ -18,8 +18,8 @@ pub enum ComposeError {
     TooLong {
         bytes: u64,
     },
-    /// There was no memory left. It is answered too of maps whose names are more or longer than a map text
-    /// can have, which no text has.
+    /// There was no memory left. It is answered too of maps whose names are more or longer than a
+    /// map text can have, which no text has.
     Memory,
 }
 

@@ -32,7 +32,7 @@ impl Gathered {
         requires { IsGatheredOf self.now map.now }
         ensures { OnOk result (IsGatheredOf self.new map.now) }
     {
-        let _ = map.keeps();
+        let _ = map.facts();
         match part {
             Part::Drops | Part::Signatures => Ok(()),
             Part::Slots => self.slots.count(map, text),

@@ -1,6 +1,7 @@
 // What becomes of a row, a method and a slot by one map after another.
 ghost use Rattle.std.specs.Prelude.{◌≡◌};
-ghost use Rattle.map_compose.specs.Composed.{composed_image, own_assembly, composed_signature, drops_one};
+ghost use Rattle.map_compose.specs.Composed.{composed_image, own_assembly, composed_signature};
+ghost use Rattle.map_compose.specs.Composed.{drops_one};
 ghost use Rattle.map_compose.specs.Says.{followed, slot_after};
 
 use ppdb_maps::{MapText, RowImage};

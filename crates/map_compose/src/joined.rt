@@ -1,5 +1,6 @@
 // The runs of each method of a map, in their longest form.
-ghost use Rattle.std.specs.Prelude.{◌≡◌, ◌^◌, ◌≤◌, ◌++◌, IfOk, OnOk, [], length, slice_get, option_to_list, option_copied};
+ghost use Rattle.std.specs.Prelude.{◌≡◌, ◌^◌, ◌≤◌, ◌++◌, IfOk, OnOk, [], length, slice_get};
+ghost use Rattle.std.specs.Prelude.{option_to_list, option_copied};
 ghost use Rattle.ppdb_maps.specs.Map.{Map};
 ghost use Rattle.ppdb_maps.specs.Says.{offsets_of, lined_runs};
 ghost use Rattle.map_compose.specs.Runs.{longest};
@@ -50,7 +51,8 @@ fn push_held(held: Option<Run>, runs: &mut Vec<Run>) -> Result<(), Memory>
 /// Adds the runs of a line in their longest form.
 fn push_joined(line: &MethodMap<'_>, runs: &mut Vec<Run>) -> Result<(), Memory>
     requires { AreRuns (lined_runs (offsets_of line.now.says)) }
-    ensures { OnOk result (runs.new.items ≡ runs.old.items ++ longest (lined_runs (offsets_of line.now.says))) }
+    ensures { OnOk result (runs.new.items ≡ runs.old.items
+        ++ longest (lined_runs (offsets_of line.now.says))) }
 {
     let mut held = None;
     let mut index = 0;
@@ -82,7 +84,7 @@ impl JoinedRuns {
     pub fn of(alloc: Global, map: &MapText) -> Result<JoinedRuns, Memory>
         ensures { IfOk result (λ joined. AreJoinedOf joined map.now) }
     {
-        let _ = map.keeps();
+        let _ = map.facts();
         let mut runs = Vec::new(alloc);
         let mut lines = Vec::new(alloc);
         let mut index = 0;

@@ -3,7 +3,8 @@ ghost use Rattle.std.specs.Prelude.{◌≡◌, ◌||◌, true, is_some};
 ghost use Rattle.std.specs.List.{list_any};
 ghost use Rattle.ppdb_maps_text.specs.MapTexts.{has_items};
 ghost use Rattle.map_compose.specs.Composed.{composed, composed_count, tables};
-ghost use Rattle.map_compose.specs.Leaving.{has_leaving, leaves as leaves_table, rows_leave as leaving_rows};
+ghost use Rattle.map_compose.specs.Leaving.{has_leaving, leaves as leaves_table};
+ghost use Rattle.map_compose.specs.Leaving.{rows_leave as leaving_rows};
 
 use crate::image::image_by_both;
 use crate::olds::{PassedLines, next_old};
@@ -74,7 +75,8 @@ fn have_leaving(first: &MapText, second: &MapText) -> bool
 
 /// Whether the map of two maps has a `row` line of five words or a `gone` line.
 pub fn leaves_by_both(first: &MapText, second: &MapText) -> bool
-    ensures { result ≡ (has_items (composed first.now second.now).crossed || has_items (composed first.now second.now).gone) }
+    ensures { result ≡ (has_items (composed first.now second.now).crossed
+        || has_items (composed first.now second.now).gone) }
 {
     let may = have_leaving(first, second);
     if may {

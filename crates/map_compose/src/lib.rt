@@ -1,4 +1,5 @@
-//! Two maps made into one: what a second rewriting of a module makes of what a first one makes of it.
+//! Two maps made into one: what a second rewriting of a module makes of what a first one makes of
+//! it.
 #![tactic(auto)]
 
 mod blocks;

@@ -52,7 +52,8 @@ fn put_signature(
     method: u32,
     text: &mut Counted,
 ) -> Result<(), Memory>
-    ensures { OnOk result (PutsLines text.old text.new (signature_of_both first.now second.now method)) }
+    ensures { OnOk result
+        (PutsLines text.old text.new (signature_of_both first.now second.now method)) }
 {
     match signature_by_both(first, second, method) {
         None => Ok(()),
@@ -72,8 +73,8 @@ fn put_line(
     requires agree { SizesAgree first.now second.now }
     ensures { OnOk result (PutsLines text.old text.new (line_of_both first.now second.now method)) }
 {
-    let _ = first.keeps();
-    let _ = second.keeps();
+    let _ = first.facts();
+    let _ = second.facts();
     let Some(image) = image_of(first, second, method) else {
         return Ok(());
     };
@@ -99,7 +100,8 @@ fn put_method(
 ) -> Result<(), Memory>
     requires gathered { IsGatheredOf gathered.now second.now }
     requires agree { SizesAgree first.now second.now }
-    ensures { OnOk result (PutsLines text.old text.new (part_says part first.now second.now method)) }
+    ensures { OnOk result
+        (PutsLines text.old text.new (part_says part first.now second.now method)) }
 {
     match part {
         Part::Drops => put_drop(first, second, method, text),
@@ -120,9 +122,10 @@ pub fn put_part(
     requires gathered { IsGatheredOf gathered.now second.now }
     requires agree { SizesAgree first.now second.now }
     ensures gathered { OnOk result (IsGatheredOf gathered.new second.now) }
-    ensures puts { OnOk result (PutsLines text.old text.new (flat_map (part_says part first.now second.now) (all_numbers part first.now second.now))) }
+    ensures puts { OnOk result (PutsLines text.old text.new
+        (flat_map (part_says part first.now second.now) (all_numbers part first.now second.now))) }
 {
-    let _ = second.keeps();
+    let _ = second.facts();
     let mut passed = Passed { own: 0, other: 0 };
     'methods: while let Some(method) = part.next(first, second, &mut passed) {
         gathered.sum_up(part, second, text)?;

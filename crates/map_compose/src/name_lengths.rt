@@ -1,5 +1,6 @@
 // How long the names are that a map gives to documents, which are not spelled one by one.
-ghost use Rattle.std.specs.Prelude.{◌≡◌, ◌≤◌, ◌<◌, [], None, Some, MatchOption, OnOk, length, slice_get};
+ghost use Rattle.std.specs.Prelude.{◌≡◌, ◌≤◌, ◌<◌, [], None, Some, MatchOption, OnOk, length};
+ghost use Rattle.std.specs.Prelude.{slice_get};
 ghost use Rattle.ppdb_maps.specs.Map.{document_line, moved_name};
 ghost use Rattle.map_compose.specs.Composed.{named};
 ghost use Rattle.map_compose.specs.Fits.{IsShort, NamesFit};
@@ -12,7 +13,8 @@ use ppdb_maps_text::Counted;
 use std::alloc::Global;
 use std::cmp::Ordering;
 
-/// How many bytes the spelling of the NEW of each `document` line of a map has, once they are counted.
+/// How many bytes the spelling of the NEW of each `document` line of a map has, once they are
+/// counted.
 #[derive(Drop)]
 pub struct NameLengths {
     lengths: Vec<u64>,
@@ -35,9 +37,10 @@ fn push_lengths(map: &MapText, lengths: &mut Vec<u64>) -> Result<(), Memory>
 /// The index of the `document` line of a name in a map with so many of these lines.
 fn line_of(map: &MapText, name: &[u8], lines: u32) -> Option<u32>
     requires { lines ≡ length map.now.documents }
-    ensures { MatchOption result (document_line map.now name.now ≡ None) (λ index. slice_get (named map.now) index ≡ Some name.now) }
+    ensures { MatchOption result (document_line map.now name.now ≡ None)
+        (λ index. slice_get (named map.now) index ≡ Some name.now) }
 {
-    let _ = map.keeps();
+    let _ = map.facts();
     let mut low = 0;
     let mut high = lines;
     'halves: while low < high {
@@ -67,7 +70,8 @@ impl NameLengths {
         requires are { AreLengthsOf self.now map.now }
         requires fit { NamesFit MAX_FILE_BYTES map.now }
         ensures are { OnOk result (AreLengthsOf self.new map.now) }
-        ensures past { OnOk result (MAX_FILE_BYTES < text.now.length → self.new.lengths.items ≡ new_lengths map.now) }
+        ensures past { OnOk result (MAX_FILE_BYTES < text.now.length
+            → self.new.lengths.items ≡ new_lengths map.now) }
     {
         if text.is_past() && self.lengths.is_empty() {
             push_lengths(map, &mut self.lengths)
@@ -76,7 +80,8 @@ impl NameLengths {
         }
     }
 
-    /// How many bytes the spelling of the name has that a name gets by the map whose names are counted.
+    /// How many bytes the spelling of the name has that a name gets by the map whose names are
+    /// counted.
     pub fn of_moved(&self, map: &MapText, name: &[u8]) -> u64
         requires are { self.now.lengths.items ≡ new_lengths map.now }
         requires fit { NamesFit MAX_FILE_BYTES map.now }
@@ -84,7 +89,7 @@ impl NameLengths {
         ensures length { result ≡ length_of (moved_name map.now name.now) }
         ensures few { result ≤ 536870912 }
     {
-        let _ = map.keeps();
+        let _ = map.facts();
         match line_of(map, name, self.lengths.len() as u32) {
             Some(line) => self.lengths[line as usize],
             None => spelled_length(name),

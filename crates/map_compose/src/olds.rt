@@ -48,7 +48,8 @@ fn row_old(lines: &MapText, table: u8, index: u32) -> Option<u32>
 
 /// The row of a `row` line of five words of the table.
 fn cross_old(lines: &MapText, table: u8, index: u32) -> Option<u32>
-    ensures { result ≡ slice_get (map (λ (r : CrossLine). r.old) (crossed_of lines.now table)) index }
+    ensures { result
+        ≡ slice_get (map (λ (r : CrossLine). r.old) (crossed_of lines.now table)) index }
 {
     let (old, _, _) = lines.cross_line(table, index)?;
     Some(old)
@@ -66,7 +67,7 @@ pub fn next_old(lines: &MapText, table: u8, passed: &mut PassedLines) -> Option<
     ensures { MatchOption result (olds_left lines.now table passed.old ≡ [])
         (λ old. olds_left lines.now table passed.old ≡ old ∷ olds_left lines.now table passed.new) }
 {
-    let _ = lines.keeps();
+    let _ = lines.facts();
     let row = row_old(lines, table, passed.rows);
     let crossed = cross_old(lines, table, passed.crossed);
     let gone = gone_old(lines, table, passed.gone);

@@ -57,10 +57,11 @@ impl Part {
     /// The next method of both lists, each once.
     pub fn next(self, first: &MapText, second: &MapText, passed: &mut Passed) -> Option<u32>
         ensures { MatchOption result (numbers_left self first.now second.now passed.old ≡ [])
-            (λ method. numbers_left self first.now second.now passed.old ≡ method ∷ numbers_left self first.now second.now passed.new) }
+            (λ method. numbers_left self first.now second.now passed.old ≡ method
+            ∷ numbers_left self first.now second.now passed.new) }
     {
-        let _ = first.keeps();
-        let _ = second.keeps();
+        let _ = first.facts();
+        let _ = second.facts();
         let own = self.number(first, passed.own);
         let other = self.other(first, second, passed.other);
         match (own, other) {

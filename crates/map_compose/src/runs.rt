@@ -51,7 +51,8 @@ fn put_meeting(
 ) -> Result<(), Memory>
     requires run { IsShort run }
     requires other { IsShort other }
-    ensures { OnOk result (Joins held.old held.new text.old text.new (option_to_list (meet run other))) }
+    ensures { OnOk result
+        (Joins held.old held.new text.old text.new (option_to_list (meet run other))) }
 {
     match part_of(run, other) {
         None => Ok(()),
@@ -69,7 +70,8 @@ fn put_prefix(
 ) -> Result<(), Memory>
     requires run { IsShort run }
     requires others { AreRuns others.now }
-    ensures { OnOk result (Joins held.old held.new text.old text.new (filter_map (meet run) others.now)) }
+    ensures { OnOk result
+        (Joins held.old held.new text.old text.new (filter_map (meet run) others.now)) }
 {
     let end = run.new + run.length;
     'others: for other in others {
@@ -95,7 +97,8 @@ fn put_wide(
     requires apart { Apart others.now }
     requires sums { AreSums sums.now others.now }
     requires ends { EndsAfter run.new others.now }
-    ensures { OnOk result (Joins held.old held.new text.old text.new (filter_map (meet run) others.now)) }
+    ensures { OnOk result
+        (Joins held.old held.new text.old text.new (filter_map (meet run) others.now)) }
 {
     if !text.is_past() {
         return put_prefix(run, others, held, text);
@@ -123,7 +126,8 @@ fn put_met(
     requires others { AreRuns others.now }
     requires apart { Apart others.now }
     requires sums { SumsOf (option_copied sums) others.now }
-    ensures { OnOk result (Joins held.old held.new text.old text.new (filter_map (meet run) others.now)) }
+    ensures { OnOk result
+        (Joins held.old held.new text.old text.new (filter_map (meet run) others.now)) }
 {
     let from = count_ended(others, run.new);
     match sums {
@@ -143,7 +147,8 @@ fn put_both(
     requires others { AreRuns others.now }
     requires apart { Apart others.now }
     requires sums { SumsOf (option_copied sums) others.now }
-    ensures { OnOk result (PutsLines text.old text.new (map Kept (longest (met (lined_runs (offsets_of line.now.says)) others.now)))) }
+    ensures { OnOk result (PutsLines text.old text.new
+        (map Kept (longest (met (lined_runs (offsets_of line.now.says)) others.now)))) }
 {
     let mut held = None;
     let mut index = 0;
@@ -157,7 +162,8 @@ fn put_both(
 /// Puts the lines of the runs of a line in their longest form.
 fn put_longest(line: &MethodMap<'_>, text: &mut Counted) -> Result<(), Memory>
     requires { AreRuns (lined_runs (offsets_of line.now.says)) }
-    ensures { OnOk result (PutsLines text.old text.new (map Kept (longest (lined_runs (offsets_of line.now.says))))) }
+    ensures { OnOk result
+        (PutsLines text.old text.new (map Kept (longest (lined_runs (offsets_of line.now.says))))) }
 {
     let mut held = None;
     let mut index = 0;
@@ -190,7 +196,8 @@ fn put_alone(runs: &[Run], sums: Option<&[u64]>, text: &mut Counted) -> Result<(
     }
 }
 
-/// Puts the lines of the runs that a line keeps, and after it the runs of another, where it is there.
+/// Puts the lines of the runs that a line keeps, and after it the runs of another, where it is
+/// there.
 pub fn put_runs(
     line: &MethodMap<'_>,
     others: Option<&[Run]>,
@@ -201,7 +208,8 @@ pub fn put_runs(
     requires others { AreRuns (runs_of (lent others)) }
     requires apart { Apart (runs_of (lent others)) }
     requires sums { SumsOf (option_copied sums) (runs_of (lent others)) }
-    ensures { OnOk result (PutsLines text.old text.new (map Kept (runs_after (offsets_of line.now.says) (lent others.entry)))) }
+    ensures { OnOk result (PutsLines text.old text.new
+        (map Kept (runs_after (offsets_of line.now.says) (lent others.entry)))) }
 {
     match (line.sizes(), others) {
         (Some(_), Some(runs)) => put_both(line, runs, sums, text),

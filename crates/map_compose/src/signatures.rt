@@ -25,7 +25,8 @@ fn has_names(map: &MapText) -> bool
     map.document_line(0).is_some() || map.link().is_some() || map.shares()
 }
 
-/// Whether one of two maps has a `document`, a `link` or a `shares` line, and with it the map of both.
+/// Whether one of two maps has a `document`, a `link` or a `shares` line, and with it the map of
+/// both.
 fn names_by_both(first: &MapText, second: &MapText) -> bool
     ensures { result ≡ (has_lines first.now || has_lines second.now) }
 {
@@ -36,8 +37,8 @@ fn names_by_both(first: &MapText, second: &MapText) -> bool
 fn signed_by_both(first: &MapText, second: &MapText) -> bool
     ensures { result ≡ has_items (composed first.now second.now).signatures }
 {
-    let _ = first.keeps();
-    let _ = second.keeps();
+    let _ = first.facts();
+    let _ = second.facts();
     if first.signature_line(0).is_none() && second.signature_line(0).is_none() {
         return false;
     }
@@ -79,11 +80,12 @@ pub fn put_signatures(
     requires gathered { IsGatheredOf gathered.now second.now }
     requires agree { SizesAgree first.now second.now }
     ensures gathered { OnOk result (IsGatheredOf gathered.new second.now) }
-    ensures puts { OnOk result (PutsLines text.old text.new (flat_map (part_says Signatures first.now second.now)
+    ensures puts { OnOk result
+        (PutsLines text.old text.new (flat_map (part_says Signatures first.now second.now)
         (all_numbers Signatures first.now second.now))) }
 {
-    let _ = first.keeps();
-    let _ = second.keeps();
+    let _ = first.facts();
+    let _ = second.facts();
     if version == 3 {
         return Ok(());
     }

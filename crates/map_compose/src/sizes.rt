@@ -33,7 +33,7 @@ pub fn first_differing(first: &MapText, second: &MapText) -> Option<Differing>
     ensures { MatchOption result (SizesAgree first.now second.now)
         (λ found. IsFirstDiffering first.now second.now found.method found.first found.second) }
 {
-    let _ = first.keeps();
+    let _ = first.facts();
     let mut index = 0;
     'methods: while let Some(method) = first.method_line(index) {
         if let Some((first, second)) = difference(first, second, method) {

@@ -1,7 +1,8 @@
 // How long the lines of a method's slots are, which are not put one by one.
 ghost use Rattle.std.specs.Prelude.{◌≡◌, ◌≤◌, [], List, OnOk, length, map as mapped};
 ghost use Rattle.ppdb_maps.specs.declared.entries.SlotImage.{SlotImage};
-ghost use Rattle.map_compose.specs.Slots.{slot_digits, slots_length, block_of as block_in, AreBlocksOf, FindsBlock};
+ghost use Rattle.map_compose.specs.Slots.{slot_digits, slots_length, block_of as block_in};
+ghost use Rattle.map_compose.specs.Slots.{AreBlocksOf, FindsBlock};
 
 use ppdb_base::Memory;
 use ppdb_maps::MapText;
@@ -26,7 +27,7 @@ pub struct SlotBlocks {
 fn block_of(map: &MapText, method: u32) -> SlotBlock
     ensures { result ≡ block_in map.now method }
 {
-    let _ = map.keeps();
+    let _ = map.facts();
     let mut slots = 0;
     let mut digits = 0;
     'slots: while let Some((old, new)) = map.slot_line(method, slots) {
@@ -45,7 +46,7 @@ fn push_blocks(map: &MapText, blocks: &mut Vec<SlotBlock>) -> Result<(), Memory>
     requires { blocks.now.items ≡ [] }
     ensures { OnOk result (blocks.new.items ≡ mapped (block_in map.now) map.now.slotted) }
 {
-    let _ = map.keeps();
+    let _ = map.facts();
     let mut index = 0;
     'methods: while let Some(method) = map.slots_line(index) {
         blocks.push(block_of(map, method))?;
@@ -58,7 +59,8 @@ impl SlotBlock {
     /// How long the lines of these slots are, where they are those of this method.
     pub fn bytes(self, method: u32) -> u64
         requires { self.digits ≤ 4294967295 }
-        ensures { (slots : List SlotImage) → length slots ≡ self.slots → slot_digits slots ≡ self.digits → result ≡ slots_length method slots }
+        ensures { (slots : List SlotImage) → length slots ≡ self.slots
+            → slot_digits slots ≡ self.digits → result ≡ slots_length method slots }
     {
         u64::from(self.slots) * (8 + digits_of(method)) + self.digits
     }

@@ -2,7 +2,8 @@
 ghost use Rattle.std.specs.Prelude.{◌≡◌, OnOk, Some, slice_get, option_map};
 ghost use Rattle.ppdb_maps.specs.declared.entries.SlotImage.{SlotImage};
 ghost use Rattle.map_compose.specs.Composed.{slot_sources};
-ghost use Rattle.map_compose.specs.Says.{PutsLines, slot_image_says, slot_after, followed, slots_of_both, slot_images};
+ghost use Rattle.map_compose.specs.Says.{PutsLines, slot_image_says, slot_after, followed};
+ghost use Rattle.map_compose.specs.Says.{slots_of_both, slot_images};
 ghost use Rattle.map_compose.specs.Slots.{AreBlocksOf};
 
 use crate::image::{image_of, slot_by_both};
@@ -20,7 +21,8 @@ fn source_slot(
     index: u32,
 ) -> Option<u16>
     requires { followed first.now second.now method ≡ Some image }
-    ensures { result ≡ option_map (λ (x : SlotImage). x.old) (slice_get (slot_sources first.now second.now method) index) }
+    ensures { result ≡ option_map (λ (x : SlotImage). x.old)
+        (slice_get (slot_sources first.now second.now method) index) }
 {
     let (old, _) = if first.has_slots(method) {
         first.slot_line(method, index)?
@@ -39,7 +41,8 @@ fn put_image(
     old: u16,
     text: &mut Counted,
 ) -> Result<(), Memory>
-    ensures { OnOk result (PutsLines text.old text.new (slot_image_says method old (slot_after first.now second.now method image old))) }
+    ensures { OnOk result (PutsLines text.old text.new
+        (slot_image_says method old (slot_after first.now second.now method image old))) }
 {
     match slot_by_both(first, second, method, image, old) {
         None => Ok(()),
@@ -58,8 +61,8 @@ fn put_images(
     requires { followed first.now second.now method ≡ Some image }
     ensures { OnOk result (PutsLines text.old text.new (slot_images first.now second.now method)) }
 {
-    let _ = first.keeps();
-    let _ = second.keeps();
+    let _ = first.facts();
+    let _ = second.facts();
     let mut index = 0;
     'slots: while let Some(old) = source_slot(first, second, method, image, index) {
         put_image(first, second, method, image, old, text)?;
@@ -82,7 +85,7 @@ fn put_block(
     requires blocks { AreBlocksOf blocks.now second.now }
     ensures { OnOk result (PutsLines text.old text.new (slot_images first.now second.now method)) }
 {
-    let _ = second.keeps();
+    let _ = second.facts();
     if first.has_slots(method) {
         return put_images(first, second, method, image, text);
     }
@@ -104,7 +107,8 @@ pub fn put_slots(
     text: &mut Counted,
 ) -> Result<(), Memory>
     requires { AreBlocksOf blocks.now second.now }
-    ensures { OnOk result (PutsLines text.old text.new (slots_of_both first.now second.now method)) }
+    ensures { OnOk result
+        (PutsLines text.old text.new (slots_of_both first.now second.now method)) }
 {
     let Some(image) = image_of(first, second, method) else {
         return Ok(());

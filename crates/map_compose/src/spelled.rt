@@ -11,8 +11,8 @@ fn is_plain(byte: u8) -> bool
     byte.is_ascii_graphic() && byte != b'\\'
 }
 
-/// How many bytes the spelling of a name has: one for each byte that stands for itself, four for any
-/// other, and two if there is none.
+/// How many bytes the spelling of a name has: one for each byte that stands for itself, four for
+/// any other, and two if there is none.
 pub fn spelled_length(name: &[u8]) -> u64
     requires { IsShort name.now }
     ensures length { result ≡ length_of name.now }

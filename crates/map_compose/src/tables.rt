@@ -72,7 +72,8 @@ fn put_table(first: &MapText, second: &MapText, table: u8, text: &mut Counted) -
 
 /// Puts the lines of all tables.
 pub fn put_tables(first: &MapText, second: &MapText, text: &mut Counted) -> Result<(), Memory>
-    ensures { OnOk result (PutsLines text.old text.new (flat_map (table_says first.now second.now) tables)) }
+    ensures { OnOk result
+        (PutsLines text.old text.new (flat_map (table_says first.now second.now) tables)) }
 {
     'tables: for table in 0..0x2d {
         put_table(first, second, table, text)?;

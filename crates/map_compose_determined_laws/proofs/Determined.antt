@@ -9,7 +9,7 @@ use Rattle.ppdb_maps_text.specs.MapTexts.{map_text}
 use Rattle.map_compose.specs.{Composed.{composed, has_image, cross_lined, gone_lined}, Composition.{Follows, IsComposition, ComposedComposes, ComposedIsReadable}}
 use Rattle.map_compose.{specs.Laws.{MoveAlike}, proofs.Imaging.{within, within_is}, proofs.Rising.{one_longest}}
 use Rattle.map_compose_determined_laws.{specs.Determined.{CompositionsAreOne, ComposedIsTheOnlyOne, TextsOfBothAreOne}, proofs.Lines.{no_sizes, own_line, row_by}}
-use Rattle.map_compose_determined_laws.proofs.{Lines.{row_line_is, cross_line_is, gone_line_is, slot_line_is, slots_are_told}, Lists.{one_map}}
+use Rattle.map_compose_determined_laws.proofs.{Lines.{row_line_is, cross_line_is, gone_line_is, slot_line_is, slots_are_reported}, Lists.{one_map}}
 
 module _ (f s c d : Map) (readable : IsReadable c) (also : IsReadable d) (one : IsComposition f s c) (other : IsComposition f s d) where
   counts_alike : (table : ℕ) → count_of c table ≡ count_of d table
@@ -78,7 +78,7 @@ module _ (f s c d : Map) (readable : IsReadable c) (also : IsReadable d) (one : 
       step : IsThere method → has_slots c method ≡ has_slots d method
       step (gone is) = (one.without_image method is).1 ∙ sym (other.without_image method is).1
       step (there image follows) = same (has_slots c method) (has_slots d method)
-          (sym (slots_are_told c readable method) ∙ ap is_some (images_alike method image (suc MAX_SLOT) follows) ∙ slots_are_told d also method)
+          (sym (slots_are_reported c readable method) ∙ ap is_some (images_alike method image (suc MAX_SLOT) follows) ∙ slots_are_reported d also method)
 
   slots_alike : (method old : ℕ) → slot_line c method old ≡ slot_line d method old
   slots_alike method old = slot_line_is c readable method old ∙ step (is_there method) ∙ sym (slot_line_is d also method old)

@@ -4,7 +4,7 @@ use Rattle.std.{specs.Prelude.{nat_eq, is_some, IsSome, IsTrue}, specs.List.{fin
 use Rattle.std.proofs.lemmas.Bool.{false≢true}
 use Rattle.ppdb_base.specs.Offsets.{gone, lined}
 use Rattle.ppdb_maps.specs.{declared.entries.RowLine.{RowLine}, declared.entries.CrossLine.{CrossLine}, declared.entries.SlotImage.{SlotImage}, Forms.{MAX_SLOT}}
-use Rattle.ppdb_maps.specs.Map.{Map, MethodLine, count_of, row_line, cross_line, has_gone_line, told_image, line_image, row_within, row_image, method_line}
+use Rattle.ppdb_maps.specs.Map.{Map, MethodLine, count_of, row_line, cross_line, has_gone_line, said_image, line_image, row_within, row_image, method_line}
 use Rattle.ppdb_maps.specs.{Map.{is_dropped, has_slots, slot_line, slot_image, offsets_in}, Readable.{IsReadable, IsRowOf, IsLineOf, IsSlotOf}, Says.{sizes_of}}
 use Rattle.ppdb_maps.proofs.Parts.{line_offsets}
 use Rattle.ppdb_maps_text.proofs.OneLine.{cross_found, gone_found, cross_none, gone_none, gone_crossed, leaves_table, methods_stay}
@@ -68,7 +68,7 @@ module _ (m : Map) (readable : IsReadable m) where
 
   -- the image by the lines of five words and `gone` lines, in a table with a count
   cross_of_image : (table old : ℕ) (a : Option ℕ) (b : Option CrossLine) (c : Bool) → row_line m table old ≡ a → cross_line m table old ≡ b
-      → cross_line m table old ≡ cross_lined table old (told_image table a b c)
+      → cross_line m table old ≡ cross_lined table old (said_image table a b c)
   cross_of_image table old (Some new) b c row cross =
       cross_none m readable table old new row
       ∙ sym (ap (λ b. cond b None (Some (record { table = table; old = old; to = table; new = new }))) (eq-eqb table table refl))
@@ -83,7 +83,7 @@ module _ (m : Map) (readable : IsReadable m) where
   cross_of_image table old None None false row cross = cross
 
   gone_of_image : (table old : ℕ) (a : Option ℕ) (b : Option CrossLine) (c : Bool) → row_line m table old ≡ a → cross_line m table old ≡ b
-      → has_gone_line m table old ≡ c → has_gone_line m table old ≡ is_some (gone_lined table old (told_image table a b c))
+      → has_gone_line m table old ≡ c → has_gone_line m table old ≡ is_some (gone_lined table old (said_image table a b c))
   gone_of_image table old (Some new) b c row cross none = gone_none m readable table old new row
   gone_of_image table old None (Some line) c row cross none = gone_crossed m readable table old line cross
   gone_of_image table old None None true row cross there = there
@@ -159,8 +159,8 @@ module _ (m : Map) (readable : IsReadable m) where
           some (has_slots m method) (slot_line m method old) (subst (λ n. IsTrue (has_slots m n)) (eqb-true s.method method parts.0) of.2)
 
   -- no slot is past the last one of maps, so a method has a `slots` line if and only if that one has no image
-  pub slots_are_told : (method : ℕ) → is_some (slot_image m method (suc MAX_SLOT)) ≡ cond (has_slots m method) false true
-  slots_are_told method = step (has_slots m method) (find p m.slots) refl
+  pub slots_are_reported : (method : ℕ) → is_some (slot_image m method (suc MAX_SLOT)) ≡ cond (has_slots m method) false true
+  slots_are_reported method = step (has_slots m method) (find p m.slots) refl
     where
       p : SlotImage → Bool
       p s = nat_eq s.method method && nat_eq s.old (suc MAX_SLOT)

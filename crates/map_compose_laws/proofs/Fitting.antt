@@ -7,8 +7,8 @@ use Rattle.ppdb_maps.specs.Readable.{IsRowOf}
 use Rattle.map_compose.{specs.Composed.{composed}, specs.Composition.{Follows}, proofs.Equations.{composed_composes}}
 use Rattle.ppdb_values.specs.declared.{file.FileValue.{FileValue}, annotation.Annotation.{Annotation}, scope.VariableValue.{VariableValue}}
 use Rattle.ppdb_values.specs.Meaning.{ScopeMeaning, meaning}
-use Rattle.ppdb_merge_items.specs.{declared.file.AnnotatedScope.{AnnotatedScope}, Each.{Each}, Laws.{MeaningsAreAnnotated}, NamedRows.{live_scope, names}}
-use Rattle.ppdb_merge_items.specs.{Annotated.{annotated_file}, AnnotatedMeaning.{held, scope_meaning}}
+use Rattle.ppdb_merge_annotated.specs.{declared.file.AnnotatedScope.{AnnotatedScope}, Each.{Each}, Laws.{MeaningsAreAnnotated}, NamedRows.{live_scope, names}}
+use Rattle.ppdb_merge_annotated.specs.{Annotated.{annotated_file}, AnnotatedMeaning.{held, scope_meaning}}
 use Rattle.ppdb_merge_moved.{specs.Fits.{HasSlot, IsImaged}, proofs.Elements.{in_each}, proofs.ImageRows.{within}}
 use Rattle.ppdb_merge_meaning_laws.specs.Kept.{FitsAlone, NamesMethod, named_by}
 use Rattle.map_compose_laws.{specs.Images.{SlotsStay}, specs.Steps.{moved_by}, proofs.Images.{row_there}}

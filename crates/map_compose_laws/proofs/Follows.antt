@@ -9,10 +9,10 @@ use Rattle.map_compose.specs.{Composed.{composed, of_image}, Composition.{IsComp
 use Rattle.ppdb_tables.specs.declared.{parent.Parent.{Parent}, rows.MachineRow.{MachineRow}}
 use Rattle.ppdb_values.specs.declared.custom.{CustomBody.{CustomBody}, CustomBody.TheVariants.{Async, Hoisted, TypeDocuments, Unread}, CustomValue.{CustomValue}}
 use Rattle.ppdb_values.specs.{declared.file.MethodValue.{MethodValue}, Parts.{is_link}}
-use Rattle.ppdb_values_sound_laws.specs.Customs.{SoundCustom}
-use Rattle.ppdb_merge_items.specs.{declared.file.AnnotatedScope.{AnnotatedScope}, declared.file.AnnotatedFile.{AnnotatedFile}, Each.{Each}, NamedRows.{Named, names}}
-use Rattle.ppdb_merge_items.specs.{NamedRows.{names_some, in_steps, live_machine, live_custom, live_signature}, SoundParts.{SoundMoved}}
-use Rattle.ppdb_merge_items.specs.Unannotated.{value_of_annotated}
+use Rattle.ppdb_values_sound.specs.Customs.{SoundCustom}
+use Rattle.ppdb_merge_annotated.specs.{declared.file.AnnotatedScope.AnnotatedScope, declared.file.AnnotatedFile.AnnotatedFile, Each.Each, NamedRows.{Named, names}}
+use Rattle.ppdb_merge_annotated.specs.{NamedRows.{names_some, in_steps, live_machine, live_custom, live_signature}, SoundParts.{SoundMoved}}
+use Rattle.ppdb_merge_annotated.specs.Unannotated.{value_of_annotated}
 use Rattle.ppdb_merge_joined.proofs.Each.{Each-with}
 use Rattle.ppdb_merge_moved.specs.Moved.{is_empty, linked, moved_body, moved_custom, moved_record, moved_file, moved_parent, table_in, row_in, moved_machine}
 use Rattle.ppdb_merge_moved.{specs.Moved.{moved_method, moved_scope, moved_step, scope_image, with_points}, proofs.Fitting.{moved_dropped}}

@@ -6,7 +6,7 @@ use Rattle.ppdb_base.specs.Offsets.{moved}
 use Rattle.ppdb_maps.specs.{Readable.{IsReadable}, Map.{Map, row_within, moved_row, moved_signature, signature_line, slot_image, offsets_in}}
 use Rattle.ppdb_values.specs.declared.{scope.VariableValue.{VariableValue}, import.ImportValue.{ImportValue}, annotation.Annotation.{Annotation}}
 use Rattle.ppdb_values.specs.Meaning.{ScopeMeaning, SlotMeaning, PointMeaning, Meaning}
-use Rattle.ppdb_merge_items.{specs.Each.{Each}, specs.Annotated.{with_item}, specs.NamedRows.{live_constants}, proofs.Parts.{live_imports}}
+use Rattle.ppdb_merge_annotated.{specs.Each.{Each}, specs.Annotated.{with_item}, specs.NamedRows.{live_constants}, proofs.Parts.{live_imports}}
 use Rattle.ppdb_merge_moved.specs.{Images.{point_image, scope_image, slot_meaning_image, meaning_image}, Moved.{moved_constant, moved_import, moved_variable}}
 use Rattle.ppdb_merge_moved.specs.Moved.{moved_range, moved_document}
 use Rattle.map_compose.{specs.Composed.{composed, signature_then}, specs.Composition.{Follows, IsComposition}, proofs.Equations.{composed_composes, kept_row}}

@@ -9,9 +9,9 @@ use Rattle.ppdb_tables.specs.declared.rows.MachineRow.{MachineRow}
 use Rattle.ppdb_values.specs.declared.custom.{CustomBody.{CustomBody}, CustomBody.TheVariants.{Async, Hoisted, TypeDocuments, Unread}, CustomValue.{CustomValue}}
 use Rattle.ppdb_values.specs.{declared.file.FileValue.{FileValue}, declared.annotation.Custom.{Custom}, Links.{Links, links, kickoff_of, move_next_of}}
 use Rattle.ppdb_values.specs.{Meaning.{without_parent}, Parts.{slots_in}}
-use Rattle.ppdb_merge_items.specs.{declared.file.AnnotatedFile.{AnnotatedFile}, Each.{Each}, Laws.{SoundnessIsAnnotated}, NamedRows.{names, named_rows, in_steps}}
-use Rattle.ppdb_merge_items.specs.{NamedRows.{live_custom}, Annotated.{annotated_file}, AnnotatedMeaning.{on_method}, SoundParts.{SoundMoved}}
-use Rattle.ppdb_merge_items.proofs.{Lists.{Each-filter, Each-weaker}, AnnotatedMeanings.{links_are}}
+use Rattle.ppdb_merge_annotated.specs.{declared.file.AnnotatedFile.AnnotatedFile, Each.Each, Laws.SoundnessIsAnnotated, NamedRows.{names, named_rows, in_steps}}
+use Rattle.ppdb_merge_annotated.specs.{NamedRows.{live_custom}, Annotated.{annotated_file}, AnnotatedMeaning.{on_method}, SoundParts.{SoundMoved}}
+use Rattle.ppdb_merge_annotated.proofs.{Lists.{Each-filter, Each-weaker}, AnnotatedMeanings.{links_are}}
 use Rattle.ppdb_merge_joined.proofs.Each.{Each-with}
 use Rattle.ppdb_merge_moved.{specs.Fits.{IsImaged, IsKept, KeepsAsync, KeepsStep}, proofs.Elements.{each_in, in_each}, proofs.Fitting.{offsets_rise}}
 use Rattle.ppdb_merge_moved.proofs.{ImageRows.{within, lives_on_method}, NamedParts.{NamedParts, named_parts}}

@@ -6,12 +6,12 @@ use Rattle.ppdb_maps.specs.{Map.{Map, is_dropped}, Readable.{IsReadable}}
 use Rattle.ppdb_tables.specs.declared.rows.MachineRow.{MachineRow}
 use Rattle.ppdb_values.specs.declared.{custom.CustomValue.{CustomValue}, file.MethodValue.{MethodValue}, import.ImportScopeValue.{ImportScopeValue}}
 use Rattle.ppdb_values.specs.declared.annotation.Annotation.{Annotation}
-use Rattle.ppdb_merge_items.specs.{declared.file.AnnotatedScope.{AnnotatedScope}, declared.file.AnnotatedFile.{AnnotatedFile}, Each.{Each}, NamedRows.{Named, names}}
-use Rattle.ppdb_merge_items.specs.NamedRows.{names_some, named_rows, in_constant, in_import, in_steps, all_named, live_file, live_scope, live_machine, live_custom}
-use Rattle.ppdb_merge_items.specs.{NamedRows.{live_signature, live_constants}, Annotated.{with_item}, SoundParts.{SoundMoved}, Unannotated.{value_of_annotated}}
-use Rattle.ppdb_merge_items.proofs.{Lists.{Each-append, Each-filter, Each-map, Each-weaker}, Parts.{live_method, with_live_signature, with_live_constants}}
-use Rattle.ppdb_merge_items.proofs.Parts.{with_live_imports, in_entry, live_imports}
-use Rattle.ppdb_values_sound_laws.specs.Customs.{SoundCustom}
+use Rattle.ppdb_merge_annotated.specs.{declared.file.AnnotatedScope.{AnnotatedScope}, declared.file.AnnotatedFile.{AnnotatedFile}, Each.{Each}, NamedRows.{Named}}
+use Rattle.ppdb_merge_annotated.specs.NamedRows.{names, names_some, named_rows, in_constant, in_import, in_steps, all_named, live_file, live_scope, live_machine}
+use Rattle.ppdb_merge_annotated.specs.{NamedRows.{live_custom, live_signature, live_constants}, Annotated.{with_item}, SoundParts.{SoundMoved}}
+use Rattle.ppdb_merge_annotated.{specs.Unannotated.{value_of_annotated}, proofs.Lists.{Each-append, Each-filter, Each-map, Each-weaker}, proofs.Parts.{live_method}}
+use Rattle.ppdb_merge_annotated.proofs.Parts.{with_live_signature, with_live_constants, with_live_imports, in_entry, live_imports}
+use Rattle.ppdb_values_sound.specs.Customs.{SoundCustom}
 use Rattle.ppdb_merge_joined.proofs.Each.{Each-flat, Each-with}
 use Rattle.ppdb_merge_moved.proofs.{ImageRows.{lives_on_method}, NamedParts.{NamedParts}, SoundItems.{most}}
 use Rattle.map_compose_laws.proofs.Others.{IsNoMethod, constants_other, imports_other, no_drop, no_steps}

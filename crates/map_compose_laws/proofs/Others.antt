@@ -11,11 +11,11 @@ use Rattle.ppdb_values.specs.declared.{file.FileValue.{FileValue}, import.Import
 use Rattle.ppdb_values.specs.declared.import.ImportValue.TheVariants.{Namespace, AssemblyNamespace, Target, Xml, Alias, AssemblyAlias, NamespaceAlias}
 use Rattle.ppdb_values.specs.declared.{import.ImportValue.TheVariants.{AssemblyNamespaceAlias, TargetAlias}, scope.ConstantBody.{ConstantBody}}
 use Rattle.ppdb_values.specs.declared.scope.{ConstantBody.TheVariants.{Primitive, Enumerated, General, Object}, ConstantValue.{ConstantValue}}
-use Rattle.ppdb_values_sound_laws.specs.{Customs.{SoundCustom, IsBodyOfKind}, Imports.{SoundImport}, Named.{HasType}, Scopes.{SoundConstant, stored_body}}
-use Rattle.ppdb_merge_items.specs.{declared.file.AnnotatedScope.{AnnotatedScope}, declared.file.AnnotatedFile.{AnnotatedFile}, Annotated.{items_of, with_item}}
-use Rattle.ppdb_merge_items.specs.{Each.{Each}, NamedRows.{Named, in_token, in_body, in_constant, in_import, in_steps, is_gone_type, leaves_types, live_body}}
-use Rattle.ppdb_merge_items.specs.{NamedRows.{live_constants, live_custom, live_import, with_live_body}, SoundParts.{SoundMoved}, Unannotated.{value_of_annotated}}
-use Rattle.ppdb_merge_items.proofs.{Lists.{Each-append, Each-filter, Each-map, Each-weaker, each_row}, Parts.{live_constant, live_imports}}
+use Rattle.ppdb_values_sound.specs.{Customs.{SoundCustom, IsBodyOfKind}, Imports.{SoundImport}, Named.{HasType}, Scopes.{SoundConstant, stored_body}}
+use Rattle.ppdb_merge_annotated.specs.{declared.file.AnnotatedScope.{AnnotatedScope}, declared.file.AnnotatedFile.{AnnotatedFile}, Annotated.{items_of, with_item}}
+use Rattle.ppdb_merge_annotated.specs.{Each.{Each}, NamedRows.{Named, in_token, in_body, in_constant, in_import, in_steps, is_gone_type, leaves_types, live_body}}
+use Rattle.ppdb_merge_annotated.specs.{NamedRows.{live_constants, live_custom, live_import, with_live_body}, SoundParts.SoundMoved, Unannotated.value_of_annotated}
+use Rattle.ppdb_merge_annotated.proofs.{Lists.{Each-append, Each-filter, Each-map, Each-weaker, each_row}, Parts.{live_constant, live_imports}}
 use Rattle.ppdb_merge_moved.proofs.{Elements.{each_parts}, SoundItems.{most, each_all}}
 
 abbrev pub IsNoMethod : Named → Type 0

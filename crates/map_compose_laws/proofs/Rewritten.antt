@@ -4,10 +4,10 @@ use Rattle.ppdb_maps.specs.Map.{Map, is_dropped, row_image, is_gone_row, leaves_
 use Rattle.ppdb_values.specs.declared.custom.{CustomBody.{CustomBody}, CustomBody.TheVariants.{Async, Hoisted, TypeDocuments, Unread}, CustomValue.{CustomValue}}
 use Rattle.ppdb_values.specs.declared.{file.MethodValue.{MethodValue}, import.ImportScopeValue.{ImportScopeValue}, annotation.Annotation.{Annotation}}
 use Rattle.ppdb_tables.specs.{declared.rows.MachineRow.{MachineRow}, Parents.{coded_of}}
-use Rattle.ppdb_merge_items.specs.{declared.file.AnnotatedScope.{AnnotatedScope}, declared.file.AnnotatedFile.{AnnotatedFile}, Each.{Each}, NamedRows.{Named, names}}
-use Rattle.ppdb_merge_items.specs.NamedRows.{names_some, in_constant, in_import, in_steps, live_machine, live_custom, live_signature, is_type_documents}
-use Rattle.ppdb_merge_items.{specs.NamedRows.{live_constants}, specs.Annotated.{with_item}, proofs.Lists.{Each-append, Each-map, Each-weaker}}
-use Rattle.ppdb_merge_items.proofs.{Orders.{in_order_each}, Parts.{live_imports}}
+use Rattle.ppdb_merge_annotated.specs.{declared.file.AnnotatedScope.AnnotatedScope, declared.file.AnnotatedFile.AnnotatedFile, Each.Each, NamedRows.{Named, names}}
+use Rattle.ppdb_merge_annotated.specs.NamedRows.{names_some, in_constant, in_import, in_steps, live_machine, live_custom, live_signature, is_type_documents}
+use Rattle.ppdb_merge_annotated.{specs.NamedRows.{live_constants}, specs.Annotated.{with_item}, proofs.Lists.{Each-append, Each-map, Each-weaker}}
+use Rattle.ppdb_merge_annotated.proofs.{Orders.{in_order_each}, Parts.{live_imports}}
 use Rattle.ppdb_merge_joined.specs.Joined.{joined, joined_documents, joined_rows, row_in, with_documents, renumbered_method, renumbered_scope, renumbered_import}
 use Rattle.ppdb_merge_joined.{specs.Joined.{renumbered_custom}, specs.Same.{same_record}, proofs.Kept.{fresh_each}}
 use Rattle.ppdb_merge_moved.proofs.NamedParts.{NamedParts}

@@ -4,15 +4,15 @@ use Rattle.std.{proofs.Common.{subst, arith}, specs.Prelude.{nat_eq}, specs.List
 use Rattle.std.{specs.Option.{option_map, option_and_then}, proofs.lemmas.Bool.{and_parts, both_ways, eq-eqb, eqb-true}}
 use Rattle.ppdb_maps.specs.declared.{entries.CrossLine.{CrossLine}, entries.GoneLine.{GoneLine}, entries.RowLine.{RowLine}, image.RowImage.{RowImage}}
 use Rattle.ppdb_maps.specs.{declared.image.RowImage.TheVariants.{Row, Gone, Missing}, Forms.{Crosses}, Map.{Map, row_image, row_within, row_line, cross_line}}
-use Rattle.ppdb_maps.specs.{Map.{has_gone_line, told_image, line_image, count_of, is_dropped, is_gone, is_gone_row, is_in_table}, Readable.{IsReadable, IsRowOf}}
+use Rattle.ppdb_maps.specs.{Map.{has_gone_line, said_image, line_image, count_of, is_dropped, is_gone, is_gone_row, is_in_table}, Readable.{IsReadable, IsRowOf}}
 use Rattle.ppdb_maps.specs.Readable.{IsCrossOf, IsGoneOf}
 use Rattle.type_blobs.specs.declared.types.{TypeToken.{TypeToken}, Modifier.{Modifier}}
 use Rattle.ppdb_values.specs.declared.{annotation.Annotation.{Annotation}, scope.ConstantValue.{ConstantValue}, scope.ConstantBody.{ConstantBody}}
 use Rattle.ppdb_values.specs.declared.{scope.ConstantBody.TheVariants.{Primitive, Enumerated, General, Object}, import.ImportValue.{ImportValue}}
 use Rattle.ppdb_values.specs.declared.import.ImportValue.TheVariants.{Namespace, AssemblyNamespace, Target, Xml, Alias, AssemblyAlias, NamespaceAlias}
 use Rattle.ppdb_values.specs.declared.import.ImportValue.TheVariants.{AssemblyNamespaceAlias, TargetAlias}
-use Rattle.ppdb_merge_items.specs.{Annotated.{with_item}, NamedRows.{is_gone_type, names_gone_class, goes_constant, live_body, with_live_body, live_constants}}
-use Rattle.ppdb_merge_items.{specs.NamedRows.{live_import}, proofs.Parts.{live_constant, live_imports}}
+use Rattle.ppdb_merge_annotated.specs.{Annotated.{with_item}, NamedRows.{is_gone_type, names_gone_class, goes_constant, live_body, with_live_body, live_constants}}
+use Rattle.ppdb_merge_annotated.{specs.NamedRows.{live_import}, proofs.Parts.{live_constant, live_imports}}
 use Rattle.ppdb_merge_moved.specs.Moved.{table_in, row_in, moved_token, moved_modifier, moved_constant_body, moved_constant, of_assembly, moved_import}
 use Rattle.ppdb_merge_moved.proofs.ImageRows.{IsCrossed, image_cases}
 use Rattle.map_compose.specs.{Composed.{composed, image_then, own_assembly}, Composition.{IsComposition}}
@@ -50,15 +50,15 @@ zero_image m ready table = by_drop (nat_eq table 0x06 && is_dropped m 0)
     no_gone = (none_found (IsGoneOf m) (λ (r : GoneLine). r.old) (λ (r : GoneLine). nat_eq r.table table && nat_eq r.old 0) (λ r is. is.0.0)
         (λ r is. old_zero r.table r.old table 0 is) m.gone ready.gone).1
 
-    untold : line_image m table 0 ≡ Missing
-    untold =
-        ap (λ o. told_image table o (cross_line m table 0) (has_gone_line m table 0)) no_row
-        ∙ ap (λ o. told_image table None o (has_gone_line m table 0)) no_cross ∙ ap (told_image table None None) no_gone
+    unreported : line_image m table 0 ≡ Missing
+    unreported =
+        ap (λ o. said_image table o (cross_line m table 0) (has_gone_line m table 0)) no_row
+        ∙ ap (λ o. said_image table None o (has_gone_line m table 0)) no_cross ∙ ap (said_image table None None) no_gone
 
     by_count : (c : Option ℕ) → (elim c as (λ _. RowImage) [ None ↦ Row table 0 | Some count ↦ line_image m table 0 ] ≡ Row table 0)
         ⊎ (elim c as (λ _. RowImage) [ None ↦ Row table 0 | Some count ↦ line_image m table 0 ] ≡ Missing)
     by_count None = inl refl
-    by_count (Some count) = inr untold
+    by_count (Some count) = inr unreported
 
     by_drop : (b : Bool)
         → (cond b Missing (elim (count_of m table) as (λ _. RowImage) [ None ↦ Row table 0 | Some count ↦ line_image m table 0 ]) ≡ Row table 0)
@@ -238,7 +238,8 @@ module _ (f s : Map) (composes : IsComposition f s (composed f s)) (first : IsRe
 
     modifiers_moved : (xs : List Modifier) → map (moved_modifier s) (map (moved_modifier f) xs) ≡ map (moved_modifier c) xs
     modifiers_moved [] = refl
-    modifiers_moved (x ∷ xs) = ap (λ y. y ∷ map (moved_modifier s) (map (moved_modifier f) xs)) (modifier_on x) ∙ ap (λ l. moved_modifier c x ∷ l) (modifiers_moved xs)
+    modifiers_moved (x ∷ xs) =
+        ap (λ y. y ∷ map (moved_modifier s) (map (moved_modifier f) xs)) (modifier_on x) ∙ ap (λ l. moved_modifier c x ∷ l) (modifiers_moved xs)
 
     -- ---- constants
 

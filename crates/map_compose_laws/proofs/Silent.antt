@@ -6,10 +6,10 @@ use Rattle.ppdb_maps.specs.{Map.{Map, is_dropped, moved_row}, Readable.{IsReadab
 use Rattle.ppdb_tables.specs.declared.rows.MachineRow.{MachineRow}
 use Rattle.ppdb_values.specs.{declared.custom.CustomValue.{CustomValue}, declared.file.MethodValue.{MethodValue}, declared.annotation.Custom.{Custom}, Links.{Links}}
 use Rattle.ppdb_values.specs.{Links.{kickoff_of, move_next_of}, Meaning.{Meaning, without_parent}, Parts.{slots_in}}
-use Rattle.ppdb_merge_items.specs.{declared.file.AnnotatedScope.{AnnotatedScope}, declared.file.AnnotatedFile.{AnnotatedFile}, Each.{Each}, NamedRows.{Named, names}}
-use Rattle.ppdb_merge_items.specs.{NamedRows.{names_some, in_steps, live_machine, live_custom}, AnnotatedMeaning.{held, annotated_links, annotated_meaning}}
-use Rattle.ppdb_merge_items.{specs.AnnotatedMeaning.{on_method, point_meaning, scope_meaning, scopes_at, slots_among, slots_at}, proofs.Lists.{Each-unmap}}
-use Rattle.ppdb_merge_items.proofs.Lists.{Each-weaker}
+use Rattle.ppdb_merge_annotated.specs.{declared.file.AnnotatedScope.AnnotatedScope, declared.file.AnnotatedFile.AnnotatedFile, Each.Each, NamedRows.{Named, names}}
+use Rattle.ppdb_merge_annotated.specs.{NamedRows.{names_some, in_steps, live_machine, live_custom}, AnnotatedMeaning.{held, annotated_links, annotated_meaning}}
+use Rattle.ppdb_merge_annotated.{specs.AnnotatedMeaning.{on_method, point_meaning, scope_meaning, scopes_at, slots_among, slots_at}, proofs.Lists.{Each-unmap}}
+use Rattle.ppdb_merge_annotated.proofs.Lists.{Each-weaker}
 use Rattle.ppdb_merge_joined.proofs.Each.{Each-split, Each-unflat}
 use Rattle.ppdb_merge_moved.{specs.Images.{links_image, partner_image}, specs.Moved.{moved_body}, proofs.Elements.{each_left}, proofs.ImageRows.{lives_on_method}}
 use Rattle.ppdb_merge_moved.proofs.NamedParts.{NamedParts}

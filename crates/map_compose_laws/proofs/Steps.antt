@@ -5,8 +5,8 @@ use Rattle.ppdb_base.specs.Offsets.{Kept}
 use Rattle.ppdb_maps.specs.Map.{Map, is_dropped, moved_row, offsets_in, row_within}
 use Rattle.map_compose.{specs.Composed.{composed, of_image}, specs.Composition.{Follows, IsComposition}, proofs.Equations.{composed_composes}}
 use Rattle.ppdb_values.specs.{declared.file.FileValue.{FileValue}, Links.{links}, Meaning.{meaning}}
-use Rattle.ppdb_merge_items.specs.{declared.file.AnnotatedFile.{AnnotatedFile}, Each.{Each}, Laws.{MeaningsAreAnnotated, SoundnessIsAnnotated}, NamedRows.{Named}}
-use Rattle.ppdb_merge_items.specs.{NamedRows.{names, named_rows}, Annotated.{annotated_file}, SoundParts.{SoundMoved}}
+use Rattle.ppdb_merge_annotated.specs.{declared.file.AnnotatedFile.AnnotatedFile, Each.Each, Laws.{MeaningsAreAnnotated, SoundnessIsAnnotated}, NamedRows.Named}
+use Rattle.ppdb_merge_annotated.specs.{NamedRows.{names, named_rows}, Annotated.{annotated_file}, SoundParts.{SoundMoved}}
 use Rattle.ppdb_merge_joined.specs.Joined.{joined}
 use Rattle.ppdb_merge_moved.{specs.Fits.{IsImaged}, specs.Images.{meaning_image, links_image}, specs.Moved.{moved_file}, proofs.Elements.{each_in, in_each}}
 use Rattle.ppdb_merge_moved.proofs.{ImageRows.{within, within_is, no_shared_method}, NamedParts.{named_parts}, NamedRows.{named_rows_are_rows}}

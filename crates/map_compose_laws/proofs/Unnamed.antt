@@ -5,9 +5,9 @@ use Rattle.std.{specs.Prelude.{nat_eq, Contains}, proofs.lemmas.Bool.{ne_eqb}}
 use Rattle.ppdb_base.specs.Offsets.{Kept}
 use Rattle.ppdb_maps.specs.Map.{Map, is_dropped, moved_row, offsets_in, row_within}
 use Rattle.ppdb_values.specs.{declared.file.FileValue.{FileValue}, Links.{links, move_next_of}, Meaning.{meaning}}
-use Rattle.ppdb_merge_items.specs.{declared.file.AnnotatedFile.{AnnotatedFile}, Each.{Each}, Laws.{SoundnessIsAnnotated}, NamedRows.{names, names_some, named_rows}}
-use Rattle.ppdb_merge_items.specs.{NamedRows.{all_named, live_file}, Annotated.{annotated_file}, AnnotatedMeaning.{annotated_links}}
-use Rattle.ppdb_merge_items.proofs.AnnotatedMeanings.{meaning_is, links_are}
+use Rattle.ppdb_merge_annotated.specs.{declared.file.AnnotatedFile.AnnotatedFile, Each.Each, Laws.SoundnessIsAnnotated, NamedRows.{names, names_some, named_rows}}
+use Rattle.ppdb_merge_annotated.specs.{NamedRows.{all_named, live_file}, Annotated.{annotated_file}, AnnotatedMeaning.{annotated_links}}
+use Rattle.ppdb_merge_annotated.proofs.AnnotatedMeanings.{meaning_is, links_are}
 use Rattle.ppdb_merge_joined.specs.{Joinable.{methods_of}, Joined.{joined}}
 use Rattle.ppdb_merge_moved.{specs.Fits.{IsImaged}, specs.Images.{meaning_image, links_image}, specs.Moved.{moved_file}, proofs.Elements.{each_in, in_each}}
 use Rattle.ppdb_merge_moved.proofs.{Fitting.{moved_dropped}, ImageRows.{within_moved}, NamedParts.{NamedParts, named_parts}, RowImages.{moved_is_image}}

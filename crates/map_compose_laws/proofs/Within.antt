@@ -10,9 +10,9 @@ use Rattle.map_compose.specs.Composed.{composed}
 use Rattle.ppdb_values.specs.declared.custom.{CustomBody.{CustomBody}, CustomBody.TheVariants.{Async, Hoisted, TypeDocuments, Unread}, CustomValue.{CustomValue}}
 use Rattle.ppdb_values.specs.{declared.file.FileValue.{FileValue}, declared.file.MethodValue.{MethodValue}, Meaning.{ScopeMeaning, SlotMeaning, meaning, slot_at}}
 use Rattle.ppdb_values.specs.Parts.{holds, slots_in}
-use Rattle.ppdb_merge_items.specs.{declared.file.AnnotatedScope.{AnnotatedScope}, Each.{Each}, Laws.{MeaningsAreAnnotated}, Annotated.{annotated_file}}
-use Rattle.ppdb_merge_items.specs.AnnotatedMeaning.{document_at, held, last_of, method_of, on_method, point_at, point_meaning, scope_meaning}
-use Rattle.ppdb_merge_items.proofs.Lists.{Each-filter, Each-append, Each-enumerate}
+use Rattle.ppdb_merge_annotated.specs.{declared.file.AnnotatedScope.{AnnotatedScope}, Each.{Each}, Laws.{MeaningsAreAnnotated}, Annotated.{annotated_file}}
+use Rattle.ppdb_merge_annotated.specs.AnnotatedMeaning.{document_at, held, last_of, method_of, on_method, point_at, point_meaning, scope_meaning}
+use Rattle.ppdb_merge_annotated.proofs.Lists.{Each-filter, Each-append, Each-enumerate}
 use Rattle.ppdb_merge_moved.{specs.Fits.{AreWithin, EndsWithin}, proofs.Fitting.{offsets_rise}, proofs.Lists.{Each-filter_map}, proofs.Means.{kept_within}}
 use Rattle.ppdb_merge_meaning_laws.specs.Kept.{FitsAlone}
 use Rattle.map_compose_laws.{specs.Images.{EdgeComposes, EdgesCompose, PointComposes, RangeComposes}, specs.Steps.{moved_by}, proofs.Fitting.{each_shown}}

@@ -7,9 +7,9 @@ use Rattle.ppdb_maps.specs.{declared.image.RowImage.TheVariants.{Row, Missing}, 
 use Rattle.map_compose.specs.{Composed.{of_image}, Sizes.{SizesAgree}}
 use Rattle.ppdb_values.specs.{declared.file.FileValue.{FileValue}, declared.scope.ScopeValue.{ScopeValue}, Chains.{chain_for}, Ordered.{EachRow}}
 use Rattle.ppdb_values.specs.{Ranges.{ComesAfter, IsInOrAfter}, WorkedSmall.{small_value, outer_scope, inner_scope}}
-use Rattle.ppdb_values_sound_laws.specs.{Methods.{SoundMethod, SoundPoint}, Scopes.{SoundConstant, SoundScope}, Sound.{IsSound}}
-use Rattle.ppdb_merge_items.{specs.Each.{Each}, specs.NamedRows.{named_rows, live_scope}, specs.Annotated.{annotated_file}, proofs.Lists.{each_of, row_each}}
-use Rattle.ppdb_merge_items.proofs.Lists.{row_pairs}
+use Rattle.ppdb_values_sound.specs.{Methods.{SoundMethod, SoundPoint}, Scopes.{SoundConstant, SoundScope}, Sound.{IsSound}}
+use Rattle.ppdb_merge_annotated.{specs.Each.{Each}, specs.NamedRows.{named_rows, live_scope}, specs.Annotated.{annotated_file}, proofs.Lists.{each_of, row_each}}
+use Rattle.ppdb_merge_annotated.proofs.Lists.{row_pairs}
 use Rattle.ppdb_merge_joined.proofs.Each.{all_each, all_pairs}
 use Rattle.ppdb_merge_moved.specs.Fits.{Fits, HasSlot, IsImaged}
 use Rattle.map_compose_laws.specs.Worked.{edged, edged_points, map_with, one_kept, first_step, second_step, WorkedEdges}

@@ -3,8 +3,10 @@ use Rattle.std.specs.Prelude.{◌≡◌, ℕ, ◌≤◌, true, Option, Some, Non
 use Rattle.custom_info.specs.declared.stepping.AsyncStep.{AsyncStep}
 use Rattle.ppdb_maps.specs.{Map.{Map, moved_row}, Readable.IsReadable}
 use Rattle.map_compose.specs.Composed.{composed}
-use Rattle.ppdb_values.specs.{declared.custom.CustomBody.{CustomBody, TheVariants.{Async, Hoisted}}, declared.annotation.Custom.Custom, Links.Links}
-use Rattle.ppdb_merge_items.specs.Each.{Each}
+use Rattle.ppdb_values.specs.declared.custom.{CustomBody.CustomBody, CustomBody.TheVariants.Async}
+use Rattle.ppdb_values.specs.declared.custom.CustomBody.TheVariants.{Hoisted}
+use Rattle.ppdb_values.specs.{declared.annotation.Custom.Custom, Links.Links}
+use Rattle.ppdb_merge_annotated.specs.Each.{Each}
 use Rattle.ppdb_merge_moved.specs.Images.{links_image}
 use Rattle.map_compose_laws.specs.Images.{EdgeComposes}
 
@@ -19,7 +21,8 @@ HandlerComposes f s method image (Some offset) = EdgeComposes f s method image o
 
 -- a record that is not of hoisted locals
 abbrev pub BodyComposes : Map → Map → ℕ → ℕ → CustomBody → Type 0
-BodyComposes f s method image (Async handler steps) = HandlerComposes f s method image handler × Each (StepComposes f s method image) steps
+BodyComposes f s method image (Async handler steps) =
+    HandlerComposes f s method image handler × Each (StepComposes f s method image) steps
 BodyComposes f s method image (Hoisted slots) = ⊥
 BodyComposes f s method image body = Unit {0}
 
@@ -35,5 +38,7 @@ pub record LinksMay (f s : Map) (method image : ℕ) (l : Links) : Type 0 where
 
 -- the image of the image of links is their image by the map of both
 abbrev pub LinksCompose : Type 0
-LinksCompose = (f s : Map) (method image : ℕ) (l : Links) → IsReadable f → IsReadable s → LinksMay f s method image l
-    → links_image true s image (links_image true f method l) ≡ links_image true (composed f s) method l
+LinksCompose = (f s : Map) (method image : ℕ) (l : Links) → IsReadable f → IsReadable s
+    → LinksMay f s method image l
+    → links_image true s image (links_image true f method l)
+    ≡ links_image true (composed f s) method l

@@ -14,7 +14,8 @@ moved_by value m = record { value = value; map = m }
 abbrev pub rewritten : Map → FileValue → FileValue
 rewritten m value = joined_inputs (moved_by value m ∷ [])
 
--- a file that the first map and the map of both fit, and of which the first makes one that the second fits
+-- a file that the first map and the map of both fit, and of which the first makes one that the
+-- second fits
 pub record StepsFit (f s : Map) (value : FileValue) : Type 0 where
   pub first : FitsAlone (true, moved_by value f)
   pub second : FitsAlone (true, moved_by (rewritten f value) s)
@@ -24,19 +25,27 @@ pub record StepsFit (f s : Map) (value : FileValue) : Type 0 where
 abbrev pub IsNamed : Map → Map → FileValue → ℕ → Type 0
 IsNamed f s value method = NamesMethod (true, moved_by value (composed f s)) method
 
--- Of each method that the file names, where it is moved by the map of both, the file after two steps and the one after one say the same, where
--- the second map keeps the module's own assembly: at each offset that the map of both keeps, but for the point's offset and the edges of ranges;
--- wholly where sizes agree and one of the maps has no line for the method, or each offset that the second keeps in the method's image is one that
--- the first gives. In any case both say the same of what is linked to the method.
+-- Of each method that the file names, where it is moved by the map of both, the file after two
+-- steps and the one after one say the same, where the second map keeps the module's own assembly:
+-- at each offset that the map of both keeps, but for the point's offset and the edges of ranges;
+-- wholly where sizes agree and one of the maps has no line for the method, or each offset that the
+-- second keeps in the method's image is one that the first gives. In any case both say the same of
+-- what is linked to the method.
 pub record TwoStepsMean : Type 0 where
-  pub but_for_edges : (f s : Map) (value : FileValue) → StepsFit f s value → KeepsOwnAssembly f s → (method x z : ℕ) → IsNamed f s value method
+  pub but_for_edges : (f s : Map) (value : FileValue) → StepsFit f s value → KeepsOwnAssembly f s
+      → (method x z : ℕ) → IsNamed f s value method
       → Kept (offsets_in (composed f s) method) x z
-      → without_edges (meaning (rewritten s (rewritten f value)) (moved_row (composed f s) 0x06 method) z)
-      ≡ without_edges (meaning (rewritten (composed f s) value) (moved_row (composed f s) 0x06 method) z)
-  pub exactly : (f s : Map) (value : FileValue) → StepsFit f s value → KeepsOwnAssembly f s → SizesAgree f s → (method x z : ℕ) → IsNamed f s value method
-      → Kept (offsets_in (composed f s) method) x z → KeepsImages f s method (moved_row f 0x06 method)
+      → without_edges
+      (meaning (rewritten s (rewritten f value)) (moved_row (composed f s) 0x06 method) z)
+      ≡ without_edges
+      (meaning (rewritten (composed f s) value) (moved_row (composed f s) 0x06 method) z)
+  pub exactly : (f s : Map) (value : FileValue) → StepsFit f s value → KeepsOwnAssembly f s
+      → SizesAgree f s → (method x z : ℕ) → IsNamed f s value method
+      → Kept (offsets_in (composed f s) method) x z
+      → KeepsImages f s method (moved_row f 0x06 method)
       → meaning (rewritten s (rewritten f value)) (moved_row (composed f s) 0x06 method) z
       ≡ meaning (rewritten (composed f s) value) (moved_row (composed f s) 0x06 method) z
-  pub all_links : (f s : Map) (value : FileValue) → StepsFit f s value → (method : ℕ) → IsNamed f s value method
+  pub all_links : (f s : Map) (value : FileValue) → StepsFit f s value → (method : ℕ)
+      → IsNamed f s value method
       → links (rewritten s (rewritten f value)) (moved_row (composed f s) 0x06 method)
       ≡ links (rewritten (composed f s) value) (moved_row (composed f s) 0x06 method)

@@ -3,20 +3,25 @@ use Rattle.ppdb_values.specs.Names.{Point, Lines, Run}
 use Rattle.std.specs.Prelude.{◌≡◌, ℕ, false, List, [], ◌∷◌, Some, None}
 use Rattle.ppdb_maps.specs.Map.{Map, map_of}
 use Rattle.map_compose.specs.{Composed.composed, Sizes.SizesAgree}
-use Rattle.ppdb_values.specs.{declared.file.FileValue.FileValue, declared.scope.VariableValue.VariableValue, Meaning.{Meaning, ScopeMeaning, meaning}}
-use Rattle.ppdb_values.specs.WorkedSmall.{small_value, small_document, outer_scope, inner_scope, variable_x, variable_y}
+use Rattle.ppdb_values.specs.declared.{file.FileValue.FileValue, scope.VariableValue.VariableValue}
+use Rattle.ppdb_values.specs.Meaning.{Meaning, ScopeMeaning, meaning}
+use Rattle.ppdb_values.specs.WorkedSmall.{small_value, small_document, outer_scope, inner_scope}
+use Rattle.ppdb_values.specs.WorkedSmall.{variable_x, variable_y}
 use Rattle.map_compose_laws.specs.{Images.KeepsOwnAssembly, Steps.{StepsFit, rewritten}}
 
 -- ---- the file
 
 abbrev pub edged_points : ℕ → List Point
-edged_points start = record { offset = 0; document = 1; span = Lines 10 5 10 9 } ∷ record { offset = start; document = 1; span = Lines 11 1 11 9 } ∷ []
+edged_points start = record { offset = 0; document = 1; span = Lines 10 5 10 9 }
+    ∷ record { offset = start; document = 1; span = Lines 11 1 11 9 } ∷ []
 
--- The method 1 of this size has a point at 0 and a scope of all its offsets; a second point and an inner scope begin at the offset.
+-- The method 1 of this size has a point at 0 and a scope of all its offsets; a second point and an
+-- inner scope begin at the offset.
 abbrev pub edged : ℕ → ℕ → FileValue
 edged start size = record small_value {
   methods = record { method = 1; signature = 0; points = edged_points start } ∷ [];
-  scopes = record outer_scope { range = record { start = 0; end = size } } ∷ record inner_scope { range = record { start = start; end = size } } ∷ [];
+  scopes = record outer_scope { range = record { start = 0; end = size } }
+      ∷ record inner_scope { range = record { start = start; end = size } } ∷ [];
 }
 
 -- what a scope from this offset to the method's size means, which owns one variable
@@ -31,7 +36,8 @@ scope_from start size variable = record {
 
 abbrev pub edged_meaning : ℕ → ℕ → Meaning
 edged_meaning start size = record {
-  point = Some (record { offset = start; span = Lines 11 1 11 9; document = Some small_document; signature = 0 });
+  point = Some (record
+      { offset = start; span = Lines 11 1 11 9; document = Some small_document; signature = 0 });
   scopes = scope_from 0 size variable_x ∷ scope_from start size variable_y ∷ [];
   slots = [];
 }
@@ -45,7 +51,8 @@ one_kept old new = record { old = old; new = new; length = 1 }
 -- a map of the method's sizes and runs
 abbrev pub map_with : ℕ → ℕ → List Run → Map
 map_with old_size new_size runs =
-    map_of [] [] [] [] (record { method = 1; old_size = old_size; new_size = new_size; runs = runs } ∷ []) [] [] [] [] [] None false
+    map_of [] [] [] [] (record { method = 1; old_size = old_size; new_size = new_size; runs = runs }
+    ∷ []) [] [] [] [] [] None false
 
 abbrev pub first_step : Map
 first_step = map_with 9 12 (one_kept 0 0 ∷ one_kept 5 6 ∷ one_kept 8 9 ∷ [])

@@ -1,4 +1,5 @@
-//! Laws: a file moved by one map and then by another says what it says moved once by the map of both.
+//! Laws: a file moved by one map and then by another says what it says moved once by the map of
+//! both.
 #![tactic(auto)]
 
 mod laws;

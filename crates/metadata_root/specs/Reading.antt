@@ -1,9 +1,18 @@
 -- What the functions that read the root say to one another.
-use Rattle.std.specs.Prelude.{◌≡◌, ◌≢◌, ℕ, ◌+◌, ◌<◌, ◌≤◌, ◌⊎◌, List, length, take, drop, codes, option_map, Option, Some, None, IsSome, MatchOption, nat_lt, if◌then◌else◌}
-use Rattle.ppdb_base.specs.{declared.code.Code.{Code, TheVariants.{RootTruncated, StreamName, StreamUnknown, StreamRepeated}}, declared.fault.Fault.Fault, Place.at_byte}
-use Rattle.metadata_root.specs.{declared.kind.StreamKind.{StreamKind, TheVariants.{Pdb, Tables, Strings, UserStrings, Guids, Blobs}}, declared.root.Root.TheInside.Inside}
+use Rattle.std.specs.Prelude.{◌≡◌, ◌≢◌, ℕ, ◌+◌, ◌<◌, ◌≤◌, ◌⊎◌, List, length, take, drop, codes}
+use Rattle.std.specs.Prelude.{option_map, Option, Some, None, IsSome, MatchOption, nat_lt}
+use Rattle.std.specs.Prelude.{if◌then◌else◌}
+use Rattle.ppdb_base.specs.declared.code.{Code.Code, Code.TheVariants.{RootTruncated, StreamName}}
+use Rattle.ppdb_base.specs.declared.code.Code.TheVariants.{StreamUnknown, StreamRepeated}
+use Rattle.ppdb_base.specs.{declared.fault.Fault.Fault, Place.at_byte}
+use Rattle.metadata_root.specs.declared.kind.{StreamKind.StreamKind, StreamKind.TheVariants.Pdb}
+use Rattle.metadata_root.specs.declared.kind.StreamKind.TheVariants.{Tables, Strings, UserStrings}
+use Rattle.metadata_root.specs.declared.kind.StreamKind.TheVariants.{Guids, Blobs}
+use Rattle.metadata_root.specs.declared.root.Root.TheInside.{Inside}
 use Rattle.metadata_root.specs.{declared.header.{Extent.Extent, Listing.Listing}, Fields.number_at}
-use Rattle.metadata_root.specs.{Root.{name_at, name_len, name_of, IsInvalidName, name_place, header_place, BeginsWith, stream_count}, Streams.{offset_in, size_in, Stream, Streams}}
+use Rattle.metadata_root.specs.Root.{name_at, name_len, name_of, IsInvalidName, name_place}
+use Rattle.metadata_root.specs.{Root.{header_place, BeginsWith, stream_count}, Streams.offset_in}
+use Rattle.metadata_root.specs.Streams.{size_in, Stream, Streams}
 use Rattle.metadata_root.specs.declared.stream.Stream as stream
 
 -- what a listing has of a stream
@@ -22,29 +31,37 @@ pub record IsGoodName (name : List ℕ) : Type 0 where
 -- the fault of the name at a place: it passes the end, or breaks a rule of its own
 abbrev pub IsNameFault : List ℕ → ℕ → Fault → Type 0
 IsNameFault file at fault =
-    ((fault ≡ record { code = RootTruncated; place = at_byte 1 at }) × (length file < at + name_len file at))
-    ⊎ ((fault ≡ record { code = StreamName; place = at_byte 1 at }) × (at + name_len file at ≤ length file) × IsInvalidName (name_at file at))
+    ((fault ≡ record { code = RootTruncated; place = at_byte 1 at })
+    × (length file < at + name_len file at))
+    ⊎ ((fault ≡ record { code = StreamName; place = at_byte 1 at })
+    × (at + name_len file at ≤ length file) × IsInvalidName (name_at file at))
 
 -- the rule that the name breaks, after the headers that are listed
 abbrev pub BreaksNameRule : List ℕ → Listing → Code → Type 0
 BreaksNameRule name listing code =
     ((code ≡ StreamName) × IsInvalidName name)
     ⊎ (((code ≡ StreamUnknown) × IsGoodName name × ((kind : StreamKind) → name ≢ name_of kind))
-    ⊎ ((code ≡ StreamRepeated) × IsGoodName name × ((kind : StreamKind) × (name ≡ name_of kind) × IsSome (listed listing kind))))
+    ⊎ ((code ≡ StreamRepeated) × IsGoodName name
+    × ((kind : StreamKind) × (name ≡ name_of kind) × IsSome (listed listing kind))))
 
--- `cut` is the first byte of a field of the header that starts at `at`, and this field passes the end of the file
+-- `cut` is the first byte of a field of the header that starts at `at`, and this field passes the
+-- end of the file
 abbrev pub CutsHeader : List ℕ → ℕ → ℕ → Type 0
 CutsHeader file at cut =
     ((cut ≡ at) × (length file < at + 4))
-    ⊎ (((cut ≡ at + 4) × (length file < at + 8)) ⊎ ((cut ≡ at + 8) × (length file < at + 8 + name_len file (at + 8))))
+    ⊎ (((cut ≡ at + 4) × (length file < at + 8))
+    ⊎ ((cut ≡ at + 8) × (length file < at + 8 + name_len file (at + 8))))
 
 -- the fault of the header at a place, after the headers that are listed
 pub data IsHeaderFault (file : List ℕ) (at : ℕ) (listing : Listing) : Fault → Type 0 where
-  cut : (byte : ℕ) → byte ≤ length file → CutsHeader file at byte → IsHeaderFault file at listing (record { code = RootTruncated; place = at_byte 1 byte })
-  name : (code : Code) → at + 8 + name_len file (at + 8) ≤ length file → BreaksNameRule (name_at file (at + 8)) listing code
+  cut : (byte : ℕ) → byte ≤ length file → CutsHeader file at byte
+      → IsHeaderFault file at listing (record { code = RootTruncated; place = at_byte 1 byte })
+  name : (code : Code) → at + 8 + name_len file (at + 8) ≤ length file
+      → BreaksNameRule (name_at file (at + 8)) listing code
       → IsHeaderFault file at listing (record { code = code; place = at_byte 1 (at + 8) })
 
--- the first header whose stream passes the end of the file, with one more whose stream ends at the place
+-- the first header whose stream passes the end of the file, with one more whose stream ends at the
+-- place
 abbrev pub outside_after : ℕ → Option ℕ → ℕ → ℕ → Option ℕ
 outside_after len (Some first) header end = Some first
 outside_after len None header end = if nat_lt len end then Some header else None
@@ -55,9 +72,11 @@ pub record ReadsHeader (file : List ℕ) (at : ℕ) (old new : Listing) : Type 0
   pub kind : StreamKind
   pub named : name_at file (at + 8) ≡ name_of kind
   pub fresh : listed old kind ≡ None
-  pub extent : listed new kind ≡ Some (record { offset = number_at file at 4; size = number_at file (at + 4) 4 })
+  pub extent : listed new kind
+      ≡ Some (record { offset = number_at file at 4; size = number_at file (at + 4) 4 })
   pub others : (other : StreamKind) → other ≢ kind → listed new other ≡ listed old other
-  pub outside : new.outside ≡ outside_after (length file) old.outside at (number_at file at 4 + number_at file (at + 4) 4)
+  pub outside : new.outside
+      ≡ outside_after (length file) old.outside at (number_at file at 4 + number_at file (at + 4) 4)
 
 -- the stream of header j lies in the file
 abbrev pub IsInside : List ℕ → ℕ → Type 0

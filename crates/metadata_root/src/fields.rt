@@ -35,7 +35,9 @@ pub fn field_end(bytes: &[u8], at: usize, len: usize) -> Result<usize, Fault>
     requires inside { at ≤ length bytes.now }
     requires len { len < 2 ^ 32 }
     ensures end { IfOk result (λ end. (end ≡ at + len) × (end ≤ length bytes.now)) }
-    ensures truncated { IfErr result (λ fault. (fault ≡ record { code = Code.RootTruncated; place = at_byte 1 at }) × (length bytes.now < at + len)) }
+    ensures truncated { IfErr result
+        (λ fault. (fault ≡ record { code = Code.RootTruncated; place = at_byte 1 at })
+        × (length bytes.now < at + len)) }
 {
     if bytes.len() - at < len {
         return Err(root_fault(Code::RootTruncated, at));

@@ -1,8 +1,10 @@
-ghost use Rattle.std.specs.Prelude.{◌≡◌, ◌≢◌, ◌+◌, ◌≤◌, ◌<◌, length, Option, None, Some, IfOk, IfErr, MatchOption, MatchBool, All, Any};
+ghost use Rattle.std.specs.Prelude.{◌≡◌, ◌≢◌, ◌+◌, ◌≤◌, ◌<◌, length, Option, None, Some, IfOk};
+ghost use Rattle.std.specs.Prelude.{IfErr, MatchOption, MatchBool, All, Any};
 ghost use Rattle.std.specs.Prelude.{position, ◌==◌, ◌-◌, min, IfSome, IfNone, IsTrue, ◌↔◌, OnOk};
 ghost use Rattle.metadata_root.specs.declared.kind.StreamKind.{StreamKind};
 ghost use Rattle.metadata_root.specs.Root.{name_at, name_len, name_of};
-ghost use Rattle.metadata_root.specs.Reading.{IsNameFault, IsGoodName, listed, IsHeaderFault, ReadsHeader, outside_after};
+ghost use Rattle.metadata_root.specs.Reading.{IsNameFault, IsGoodName, listed, IsHeaderFault};
+ghost use Rattle.metadata_root.specs.Reading.{ReadsHeader, outside_after};
 
 use crate::fields::{field_end, root_fault, u32_at};
 use crate::kind::StreamKind;
@@ -72,7 +74,8 @@ impl Listing {
 
     fn set(&mut self, kind: StreamKind, extent: Extent)
         ensures set { listed self.new kind ≡ Some extent }
-        ensures others { (other : StreamKind) → other ≢ kind → listed self.new other ≡ listed self.old other }
+        ensures others { (other : StreamKind) → other ≢ kind
+            → listed self.new other ≡ listed self.old other }
         ensures outside { self.new.outside ≡ self.old.outside }
     {
         let extent = Some(extent);
@@ -89,7 +92,8 @@ impl Listing {
 
 /// The stream that has the name.
 fn kind_named(name: &[u8]) -> Option<StreamKind>
-    ensures { MatchOption result ((kind : StreamKind) → name.now ≢ name_of kind) (λ kind. name.now ≡ name_of kind) }
+    ensures { MatchOption result ((kind : StreamKind)
+        → name.now ≢ name_of kind) (λ kind. name.now ≡ name_of kind) }
 {
     match name {
         b"#Pdb" => Some(StreamKind::Pdb),
@@ -119,8 +123,10 @@ fn is_ascii(bytes: &[u8]) -> bool
 fn text_at(bytes: &[u8], at: usize) -> Option<&[u8]>
     requires { at ≤ length bytes.now }
     ensures text { IfSome result (λ text. text.now ≡ name_at bytes.now at) }
-    ensures within { IfSome result (λ text. (length text.now < NAME_MAX) × (at + length text.now < length bytes.now)) }
-    ensures none { IfNone result (length (name_at bytes.now at) ≡ min NAME_MAX (length bytes.now - at)) }
+    ensures within { IfSome result (λ text. (length text.now < NAME_MAX)
+        × (at + length text.now < length bytes.now)) }
+    ensures none { IfNone result
+        (length (name_at bytes.now at) ≡ min NAME_MAX (length bytes.now - at)) }
 {
     let rest = &bytes[at..];
     let prefix = &rest[..NAME_MAX.min(rest.len())];
@@ -133,7 +139,8 @@ fn read_name(bytes: &[u8], at: usize) -> Result<(&[u8], usize), Fault>
     requires size { length bytes.now ≤ MAX_FILE_BYTES }
     requires inside { at ≤ length bytes.now }
     ensures name { IfOk result (λ found. found.0.now ≡ name_at bytes.now at) }
-    ensures end { IfOk result (λ found. (found.1 ≡ at + name_len bytes.now at) × (found.1 ≤ length bytes.now)) }
+    ensures end { IfOk result (λ found. (found.1 ≡ at + name_len bytes.now at)
+        × (found.1 ≤ length bytes.now)) }
     ensures good { IfOk result (λ found. IsGoodName (name_at bytes.now at)) }
     ensures fault { IfErr result (λ fault. IsNameFault bytes.now at fault) }
 {
@@ -164,7 +171,8 @@ fn first_outside(before: Option<u32>, extent: Extent, header: u32, len: usize) -
 pub fn read_header(bytes: &[u8], at: usize, listing: &mut Listing) -> Result<usize, Fault>
     requires size { length bytes.now ≤ MAX_FILE_BYTES }
     requires inside { at ≤ length bytes.now }
-    ensures end { IfOk result (λ end. (end ≡ at + 8 + name_len bytes.now (at + 8)) × (end ≤ length bytes.now)) }
+    ensures end { IfOk result (λ end. (end ≡ at + 8 + name_len bytes.now (at + 8))
+        × (end ≤ length bytes.now)) }
     ensures read { OnOk result (ReadsHeader bytes.now at listing.old listing.new) }
     ensures fault { IfErr result (λ fault. IsHeaderFault bytes.now at listing.old fault) }
 {

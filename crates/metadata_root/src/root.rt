@@ -1,9 +1,11 @@
-ghost use Rattle.std.specs.Prelude.{◌≡◌, ◌<◌, ◌≤◌, ◌+◌, ◌↔◌, length, IfOk, OnOk, IfErr, IsTrue, IfSome, option_map};
+ghost use Rattle.std.specs.Prelude.{◌≡◌, ◌<◌, ◌≤◌, ◌+◌, ◌↔◌, length, IfOk, OnOk, IfErr, IsTrue};
+ghost use Rattle.std.specs.Prelude.{IfSome, option_map};
 ghost use Rattle.std.specs.Option.{option_copied, ForSome};
 ghost use Rattle.ppdb_base.specs.First.{IsFirst, IsAccepted};
 ghost use Rattle.metadata_root.specs.declared.kind.StreamKind.{StreamKind};
 ghost use Rattle.metadata_root.specs.Root.{RootFaults, BeginsWith, stream_count};
-ghost use Rattle.metadata_root.specs.Streams.{ContainerFaults, StreamFaults, AreStreamsOf, stream_of};
+ghost use Rattle.metadata_root.specs.Streams.{ContainerFaults, StreamFaults, AreStreamsOf};
+ghost use Rattle.metadata_root.specs.Streams.{stream_of};
 ghost use Rattle.metadata_root.specs.Reading.{IsPrefix, IsListing, listed, slice_of, seen_stream};
 
 use crate::fields::{fault_at, field_end, root_fault, u16_at, u32_at};
@@ -37,7 +39,8 @@ impl<'a> Model for Root<'a> {
 impl<'a> Root<'a> {
     /// The stream's bytes.
     pub fn stream(&self, kind: StreamKind) -> Option<&'a [u8]>
-        ensures stream { option_copied result ≡ option_map (λ s. s.bytes) (stream_of self.now kind) }
+        ensures stream { option_copied result
+            ≡ option_map (λ s. s.bytes) (stream_of self.now kind) }
         ensures short { IfSome result (λ s. length s.now ≤ MAX_FILE_BYTES) }
     {
         self.get(kind).map(|stream| stream.bytes)
@@ -138,7 +141,8 @@ fn read_headers(bytes: &[u8], prefix: Prefix) -> Result<Listing, Fault>
 fn judge_streams(bytes: &[u8], listing: &Listing) -> Result<(), Fault>
     requires { IsListing bytes.now (stream_count bytes.now) listing.now }
     ensures accepted { OnOk result (IsAccepted (StreamFaults bytes.now)) }
-    ensures inside { OnOk result ((kind : StreamKind) → ForSome (listed listing.now kind) (λ e. e.offset + e.size ≤ length bytes.now)) }
+    ensures inside { OnOk result ((kind : StreamKind)
+        → ForSome (listed listing.now kind) (λ e. e.offset + e.size ≤ length bytes.now)) }
     ensures first { IfErr result (IsFirst (StreamFaults bytes.now)) }
 {
     if listing.pdb.is_none() || listing.tables.is_none() {

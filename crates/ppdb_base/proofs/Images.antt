@@ -1,8 +1,8 @@
 -- Whether the image of a kept offset lies between two new offsets.
-use Rattle.std.proofs.{Common.{◌≡◌, ℕ, ◌+◌, ◌-◌, ◌<◌, ◌≤◌, Bool, true, false, List, [], ◌∷◌, Option, Some, None, refl, sym, arith, inl, inr}, lemmas.Bool.{cases_lt, lt-ltb, le-ltb}}
-use Rattle.std.specs.{Prelude.{◌&&◌, nat_lt, cond, IfSome, IfNone}, List.{list_any}}
-use Rattle.ppdb_base.specs.{declared.offsets.Run.{Run}, Offsets.{Offsets, Rise, Kept, kept_runs, end_of, new_end_of, Takes, Moves, RiseFrom, IsImageFrom, is_image_between}}
-use Rattle.ppdb_base.proofs.Moved.{kept_rise}
+use Rattle.std.proofs.{Common.{◌≡◌, ℕ, ◌+◌, ◌-◌, ◌<◌, ◌≤◌, Bool, true, false, List, [], ◌∷◌, Option, Some, None, refl, sym, arith, inl, inr}, lemmas.Bool.{cases_lt}}
+use Rattle.std.{proofs.lemmas.Bool.{lt-ltb, le-ltb}, specs.Prelude.{◌&&◌, nat_lt, cond, IfSome, IfNone}, specs.List.{list_any}}
+use Rattle.ppdb_base.specs.{declared.offsets.Run.{Run}, Offsets.{Offsets, Rise, Kept, kept_runs, end_of, new_end_of, Takes, Moves, RiseFrom, IsImageFrom}}
+use Rattle.ppdb_base.{specs.Offsets.{is_image_between}, proofs.Moved.{kept_rise}}
 
 -- a run moves some offset to an image between
 record HasImage (runs : List Run) (from to : ℕ) : Type 0 where

@@ -1,4 +1,5 @@
--- Counts of what happened outside. They never fall, and stop at 18446744073709551615, the last value of 64 bits.
+-- Counts of what happened outside. They never fall, and stop at 18446744073709551615, the last
+-- value of 64 bits.
 use Rattle.std.specs.Prelude.{ℕ, ◌≡◌, ◌+◌, ◌<◌, ◌⊎◌, ◌==◌, Bool, if◌then◌else◌}
 
 -- the count rose in a call: it is greater at the end, or stands at its last value

@@ -1,4 +1,5 @@
--- Fields that stand one after another, as their lengths in file order (ECMA-335 II.24.2.1, II.24.2.2 and II.24.2.6 list fields so).
+-- Fields that stand one after another, as their lengths in file order (ECMA-335 II.24.2.1,
+-- II.24.2.2 and II.24.2.6 list fields so).
 use Rattle.std.specs.Prelude.{◌≡◌, ℕ, ◌∷◌, ◌++◌, List, sum}
 
 -- a field of this length is one of the fields: its place is the sum of the lengths before it

@@ -7,5 +7,5 @@ pub mod Offsets
 pub mod Place
 pub mod Plan
 pub mod Steady
-pub mod Told
+pub mod Reported
 pub mod Written

@@ -7,8 +7,8 @@ ghost use Rattle.hex.specs.Hex.{encode_lower};
 
 use crate::sink::{Sink, WriteError};
 
-/// Puts bytes as text: printable ASCII but for the space and the backslash as it is, any other byte as `\x` and two digits,
-/// and no bytes as `\-`.
+/// Puts bytes as text: printable ASCII but for the space and the backslash as it is, any other byte
+/// as `\x` and two digits, and no bytes as `\-`.
 pub fn put_escaped<O: Sink>(out: &mut O, bytes: &[u8]) -> Result<(), WriteError>
     ensures { PutsInto O.written O.faults result out.old out.new (escaped bytes.now) }
 {

@@ -3,7 +3,8 @@ use crate::code::Code;
 /// Where a fault stands in a file: a part of it, and there a cell of a table or a byte.
 #[derive(Clone, Copy, Debug, PartialEq, Eq)]
 pub struct Place {
-    /// 1 the metadata root; 2 its streams; 3 the stream `#Pdb`; 4 the stream `#~`: its fields, and where its rows end; 5 the rows of its tables.
+    /// 1 the metadata root; 2 its streams; 3 the stream `#Pdb`; 4 the stream `#~`: its fields, and
+    /// where its rows end; 5 the rows of its tables.
     pub part: u8,
     /// The table's number, as 0x32 for LocalScope; 0 in the parts 1 to 4.
     pub table: u8,
@@ -11,7 +12,8 @@ pub struct Place {
     pub row: u32,
     /// The column from 0; 0 in the parts 1 to 4.
     pub column: u8,
-    /// In the parts 1 and 2 the byte of the file, in 3 and 4 that of the stream, in 5 that of the blob which the cell names.
+    /// In the parts 1 and 2 the byte of the file, in 3 and 4 that of the stream, in 5 that of the
+    /// blob which the cell names.
     pub byte: u32,
 }
 

@@ -1,5 +1,6 @@
 // The files that a program reads and writes.
-ghost use Rattle.std.specs.Prelude.{◌≡◌, ◌≤◌, [], ℕ, Option, None, is_ok, length, OnOk, OnErr, IfSome, IsErrOf};
+ghost use Rattle.std.specs.Prelude.{◌≡◌, ◌≤◌, [], ℕ, Option, None, is_ok, length, OnOk, OnErr};
+ghost use Rattle.std.specs.Prelude.{IfSome, IsErrOf};
 ghost use Rattle.ppdb_base.specs.declared.folder.ReadError.TheVariants as read_errors;
 ghost use Rattle.ppdb_base.specs.Causes.{Rose, counted_where};
 ghost use Rattle.ppdb_base.specs.Files.{Files, reading, Answers, with_file, LeavesPrefix};
@@ -28,8 +29,8 @@ impl From<Memory> for ReadError {
     }
 }
 
-/// A folder of files by name. A folder in memory reports in contracts what its files hold; a real one does not,
-/// and its contracts speak of its counts alone.
+/// A folder of files by name. A folder in memory reports in contracts what its files hold; a real
+/// one does not, and its contracts speak of its counts alone.
 pub trait Folder {
     /// The files by name, where the folder reports what they hold.
     ghost files: { Self → Option Files };
@@ -43,17 +44,22 @@ pub trait Folder {
     /// How often a read has given a file.
     ghost reads: { Self → ℕ };
 
-    /// Reads a whole file of at most `max` bytes in place of what `into` holds. After an `Err` `into` is empty.
+    /// Reads a whole file of at most `max` bytes in place of what `into` holds. After an `Err`
+    /// `into` is empty.
     fn read(&mut self, name: &str, max: usize, into: &mut Bytes) -> Result<(), ReadError>
         // Where the contents are known, the answer is what reading them gives.
-        ensures told { IfSome (files self.old) (λ files. Answers (reading files name.now max) result into.new) }
+        ensures reported { IfSome (files self.old)
+            (λ files. Answers (reading files name.now max) result into.new) }
         ensures within { OnOk result (length into.new ≤ max) }
         ensures empty { OnErr result (into.new ≡ []) }
 
         // What a refusal comes from.
-        ensures failed { IsErrOf result ReadError.Failed → Rose (read_faults self.old) (read_faults self.new) }
-        ensures absent { files self.old ≡ None → IsErrOf result ReadError.Absent → Rose (read_faults self.old) (read_faults self.new) }
-        ensures too_long { files self.old ≡ None → IsErrOf result ReadError.TooLong → Rose (read_faults self.old) (read_faults self.new) }
+        ensures failed { IsErrOf result ReadError.Failed
+            → Rose (read_faults self.old) (read_faults self.new) }
+        ensures absent { files self.old ≡ None → IsErrOf result ReadError.Absent
+            → Rose (read_faults self.old) (read_faults self.new) }
+        ensures too_long { files self.old ≡ None → IsErrOf result ReadError.TooLong
+            → Rose (read_faults self.old) (read_faults self.new) }
 
         // What it changes.
         ensures later { read_faults self.old ≤ read_faults self.new }
@@ -61,12 +67,15 @@ pub trait Folder {
         ensures files { files self.new ≡ files self.old }
         ensures write_faults { write_faults self.new ≡ write_faults self.old };
 
-    /// Makes the file hold the bytes and nothing else. After an `Err` it is as before, or holds a prefix of them.
+    /// Makes the file hold the bytes and nothing else. After an `Err` it is as before, or holds a
+    /// prefix of them.
     fn write(&mut self, name: &str, bytes: &[u8]) -> Result<(), WriteError>
         ensures ok { OnOk result (files self.new ≡ with_file (files self.old) name.now bytes.now) }
-        ensures err { OnErr result (LeavesPrefix (files self.old) (files self.new) name.now bytes.now) }
+        ensures err { OnErr result
+            (LeavesPrefix (files self.old) (files self.new) name.now bytes.now) }
 
-        ensures failed { IsErrOf result WriteError.Failed → Rose (write_faults self.old) (write_faults self.new) }
+        ensures failed { IsErrOf result WriteError.Failed
+            → Rose (write_faults self.old) (write_faults self.new) }
 
         ensures later { write_faults self.old ≤ write_faults self.new }
         ensures reads { reads self.new ≡ reads self.old }

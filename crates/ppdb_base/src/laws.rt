@@ -1,4 +1,5 @@
-// Laws on what the contracts speak of: what each `ensures` says is proved, and the bodies do nothing.
+// Laws on what the contracts speak of: what each `ensures` says is proved, and the bodies do
+// nothing.
 ghost use Rattle.ppdb_base.specs.declared.code.Code.{Code};
 ghost use Rattle.ppdb_base.specs.declared.fault.Place.{Place};
 ghost use Rattle.ppdb_base.specs.First.{AcceptedWithoutFirst};

@@ -1,5 +1,6 @@
-//! What all crates of the Portable PDB tools share: lists that contracts see as lists, the faults of a file and their
-//! places, the outside world as traits, and how the IL offsets of a method move.
+//! What all crates of the Portable PDB tools share: lists that contracts see as lists, the faults
+//! of a file and their places, the outside world as traits, and how the IL offsets of a method
+//! move.
 #![tactic(auto)]
 
 mod code;

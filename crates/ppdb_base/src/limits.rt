@@ -12,7 +12,8 @@ pub const MAX_OFFSET: u32 = 2147483647;
 /// The most bytes of all texts and blobs that a file refers to, counted for each reference.
 pub const MAX_SPAN: u64 = 268435456;
 
-/// Why a value is not written: the limit of the format that it would pass. They are judged in this order.
+/// Why a value is not written: the limit of the format that it would pass. They are judged in this
+/// order.
 #[derive(Clone, Copy, Debug, PartialEq, Eq)]
 pub enum Limit {
     /// L1: the table would have so many rows.

@@ -1,5 +1,6 @@
 // A vector that contracts see as a list.
-ghost use Rattle.std.specs.Prelude.{◌≡◌, [], ◌∷◌, ◌++◌, ◌↔◌, length, take, option_to_list, IsTrue, IsNone, IsOk, IfOk, OnOk, OnErr};
+ghost use Rattle.std.specs.Prelude.{◌≡◌, [], ◌∷◌, ◌++◌, ◌↔◌, length, take, option_to_list, IsTrue};
+ghost use Rattle.std.specs.Prelude.{IsNone, IsOk, IfOk, OnOk, OnErr};
 ghost use Rattle.std.specs.Borrow.{Lends, sem, Array};
 ghost use Rattle.std.specs.List.{refill};
 ghost use Rattle.ppdb_base.specs.contracts.list.List.{the_row};
@@ -97,7 +98,8 @@ impl<T> List<T> {
 
     /// Lends the items, to be changed in their places; their number stays.
     pub fn as_mut_slice(&mut self) -> &mut [T]
-        ensures* writes_back { sem 𝓛 (Lends (the_row T.row) (Array T.row 0) self.entry result (refill (length self.old) self.old)) }
+        ensures* writes_back { sem 𝓛 (Lends (the_row T.row) (Array T.row 0) self.entry result
+            (refill (length self.old) self.old)) }
         ensures items { result.now ≡ self.old }
     {
         self.items.as_mut_slice()

@@ -5,8 +5,8 @@ ghost use Rattle.ppdb_base.specs.declared.merge_error.MergeError.TheVariants as 
 use crate::fault::Place;
 use crate::list::Memory;
 
-/// Why an input is not joined: its map does not fit it, or it does not fit the inputs before it. Rows, methods and
-/// slots are numbered as in the input unless it says otherwise.
+/// Why an input is not joined: its map does not fit it, or it does not fit the inputs before it.
+/// Rows, methods and slots are numbered as in the input unless it says otherwise.
 #[derive(Clone, Copy, Debug, PartialEq, Eq)]
 pub enum MergeError {
     /// M1: the row is referred to at the place, and has no image.
@@ -22,14 +22,16 @@ pub enum MergeError {
         second: u32,
         image: u32,
     },
-    /// M3: a method has the image of the method `first` of an earlier input, which is counted from 1.
+    /// M3: a method has the image of the method `first` of an earlier input, which is counted from
+    /// 1.
     MethodTaken {
         input: u32,
         first: u32,
         second: u32,
         image: u32,
     },
-    /// M4: the offset is not below the old size of its method, or a range that ends there ends above it.
+    /// M4: the offset is not below the old size of its method, or a range that ends there ends
+    /// above it.
     OffsetBeyond {
         method: u32,
         offset: u32,
@@ -45,7 +47,8 @@ pub enum MergeError {
         row: u32,
         kind: [u8; 16],
     },
-    /// M7: the document has the name of one that was joined, and another algorithm, hash or language.
+    /// M7: the document has the name of one that was joined, and another algorithm, hash or
+    /// language.
     DocumentConflict {
         row: u32,
         joined: u32,
@@ -82,8 +85,8 @@ pub enum MergeError {
         first: u32,
         second: u32,
     },
-    /// M13: the custom row is a Source Link record of the module's row 1, and an earlier input has one on the same row
-    /// with another value than the map's `link` line.
+    /// M13: the custom row is a Source Link record of the module's row 1, and an earlier input has
+    /// one on the same row with another value than the map's `link` line.
     LinkDiffers {
         row: u32,
     },

@@ -32,5 +32,6 @@ pub trait Sink {
 
     /// Puts bytes at the end.
     fn put(&mut self, bytes: &[u8]) -> Result<(), WriteError>
-        ensures { Puts result (written self.old) (written self.new) (faults self.old) (faults self.new) bytes.now };
+        ensures { Puts result (written self.old) (written self.new) (faults self.old)
+            (faults self.new) bytes.now };
 }

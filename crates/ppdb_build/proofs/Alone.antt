@@ -2,10 +2,10 @@
 use Rattle.std.proofs.Common.{◌≡◌, ℕ, List, [], ◌∷◌, Option, Some, IfSome, sym, ap, subst, ◌∙◌}
 use Rattle.ppdb_maps.specs.Map.{Map, no_lines}
 use Rattle.ppdb_values.specs.{declared.file.FileValue.{FileValue}, Value.{value_of}}
-use Rattle.ppdb_values_sound_laws.specs.Sound.{IsSound}
+use Rattle.ppdb_values_sound.specs.Sound.{IsSound}
 use Rattle.ppdb_verify.specs.Views.{raw_file}
 use Rattle.ppdb_merge_parts.specs.Flat.{InputsFit, MovedBy, joined_inputs}
-use Rattle.ppdb_merge_rows.specs.{Inputs.{moved_inputs}, declared.inputs.RowInput.{RowInput}}
+use Rattle.ppdb_merge_moved_rows.specs.{Inputs.{moved_inputs}, declared.inputs.RowInput.{RowInput}}
 use Rattle.ppdb_merge_unmoved_laws.specs.NoLines.{SoundFilesStay}
 
 abbrev one_by : FileValue → Map → List MovedBy

@@ -10,11 +10,11 @@ use Rattle.ppdb_build_heaps.specs.Items.{first_uses}
 use Rattle.ppdb_build_canon.specs.{Uses.{variables_of, constants_of, guid_uses}, Canonical.{counts, document_row, method_rows, scope_row, variable_row}}
 use Rattle.ppdb_build_canon.specs.{Canonical.{constant_row, import_row, custom_row, canonical_tables}, Limits.{too_many_rows, tables}}
 use Rattle.ppdb_build_canon.proofs.Counts as known
-use Rattle.ppdb_build_items.specs.Interned.{cell}
+use Rattle.ppdb_build_interning.specs.Interned.{cell}
 use Rattle.ppdb_build_draft.specs.{Draft.{Draft}, Drafted.{held_document, held_method, held_scope, held_variable, held_constant, held_import, held_custom}}
 use Rattle.ppdb_build_draft.specs.Drafted.{held_rows, IsDraftOf}
 use Rattle.ppdb_build_bytes.specs.Drafts.{counts_in}
-use Rattle.ppdb_build_rows_laws.proofs.Documents.{all_guids}
+use Rattle.ppdb_build_canon_rows_laws.proofs.Documents.{all_guids}
 use Rattle.ppdb_build.{specs.Building.{early_limit_of}, proofs.Limits.{neither, not_above}}
 use Rattle.ppdb_build_limits.proofs.Firsts.{first_or}
 

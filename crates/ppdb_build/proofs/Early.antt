@@ -6,15 +6,15 @@ use Rattle.ppdb_base.specs.declared.limits.{Limit.{Limit}, Limit.TheVariants.{Ta
 use Rattle.sequence_points.specs.{declared.point.Point.{Point}, Written.{first_of}}
 use Rattle.ppdb_tables.specs.{RawTables.{numbered}, declared.head.PdbHead.{PdbHead}}
 use Rattle.ppdb_values.specs.{declared.file.FileValue.{FileValue}, declared.file.MethodValue.{MethodValue}, Types.{HasTypes}}
-use Rattle.ppdb_values_sound_laws.specs.Sound.{IsSound}
+use Rattle.ppdb_values_sound.specs.Sound.{IsSound}
 use Rattle.ppdb_build_layout.specs.declared.rows.Rows.{Rows}
 use Rattle.ppdb_build_canon.specs.Canonical.{counts, document_row, method_rows, scope_row, variable_row, constant_row, import_row, custom_row, canonical_tables}
 use Rattle.ppdb_build_canon.specs.{Limits.{above, too_many_rows, tables, list_past_end, large_offset, large_step_of}, Uses.{variables_of, constants_of}}
 use Rattle.ppdb_build_canon.proofs.Counts as known
 use Rattle.ppdb_build_draft.specs.{Draft.{Draft}, Drafted.{held_document, held_method, held_scope, held_variable, held_constant, held_import, held_custom}}
 use Rattle.ppdb_build_draft.specs.Drafted.{held_rows, drafted, IsDraftOf, DraftsAreCanonical}
-use Rattle.ppdb_merge_items.{specs.Each.{Each}, proofs.Lists.{Each-weaker}}
-use Rattle.ppdb_merge_rows.specs.Methods.{HasForms}
+use Rattle.ppdb_merge_annotated.{specs.Each.{Each}, proofs.Lists.{Each-weaker}}
+use Rattle.ppdb_merge_moved_rows.specs.Methods.{HasForms}
 use Rattle.ppdb_build.{specs.Building.{IsDraftedFrom, early_limit_of}, specs.Joining.{AreRowsFew, IsHeadOf}, proofs.Limits.{lists_alone}}
 
 -- ---- nothing is answered
@@ -81,10 +81,10 @@ no_offsets value forms =
     none_first large_offset value.methods (Each-weaker HasForms (λ (m : MethodValue). large_offset m ≡ None) no_offset value.methods forms)
 
 -- L2 alone is left
-pub lists_told : (value : FileValue) (draft : Draft) → length value.rows ≡ 64 → Each HasForms value.methods → IsDraftOf value draft → AreRowsFew draft.rows
+pub lists_reported : (value : FileValue) (draft : Draft) → length value.rows ≡ 64 → Each HasForms value.methods → IsDraftOf value draft → AreRowsFew draft.rows
     → option_or (list_past_end value 0x33 (λ scope. length scope.variables)) (list_past_end value 0x34 (λ scope. length scope.constants))
     ≡ early_limit_of value
-lists_told value draft entries forms is few =
+lists_reported value draft entries forms is few =
     sym (lists_alone _ (list_past_end value 0x33 (λ scope. length scope.variables)) (list_past_end value 0x34 (λ scope. length scope.constants)) _
     (rows_few value draft entries is few) (no_offsets value forms))
 

@@ -8,18 +8,18 @@ use Rattle.ppdb_values.specs.{Customs.{custom_of, kind_in}, Documents.{document_
 use Rattle.ppdb_values.specs.{Types.{IsGuid, IsNarrow, IsNarrowRow}, Value.{value_of}, declared.custom.CustomValue.{CustomValue}}
 use Rattle.ppdb_values.specs.declared.{file.DocumentValue.{DocumentValue}, file.FileValue.{FileValue}, scope.ScopeValue.{ScopeValue}}
 use Rattle.ppdb_values.proofs.Typed.{any_all, each_all, guid_length, guid_or_none}
-use Rattle.ppdb_values_sound_laws.specs.Customs.{SoundCustoms}
+use Rattle.ppdb_values_sound.specs.Customs.{SoundCustoms}
 use Rattle.ppdb_verify.specs.Views.{raw_file}
 use Rattle.ppdb_build_canon.specs.{Canonical.{canonical_tables, variable_row}, Uses.{variables_of}}
 use Rattle.ppdb_build_layout.specs.declared.rows.Rows.{Rows}
 use Rattle.ppdb_build_draft.specs.{Draft.{Draft}, Drafted.{IsDraftOf, held_variable}}
-use Rattle.ppdb_merge_items.{specs.Each.{Each}, proofs.Lists.{Each-enumerate, Each-map, Each-unmap, Each-weaker}, proofs.Orders.{in_order_each}}
+use Rattle.ppdb_merge_annotated.{specs.Each.{Each}, proofs.Lists.{Each-enumerate, Each-map, Each-unmap, Each-weaker}, proofs.Orders.{in_order_each}}
 use Rattle.ppdb_merge_joined.{specs.Joined.{firsts}, specs.Same.{same_record}, proofs.Each.{Each-flat, Each-unflat, all_each, each_all as of_all}}
 use Rattle.ppdb_merge_joined.proofs.Kept.{fresh_each}
 use Rattle.ppdb_merge_moved.{specs.Moved.{linked, moved_counts, moved_document}, proofs.Lists.{Each-filter_map}}
 use Rattle.ppdb_merge_parts.specs.Flat.{FitsAlone, InputsFit, MovedBy, joined_inputs, JoinedPartsAreFlat, documents_of, moved_documents}
-use Rattle.ppdb_build_merged.specs.Records.{JoinedRecordsAreFlat, Numbered, parent_image, record_image, record_on, records_of}
-use Rattle.ppdb_merge_rows.specs.{Inputs.{moved_by, moved_inputs}, declared.inputs.RowInput.{RowInput}}
+use Rattle.ppdb_build_joined.specs.Records.{JoinedRecordsAreFlat, Numbered, parent_image, record_image, record_on, records_of}
+use Rattle.ppdb_merge_moved_rows.specs.{Inputs.{moved_by, moved_inputs}, declared.inputs.RowInput.{RowInput}}
 
 -- ---- what the files of inputs have
 

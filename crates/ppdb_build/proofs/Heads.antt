@@ -4,7 +4,7 @@ use Rattle.ppdb_tables.specs.declared.head.PdbHead.{PdbHead}
 use Rattle.ppdb_maps.specs.Map.{Map, count_of}
 use Rattle.ppdb_merge_moved.specs.Moved.{moved_counts}
 use Rattle.ppdb_merge_parts.specs.Flat.{joined_inputs, JoinedPartsAreFlat}
-use Rattle.ppdb_merge_rows.specs.{Inputs.{moved_by, moved_inputs}, declared.inputs.RowInput.{RowInput}}
+use Rattle.ppdb_merge_moved_rows.specs.{Inputs.{moved_by, moved_inputs}, declared.inputs.RowInput.{RowInput}}
 use Rattle.ppdb_build.specs.Joining.{IsHeadOf, IsMovedHead}
 
 counts_taken : (m : Map) (table k : ℕ) (rows : List ℕ) → take k (moved_counts m table rows) ≡ moved_counts m table (take k rows)

@@ -7,7 +7,7 @@ use Rattle.sequence_points.specs.Written.{last_of}
 use Rattle.ppdb_base.specs.declared.limits.{Limit.{Limit}, Limit.TheVariants.{ListPastEnd}}
 use Rattle.ppdb_tables.specs.{declared.rows.ScopeRow.{ScopeRow}, RawTables.{numbered}}
 use Rattle.ppdb_values.specs.declared.{file.FileValue.{FileValue}, scope.ScopeValue.{ScopeValue}}
-use Rattle.ppdb_values_sound_laws.proofs.Listed.{row_of_map, row_of_numbered}
+use Rattle.ppdb_values_sound.proofs.Listed.{row_of_map, row_of_numbered}
 use Rattle.ppdb_build_canon.specs.{Uses.{variables_of, constants_of}, Canonical.{scope_row, variable_row, constant_row, canonical_tables}, Limits.{owns_none}}
 use Rattle.ppdb_build_canon.{specs.Limits.{list_past_end}, proofs.Limits.{met}}
 use Rattle.ppdb_build_draft.specs.{Draft.{Draft}, Drafted.{held_scope, held_variable, held_constant, IsDraftOf}}
@@ -116,10 +116,10 @@ module _ (value : FileValue) (draft : Draft) (is : IsDraftOf value draft) where
   list_limits = option_or (list_past_end value 0x33 (λ scope. length scope.variables)) (list_past_end value 0x34 (λ scope. length scope.constants))
 
   -- L2 is what the rows of the last scope report
-  pub limit_told : (row : ScopeRow) (index : ℕ) → slice_get draft.rows.scopes index ≡ Some row → length draft.rows.scopes ≡ suc index
+  pub limit_reported : (row : ScopeRow) (index : ℕ) → slice_get draft.rows.scopes index ≡ Some row → length draft.rows.scopes ≡ suc index
       → option_or (met ((length draft.rows.variables == 65535) && (row.variables == 65536)) (ListPastEnd 0x33 65535))
       (met ((length draft.rows.constants == 65535) && (row.constants == 65536)) (ListPastEnd 0x34 65535)) ≡ list_limits
-  limit_told row index here many =
+  limit_reported row index here many =
       let l = last_scope row index here many in
       let v = one_list 0x33 (length draft.rows.variables) row.variables (sum_by (λ scope. length scope.variables) (take index value.scopes)) 0
       (λ scope. length scope.variables) l.scope l.last variables_many l.all_variables l.variables in
@@ -129,8 +129,8 @@ module _ (value : FileValue) (draft : Draft) (is : IsDraftOf value draft) where
       ∙ ap (λ o. option_or (list_past_end value 0x33 (λ scope. length scope.variables)) o) c
 
   -- and without scopes there is none
-  pub none_told : length draft.rows.scopes ≡ 0 → list_limits ≡ None
-  none_told none = by value.scopes refl (sym scopes_many ∙ none)
+  pub none_reported : length draft.rows.scopes ≡ 0 → list_limits ≡ None
+  none_reported none = by value.scopes refl (sym scopes_many ∙ none)
     where
       by : (scopes : List ScopeValue) → value.scopes ≡ scopes → length scopes ≡ 0 → list_limits ≡ None
       by [] e z = ap (λ (scopes : List ScopeValue). option_or (met ((sum_by (λ scope. length scope.variables) scopes == 65535) && owns_none

@@ -3,7 +3,7 @@ pub mod Counted
 pub mod Writable
 pub mod Written
 pub mod Finished
-pub mod Told
+pub mod Reported
 pub mod LastLists
 pub mod Early
 pub mod Alone

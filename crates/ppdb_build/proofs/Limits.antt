@@ -2,7 +2,7 @@
 use Rattle.std.{proofs.Common.{◌≡◌, ℕ, ◌≤◌, Bool, true, false, List, [], ◌∷◌, length, refl, sym, ap, ◌∙◌, Option, Some, None}, specs.Prelude.{nat_lt, if◌then◌else◌}}
 use Rattle.std.{specs.Option.{option_or}, specs.List.{filter_map}, proofs.lemmas.Bool.{ltb-false}, proofs.lemmas.Option.{none-some}}
 use Rattle.sequence_points.specs.Written.{first_of}
-use Rattle.ppdb_base.specs.{declared.limits.Limit.{Limit}, declared.limits.Limit.TheVariants.{FileSize, SpanTotal}, Told.{told}}
+use Rattle.ppdb_base.specs.{declared.limits.Limit.{Limit}, declared.limits.Limit.TheVariants.{FileSize, SpanTotal}, Reported.{reported}}
 use Rattle.ppdb_build_layout.specs.Bytes.{file_bytes}
 use Rattle.ppdb_values.specs.declared.file.FileValue.{FileValue}
 use Rattle.ppdb_build_canon.specs.{Canonical.{canonical}, Limits.{above, first_met, too_many_rows, tables, list_past_end, large_offset, large_step_of, span}}
@@ -66,7 +66,7 @@ pub not_above : (most number : ℕ) (limit : ℕ → Limit) → above most limit
 not_above most number limit e = by (nat_lt most number) refl
   where
     by : (b : Bool) → nat_lt most number ≡ b → number ≤ most
-    by true is = absurd (none-some (limit (told number)) (sym (sym (ap (λ b. if b then Some (limit (told number)) else None) is) ∙ e)))
+    by true is = absurd (none-some (limit (reported number)) (sym (sym (ap (λ b. if b then Some (limit (reported number)) else None) is) ∙ e)))
     by false is = ltb-false most number is
 
 pub neither : {X : Type 0} (a b : Option X) → option_or a b ≡ None → (a ≡ None) × (b ≡ None)

@@ -7,14 +7,14 @@ use Rattle.ppdb_base.specs.declared.limits.Limit.TheVariants.{PointOffset}
 use Rattle.ppdb_tables.specs.RawTables.{row_at}
 use Rattle.ppdb_values.specs.{declared.file.FileValue.{FileValue}, declared.file.MethodValue.{MethodValue}, declared.scope.ScopeValue.{ScopeValue}, Types.{HasTypes}}
 use Rattle.ppdb_values.proofs.Typed.{each_all}
-use Rattle.ppdb_values_sound_laws.specs.{Named.{count}, Sound.{IsSound}, Writing.{HasSpelling, SoundPartsCanBeWritten}}
+use Rattle.ppdb_values_sound.specs.{Named.{count}, Sound.{IsSound}, Writing.{HasSpelling, SoundPartsCanBeWritten}}
 use Rattle.ppdb_build_canon.{specs.Limits.{too_many_rows, tables, list_past_end, large_offset, large_step_of}, proofs.Among.{among_rows}}
 use Rattle.ppdb_build_canon.proofs.Limits.{nothing_mapped, no_first, none_made, none_found}
 use Rattle.ppdb_build_limits.proofs.Firsts.{first_at}
 use Rattle.ppdb_build.specs.{declared.error.BuildError.{BuildError}, declared.error.BuildError.TheVariants.{Limit as Passed, Memory}, Building.{IsLimit}}
 use Rattle.ppdb_build.specs.Building.{early_limit_of, IsWritableMethod, IsWritableConstant, IsWritableScope, IsWritableCustom, ArePartsWritable}
 use Rattle.ppdb_build.proofs.{Limits.{neither}, Counted.{AreFew, are_few}}
-use Rattle.ppdb_build_merged.specs.Writable.{IsWritableImport}
+use Rattle.ppdb_build_joined.specs.Writable.{IsWritableImport}
 
 -- the first step that has no form
 pub step_at : (methods : List MethodValue) (i : ℕ) (method : MethodValue) → i < length methods → filter_map large_step_of (take i methods) ≡ []

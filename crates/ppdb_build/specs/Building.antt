@@ -1,13 +1,18 @@
 -- Why a file is not written, and what of a value can be.
 use Rattle.ppdb_values.specs.Names.{CanBeWritten, first_of, IsToken, IsBody, Limit, PdbHead}
-use Rattle.std.specs.Prelude.{◌≡◌, ◌≤◌, [], ◌∷◌, fold, length, take, Option, Some, None, All, filter_map}
-use Rattle.ppdb_values.specs.{declared.file.{FileValue.FileValue, MethodValue.MethodValue}, declared.scope.{ScopeValue.ScopeValue, ConstantValue.ConstantValue}}
+use Rattle.std.specs.Prelude.{◌≡◌, ◌≤◌, [], ◌∷◌, fold, length, take, Option, Some, None, All}
+use Rattle.std.specs.Prelude.{filter_map}
+use Rattle.ppdb_values.specs.declared.file.{FileValue.FileValue, MethodValue.MethodValue}
+use Rattle.ppdb_values.specs.declared.scope.{ScopeValue.ScopeValue, ConstantValue.ConstantValue}
 use Rattle.ppdb_values.specs.{declared.custom.CustomValue.CustomValue, Types.HasTypes}
-use Rattle.ppdb_values_sound_laws.specs.{Scopes.stored_body, Sound.IsSound, Writing.IsWritable}
-use Rattle.ppdb_build_canon.specs.Limits.{first_met, too_many_rows, tables, list_past_end, large_offset, large_step_of, first_limit}
-use Rattle.ppdb_build_draft.specs.{Draft.{Draft, with_scope, with_constants, with_import, with_machine, with_custom}, Drafted.IsDraftOf}
-use Rattle.ppdb_build_merged.specs.Writable.{IsWritableImport}
-use Rattle.ppdb_build.specs.declared.error.BuildError.{BuildError, TheVariants.{Limit as Passed, Memory}}
+use Rattle.ppdb_values_sound.specs.{Scopes.stored_body, Sound.IsSound, Writing.IsWritable}
+use Rattle.ppdb_build_canon.specs.Limits.{first_met, too_many_rows, tables, list_past_end}
+use Rattle.ppdb_build_canon.specs.Limits.{large_offset, large_step_of, first_limit}
+use Rattle.ppdb_build_draft.specs.Draft.{Draft, with_scope, with_constants, with_import}
+use Rattle.ppdb_build_draft.specs.{Draft.{with_machine, with_custom}, Drafted.IsDraftOf}
+use Rattle.ppdb_build_joined.specs.Writable.{IsWritableImport}
+use Rattle.ppdb_build.specs.declared.error.BuildError.{BuildError}
+use Rattle.ppdb_build.specs.declared.error.BuildError.TheVariants.{Limit as Passed, Memory}
 
 -- a refusal that names a limit names this one
 abbrev pub IsLimit : Option Limit → BuildError → Type 0
@@ -21,7 +26,8 @@ IsLimitOf value error = IsLimit (first_limit value) error
 -- L1 to L3: the first limit that lengths and offsets pass
 abbrev pub early_limit_of : FileValue → Option Limit
 early_limit_of value = first_met (first_of (filter_map (too_many_rows value) tables)
-    ∷ list_past_end value 0x33 (λ scope. length scope.variables) ∷ list_past_end value 0x34 (λ scope. length scope.constants)
+    ∷ list_past_end value 0x33 (λ scope. length scope.variables)
+    ∷ list_past_end value 0x34 (λ scope. length scope.constants)
     ∷ first_of (filter_map large_offset value.methods) ∷ [])
 
 -- ---- parts that the writers of blobs take
@@ -30,10 +36,12 @@ abbrev pub IsWritableMethod : MethodValue → Type 0
 IsWritableMethod method = (1 ≤ method.method) × CanBeWritten method.signature method.points
 
 abbrev pub IsWritableConstant : ConstantValue → Type 0
-IsWritableConstant constant = All (λ m. IsToken m.target) constant.modifiers × IsBody (stored_body constant.body)
+IsWritableConstant constant =
+    All (λ m. IsToken m.target) constant.modifiers × IsBody (stored_body constant.body)
 
 abbrev pub IsWritableScope : ScopeValue → Type 0
-IsWritableScope scope = (scope.range.start ≤ scope.range.end) × All IsWritableConstant scope.constants
+IsWritableScope scope =
+    (scope.range.start ≤ scope.range.end) × All IsWritableConstant scope.constants
 
 abbrev pub IsWritableCustom : CustomValue → Type 0
 IsWritableCustom custom = (custom.parent.row ≤ 16777215) × IsWritable custom.value
@@ -48,7 +56,8 @@ pub record ArePartsWritable (value : FileValue) : Type 0 where
 
 abbrev pub after_methods : Draft → FileValue → Draft
 after_methods draft value =
-    fold with_custom (fold with_machine (fold with_import (fold with_constants (fold with_scope draft value.scopes) value.scopes) value.imports)
+    fold with_custom (fold with_machine (fold with_import
+    (fold with_constants (fold with_scope draft value.scopes) value.scopes) value.imports)
     value.machines) value.customs
 
 -- ---- what a file is laid out from

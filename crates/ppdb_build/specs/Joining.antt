@@ -5,10 +5,10 @@ use Rattle.ppdb_maps.specs.Map.{moved_row}
 use Rattle.ppdb_build_layout.specs.declared.rows.Rows.{Rows}
 use Rattle.ppdb_merge_moved.specs.Moved.{moved_counts}
 use Rattle.ppdb_merge_parts.specs.Flat.{MovedBy}
-pub use Rattle.ppdb_merge_rows.specs.Inputs.{moved_inputs}
+pub use Rattle.ppdb_merge_moved_rows.specs.Inputs.{moved_inputs}
 
--- The head of an input, moved (Portable PDB v1.0, "#Pdb stream"): its identity, its entry point and the row counts of the type system in
--- the output.
+-- The head of an input, moved (Portable PDB v1.0, "#Pdb stream"): its identity, its entry point and
+-- the row counts of the type system in the output.
 pub record IsMovedHead (input : MovedBy) (head : PdbHead) : Type 0 where
   pub id : head.id ≡ input.value.id
   pub entry : head.entry ≡ moved_row input.map 0x06 input.value.entry

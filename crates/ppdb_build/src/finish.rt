@@ -16,8 +16,8 @@ use crate::error::BuildError;
 use ppdb_base::Bytes;
 use ppdb_build_bytes::{counts_of, draft_len, file_of, late_limit};
 use ppdb_build_canon::{IdChoice, values_without_limits_are_small};
+use ppdb_build_canon_rows_laws::canonical_rows_are_reread;
 use ppdb_build_draft::Drafted;
-use ppdb_build_rows_laws::canonical_rows_are_reread;
 use ppdb_build_written_laws::{written_files_are_canonical, written_files_are_valid};
 use ppdb_tables::PdbHead;
 use std::alloc::Global;
@@ -32,10 +32,12 @@ fn guids_are_long(head: &PdbHead, draft: &Drafted)
 fn can_be_laid(head: &PdbHead, draft: &Drafted, counts: &[u32; 64])
     requires value { HasValue head.now draft.now }
     requires counts { counts.now ≡ counts_in head.now.rows draft.now.rows }
-    requires none { (value : FileValue) → IsDraftedFrom value head.now draft.now → first_limit value ≡ None }
+    requires none { (value : FileValue) → IsDraftedFrom value head.now draft.now
+        → first_limit value ≡ None }
     ensures laid { CanBeLaid head.now.entry counts.now draft.now }
     ensures file { (value : FileValue) → IsDraftedFrom value head.now draft.now
-        → (id : Seq ℕ) → length id ≡ 20 → file_from id head.now.entry counts.now draft.now ≡ canonical value id }
+        → (id : Seq ℕ) → length id ≡ 20
+        → file_from id head.now.entry counts.now draft.now ≡ canonical value id }
 {
     values_without_limits_are_small();
     canonical_rows_are_reread();
@@ -49,13 +51,18 @@ pub(crate) fn file_of_draft(
     id: IdChoice,
 ) -> Result<Bytes, BuildError>
     requires { HasValue head.now draft.now }
-    ensures written { (value : FileValue) → IsDraftedFrom value head.now draft.now → IfOk result (λ bytes. bytes ≡ canon value id) }
-    ensures within { (value : FileValue) → IsDraftedFrom value head.now draft.now → OnOk result (first_limit value ≡ None) }
-    ensures limit { (value : FileValue) → IsDraftedFrom value head.now draft.now → IfErr result (IsLimitOf value) }
+    ensures written { (value : FileValue) → IsDraftedFrom value head.now draft.now
+        → IfOk result (λ bytes. bytes ≡ canon value id) }
+    ensures within { (value : FileValue) → IsDraftedFrom value head.now draft.now
+        → OnOk result (first_limit value ≡ None) }
+    ensures limit { (value : FileValue) → IsDraftedFrom value head.now draft.now
+        → IfErr result (IsLimitOf value) }
     ensures accepted { IfOk result (λ bytes. IsAccepted (FileFaults bytes)) }
-    ensures reread { (value : FileValue) → IsDraftedFrom value head.now draft.now → IfOk result (λ bytes. Says bytes (with_id value (chosen_id value id))) }
+    ensures reread { (value : FileValue) → IsDraftedFrom value head.now draft.now
+        → IfOk result (λ bytes. Says bytes (with_id value (chosen_id value id))) }
     ensures again { (value : FileValue) → IsDraftedFrom value head.now draft.now
-        → IfOk result (λ bytes. (again : RawFile) → IsRawOf bytes again → IsSameAgain value id again) }
+        → IfOk result (λ bytes. (again : RawFile) → IsRawOf bytes again
+        → IsSameAgain value id again) }
 {
     written_files_are_valid();
     written_files_are_canonical();

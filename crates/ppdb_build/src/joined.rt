@@ -1,18 +1,19 @@
-// Files that are moved by their maps and joined, as the one file that says what they are joined into.
+// Files that are moved by their maps and joined, as the one file that says what they are joined
+// into.
 ghost use Rattle.std.specs.Prelude.{◌≡◌, ◌≤◌, ◌↔◌, IsTrue, None, length, IfOk, IfErr, IfSome};
 ghost use Rattle.ppdb_base.specs.First.{IsAccepted};
 ghost use Rattle.ppdb_values.specs.declared.FileValue.{FileValue};
 ghost use Rattle.ppdb_values.specs.RawFile.{RawFile};
-ghost use Rattle.ppdb_values_sound_laws.specs.Sound.{IsSound};
+ghost use Rattle.ppdb_values_sound.specs.Sound.{IsSound};
 ghost use Rattle.ppdb_verify.specs.Files.{FileFaults, IsRawOf};
 ghost use Rattle.ppdb_build_canon.specs.Canon.{canon, chosen_id, with_id};
 ghost use Rattle.ppdb_build_canon.specs.Limits.{first_limit};
 ghost use Rattle.ppdb_build_draft.specs.Drafted.{drafted, IsDraftOf};
 ghost use Rattle.ppdb_build_written_laws.specs.Written.{IsSameAgain, Says};
-ghost use Rattle.ppdb_merge_items.specs.Each.{Each};
+ghost use Rattle.ppdb_merge_annotated.specs.Each.{Each};
 ghost use Rattle.ppdb_merge_parts.specs.Flat.{InputsFit, joined_inputs};
-ghost use Rattle.ppdb_merge_rows.specs.Inputs.{moved_inputs};
-ghost use Rattle.ppdb_merge_rows.specs.Methods.{HasForms};
+ghost use Rattle.ppdb_merge_moved_rows.specs.Inputs.{moved_inputs};
+ghost use Rattle.ppdb_merge_moved_rows.specs.Methods.{HasForms};
 ghost use Rattle.ppdb_build.specs.Building.{IsLimitOf, early_limit_of};
 ghost use Rattle.ppdb_build.specs.Joining.{AreRowsFew};
 
@@ -23,9 +24,9 @@ use crate::lists::list_limit;
 use ppdb_base::{Bytes, Limit, MAX_ROWS, Memory, Steps};
 use ppdb_build_canon::IdChoice;
 use ppdb_build_draft::{Drafted, drafts_are_canonical};
+use ppdb_build_joined::draft_of_inputs;
 use ppdb_build_layout::Rows;
-use ppdb_build_merged::draft_of_inputs;
-use ppdb_merge_rows::RowInput;
+use ppdb_merge_moved_rows::RowInput;
 use std::alloc::Global;
 use std::sync::ledger::Ledger;
 
@@ -49,16 +50,18 @@ fn are_few(rows: &Rows) -> bool
         && is_few(rows.customs.len())
 }
 
-/// L1 to L3 of a draft with few rows, whose points have forms: the rows report L2, and the others are not met.
+/// L1 to L3 of a draft with few rows, whose points have forms: the rows report L2, and the others
+/// are not met.
 fn early_limit_in(draft: &Drafted) -> Option<Limit>
     requires { AreRowsFew draft.now.rows }
-    ensures { (value : FileValue) → length value.rows ≡ 64 → Each HasForms value.methods → IsDraftOf value draft.now → result ≡ early_limit_of value }
+    ensures { (value : FileValue) → length value.rows ≡ 64 → Each HasForms value.methods
+        → IsDraftOf value draft.now → result ≡ early_limit_of value }
 {
     list_limit(draft)
 }
 
-/// The file of the draft of inputs that are joined, whose points have forms, or the first limit that it passes. None where a table has more
-/// rows than three bytes can name.
+/// The file of the draft of inputs that are joined, whose points have forms, or the first limit
+/// that it passes. None where a table has more rows than three bytes can name.
 fn joined_bytes(
     alloc: Global,
     inputs: &[RowInput<'_>],
@@ -70,14 +73,18 @@ fn joined_bytes(
     requires sound { IsSound (joined_inputs (moved_inputs inputs.now)) }
     requires draft { draft.now ≡ drafted (joined_inputs (moved_inputs inputs.now)) }
     requires points { Each HasForms (joined_inputs (moved_inputs inputs.now)).methods }
-    ensures written { IfOk result (λ file. IfSome file (λ bytes. bytes ≡ canon (joined_inputs (moved_inputs inputs.now)) id)) }
-    ensures within { IfOk result (λ file. IfSome file (λ _. first_limit (joined_inputs (moved_inputs inputs.now)) ≡ None)) }
+    ensures written { IfOk result (λ file.
+        IfSome file (λ bytes. bytes ≡ canon (joined_inputs (moved_inputs inputs.now)) id)) }
+    ensures within { IfOk result
+        (λ file. IfSome file (λ _. first_limit (joined_inputs (moved_inputs inputs.now)) ≡ None)) }
     ensures limit { IfErr result (IsLimitOf (joined_inputs (moved_inputs inputs.now))) }
     ensures accepted { IfOk result (λ file. IfSome file (λ bytes. IsAccepted (FileFaults bytes))) }
     ensures reread { IfOk result (λ file. IfSome file (λ bytes.
-        Says bytes (with_id (joined_inputs (moved_inputs inputs.now)) (chosen_id (joined_inputs (moved_inputs inputs.now)) id)))) }
+        Says bytes (with_id (joined_inputs (moved_inputs inputs.now))
+        (chosen_id (joined_inputs (moved_inputs inputs.now)) id)))) }
     ensures again { IfOk result (λ file. IfSome file (λ bytes.
-        (again : RawFile) → IsRawOf bytes again → IsSameAgain (joined_inputs (moved_inputs inputs.now)) id again)) }
+        (again : RawFile) → IsRawOf bytes again
+        → IsSameAgain (joined_inputs (moved_inputs inputs.now)) id again)) }
 {
     drafts_are_canonical();
     joined_has_types(inputs, draft);
@@ -95,8 +102,9 @@ fn joined_bytes(
     }
 }
 
-/// The one file that says what inputs are joined into, each moved by its map, with the identity that is chosen. Rows are read in
-/// place, some of LocalScope several times, and no value of them is made. None where rows alone do not tell whether the file passes a limit.
+/// The one file that says what inputs are joined into, each moved by its map, with the identity
+/// that is chosen. Rows are read in place, some of LocalScope several times, and no value of them
+/// is made. None where rows alone do not tell whether the file passes a limit.
 ///
 /// # Errors
 ///
@@ -111,14 +119,18 @@ pub fn write_joined<L: Ledger>(
     requires most { length inputs.now ≤ 256 }
     requires fit { InputsFit (moved_inputs inputs.now) }
     requires sound { IsSound (joined_inputs (moved_inputs inputs.now)) }
-    ensures written { IfOk result (λ file. IfSome file (λ bytes. bytes ≡ canon (joined_inputs (moved_inputs inputs.now)) id)) }
-    ensures within { IfOk result (λ file. IfSome file (λ _. first_limit (joined_inputs (moved_inputs inputs.now)) ≡ None)) }
+    ensures written { IfOk result (λ file.
+        IfSome file (λ bytes. bytes ≡ canon (joined_inputs (moved_inputs inputs.now)) id)) }
+    ensures within { IfOk result
+        (λ file. IfSome file (λ _. first_limit (joined_inputs (moved_inputs inputs.now)) ≡ None)) }
     ensures limit { IfErr result (IsLimitOf (joined_inputs (moved_inputs inputs.now))) }
     ensures accepted { IfOk result (λ file. IfSome file (λ bytes. IsAccepted (FileFaults bytes))) }
     ensures reread { IfOk result (λ file. IfSome file (λ bytes.
-        Says bytes (with_id (joined_inputs (moved_inputs inputs.now)) (chosen_id (joined_inputs (moved_inputs inputs.now)) id)))) }
+        Says bytes (with_id (joined_inputs (moved_inputs inputs.now))
+        (chosen_id (joined_inputs (moved_inputs inputs.now)) id)))) }
     ensures again { IfOk result (λ file. IfSome file (λ bytes.
-        (again : RawFile) → IsRawOf bytes again → IsSameAgain (joined_inputs (moved_inputs inputs.now)) id again)) }
+        (again : RawFile) → IsRawOf bytes again
+        → IsSameAgain (joined_inputs (moved_inputs inputs.now)) id again)) }
 {
     let draft = match draft_of_inputs(alloc, inputs, steps) {
         Ok(Some(draft)) => draft,

@@ -5,14 +5,14 @@ ghost use Rattle.ppdb_values.specs.Types.{HasTypes, IsNarrowRow};
 ghost use Rattle.ppdb_verify.specs.Views.{raw_file};
 ghost use Rattle.ppdb_build_draft.specs.Drafted.{IsDraftOf};
 ghost use Rattle.ppdb_merge_parts.specs.Flat.{InputsFit, joined_inputs};
-ghost use Rattle.ppdb_merge_rows.specs.Inputs.{moved_by, moved_inputs};
+ghost use Rattle.ppdb_merge_moved_rows.specs.Inputs.{moved_by, moved_inputs};
 ghost use Rattle.ppdb_build.specs.Joining.{IsHeadOf, IsMovedHead};
 
 use ppdb_build_draft::Drafted;
-use ppdb_build_merged::joined_records_are_flat;
+use ppdb_build_joined::joined_records_are_flat;
 use ppdb_merge_moved::moved_rows;
+use ppdb_merge_moved_rows::RowInput;
 use ppdb_merge_parts::joined_parts_are_flat;
-use ppdb_merge_rows::RowInput;
 use ppdb_tables::{METHOD_DEF, PdbHead, VariableRow};
 use ppdb_verify::Verified;
 
@@ -27,7 +27,7 @@ fn rows_are_long(head: &PdbHead)
 fn moved_head(input: &RowInput<'_>) -> PdbHead
     ensures { IsMovedHead (moved_by input.now) result }
 {
-    let _ = input.file.keeps();
+    let _ = input.file.facts();
     let head = input.file.head();
     rows_are_long(head);
     PdbHead {
@@ -58,7 +58,7 @@ fn files_keep_rules(inputs: &[RowInput<'_>])
     ensures { All (λ input. KeepsRules (raw_file input.file)) inputs.now }
 {
     for input in inputs {
-        let _ = input.file.keeps();
+        let _ = input.file.facts();
     }
 }
 
@@ -78,7 +78,8 @@ fn variables_are_narrow(variables: &[VariableRow])
     }
 }
 
-/// The file that inputs are joined into has what the types of the code carry, which the inputs and the draft have.
+/// The file that inputs are joined into has what the types of the code carry, which the inputs and
+/// the draft have.
 pub(crate) fn joined_has_types(inputs: &[RowInput<'_>], draft: &Drafted)
     requires some { 1 ≤ length inputs.now }
     requires fit { InputsFit (moved_inputs inputs.now) }

@@ -15,7 +15,7 @@ pub use joined::write_joined;
 pub use ppdb_base::Limit;
 pub use ppdb_build_canon::IdChoice;
 pub use ppdb_build_sample::sample_value;
-pub use ppdb_merge_rows::RowInput;
+pub use ppdb_merge_moved_rows::RowInput;
 pub use ppdb_values::{
     ConstantBody, ConstantValue, CustomBody, CustomValue, DocumentValue, FileValue,
     ImportScopeValue, ImportValue, MethodValue, ScopeValue, VariableValue,

@@ -10,9 +10,11 @@ use ppdb_base::Limit;
 use ppdb_build_draft::Drafted;
 use ppdb_tables::{LOCAL_CONSTANT, LOCAL_VARIABLE};
 
-/// The limit on a list of a table of so many rows, where the list of the last scope begins at a row.
+/// The limit on a list of a table of so many rows, where the list of the last scope begins at a
+/// row.
 fn past_end(table: u8, rows: usize, last: u32) -> Option<Limit>
-    ensures { result ≡ if (rows == 65535) && (last == 65536) then Some (limits.ListPastEnd table 65535) else None }
+    ensures { result ≡ if (rows == 65535) && (last == 65536)
+        then Some (limits.ListPastEnd table 65535) else None }
 {
     if rows == 65535 && last == 65536 {
         Some(Limit::ListPastEnd { table, rows: 65535 })
@@ -21,10 +23,12 @@ fn past_end(table: u8, rows: usize, last: u32) -> Option<Limit>
     }
 }
 
-/// L2, from the rows of a draft: a table has as many rows as a short index can name, and the list of the last scope begins after them.
+/// L2, from the rows of a draft: a table has as many rows as a short index can name, and the list
+/// of the last scope begins after them.
 pub(crate) fn list_limit(draft: &Drafted) -> Option<Limit>
     ensures { (value : FileValue) → IsDraftOf value draft.now
-        → result ≡ option_or (list_past_end value 0x33 (λ scope. length scope.variables)) (list_past_end value 0x34 (λ scope. length scope.constants)) }
+        → result ≡ option_or (list_past_end value 0x33 (λ scope. length scope.variables))
+        (list_past_end value 0x34 (λ scope. length scope.constants)) }
 {
     let rows = draft.rows();
     match rows.scopes.as_slice().last() {

@@ -3,11 +3,14 @@ ghost use Rattle.std.specs.Prelude.{◌≡◌, None, fold, slice_index, All, OnO
 ghost use Rattle.std.specs.List.{filter_map};
 ghost use Rattle.sequence_points.specs.Written.{first_of};
 ghost use Rattle.ppdb_build_canon.specs.Limits.{large_step_of};
-ghost use Rattle.ppdb_build_draft.specs.Draft.{empty_draft, with_document, with_method, with_all_methods, with_variable, with_scope};
-ghost use Rattle.ppdb_build_draft.specs.Draft.{with_constant, with_constants, with_import, with_machine, with_custom};
+ghost use Rattle.ppdb_build_draft.specs.Draft.{empty_draft, with_document, with_method};
+ghost use Rattle.ppdb_build_draft.specs.Draft.{with_all_methods, with_variable, with_scope};
+ghost use Rattle.ppdb_build_draft.specs.Draft.{with_constant, with_constants, with_import};
+ghost use Rattle.ppdb_build_draft.specs.Draft.{with_machine, with_custom};
 ghost use Rattle.ppdb_build_draft.specs.Drafted.{drafted};
-ghost use Rattle.ppdb_build.specs.Building.{IsWritableMethod, IsWritableConstant, IsWritableScope, IsWritableCustom};
-ghost use Rattle.ppdb_build_merged.specs.Writable.{IsWritableImport};
+ghost use Rattle.ppdb_build.specs.Building.{IsWritableMethod, IsWritableConstant, IsWritableScope};
+ghost use Rattle.ppdb_build.specs.Building.{IsWritableCustom};
+ghost use Rattle.ppdb_build_joined.specs.Writable.{IsWritableImport};
 ghost use Rattle.ppdb_build.specs.Building.{ArePartsWritable, IsLimit, after_methods};
 
 use crate::error::BuildError;
@@ -150,7 +153,8 @@ fn add_customs(draft: &mut Drafting, customs: &[CustomValue]) -> Result<(), Memo
 /// Adds the documents and the methods, up to the first step from line to line that has no form, L4.
 fn add_documents_and_methods(draft: &mut Drafting, value: &FileValue) -> Result<(), BuildError>
     requires { All IsWritableMethod value.now.methods }
-    ensures added { OnOk result (draft.new ≡ with_all_methods (fold with_method (fold with_document draft.old value.now.documents) value.now.methods)
+    ensures added { OnOk result (draft.new ≡ with_all_methods
+        (fold with_method (fold with_document draft.old value.now.documents) value.now.methods)
         (slice_index value.now.rows 0x06)) }
     ensures none { OnOk result (first_of (filter_map large_step_of value.now.methods) ≡ None) }
     ensures limit { IfErr result (IsLimit (first_of (filter_map large_step_of value.now.methods))) }

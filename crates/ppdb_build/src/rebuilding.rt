@@ -16,7 +16,7 @@ use crate::joined::write_joined;
 use crate::write::write_file;
 use ppdb_base::{Bytes, Memory, Steps};
 use ppdb_build_canon::IdChoice;
-use ppdb_merge_rows::RowInput;
+use ppdb_merge_moved_rows::RowInput;
 use ppdb_merge_unmoved_laws::sound_files_stay;
 use ppdb_values_reading::value_of;
 use ppdb_verify::Verified;
@@ -35,8 +35,10 @@ fn value_bytes<L: Ledger>(
     ensures within { OnOk result (first_limit (value_in (raw_file file.now)) ≡ None) }
     ensures limit { IfErr result (IsLimitOf (value_in (raw_file file.now))) }
     ensures accepted { IfOk result (λ bytes. IsAccepted (FileFaults bytes)) }
-    ensures reread { IfOk result (λ bytes. Says bytes (with_id (value_in (raw_file file.now)) (chosen_id (value_in (raw_file file.now)) id))) }
-    ensures again { IfOk result (λ bytes. (again : RawFile) → IsRawOf bytes again → IsSameAgain (value_in (raw_file file.now)) id again) }
+    ensures reread { IfOk result (λ bytes. Says bytes
+        (with_id (value_in (raw_file file.now)) (chosen_id (value_in (raw_file file.now)) id))) }
+    ensures again { IfOk result (λ bytes. (again : RawFile) → IsRawOf bytes again
+        → IsSameAgain (value_in (raw_file file.now)) id again) }
 {
     let value = match value_of(alloc, file, steps) {
         Ok(value) => value,
@@ -45,12 +47,13 @@ fn value_bytes<L: Ledger>(
     write_file(alloc, &value, id)
 }
 
-/// The one file that says what a verified file says, with the identity that is chosen: that of the file joined alone, moved by the map
-/// without lines.
+/// The one file that says what a verified file says, with the identity that is chosen: that of the
+/// file joined alone, moved by the map without lines.
 ///
 /// # Errors
 ///
-/// The first limit of the format that the value of the file passes, or that there was no memory left.
+/// The first limit of the format that the value of the file passes, or that there was no memory
+/// left.
 pub fn rebuild<L: Ledger>(
     alloc: Global,
     input: &RowInput<'_>,
@@ -62,10 +65,12 @@ pub fn rebuild<L: Ledger>(
     ensures within { OnOk result (first_limit (value_in (raw_file input.now.file)) ≡ None) }
     ensures limit { IfErr result (IsLimitOf (value_in (raw_file input.now.file))) }
     ensures accepted { IfOk result (λ bytes. IsAccepted (FileFaults bytes)) }
-    ensures reread { IfOk result (λ bytes. Says bytes (with_id (value_in (raw_file input.now.file)) (chosen_id (value_in (raw_file input.now.file)) id))) }
-    ensures again { IfOk result (λ bytes. (again : RawFile) → IsRawOf bytes again → IsSameAgain (value_in (raw_file input.now.file)) id again) }
+    ensures reread { IfOk result (λ bytes. Says bytes (with_id (value_in (raw_file input.now.file))
+        (chosen_id (value_in (raw_file input.now.file)) id))) }
+    ensures again { IfOk result (λ bytes. (again : RawFile) → IsRawOf bytes again
+        → IsSameAgain (value_in (raw_file input.now.file)) id again) }
 {
-    let _ = input.file.keeps();
+    let _ = input.file.facts();
     sound_files_stay();
     let written = match write_joined(alloc, slice::from_ref(input), id, steps) {
         Ok(written) => written,

@@ -1,7 +1,7 @@
 // A value as its file.
 ghost use Rattle.std.specs.Prelude.{◌≡◌, None, OnOk, IfOk, IfErr, length};
 ghost use Rattle.ppdb_values.specs.Types.{HasTypes};
-ghost use Rattle.ppdb_values_sound_laws.specs.Sound.{IsSound};
+ghost use Rattle.ppdb_values_sound.specs.Sound.{IsSound};
 ghost use Rattle.ppdb_build_canon.specs.Canon.{canon, chosen_id, with_id};
 ghost use Rattle.ppdb_base.specs.First.{IsAccepted};
 ghost use Rattle.ppdb_values.specs.RawFile.{RawFile};
@@ -22,7 +22,7 @@ use ppdb_build_draft::{Drafted, drafts_are_canonical};
 use ppdb_build_limits::{length_limit, offset_limit, value_has_types};
 use ppdb_tables::PdbHead;
 use ppdb_values::FileValue;
-use ppdb_values_sound_laws::sound_parts_can_be_written;
+use ppdb_values_sound::sound_parts_can_be_written;
 use std::alloc::Global;
 
 /// L1 to L3: the first limit that lengths and offsets pass.
@@ -59,8 +59,10 @@ fn bytes_of(
     ensures within { OnOk result (first_limit value.now ≡ None) }
     ensures limit { IfErr result (IsLimitOf value.now) }
     ensures accepted { IfOk result (λ bytes. IsAccepted (FileFaults bytes)) }
-    ensures reread { IfOk result (λ bytes. Says bytes (with_id value.now (chosen_id value.now id))) }
-    ensures again { IfOk result (λ bytes. (again : RawFile) → IsRawOf bytes again → IsSameAgain value.now id again) }
+    ensures reread { IfOk result
+        (λ bytes. Says bytes (with_id value.now (chosen_id value.now id))) }
+    ensures again { IfOk result (λ bytes. (again : RawFile) → IsRawOf bytes again
+        → IsSameAgain value.now id again) }
 {
     drafts_are_canonical();
     let head = PdbHead {
@@ -85,8 +87,10 @@ pub fn write_file(alloc: Global, value: &FileValue, id: IdChoice) -> Result<Byte
     ensures within { OnOk result (first_limit value.now ≡ None) }
     ensures limit { IfErr result (IsLimitOf value.now) }
     ensures accepted { IfOk result (λ bytes. IsAccepted (FileFaults bytes)) }
-    ensures reread { IfOk result (λ bytes. Says bytes (with_id value.now (chosen_id value.now id))) }
-    ensures again { IfOk result (λ bytes. (again : RawFile) → IsRawOf bytes again → IsSameAgain value.now id again) }
+    ensures reread { IfOk result
+        (λ bytes. Says bytes (with_id value.now (chosen_id value.now id))) }
+    ensures again { IfOk result (λ bytes. (again : RawFile) → IsRawOf bytes again
+        → IsSameAgain value.now id again) }
 {
     value_has_types(value);
     match early_limit(value) {

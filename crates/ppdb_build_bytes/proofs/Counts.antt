@@ -2,7 +2,7 @@
 use Rattle.std.proofs.Common.{◌≡◌, ℕ, zero, suc, ◌<◌, List, [], ◌∷◌, ◌++◌, length, take, drop, replicate, get_or, refl, sym, ap, ◌∙◌, arith, append_assoc}
 use Rattle.std.specs.Prelude.{set}
 use Rattle.ppdb_build_layout.specs.declared.rows.Rows.{Rows}
-use Rattle.ppdb_build_items.specs.Interned.{cell}
+use Rattle.ppdb_build_interning.specs.Interned.{cell}
 use Rattle.ppdb_build_bytes.specs.Drafts.{debug_counts_of, counts_in}
 
 -- one more count of the type system

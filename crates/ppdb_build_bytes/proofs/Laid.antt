@@ -11,12 +11,12 @@ use Rattle.row_layout.specs.{declared.column.Sizes.{Sizes}, Columns.{index_width
 use Rattle.ppdb_build_heaps.specs.Items.{as_text, as_blob}
 use Rattle.ppdb_build_layout.specs.{declared.rows.Rows.{Rows}, declared.rows.HeapLens.{HeapLens}, Bytes.{padding, padded, pdb_stream, tables_stream, prefix_bytes}}
 use Rattle.ppdb_build_layout.{specs.Bytes.{file_bytes, rows_of, heaps_of, sizes_of}, specs.Laid.{AllRowsFit}, proofs.Lengths.{length-pdb, length-tables}}
-use Rattle.ppdb_build_layout.{proofs.Lengths.{length-prefix, rows_sum}, specs.Told.{told_lens}}
+use Rattle.ppdb_build_layout.{proofs.Lengths.{length-prefix, rows_sum}, specs.Reported.{reported_lens}}
 use Rattle.ppdb_build_canon.specs.{Uses.{texts, guids, blobs}, Canonical.{counts, canonical_tables, canonical}}
-use Rattle.ppdb_build_items.specs.Interned.{cell}
+use Rattle.ppdb_build_interning.specs.Interned.{cell}
 use Rattle.ppdb_build_draft.specs.{Draft.{Draft}, Drafted.{held_document, held_method, held_scope, held_variable, held_constant, held_import, held_custom}}
 use Rattle.ppdb_build_draft.specs.{Drafted.{held_rows, IsDraftOf}, Heaps.{heap_lens_of}}
-use Rattle.ppdb_base.specs.Told.{told}
+use Rattle.ppdb_base.specs.Reported.{reported}
 use Rattle.ppdb_build_bytes.specs.Drafts.{tables_from, file_from, CanBeLaid}
 
 -- ---- the same heaps and counts, and rows as they are held
@@ -219,14 +219,14 @@ draft_fit value draft all is counted long fit =
 -- ---- what laying out a draft asks for
 
 pub record LayFacts (id : List ℕ) (entry : ℕ) (all : List ℕ) (draft : Draft) : Type 0 where
-  pub lens : told_lens (heap_lens_of draft) ≡ heaps_of (tables_from all draft)
-  pub size : length (prefix_bytes id entry all draft.rows (told_lens (heap_lens_of draft))) + (told_lens (heap_lens_of draft)).texts
-      + (told_lens (heap_lens_of draft)).guids
-      + (told_lens (heap_lens_of draft)).blobs ≤ 134217728
-  pub fit : AllRowsFit (sizes_of all (told_lens (heap_lens_of draft))) draft.rows
+  pub lens : reported_lens (heap_lens_of draft) ≡ heaps_of (tables_from all draft)
+  pub size : length (prefix_bytes id entry all draft.rows (reported_lens (heap_lens_of draft))) + (reported_lens (heap_lens_of draft)).texts
+      + (reported_lens (heap_lens_of draft)).guids
+      + (reported_lens (heap_lens_of draft)).blobs ≤ 134217728
+  pub fit : AllRowsFit (sizes_of all (reported_lens (heap_lens_of draft))) draft.rows
 
-told_same : (n : ℕ) → n ≤ 134217728 → told n ≡ n
-told_same n h = omega arith
+reported_same : (n : ℕ) → n ≤ 134217728 → reported n ≡ n
+reported_same n h = omega arith
 
 pub lay_facts : (id : List ℕ) (entry : ℕ) (all : List ℕ) (draft : Draft) → length id ≡ 20 → CanBeLaid entry all draft → LayFacts id entry all draft
 unfolding file_bytes
@@ -238,12 +238,13 @@ lay_facts id entry all draft long can =
     let whole : length prefix + heaps.texts + heaps.guids + heaps.blobs ≡ length (file_bytes (file_from id entry all draft)) =
     omega (arith, length-append (prefix ++ raw.texts ++ raw.guids) raw.blobs, length-append (prefix ++ raw.texts) raw.guids, length-append prefix raw.texts) in
     let most = can.size id long in
-    let exact : told_lens (heap_lens_of draft) ≡ heap_lens_of draft =
-    ap (λ (n : ℕ). record { texts = n; guids = told (16 * length draft.guids); blobs = told heaps.blobs }) (told_same heaps.texts (omega (arith, whole, most)))
-    ∙ ap (λ (n : ℕ). record { texts = heaps.texts; guids = n; blobs = told heaps.blobs })
-    (told_same (16 * length draft.guids) (omega (arith, whole, most, guids)))
-    ∙ ap (λ (n : ℕ). record { texts = heaps.texts; guids = 16 * length draft.guids; blobs = n }) (told_same heaps.blobs (omega (arith, whole, most))) in
-    let lens : told_lens (heap_lens_of draft) ≡ heaps = exact ∙ ap (λ (n : ℕ). record { texts = heaps.texts; guids = n; blobs = heaps.blobs }) guids in
+    let exact : reported_lens (heap_lens_of draft) ≡ heap_lens_of draft =
+    ap (λ (n : ℕ). record { texts = n; guids = reported (16 * length draft.guids); blobs = reported heaps.blobs })
+    (reported_same heaps.texts (omega (arith, whole, most)))
+    ∙ ap (λ (n : ℕ). record { texts = heaps.texts; guids = n; blobs = reported heaps.blobs })
+    (reported_same (16 * length draft.guids) (omega (arith, whole, most, guids)))
+    ∙ ap (λ (n : ℕ). record { texts = heaps.texts; guids = 16 * length draft.guids; blobs = n }) (reported_same heaps.blobs (omega (arith, whole, most))) in
+    let lens : reported_lens (heap_lens_of draft) ≡ heaps = exact ∙ ap (λ (n : ℕ). record { texts = heaps.texts; guids = n; blobs = heaps.blobs }) guids in
     record {
       lens = lens;
       size = subst (λ (h : HeapLens). length (prefix_bytes id entry all draft.rows h) + h.texts + h.guids + h.blobs ≤ 134217728) (sym lens)
@@ -253,15 +254,15 @@ lay_facts id entry all draft long can =
 
 -- what was put is the file
 pub all_put : (id : List ℕ) (entry : ℕ) (all : List ℕ) (draft : Draft) (none prefix whole : List ℕ)
-    → told_lens (heap_lens_of draft) ≡ heaps_of (tables_from all draft)
-    → none ≡ [] → prefix ≡ none ++ prefix_bytes id entry all draft.rows (told_lens (heap_lens_of draft))
+    → reported_lens (heap_lens_of draft) ≡ heaps_of (tables_from all draft)
+    → none ≡ [] → prefix ≡ none ++ prefix_bytes id entry all draft.rows (reported_lens (heap_lens_of draft))
     → whole ≡ prefix ++ padded (flat_map as_text draft.texts.items) ++ flat_map (λ guid. guid) draft.guids ++ padded (flat_map as_blob draft.blobs.items)
     → whole ≡ file_bytes (file_from id entry all draft)
 unfolding file_bytes
 all_put id entry all draft none prefix whole lens empty put is =
     is ∙ ap (λ bytes. bytes ++ padded (flat_map as_text draft.texts.items) ++ flat_map (λ guid. guid) draft.guids
     ++ padded (flat_map as_blob draft.blobs.items))
-    (put ∙ ap (λ bytes. bytes ++ prefix_bytes id entry all draft.rows (told_lens (heap_lens_of draft))) empty ∙ ap (prefix_bytes id entry all draft.rows) lens)
+    (put ∙ ap (λ bytes. bytes ++ prefix_bytes id entry all draft.rows (reported_lens (heap_lens_of draft))) empty ∙ ap (prefix_bytes id entry all draft.rows) lens)
 
 -- ---- the identity
 

@@ -1,8 +1,9 @@
 // The bytes of a draft.
 ghost use Rattle.std.specs.Prelude.{◌≡◌, ◌≤◌, ◌++◌, length, take, drop, IfOk};
 ghost use Rattle.ppdb_build_layout.specs.Bytes.{file_bytes};
-ghost use Rattle.ppdb_build_items.specs.Interned.{cell};
-ghost use Rattle.ppdb_build_bytes.specs.Drafts.{debug_counts_of, counts_in, file_from, id_in, CanBeLaid};
+ghost use Rattle.ppdb_build_interning.specs.Interned.{cell};
+ghost use Rattle.ppdb_build_bytes.specs.Drafts.{debug_counts_of, counts_in, file_from, id_in};
+ghost use Rattle.ppdb_build_bytes.specs.Drafts.{CanBeLaid};
 
 use crate::identity::id_of;
 use ppdb_base::{Bytes, Memory};
@@ -59,7 +60,8 @@ fn lay_out(
     len: usize,
 ) -> Result<Bytes, Memory>
     requires { CanBeLaid entry counts.now draft.now }
-    ensures { IfOk result (λ bytes. bytes ≡ file_bytes (file_from id.now entry counts.now draft.now)) }
+    ensures { IfOk result
+        (λ bytes. bytes ≡ file_bytes (file_from id.now entry counts.now draft.now)) }
 {
     let mut bytes = Bytes::with_capacity(alloc, len)?;
     put_prefix(
@@ -93,7 +95,8 @@ pub fn file_of(
     choice: IdChoice,
 ) -> Result<Bytes, Memory>
     requires { CanBeLaid entry counts.now draft.now }
-    ensures { IfOk result (λ bytes. bytes ≡ file_bytes (file_from (id_in choice kept.now entry counts.now draft.now) entry counts.now draft.now)) }
+    ensures { IfOk result (λ bytes. bytes ≡ file_bytes
+        (file_from (id_in choice kept.now entry counts.now draft.now) entry counts.now draft.now)) }
 {
     match choice {
         IdChoice::Keep => lay_out(alloc, kept, entry, counts, draft, len),

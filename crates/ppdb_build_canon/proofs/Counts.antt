@@ -5,7 +5,7 @@ use Rattle.std.proofs.lemmas.{Bool.{ltb-true, eqb-true, or_cases}, Bool.Decides.
 use Rattle.std.proofs.lemmas.{List.{length-take}, List.Concat.{length-flat_map}, List.Folds.{list_all_at}, Option.{slice_get_within, get_or_from_slice_get}}
 use Rattle.row_layout.specs.Columns.{parent_tables}
 use Rattle.ppdb_values.specs.{declared.file.FileValue.{FileValue}, RawFile.{point_limits, type_limits as raw_limits}}
-use Rattle.ppdb_values_sound_laws.specs.Named.{count as value_count, type_limits}
+use Rattle.ppdb_values_sound.specs.Named.{count as value_count, type_limits}
 use Rattle.ppdb_build_canon.specs.{Uses.{variables_of, constants_of}, Canonical.{counts, method_rows, canonical_tables}}
 
 no_rows : (n k : ℕ) → slice_index (replicate n 0) k ≡ 0

@@ -4,7 +4,7 @@ use Rattle.std.specs.{Prelude.{Some, None, nat_lt, nat_le, ◌==◌, if◌then�
 use Rattle.std.proofs.lemmas.{Bool.{ltb-false, leb-false, eq-eqb}, Option.{none-some}, List.Elements.{All-nil, All-cons, All-weaker, All-contains}}
 use Rattle.sequence_points.specs.{declared.point.Point.{Point}, Written.{large_steps, first_of, last_of}}
 use Rattle.ppdb_base.specs.declared.limits.{Limit.{Limit}, Limit.TheVariants.{TableRows, ListPastEnd, PointOffset, LineStep, FileSize, SpanTotal}}
-use Rattle.ppdb_base.specs.Told.{told}
+use Rattle.ppdb_base.specs.Reported.{reported}
 use Rattle.ppdb_values.specs.declared.{file.FileValue.{FileValue}, file.MethodValue.{MethodValue}, scope.ScopeValue.{ScopeValue}}
 use Rattle.ppdb_build_canon.specs.{Canonical.{counts}, Limits.{above, too_many_rows, tables, owns_none, list_past_end, large_offset, large_step_of}}
 use Rattle.ppdb_build_canon.specs.Limits.{ValuesWithoutLimits}
@@ -54,7 +54,7 @@ not_above : (most number : ℕ) (limit : ℕ → Limit) → above most limit num
 not_above most number limit e = by (nat_lt most number) refl
   where
     by : (b : Bool) → nat_lt most number ≡ b → number ≤ most
-    by true is = absurd (none-some (limit (told number)) (sym (sym (ap (λ b. if b then Some (limit (told number)) else None) is) ∙ e)))
+    by true is = absurd (none-some (limit (reported number)) (sym (sym (ap (λ b. if b then Some (limit (reported number)) else None) is) ∙ e)))
     by false is = ltb-false most number is
 
 -- ---- each limit

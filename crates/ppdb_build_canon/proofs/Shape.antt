@@ -3,7 +3,7 @@ use Rattle.std.proofs.Common.{◌≡◌, ℕ, zero, suc, ◌+◌, ◌-◌, ◌<�
 use Rattle.std.{specs.List.{Contains}, proofs.lemmas.Bool.{cases_lt}, proofs.lemmas.List.{length-map}, proofs.lemmas.List.FromFn.{length-enumerate_from}}
 use Rattle.ppdb_tables.specs.RawTables.{HasShape, numbered}
 use Rattle.ppdb_values.specs.{declared.file.FileValue.{FileValue}, RawFile.{RawFile}}
-use Rattle.ppdb_values_sound_laws.specs.Sound.{SoundRows}
+use Rattle.ppdb_values_sound.specs.Sound.{SoundRows}
 use Rattle.ppdb_build_layout.specs.Bytes.{file_bytes, prefix_bytes, rows_of, heaps_of}
 use Rattle.ppdb_build_canon.specs.{Uses.{variables_of, constants_of}, Canonical.{counts, document_row, scope_row, variable_row, constant_row, import_row}}
 use Rattle.ppdb_build_canon.specs.{Canonical.{custom_row, canonical_tables, canonical}, Limits.{tables, IsWithinLimits}}

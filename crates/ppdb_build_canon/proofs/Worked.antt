@@ -21,7 +21,8 @@ pub program_is : canonical program_value (zeros 20) ≡ program_file
 unfolding canonical_tables first_uses blobs_after short_unsigned short_signed
 program_is = refl
 
-pub bytes_are : WorkedFilesAreLaidOut → (canon empty_value Keep ≡ stored_empty) × (canon small_value Keep ≡ stored_small) × (canon program_value Keep ≡ stored_program)
+pub bytes_are : WorkedFilesAreLaidOut
+    → (canon empty_value Keep ≡ stored_empty) × (canon small_value Keep ≡ stored_small) × (canon program_value Keep ≡ stored_program)
 bytes_are laid = (ap file_bytes empty_is ∙ laid.empty, ap file_bytes small_is ∙ laid.small, ap file_bytes program_is ∙ laid.program)
 
 pub small_limit : first_limit small_value ≡ None

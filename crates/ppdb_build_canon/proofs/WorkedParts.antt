@@ -3,7 +3,7 @@ use Rattle.std.{proofs.Common.{◌≡◌, ℕ, true, [], length, replicate, refl
 use Rattle.std.{specs.List.{sum_by, filter_map, cons_option}, proofs.lemmas.Bool.{eq-eqb, le-ltb}, proofs.lemmas.List.{length-replicate, append-nil}}
 use Rattle.cli_ints.specs.Shortest.{short_unsigned, short_signed}
 use Rattle.sequence_points.specs.Written.{first_of}
-use Rattle.ppdb_base.specs.{declared.limits.Limit.{Limit}, declared.limits.Limit.TheVariants.{ListPastEnd, TableRows}, Told.{told}}
+use Rattle.ppdb_base.specs.{declared.limits.Limit.{Limit}, declared.limits.Limit.TheVariants.{ListPastEnd, TableRows}, Reported.{reported}}
 use Rattle.ppdb_build_heaps.specs.{Uses.{blobs_after}, Items.{first_uses}}
 use Rattle.ppdb_values.specs.{declared.file.FileValue.{FileValue}, WorkedSmall.{variable_x}}
 use Rattle.ppdb_build_canon.specs.{Canonical.{canonical_tables, counts}, Limits.{first_limit, above, too_many_rows, tables, list_past_end}}
@@ -29,7 +29,7 @@ few : (n : ℕ) → n ≡ 65535 → slice_index (counts (with_variables n)) 0x33
 few n is = ap length (append-nil (replicate n variable_x)) ∙ length-replicate n variable_x ∙ is
 
 not_above : (rows : ℕ) → rows ≡ 65535 → above 16777215 (TableRows 0x33) rows ≡ None
-not_above rows is = ap (λ b. if b then Some (TableRows 0x33 (told rows)) else None) (le-ltb 16777215 rows (omega (arith, is)))
+not_above rows is = ap (λ b. if b then Some (TableRows 0x33 (reported rows)) else None) (le-ltb 16777215 rows (omega (arith, is)))
 
 all_owned : (n : ℕ) → n ≡ 65535 → sum_by (λ scope. length scope.variables) (with_variables n).scopes ≡ 65535
 all_owned n is = let long = length-replicate n variable_x in omega (arith, long, is)

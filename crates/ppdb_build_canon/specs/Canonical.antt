@@ -1,13 +1,24 @@
 -- The rows and heaps of the one file of a value (Portable PDB v1.0, "Metadata Tables").
-use Rattle.ppdb_values.specs.Names.{range_with_len, position_or_len, common_document, DocumentRow, MethodDebugRow, ScopeRow, VariableRow, ConstantRow, ImportRow, CustomRow, RawTables, numbered}
-use Rattle.std.specs.Prelude.{ℕ, ◌+◌, ◌-◌, List, [], ◌∷◌, ◌++◌, length, take, map, flat_map, replicate, slice_index, bytes_eq, Option, Some, None}
-use Rattle.ppdb_values.specs.{declared.file.{FileValue.FileValue, DocumentValue.DocumentValue, MethodValue.MethodValue}, declared.scope.{ScopeValue.ScopeValue, VariableValue.VariableValue}}
-use Rattle.ppdb_values.specs.{declared.scope.ConstantValue.ConstantValue, declared.import.ImportScopeValue.ImportScopeValue, declared.custom.CustomValue.CustomValue, Parts.{method_at, first_item}}
+use Rattle.ppdb_values.specs.Names.{range_with_len, position_or_len, common_document, DocumentRow}
+use Rattle.ppdb_values.specs.Names.{MethodDebugRow, ScopeRow, VariableRow, ConstantRow, ImportRow}
+use Rattle.ppdb_values.specs.Names.{CustomRow, RawTables, numbered}
+use Rattle.std.specs.Prelude.{ℕ, ◌+◌, ◌-◌, List, [], ◌∷◌, ◌++◌, length, take, map, flat_map}
+use Rattle.std.specs.Prelude.{replicate, slice_index, bytes_eq, Option, Some, None}
+use Rattle.ppdb_values.specs.declared.file.{FileValue.FileValue, DocumentValue.DocumentValue}
+use Rattle.ppdb_values.specs.declared.{file.MethodValue.MethodValue, scope.ScopeValue.ScopeValue}
+use Rattle.ppdb_values.specs.declared.scope.VariableValue.{VariableValue}
+use Rattle.ppdb_values.specs.declared.scope.ConstantValue.{ConstantValue}
+use Rattle.ppdb_values.specs.declared.import.ImportScopeValue.{ImportScopeValue}
+use Rattle.ppdb_values.specs.{declared.custom.CustomValue.CustomValue, Parts.method_at}
+use Rattle.ppdb_values.specs.Parts.{first_item}
 use Rattle.ppdb_values.specs.RawFile.{RawFile}
 use Rattle.ppdb_values.specs.Names.{coded_of}
-use Rattle.ppdb_build_heaps.specs.{Items.{index_of, as_text, as_blob}, Uses.{Piece, plain, blob_bytes}}
+use Rattle.ppdb_build_heaps.specs.{Items.{index_of, as_text, as_blob}, Uses.{Piece, plain}}
+use Rattle.ppdb_build_heaps.specs.Uses.{blob_bytes}
 use Rattle.ppdb_build_layout.specs.Bytes.{padded}
-use Rattle.ppdb_build_canon.specs.Uses.{texts, guids, blobs, name_pieces, method_blob, constant_blob, import_blob, custom_blob, variables_of, constants_of}
+use Rattle.ppdb_build_canon.specs.Uses.{texts, guids, blobs, name_pieces, method_blob}
+use Rattle.ppdb_build_canon.specs.Uses.{constant_blob, import_blob, custom_blob, variables_of}
+use Rattle.ppdb_build_canon.specs.Uses.{constants_of}
 
 -- ---- indexes: of a text and of a blob in its heap, and a GUID's number from 1, or 0 for none
 
@@ -34,12 +45,16 @@ document_row value document = record {
 -- a method without points names no document and no points
 abbrev pub method_row_of : FileValue → Option MethodValue → MethodDebugRow
 method_row_of value None = record { document = 0; points = 0 }
-method_row_of value (Some method) = record { document = common_document method.points; points = blob_cell value (method_blob method) }
+method_row_of value (Some method) = record {
+  document = common_document method.points;
+  points = blob_cell value (method_blob method);
+}
 
 -- a row for each method, where some method has points
 abbrev pub method_rows : FileValue → List MethodValue → List MethodDebugRow
 method_rows value [] = []
-method_rows value (_ ∷ _) = map (λ m. method_row_of value (method_at value m)) (range_with_len 1 (slice_index value.rows 0x06))
+method_rows value (_ ∷ _) = map (λ m. method_row_of value (method_at value m))
+    (range_with_len 1 (slice_index value.rows 0x06))
 
 abbrev pub scope_row : FileValue → ℕ × ScopeValue → ScopeRow
 scope_row value scope = record {
@@ -52,24 +67,38 @@ scope_row value scope = record {
 }
 
 abbrev pub variable_row : FileValue → VariableValue → VariableRow
-variable_row value variable = record { attributes = variable.attributes; slot = variable.slot; name = text_cell value variable.name }
+variable_row value variable = record {
+  attributes = variable.attributes;
+  slot = variable.slot;
+  name = text_cell value variable.name;
+}
 
 abbrev pub constant_row : FileValue → ConstantValue → ConstantRow
-constant_row value constant = record { name = text_cell value constant.name; signature = blob_cell value (constant_blob constant) }
+constant_row value constant = record {
+  name = text_cell value constant.name;
+  signature = blob_cell value (constant_blob constant);
+}
 
 abbrev pub import_row : FileValue → ImportScopeValue → ImportRow
-import_row value scope = record { parent = scope.parent; imports = blob_cell value (import_blob scope) }
+import_row value scope =
+    record { parent = scope.parent; imports = blob_cell value (import_blob scope) }
 
 abbrev pub custom_row : FileValue → CustomValue → CustomRow
-custom_row value custom = record { parent = coded_of custom.parent; kind = guid_cell value (Some custom.kind); value = blob_cell value (custom_blob custom) }
+custom_row value custom = record {
+  parent = coded_of custom.parent;
+  kind = guid_cell value (Some custom.kind);
+  value = blob_cell value (custom_blob custom);
+}
 
 -- ---- the tables and heaps
 
 abbrev pub counts : FileValue → List ℕ
 counts value =
     take 0x2d value.rows ++ replicate 3 0
-    ++ (length value.documents ∷ length (method_rows value value.methods) ∷ length value.scopes ∷ length (variables_of value)
-    ∷ length (constants_of value) ∷ length value.imports ∷ length value.machines ∷ length value.customs ∷ [])
+    ++ (length value.documents ∷ length (method_rows value value.methods) ∷ length value.scopes
+    ∷ length (variables_of value)
+    ∷ length (constants_of value) ∷ length value.imports ∷ length value.machines
+    ∷ length value.customs ∷ [])
     ++ replicate 8 0
 
 unfoldable pub canonical_tables : FileValue → RawTables

@@ -18,18 +18,20 @@ pub fn values_without_limits_are_small()
     ensures { ValuesWithoutLimits }
 {}
 
-/// The one file of a value is made without a look at the value's identity: with the identity that is chosen, the value has the same
-/// file again.
+/// The one file of a value is made without a look at the value's identity: with the identity that
+/// is chosen, the value has the same file again.
 pub fn canonical_files_forget_ids()
     ensures { CanonicalFilesForgetIds }
 {}
 
-/// With another identity of 20 bytes a file is the same but for the 20 bytes after the root, from 112 on.
+/// With another identity of 20 bytes a file is the same but for the 20 bytes after the root, from
+/// 112 on.
 pub fn ids_stand_after_the_root()
     ensures { IdsStandAfterTheRoot }
 {}
 
-/// The blobs of worked names, of a method in two documents, and the limit that a list past its table meets.
+/// The blobs of worked names, of a method in two documents, and the limit that a list past its
+/// table meets.
 pub fn worked_parts_are_canonical()
     ensures names { WorkedNames }
     ensures points { WorkedPoints }

@@ -1,14 +1,15 @@
--- A part that was added, from what was noted of it.
+-- A part that was added, from what was interned of it.
 use Rattle.std.proofs.Common.{◌≡◌, ℕ, List, [], ◌∷◌, ◌++◌, ap, ◌∙◌}
 use Rattle.ppdb_tables.specs.declared.rows.{DocumentRow.{DocumentRow}, ImportRow.{ImportRow}}
 use Rattle.ppdb_values.specs.declared.{file.DocumentValue.{DocumentValue}, import.ImportScopeValue.{ImportScopeValue}}
 use Rattle.ppdb_build_heaps.specs.Uses.{plain}
 use Rattle.ppdb_build_canon.specs.Uses.{name_pieces, import_blob}
-use Rattle.ppdb_build_items.specs.Interned.{Annotation, with_blob, with_guid, blob_place, guid_place, cell}
+use Rattle.ppdb_build_interning.specs.Interned.{Annotation, with_blob, with_guid, blob_place, guid_place, cell}
 use Rattle.ppdb_build_draft.specs.Draft.{Draft, with_document, with_import}
 
 -- the heaps and the row of a document
-pub record IsDocumentInterned (draft : Draft) (document : DocumentValue) (named hashed : Annotation) (first second : List (List ℕ)) (row : DocumentRow) : Type 0 where
+pub record IsDocumentInterned (draft : Draft) (document : DocumentValue) (named hashed : Annotation) (first second : List (List ℕ))
+    (row : DocumentRow) : Type 0 where
   pub named_is : named ≡ with_blob draft.blobs (name_pieces document.name)
   pub hashed_is : hashed ≡ with_blob named (plain document.hash)
   pub first_is : first ≡ with_guid draft.guids document.algorithm
@@ -32,7 +33,8 @@ document_added draft document named hashed first second row is =
     let hash = is.hash_is ∙ ap (λ (interned : Annotation). cell (blob_place interned.items (plain document.hash))) hashed_now in
     let algorithm = is.algorithm_is ∙ ap (λ guids. cell (guid_place guids document.algorithm)) is.first_is in
     let language = is.language_is ∙ ap (λ guids. cell (guid_place guids document.language)) second_now in
-    ap (λ (interned : Annotation). record draft { blobs = interned; guids = second; rows = record draft.rows { documents = draft.rows.documents ++ row ∷ [] } }) hashed_now
+    ap (λ (interned : Annotation).
+    record draft { blobs = interned; guids = second; rows = record draft.rows { documents = draft.rows.documents ++ row ∷ [] } }) hashed_now
     ∙ ap (λ (guids : List (List ℕ)). record draft {
       blobs = with_blob named_now (plain document.hash);
       guids = guids;

@@ -5,7 +5,7 @@ use Rattle.ppdb_tables.specs.declared.rows.DocumentRow.{DocumentRow}
 use Rattle.ppdb_values.specs.declared.file.DocumentValue.{DocumentValue}
 use Rattle.ppdb_build_heaps.specs.{Items.{with_use}, Uses.{plain}}
 use Rattle.ppdb_build_canon.{specs.Uses.{name_pieces}, proofs.Uses.{document_blobs}}
-use Rattle.ppdb_build_items.specs.Interned.{with_blob, with_guid, blob_place, guid_place, cell}
+use Rattle.ppdb_build_interning.specs.Interned.{with_blob, with_guid, blob_place, guid_place, cell}
 use Rattle.ppdb_build_draft.{specs.Draft.{Draft, with_document}, proofs.Heaps.{Grows, grows_not, grows_then, grows_guid, grows_blob, blob_stays, guid_stays}}
 
 -- the row of a document where the heaps have these items

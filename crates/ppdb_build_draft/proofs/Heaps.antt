@@ -1,12 +1,12 @@
--- Items that are noted one after another, and the places that they keep.
+-- Items that are interned one after another, and the places that they keep.
 use Rattle.std.proofs.Common.{◌≡◌, ℕ, ◌+◌, List, [], ◌∷◌, ◌++◌, length, map, fold, flat_map, sum_by, bytes_eq, refl, sym, ap, subst, ◌∙◌, append_assoc, arith}
 use Rattle.std.proofs.{Common.{Option, Some, None}, lemmas.List.{append-nil}, lemmas.List.Sums.{fold-append, sum_by-append, sum_by-cons}}
 use Rattle.std.specs.List.{position_or_len}
-use Rattle.ppdb_base.specs.Told.{told}
+use Rattle.ppdb_base.specs.Reported.{reported}
 use Rattle.ppdb_build_heaps.specs.{Items.{IsIn, with_use, index_of, as_text, as_blob}, Uses.{Piece, plain, held_by, with_held, blob_bytes, blobs_after}}
 use Rattle.ppdb_build_heaps.proofs.{Items.{index-stable, with_use-adds, used-there}, Stable.{AreIn, AreUsed, after-adds, spelled-stable, after-used, all-ready}}
 use Rattle.ppdb_build_heaps.proofs.Stays.{items-stay}
-use Rattle.ppdb_build_items.{specs.Interned.{Annotation, with_text, with_blob, with_guid, text_place, blob_place, guid_place}, proofs.Made.{sum-plain}}
+use Rattle.ppdb_build_interning.{specs.Interned.{Annotation, with_text, with_blob, with_guid, text_place, blob_place, guid_place}, proofs.Made.{sum-plain}}
 
 -- ---- heaps that grow
 
@@ -45,7 +45,7 @@ guid_stays guids (Some guid) final grows =
     ap (λ n. 1 + n) (sym (items-stay.number (with_use guids guid) grows.more guid (used-there guids guid))
     ∙ ap (position_or_len (bytes_eq guid)) (sym grows.is))
 
--- a blob that was noted is there, and so is what it holds
+-- a blob that was interned is there, and so is what it holds
 pub record IsThere (items : List (List ℕ)) (pieces : List Piece) : Type 0 where
   pub held : AreIn items (flat_map held_by pieces)
   pub blob : IsIn items (blob_bytes items pieces)
@@ -86,7 +86,7 @@ blob_stays interned pieces final grows = place_stays (with_blob interned pieces)
 pub record TextsInterned (interned : Annotation) (texts : List (List ℕ)) (after : Annotation) : Type 0 where
   pub items : after.items ≡ fold with_use interned.items texts
   pub grows : Grows interned.items after.items
-  pub total : (more : ℕ) → told (after.total + more) ≡ told (interned.total + (sum_by length texts + more))
+  pub total : (more : ℕ) → reported (after.total + more) ≡ reported (interned.total + (sum_by length texts + more))
 
 pub texts_interned : (interned : Annotation) (texts : List (List ℕ)) → TextsInterned interned texts (fold with_text interned texts)
 texts_interned interned [] = record { items = refl; grows = grows_not interned.items; total = λ more. omega arith }
@@ -94,7 +94,8 @@ texts_interned interned (text ∷ texts) =
     let rest = texts_interned (with_text interned text) texts in
     record {
       items = rest.items;
-      grows = grows_then interned.items (with_use interned.items text) (fold with_text (with_text interned text) texts).items (grows_use interned.items text) rest.grows;
+      grows =
+          grows_then interned.items (with_use interned.items text) (fold with_text (with_text interned text) texts).items (grows_use interned.items text) rest.grows;
       total = λ more. omega (arith, rest.total more, sum_by-cons length text texts);
     }
 
@@ -104,7 +105,7 @@ pub record BlobsInterned (interned : Annotation) (blobs : List (List Piece)) (af
   pub items : after.items ≡ blobs_after interned.items (flat_map with_held blobs)
   pub grows : Grows interned.items after.items
   pub total : (final : List (List ℕ)) (more : ℕ) → Grows after.items final
-      → told (after.total + more) ≡ told (interned.total + (sum_by (λ used. length (blob_bytes final used)) (flat_map with_held blobs) + more))
+      → reported (after.total + more) ≡ reported (interned.total + (sum_by (λ used. length (blob_bytes final used)) (flat_map with_held blobs) + more))
 
 -- a blob counts as much as it does in every later heap
 same_sum : (items final : List (List ℕ)) (pieces : List Piece) → AreIn items (flat_map held_by pieces) → Grows items final

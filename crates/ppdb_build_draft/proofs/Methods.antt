@@ -6,7 +6,7 @@ use Rattle.sequence_points.specs.Points.{common_document}
 use Rattle.ppdb_tables.specs.declared.rows.MethodDebugRow.{MethodDebugRow}
 use Rattle.ppdb_values.specs.declared.file.MethodValue.{MethodValue}
 use Rattle.ppdb_build_canon.specs.Uses.{method_blob}
-use Rattle.ppdb_build_items.specs.Interned.{with_blob, blob_place, cell}
+use Rattle.ppdb_build_interning.specs.Interned.{with_blob, blob_place, cell}
 use Rattle.ppdb_build_draft.{specs.Draft.{Draft, with_method, rows_to, all_methods}, proofs.Heaps.{Grows, grows_not, grows_then, grows_blob, blob_stays}}
 
 -- the row of a method where the heap has these items

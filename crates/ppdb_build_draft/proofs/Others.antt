@@ -4,7 +4,7 @@ use Rattle.ppdb_tables.specs.{declared.rows.ImportRow.{ImportRow}, declared.rows
 use Rattle.ppdb_values.specs.declared.{import.ImportScopeValue.{ImportScopeValue}, custom.CustomValue.{CustomValue}}
 use Rattle.ppdb_build_heaps.specs.Items.{with_use}
 use Rattle.ppdb_build_canon.specs.Uses.{import_blob, custom_blob}
-use Rattle.ppdb_build_items.specs.Interned.{with_blob, blob_place, guid_place, cell}
+use Rattle.ppdb_build_interning.specs.Interned.{with_blob, blob_place, guid_place, cell}
 use Rattle.ppdb_build_draft.{specs.Draft.{Draft, with_import, with_machine, with_custom}, proofs.Heaps.{Grows, grows_not, grows_then, grows_use, grows_blob}}
 use Rattle.ppdb_build_draft.proofs.Heaps.{blob_stays, guid_stays}
 

@@ -3,9 +3,9 @@ use Rattle.std.proofs.Common.{◌≡◌, ℕ, ◌+◌, ◌-◌, List, [], ◌∷
 use Rattle.std.proofs.lemmas.{List.{append-nil, map-append, length-map}, List.Sums.{fold-append}}
 use Rattle.ppdb_tables.specs.declared.rows.{ScopeRow.{ScopeRow}, VariableRow.{VariableRow}, ConstantRow.{ConstantRow}}
 use Rattle.ppdb_values.specs.declared.scope.{ScopeValue.{ScopeValue}, VariableValue.{VariableValue}, ConstantValue.{ConstantValue}}
-use Rattle.ppdb_base.specs.Told.{told}
+use Rattle.ppdb_base.specs.Reported.{reported}
 use Rattle.ppdb_build_canon.specs.Uses.{constant_blob}
-use Rattle.ppdb_build_items.specs.Interned.{Annotation, with_text, with_blob, text_place, blob_place, cell}
+use Rattle.ppdb_build_interning.specs.Interned.{Annotation, with_text, with_blob, text_place, blob_place, cell}
 use Rattle.ppdb_build_draft.{specs.Draft.{Draft, with_variable, with_scope_row, with_scope, with_signature, with_constant, with_constants}, proofs.Heaps.{Grows}}
 use Rattle.ppdb_build_draft.proofs.Heaps.{grows_not, grows_then, grows_use, grows_blob, text_stays, blob_stays}
 
@@ -66,18 +66,18 @@ pub record ScopesDrafted (before : Draft) (scopes : List ScopeValue) (after : Dr
   pub texts_grow : Grows before.texts.items after.texts.items
   pub variables : (texts : List (List ℕ)) → Grows after.texts.items texts → after.rows.variables ≡ before.rows.variables ++ map (variable_in texts)
       (variables_in scopes)
-  pub rows : (owned : ℕ) → before.owned ≡ told owned → after.rows.scopes ≡ before.rows.scopes ++ scope_rows_from (length before.rows.variables) owned scopes
+  pub rows : (owned : ℕ) → before.owned ≡ reported owned → after.rows.scopes ≡ before.rows.scopes ++ scope_rows_from (length before.rows.variables) owned scopes
   pub others : after ≡ record before {
     texts = after.texts;
     owned = after.owned;
     rows = record before.rows { scopes = after.rows.scopes; variables = after.rows.variables };
   }
 
-same_cell : (n : ℕ) → cell (1 + told n) ≡ cell (1 + n)
+same_cell : (n : ℕ) → cell (1 + reported n) ≡ cell (1 + n)
 same_cell n = omega arith
 
-told_more : (n m : ℕ) → told (told n + m) ≡ told (n + m)
-told_more n m = omega arith
+reported_more : (n m : ℕ) → reported (reported n + m) ≡ reported (n + m)
+reported_more n m = omega arith
 
 pub scopes_drafted : (before : Draft) (scopes : List ScopeValue) → ScopesDrafted before scopes (fold with_scope before scopes)
 unfolding with_scope_row
@@ -111,8 +111,8 @@ scopes_drafted before (scope ∷ scopes) =
           ap length (one.rows next.texts.items (grows_not next.texts.items))
           ∙ length-append before.rows.variables (map (variable_in next.texts.items) scope.variables)
           ∙ ap (λ n. length before.rows.variables + n) (length-map scope.variables (variable_in next.texts.items)) in
-          let more : next.owned ≡ told (owned + length scope.constants) =
-          ap (λ (d : Draft). d.owned) one.others ∙ ap (λ n. told (n + length scope.constants)) is ∙ told_more owned (length scope.constants) in
+          let more : next.owned ≡ reported (owned + length scope.constants) =
+          ap (λ (d : Draft). d.owned) one.others ∙ ap (λ n. reported (n + length scope.constants)) is ∙ reported_more owned (length scope.constants) in
           rest.rows (owned + length scope.constants) more
           ∙ ap (λ (rows : List ScopeRow). rows ++ scope_rows_from (length next.rows.variables) (owned + length scope.constants) scopes)
           (ap (λ (d : Draft). d.rows.scopes) one.others)

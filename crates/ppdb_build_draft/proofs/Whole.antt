@@ -9,14 +9,14 @@ use Rattle.ppdb_tables.specs.declared.rows.{VariableRow.{VariableRow}, ConstantR
 use Rattle.ppdb_tables.{specs.RawTables.{numbered, row_at}, proofs.NumberedRows.{row_there}}
 use Rattle.ppdb_values.specs.declared.{file.FileValue.{FileValue}, file.DocumentValue.{DocumentValue}, file.MethodValue.{MethodValue}, scope.ScopeValue.{ScopeValue}}
 use Rattle.ppdb_values.specs.{declared.custom.CustomValue.{CustomValue}, Ordered.{Rises}, Parts.{method_at, first_item}}
-use Rattle.ppdb_values_sound_laws.specs.Sound.{IsSound}
-use Rattle.ppdb_base.specs.Told.{told}
+use Rattle.ppdb_values_sound.specs.Sound.{IsSound}
+use Rattle.ppdb_base.specs.Reported.{reported}
 use Rattle.ppdb_build_heaps.{specs.Items.{first_uses, with_use}, specs.Uses.{Piece, blob_bytes}, proofs.FirstUses.{fold-first}}
 use Rattle.ppdb_build_layout.specs.declared.rows.Rows.{Rows}
 use Rattle.ppdb_build_canon.specs.Uses.{texts, guids, blobs, method_blob, constant_blob, import_blob, custom_blob, variables_of, constants_of, text_uses, guid_uses}
 use Rattle.ppdb_build_canon.{specs.Uses.{cell_blobs, blob_uses}, proofs.Uses.{document_blobs}, specs.Canonical.{guid_cell, document_row, method_row_of, method_rows}}
 use Rattle.ppdb_build_canon.specs.{Canonical.{scope_row, variable_row, constant_row, import_row, custom_row, canonical_tables}, Limits.{span}}
-use Rattle.ppdb_build_items.specs.Interned.{Annotation, none_interned, with_text, with_blob, guid_place, cell}
+use Rattle.ppdb_build_interning.specs.Interned.{Annotation, none_interned, with_text, with_blob, guid_place, cell}
 use Rattle.ppdb_build_draft.specs.Draft.{Draft, empty_draft, no_rows, with_document, with_method, with_all_methods, all_methods, with_scope, with_constant}
 use Rattle.ppdb_build_draft.specs.{Draft.{with_constants, with_import, with_machine}, Drafted.{drafted, held_document, held_method, held_scope, held_variable}}
 use Rattle.ppdb_build_draft.{specs.Drafted.{held_constant, held_import, held_custom, held_rows, IsDraftOf, DraftsAreCanonical}, proofs.Heaps.{Grows, grows_not}}
@@ -242,7 +242,7 @@ module _ (value : FileValue) (d1 d2 d4 d5 d6 d8 : Draft) (chain : IsChain value 
   blobs_are : d8.blobs.items ≡ blobs value
   blobs_are = ap (λ (interned : Annotation). interned.items) blobs_all ∙ (blobs_interned none_interned (cell_blobs value)).items
 
-  span_is : told (d8.texts.total + d8.blobs.total) ≡ told (span value)
+  span_is : reported (d8.texts.total + d8.blobs.total) ≡ reported (span value)
   unfolding span
   span_is =
       let t = texts_interned none_interned (text_uses value) in
@@ -251,8 +251,8 @@ module _ (value : FileValue) (d1 d2 d4 d5 d6 d8 : Draft) (chain : IsChain value 
       let spelled : sum_by (λ used. length (blob_bytes heap used)) (blob_uses value) ≡ sum_by (λ used. length (blob_bytes (blobs value) used))
       (blob_uses value) =
       ap (λ items. sum_by (λ used. length (blob_bytes items used)) (blob_uses value)) b.items in
-      ap (λ (interned : Annotation). told (interned.total + d8.blobs.total)) (texts_left ∙ texts_all)
-      ∙ ap (λ (interned : Annotation). told ((fold with_text none_interned (text_uses value)).total + interned.total)) blobs_all
+      ap (λ (interned : Annotation). reported (interned.total + d8.blobs.total)) (texts_left ∙ texts_all)
+      ∙ ap (λ (interned : Annotation). reported ((fold with_text none_interned (text_uses value)).total + interned.total)) blobs_all
       ∙ omega (arith, t.total (fold with_blob none_interned (cell_blobs value)).total, b.total heap (sum_by length (text_uses value)) (grows_not heap), spelled)
 
   -- ---- growth, from each table to the last

@@ -1,15 +1,21 @@
--- A file that is drafted part by part: the items that its heaps have so far, and its rows, whose cells hold the places that the
--- items got when they were noted (Portable PDB v1.0, "Metadata Tables").
-use Rattle.ppdb_values.specs.Names.{constant_spelling, Range, common_document, MachineRow, MethodDebugRow, told, coded_of}
+-- A file that is drafted part by part: the items that its heaps have so far, and its rows, whose
+-- cells hold the places that the items got when they were interned (Portable PDB v1.0, "Metadata
+-- Tables").
+use Rattle.ppdb_values.specs.Names.{constant_spelling, Range, common_document, MachineRow}
+use Rattle.ppdb_values.specs.Names.{MethodDebugRow, reported, coded_of}
 use Rattle.std.specs.Prelude.{ℕ, ◌+◌, ◌-◌, List, [], ◌∷◌, ◌++◌, length, fold, replicate, Some}
-use Rattle.ppdb_values.specs.{declared.file.{DocumentValue.DocumentValue, MethodValue.MethodValue}, declared.scope.{ScopeValue.ScopeValue, VariableValue.VariableValue, ConstantValue.ConstantValue}}
-use Rattle.ppdb_values.specs.{declared.import.ImportScopeValue.ImportScopeValue, declared.custom.CustomValue.CustomValue}
-use Rattle.ppdb_values_sound_laws.specs.Scopes.{stored_body}
+use Rattle.ppdb_values.specs.declared.file.{DocumentValue.DocumentValue, MethodValue.MethodValue}
+use Rattle.ppdb_values.specs.declared.scope.{ScopeValue.ScopeValue, VariableValue.VariableValue}
+use Rattle.ppdb_values.specs.declared.scope.ConstantValue.{ConstantValue}
+use Rattle.ppdb_values.specs.declared.import.ImportScopeValue.{ImportScopeValue}
+use Rattle.ppdb_values.specs.declared.custom.CustomValue.{CustomValue}
+use Rattle.ppdb_values_sound.specs.Scopes.{stored_body}
 use Rattle.ppdb_build_heaps.specs.Uses.{plain}
 use Rattle.ppdb_build_layout.specs.declared.rows.Rows.{Rows}
 use Rattle.ppdb_build_canon.specs.Uses.{name_pieces, method_blob, import_blob, custom_blob}
-use Rattle.ppdb_build_items.specs.declared.noted.Noted.{Noted}
-use Rattle.ppdb_build_items.specs.Interned.{Annotation, none_interned, with_text, with_blob, with_guid, text_place, blob_place, guid_place, cell}
+use Rattle.ppdb_build_interning.specs.declared.noted.Noted.{Noted}
+use Rattle.ppdb_build_interning.specs.Interned.{Annotation, none_interned, with_text, with_blob}
+use Rattle.ppdb_build_interning.specs.Interned.{with_guid, text_place, blob_place, guid_place, cell}
 
 pub record Draft : Type 0 where
   pub texts : Annotation
@@ -19,15 +25,25 @@ pub record Draft : Type 0 where
   -- how many constants the scopes own that have their rows, as it is reported
   pub owned : ℕ
 
--- the items of a heap once all are noted, and the length of all uses
+-- the items of a heap once all are interned, and the length of all uses
 abbrev pub annotation_of : Noted → Annotation
 annotation_of noted = record { items = noted.items.items; total = noted.total }
 
 abbrev pub no_rows : Rows
-no_rows = record { documents = []; methods = []; scopes = []; variables = []; constants = []; imports = []; machines = []; customs = [] }
+no_rows = record {
+  documents = [];
+  methods = [];
+  scopes = [];
+  variables = [];
+  constants = [];
+  imports = [];
+  machines = [];
+  customs = [];
+}
 
 abbrev pub empty_draft : Draft
-empty_draft = record { texts = none_interned; guids = []; blobs = none_interned; rows = no_rows; owned = 0 }
+empty_draft =
+    record { texts = none_interned; guids = []; blobs = none_interned; rows = no_rows; owned = 0 }
 
 -- ---- one more part
 
@@ -63,7 +79,10 @@ with_method draft method =
       blobs = interned;
       rows = record draft.rows {
         methods = rows_to (method.method - 1) draft.rows.methods
-            ++ record { document = common_document method.points; points = cell (blob_place interned.items (method_blob method)) } ∷ [];
+            ++ record {
+              document = common_document method.points;
+              points = cell (blob_place interned.items (method_blob method));
+            } ∷ [];
       };
     }
 
@@ -73,7 +92,8 @@ all_methods count [] = []
 all_methods count (row ∷ rows) = rows_to count (row ∷ rows)
 
 unfoldable pub with_all_methods : Draft → ℕ → Draft
-with_all_methods draft count = record draft { rows = record draft.rows { methods = all_methods count draft.rows.methods } }
+with_all_methods draft count =
+    record draft { rows = record draft.rows { methods = all_methods count draft.rows.methods } }
 
 unfoldable pub with_variable : Draft → VariableValue → Draft
 with_variable draft variable =
@@ -82,15 +102,20 @@ with_variable draft variable =
       texts = interned;
       rows = record draft.rows {
         variables =
-            draft.rows.variables ++ record { attributes = variable.attributes; slot = variable.slot; name = cell (text_place interned.items variable.name) } ∷ [];
+            draft.rows.variables ++ record {
+              attributes = variable.attributes;
+              slot = variable.slot;
+              name = cell (text_place interned.items variable.name);
+            } ∷ [];
       };
     }
 
--- the row of a scope that owns so many constants: its lists go on where those of the scopes before it end
+-- the row of a scope that owns so many constants: its lists go on where those of the scopes before
+-- it end
 unfoldable pub with_scope_row : Draft → ℕ → ℕ → Range → ℕ → Draft
 with_scope_row draft method import range constants =
     record draft {
-      owned = told (draft.owned + constants);
+      owned = reported (draft.owned + constants);
       rows = record draft.rows {
         scopes = draft.rows.scopes ++ record {
           method = method;
@@ -106,7 +131,8 @@ with_scope_row draft method import range constants =
 -- a scope, with its variables
 abbrev pub with_scope : Draft → ScopeValue → Draft
 with_scope draft scope =
-    fold with_variable (with_scope_row draft scope.method scope.import scope.range (length scope.constants)) scope.variables
+    fold with_variable (with_scope_row draft scope.method scope.import scope.range
+    (length scope.constants)) scope.variables
 
 -- a constant, by its name and its signature
 unfoldable pub with_signature : Draft → List ℕ → List ℕ → Draft
@@ -118,12 +144,16 @@ with_signature draft name signature =
       blobs = interned;
       rows = record draft.rows {
         constants =
-            draft.rows.constants ++ record { name = cell (text_place named.items name); signature = cell (blob_place interned.items (plain signature)) } ∷ [];
+            draft.rows.constants ++ record {
+              name = cell (text_place named.items name);
+              signature = cell (blob_place interned.items (plain signature));
+            } ∷ [];
       };
     }
 
 abbrev pub with_constant : Draft → ConstantValue → Draft
-with_constant draft constant = with_signature draft constant.name (constant_spelling constant.modifiers (stored_body constant.body))
+with_constant draft constant = with_signature draft constant.name
+    (constant_spelling constant.modifiers (stored_body constant.body))
 
 -- the constants of a scope
 abbrev pub with_constants : Draft → ScopeValue → Draft
@@ -135,13 +165,17 @@ with_import draft scope =
     record draft {
       blobs = interned;
       rows = record draft.rows {
-        imports = draft.rows.imports ++ record { parent = scope.parent; imports = cell (blob_place interned.items (import_blob scope)) }
+        imports = draft.rows.imports ++ record {
+          parent = scope.parent;
+          imports = cell (blob_place interned.items (import_blob scope));
+        }
             ∷ [];
       };
     }
 
 unfoldable pub with_machine : Draft → MachineRow → Draft
-with_machine draft machine = record draft { rows = record draft.rows { machines = draft.rows.machines ++ machine ∷ [] } }
+with_machine draft machine =
+    record draft { rows = record draft.rows { machines = draft.rows.machines ++ machine ∷ [] } }
 
 unfoldable pub with_custom : Draft → CustomValue → Draft
 with_custom draft custom =

@@ -1,10 +1,11 @@
 // A file whose parts are all drafted.
 use ppdb_build_heaps::GuidHeap;
-use ppdb_build_items::Noted;
+use ppdb_build_interning::Noted;
 use ppdb_build_layout::Rows;
 use std::marker::Model;
 
-/// The heaps and the rows of a file whose parts are all there, before any byte is laid out. Contracts see it as the draft that it was.
+/// The heaps and the rows of a file whose parts are all there, before any byte is laid out.
+/// Contracts see it as the draft that it was.
 #[derive(Drop)]
 pub struct Drafted {
     pub(crate) texts: Noted,
@@ -21,7 +22,13 @@ impl Model for Drafted {
 
     ghost Value = { Draft };
 
-    ghost view = { λ d. record { texts = annotation_of d.texts; guids = d.guids; blobs = annotation_of d.blobs; rows = d.rows; owned = d.owned } };
+    ghost view = { λ d. record {
+      texts = annotation_of d.texts;
+      guids = d.guids;
+      blobs = annotation_of d.blobs;
+      rows = d.rows;
+      owned = d.owned;
+    } };
 
     ghost invariant = { λ d. (d.texts.items.kind ≡ Texts) × (d.blobs.items.kind ≡ Blobs) };
 }

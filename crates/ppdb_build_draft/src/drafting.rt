@@ -1,10 +1,10 @@
 // A file that is drafted part by part.
 use crate::drafted::Drafted;
-use crate::notes::{fill_rows, next_row, note_guid, put_row};
+use crate::interning::{fill_rows, intern_guid, next_row, put_row};
 use custom_info::Range;
 use ppdb_base::{List, Memory};
 use ppdb_build_heaps::GuidHeap;
-use ppdb_build_items::{BlobHeap, TextHeap};
+use ppdb_build_interning::{BlobHeap, TextHeap};
 use ppdb_build_layout::Rows;
 use ppdb_tables::{
     ConstantRow, CustomRow, DocumentRow, ImportRow, MachineRow, MethodDebugRow, Parent, ScopeRow,
@@ -17,7 +17,8 @@ use std::hash::RandomState;
 use std::marker::Model;
 use type_blobs::{Constant, Modifier};
 
-/// The heaps and the rows of a file, to which its parts are added table by table. After an error a draft is of no use.
+/// The heaps and the rows of a file, to which its parts are added table by table. After an error a
+/// draft is of no use.
 #[derive(Drop)]
 pub struct Drafting {
     alloc: Global,
@@ -30,12 +31,18 @@ pub struct Drafting {
 }
 
 impl Model for Drafting {
-    ghost use Rattle.ppdb_build_items.specs.Making.{interned_of};
+    ghost use Rattle.ppdb_build_interning.specs.Making.{interned_of};
     ghost use Rattle.ppdb_build_draft.specs.Draft.{Draft};
 
     ghost Value = { Draft };
 
-    ghost view = { λ d. record { texts = d.texts; guids = d.guids; blobs = interned_of d.blobs; rows = d.rows; owned = d.owned } };
+    ghost view = { λ d. record {
+      texts = d.texts;
+      guids = d.guids;
+      blobs = interned_of d.blobs;
+      rows = d.rows;
+      owned = d.owned;
+    } };
 }
 
 impl Drafting {
@@ -44,11 +51,14 @@ impl Drafting {
     ghost use Rattle.type_blobs.specs.ConstantReading.{shown};
     ghost use Rattle.type_blobs.specs.Spelling.{IsBody, constant_spelling};
     ghost use Rattle.sequence_points.specs.Points.{common_document};
-    ghost use Rattle.sequence_points.specs.Written.{CanBeWritten, large_steps, points_blob, IsRefused};
+    ghost use Rattle.sequence_points.specs.Written.{CanBeWritten, large_steps, points_blob};
+    ghost use Rattle.sequence_points.specs.Written.{IsRefused};
     ghost use Rattle.ppdb_values.specs.declared.file.MethodValue.{MethodValue};
-    ghost use Rattle.ppdb_values_sound_laws.specs.Writing.{HasSpelling, IsWritable};
-    ghost use Rattle.ppdb_build_draft.specs.Draft.{empty_draft, with_document, with_method, with_all_methods, with_variable, with_scope_row};
-    ghost use Rattle.ppdb_build_draft.specs.Draft.{with_signature, with_import, with_machine, with_custom};
+    ghost use Rattle.ppdb_values_sound.specs.Writing.{HasSpelling, IsWritable};
+    ghost use Rattle.ppdb_build_draft.specs.Draft.{empty_draft, with_document, with_method};
+    ghost use Rattle.ppdb_build_draft.specs.Draft.{with_all_methods, with_variable, with_scope_row};
+    ghost use Rattle.ppdb_build_draft.specs.Draft.{with_signature, with_import, with_machine};
+    ghost use Rattle.ppdb_build_draft.specs.Draft.{with_custom};
 
     /// A draft without parts. Items of its heaps are hashed under the key, if there is one.
     pub fn new(alloc: Global, key: Option<RandomState>) -> Result<Drafting, Memory>
@@ -82,12 +92,13 @@ impl Drafting {
         hash: &[u8],
         language: Option<[u8; 16]>,
     ) -> Result<(), Memory>
-        ensures { OnOk result (self.new ≡ with_document self.old (record { name = name.now; algorithm = algorithm; hash = hash.now; language = language })) }
+        ensures { OnOk result (self.new ≡ with_document self.old (record
+            { name = name.now; algorithm = algorithm; hash = hash.now; language = language })) }
     {
-        let name = self.blobs.note_name(self.alloc, name)?;
-        let hash = self.blobs.note(hash)?;
-        let algorithm = note_guid(&mut self.guids, algorithm)?;
-        let language = note_guid(&mut self.guids, language)?;
+        let name = self.blobs.intern_name(self.alloc, name)?;
+        let hash = self.blobs.intern(hash)?;
+        let algorithm = intern_guid(&mut self.guids, algorithm)?;
+        let language = intern_guid(&mut self.guids, language)?;
         self.rows.documents.push(DocumentRow {
             name,
             algorithm,
@@ -111,11 +122,12 @@ impl Drafting {
     ) -> Result<(), PointError>
         requires method { 1 ≤ method }
         requires points { CanBeWritten signature points.now }
-        ensures added { OnOk result (self.new ≡ with_method self.old (record { method = method; signature = signature; points = points.now })) }
+        ensures added { OnOk result (self.new ≡ with_method self.old
+            (record { method = method; signature = signature; points = points.now })) }
         ensures steps { OnOk result (large_steps [] points.now ≡ []) }
         ensures refused { IfErr result (IsRefused points.now) }
     {
-        let index = self.blobs.note_points(signature, points)?;
+        let index = self.blobs.intern_points(signature, points)?;
         let row = MethodDebugRow {
             document: single_document(points),
             points: index,
@@ -126,14 +138,16 @@ impl Drafting {
         }
     }
 
-    /// Adds the points of a method as their blob and the Document column of its row; methods come in the order of their rows.
+    /// Adds the points of a method as their blob and the Document column of its row; methods come
+    /// in the order of their rows.
     #[tactic(auto, unfolding(crate::specs::Draft::with_method))]
     pub fn method_blob(&mut self, method: u32, document: u32, blob: &[u8]) -> Result<(), Memory>
         requires { 1 ≤ method }
-        ensures { (value : MethodValue) → value.method ≡ method → document ≡ common_document value.points → blob.now ≡ points_blob value.signature value.points
+        ensures { (value : MethodValue) → value.method ≡ method → document
+            ≡ common_document value.points → blob.now ≡ points_blob value.signature value.points
             → OnOk result (self.new ≡ with_method self.old value) }
     {
-        let points = self.blobs.note(blob)?;
+        let points = self.blobs.intern(blob)?;
         put_row(
             &mut self.rows.methods,
             method as usize - 1,
@@ -142,7 +156,8 @@ impl Drafting {
         Ok(())
     }
 
-    /// Adds the rows of the methods without points, up to so many rows; of no method where none has points.
+    /// Adds the rows of the methods without points, up to so many rows; of no method where none has
+    /// points.
     #[tactic(auto, unfolding(crate::specs::Draft::with_all_methods))]
     pub fn end_methods(&mut self, count: u32) -> Result<(), Memory>
         ensures { OnOk result (self.new ≡ with_all_methods self.old count) }
@@ -153,7 +168,8 @@ impl Drafting {
         Ok(())
     }
 
-    /// Adds the row of a scope that owns so many constants. Its variables come next, its constants after all scopes.
+    /// Adds the row of a scope that owns so many constants. Its variables come next, its constants
+    /// after all scopes.
     #[tactic(auto, unfolding(crate::specs::Draft::with_scope_row))]
     pub fn scope(
         &mut self,
@@ -180,9 +196,10 @@ impl Drafting {
     /// Adds a variable of the last scope.
     #[tactic(auto, unfolding(crate::specs::Draft::with_variable))]
     pub fn variable(&mut self, attributes: u16, slot: u16, name: &[u8]) -> Result<(), Memory>
-        ensures { OnOk result (self.new ≡ with_variable self.old (record { attributes = attributes; slot = slot; name = name.now })) }
+        ensures { OnOk result (self.new ≡ with_variable self.old
+            (record { attributes = attributes; slot = slot; name = name.now })) }
     {
-        let name = self.texts.note(name)?;
+        let name = self.texts.intern(name)?;
         self.rows.variables.push(VariableRow {
             attributes,
             slot,
@@ -201,10 +218,11 @@ impl Drafting {
     ) -> Result<(), Memory>
         requires modifiers { All (λ m. IsToken m.target) modifiers.now }
         requires body { IsBody (shown body.now) }
-        ensures { OnOk result (self.new ≡ with_signature self.old name.now (constant_spelling modifiers.now (shown body.now))) }
+        ensures { OnOk result (self.new
+            ≡ with_signature self.old name.now (constant_spelling modifiers.now (shown body.now))) }
     {
-        let name = self.texts.note(name)?;
-        let signature = self.blobs.note_constant(modifiers, body)?;
+        let name = self.texts.intern(name)?;
+        let signature = self.blobs.intern_constant(modifiers, body)?;
         self.rows.constants.push(ConstantRow { name, signature })?;
         Ok(())
     }
@@ -213,9 +231,10 @@ impl Drafting {
     #[tactic(auto, unfolding(crate::specs::Draft::with_import))]
     pub fn import(&mut self, parent: u32, imports: &[ImportValue]) -> Result<(), Memory>
         requires { All HasSpelling imports.now }
-        ensures { OnOk result (self.new ≡ with_import self.old (record { parent = parent; imports = imports.now })) }
+        ensures { OnOk result
+            (self.new ≡ with_import self.old (record { parent = parent; imports = imports.now })) }
     {
-        let imports = self.blobs.note_imports(imports)?;
+        let imports = self.blobs.intern_imports(imports)?;
         self.rows.imports.push(ImportRow { parent, imports })?;
         Ok(())
     }
@@ -239,10 +258,11 @@ impl Drafting {
     ) -> Result<(), Memory>
         requires parent { parent.row ≤ 16777215 }
         requires value { IsWritable value.now }
-        ensures { OnOk result (self.new ≡ with_custom self.old (record { parent = parent; kind = kind; value = value.now })) }
+        ensures { OnOk result (self.new
+            ≡ with_custom self.old (record { parent = parent; kind = kind; value = value.now })) }
     {
-        let kind = note_guid(&mut self.guids, Some(kind))?;
-        let value = self.blobs.note_custom(value)?;
+        let kind = intern_guid(&mut self.guids, Some(kind))?;
+        let value = self.blobs.intern_custom(value)?;
         self.rows.customs.push(CustomRow {
             parent: coded_parent(parent).unwrap_or(0),
             kind,

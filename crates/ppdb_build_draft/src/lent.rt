@@ -1,7 +1,7 @@
 // The body of a constant, as its writer takes it.
 ghost use Rattle.std.specs.Prelude.{◌≡◌};
 ghost use Rattle.type_blobs.specs.ConstantReading.{shown};
-ghost use Rattle.ppdb_values_sound_laws.specs.Scopes.{stored_body};
+ghost use Rattle.ppdb_values_sound.specs.Scopes.{stored_body};
 
 use ppdb_values::ConstantBody;
 use type_blobs::Constant;

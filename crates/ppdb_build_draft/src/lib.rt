@@ -1,12 +1,13 @@
-//! A file that is drafted part by part: the items of its heaps and its rows, before any byte is laid out.
+//! A file that is drafted part by part: the items of its heaps and its rows, before any byte is
+//! laid out.
 #![tactic(auto)]
 
 mod drafted;
 mod drafting;
 mod heap_bytes;
+mod interning;
 mod laws;
 mod lent;
-mod notes;
 
 pub use drafted::Drafted;
 pub use drafting::Drafting;

@@ -5,8 +5,8 @@ use Rattle.std.specs.{List.{list_any, position_or_len}, BTreeMap.{is_at}, Cmp.Le
 use Rattle.ppdb_build_heaps.{specs.Guids.{number_of}, specs.Items.{with_use}, proofs.Items.{before-new, itself}, proofs.Stays.{before-length, number}}
 use Rattle.ppdb_build_heaps.proofs.Interned.{said_more}
 
-abbrev told_number : List (List ℕ) → List ℕ → ℕ
-told_number guids guid = min (1 + position_or_len (bytes_eq guid) guids) 0xffffffff
+abbrev reported_number : List (List ℕ) → List ℕ → ℕ
+reported_number guids guid = min (1 + position_or_len (bytes_eq guid) guids) 0xffffffff
 
 -- a new GUID stands after all that are there
 last_place : (guids : List (List ℕ)) (guid : List ℕ) → list_any (bytes_eq guid) guids ≡ false
@@ -18,7 +18,7 @@ pub number_more : (guids : List (List ℕ)) (new guid : List ℕ) (last : ℕ) �
     → cond (is_at (slice_cmp nat_cmp new) guid) (Some last) (number_of guid guids) ≡ number_of guid (guids ++ new ∷ [])
 number_more guids new guid last none at =
     ap (λ b. cond b (Some last) (number_of guid guids)) (is_eq-slice_cmp new guid)
-    ∙ sym (said_more told_number guids new guid last
+    ∙ sym (said_more reported_number guids new guid last
     (λ there. ap (λ n. min (1 + n) 0xffffffff) (number guids (new ∷ []) guid there))
     (ap (λ n. min (1 + n) 0xffffffff) (last_place guids new none) ∙ sym at))
 
@@ -26,7 +26,7 @@ number_more guids new guid last none at =
 pub no_number : (guids : List (List ℕ)) (guid : List ℕ) → number_of guid guids ≡ None → list_any (bytes_eq guid) guids ≡ false
 no_number guids guid is = by (list_any (bytes_eq guid) guids) refl is
   where
-    by : (b : Bool) → list_any (bytes_eq guid) guids ≡ b → (if b then Some (told_number guids guid) else None) ≡ None → list_any (bytes_eq guid) guids ≡ false
+    by : (b : Bool) → list_any (bytes_eq guid) guids ≡ b → (if b then Some (reported_number guids guid) else None) ≡ None → list_any (bytes_eq guid) guids ≡ false
     by true there e = absurd (cc (e))
     by false none e = none
 

@@ -3,7 +3,7 @@ use Rattle.std.proofs.Common.{◌≡◌, ℕ, Bool, true, false, cond, List, [],
 use Rattle.std.{proofs.Common.{if◌then◌else◌}, specs.List.{list_any}, specs.Cmp.Lexicographic.{bytes_decides}}
 use Rattle.ppdb_build_heaps.specs.{declared.heap.HeapKind.{HeapKind}, Kinds.{spelled}, Items.{with_use, index_of}, Interned.{length_of}}
 use Rattle.ppdb_build_heaps.proofs.Items.{index-new, stays-there, list_any-last, itself}
-use Rattle.ppdb_base.specs.Told.{told}
+use Rattle.ppdb_base.specs.Reported.{reported}
 
 -- ---- one more item
 
@@ -57,6 +57,6 @@ said_more said items new item last stays at = by (bytes_eq new item) refl
 
 -- the index of a new item
 pub index_new : (kind : HeapKind) (items : List (List ℕ)) (item : List ℕ) → list_any (bytes_eq item) items ≡ false
-    → told (length_of kind items) ≡ told (index_of (spelled kind) (with_use items item) item)
-index_new kind items item h = ap told (sym (index-new (spelled kind) items item h))
-    ∙ ap (λ b. told (index_of (spelled kind) (if b then items else items ++ item ∷ []) item)) (sym h)
+    → reported (length_of kind items) ≡ reported (index_of (spelled kind) (with_use items item) item)
+index_new kind items item h = ap reported (sym (index-new (spelled kind) items item h))
+    ∙ ap (λ b. reported (index_of (spelled kind) (if b then items else items ++ item ∷ []) item)) (sym h)

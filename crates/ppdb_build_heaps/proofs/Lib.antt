@@ -4,7 +4,7 @@ pub mod Stands
 pub mod FirstUses
 pub mod Interned
 pub mod Spellings
-pub mod Marks
+pub mod Hashes
 pub mod Places
 pub mod GuidSets
 pub mod Stays

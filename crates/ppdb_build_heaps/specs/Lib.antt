@@ -2,7 +2,7 @@ pub mod Items
 pub mod Kinds
 pub mod Interned
 pub mod Spelled
-pub mod Marks
+pub mod Hashes
 pub mod Places
 pub mod Keeping
 pub mod Guids

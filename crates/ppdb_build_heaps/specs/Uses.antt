@@ -1,4 +1,5 @@
--- Blobs that hold the indexes of other blobs (Portable PDB v1.0, "Document Name Blob" and "Imports Blob").
+-- Blobs that hold the indexes of other blobs (Portable PDB v1.0, "Document Name Blob" and "Imports
+-- Blob").
 use Rattle.std.specs.Prelude.{◌≡◌, ℕ, List, [], ◌∷◌, ◌++◌, map, fold, flat_map}
 use Rattle.ppdb_build_heaps.specs.Items.{first_uses, with_use, index_of, as_blob, shortest}
 
@@ -28,7 +29,8 @@ plain bytes = octets bytes ∷ []
 abbrev pub with_held : List Piece → List (List Piece)
 with_held pieces = map plain (flat_map held_by pieces) ++ pieces ∷ []
 
--- the items of a heap once some more blobs are used, each spelled by the indexes of the items before it
+-- the items of a heap once some more blobs are used, each spelled by the indexes of the items
+-- before it
 unfoldable pub blobs_after : List (List ℕ) → List (List Piece) → List (List ℕ)
 blobs_after items uses = fold (λ before used. with_use before (blob_bytes before used)) items uses
 
@@ -38,7 +40,9 @@ heap_of uses = blobs_after ([] ∷ []) uses
 
 -- ---- laws
 
--- The heap is the distinct blobs that are used, each as the heap itself spells it, in order of first use.
+-- The heap is the distinct blobs that are used, each as the heap itself spells it, in order of
+-- first use.
 abbrev pub HeapsAreFirstUses : Type 0
 HeapsAreFirstUses = (blobs : List (List Piece)) → heap_of (flat_map with_held blobs)
-    ≡ first_uses ([] ∷ map (blob_bytes (heap_of (flat_map with_held blobs))) (flat_map with_held blobs))
+    ≡ first_uses ([]
+    ∷ map (blob_bytes (heap_of (flat_map with_held blobs))) (flat_map with_held blobs))

@@ -21,14 +21,15 @@ pub(crate) enum Kept {
     Ordered(Vec<[u8; 16]>, BTreeMap<[u8; 16], u32>),
 }
 
-/// The number of the GUID at a place, from 1. A number of 2 ^ 32 or more is reported as the greatest below.
+/// The number of the GUID at a place, from 1. A number of 2 ^ 32 or more is reported as the
+/// greatest below.
 fn number_at(place: usize) -> u32
     ensures { result ≡ min (1 + place) 0xffffffff }
 {
     (place as u64).saturating_add(1).min(0xffff_ffff) as u32
 }
 
-/// Notes a use of a GUID in a list and the map of its numbers, and answers the number.
+/// Interns a GUID in a list and the map of its numbers, and answers the number.
 fn use_ordered(
     guids: &mut Vec<[u8; 16]>,
     numbers: &mut BTreeMap<[u8; 16], u32>,
@@ -37,7 +38,8 @@ fn use_ordered(
     requires { AreNumbers guids.old.items numbers.old }
     ensures kept { AreNumbers guids.new.items numbers.new }
     ensures guids { OnOk result (guids.new.items ≡ with_use guids.old.items guid.now) }
-    ensures number { IfOk result (λ number. number ≡ min (1 + position_or_len (bytes_eq guid.now) (with_use guids.old.items guid.now)) 0xffffffff) }
+    ensures number { IfOk result (λ number. number ≡ min
+        (1 + position_or_len (bytes_eq guid.now) (with_use guids.old.items guid.now)) 0xffffffff) }
     ensures err { OnErr result (guids.new.items ≡ guids.old.items) }
 {
     let next = number_at(guids.len());
@@ -69,9 +71,10 @@ impl Model for GuidHeap {
 
 impl GuidHeap {
     ghost use Rattle.std.specs.Prelude.{◌*◌, ◌++◌, flat_map};
-    ghost use Rattle.ppdb_base.specs.Told.{told};
+    ghost use Rattle.ppdb_base.specs.Reported.{reported};
 
-    /// A heap without GUIDs. Under a random key they are found in a hash table, and without one in an ordered map.
+    /// A heap without GUIDs. Under a random key they are found in a hash table, and without one in
+    /// an ordered map.
     pub fn new(alloc: Global, key: Option<RandomState>) -> GuidHeap
         ensures { result ≡ [] }
     {
@@ -94,15 +97,17 @@ impl GuidHeap {
 
     /// How many bytes the GUIDs take.
     pub fn len(&self) -> u64
-        ensures { result ≡ told (16 * length self.now) }
+        ensures { result ≡ reported (16 * length self.now) }
     {
         (self.as_slice().len() as u64).saturating_mul(16)
     }
 
-    /// Notes a use of a GUID, and answers its number, from 1. A number of 2 ^ 32 or more is reported as the greatest below.
+    /// Interns a GUID, and answers its number, from 1. A number of 2 ^ 32 or more is reported as
+    /// the greatest below.
     pub fn use_guid(&mut self, guid: &[u8; 16]) -> Result<u32, Memory>
         ensures guids { OnOk result (self.new ≡ with_use self.old guid.now) }
-        ensures number { IfOk result (λ number. number ≡ min (1 + position_or_len (bytes_eq guid.now) (with_use self.old guid.now)) 0xffffffff) }
+        ensures number { IfOk result (λ number. number ≡ min
+            (1 + position_or_len (bytes_eq guid.now) (with_use self.old guid.now)) 0xffffffff) }
         ensures err { OnErr result (self.new ≡ self.old) }
     {
         match &mut self.kept {

@@ -40,11 +40,12 @@ impl Model for Heap {
 
 impl Heap {
     ghost use Rattle.std.specs.Prelude.{◌≡◌, [], OnOk, OnErr, IfOk};
-    ghost use Rattle.ppdb_base.specs.Told.{told};
+    ghost use Rattle.ppdb_base.specs.Reported.{reported};
     ghost use Rattle.ppdb_build_heaps.specs.Kinds.{spelled};
     ghost use Rattle.ppdb_build_heaps.specs.Items.{with_use, index_of};
 
-    /// A heap without items. Under a random key they are found in a hash table, and without one in ordered maps.
+    /// A heap without items. Under a random key they are found in a hash table, and without one in
+    /// ordered maps.
     pub fn new(alloc: Global, kind: HeapKind, key: Option<RandomState>) -> Heap
         ensures { result ≡ record { kind = kind; items = [] } }
     {
@@ -56,10 +57,12 @@ impl Heap {
         }
     }
 
-    /// Notes a use of an item, and answers its index.
+    /// Interns an item, and answers its index.
     pub fn use_item(&mut self, item: &[u8]) -> Result<u64, Memory>
-        ensures items { OnOk result (self.new ≡ record self.old { items = with_use self.old.items item.now }) }
-        ensures index { IfOk result (λ index. index ≡ told (index_of (spelled self.old.kind) (with_use self.old.items item.now) item.now)) }
+        ensures items { OnOk result
+            (self.new ≡ record self.old { items = with_use self.old.items item.now }) }
+        ensures index { IfOk result (λ index. index ≡ reported
+            (index_of (spelled self.old.kind) (with_use self.old.items item.now) item.now)) }
         ensures err { OnErr result (self.new ≡ self.old) }
     {
         match &mut self.kept {

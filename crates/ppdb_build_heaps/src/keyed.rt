@@ -8,30 +8,31 @@ use std::alloc::{AllocError, Global};
 use std::hash::RandomState;
 use std::marker::Model;
 
-/// The items of a heap, each of which is kept once, with a mark that no other one has. Who makes a file does not know which of its items
-/// meet in the table, since the marks are made under the key. Contracts see the kind and the items.
+/// The items of a heap, each of which is kept once, with a hash that no other one has. Who makes a
+/// file does not know which of its items meet in the table, since the hashes are made under the
+/// key. Contracts see the kind and the items.
 #[derive(Drop)]
 pub(crate) struct Keyed {
     key: RandomState,
     items: Spelled,
-    /// The mark of each item, in their order.
-    marks: IndexSet<u32>,
+    /// The hash of each item, in their order.
+    hashes: IndexSet<u32>,
 }
 
 impl Model for Keyed {
     ghost use Rattle.ppdb_build_heaps.specs.Interned.{Contents};
-    ghost use Rattle.ppdb_build_heaps.specs.Places.{sought, AreMarked};
+    ghost use Rattle.ppdb_build_heaps.specs.Places.{sought, AreHashed};
 
     ghost Value = { Contents };
 
     ghost view = { λ h. h.items };
 
-    ghost invariant = { λ h. AreMarked (sought h.key) h.marks.keys h.items.items };
+    ghost invariant = { λ h. AreHashed (sought h.key) h.hashes.keys h.items.items };
 }
 
 impl Keyed {
     ghost use Rattle.std.specs.Prelude.{◌≡◌, [], OnOk, OnErr, IfOk};
-    ghost use Rattle.ppdb_base.specs.Told.{told};
+    ghost use Rattle.ppdb_base.specs.Reported.{reported};
     ghost use Rattle.ppdb_build_heaps.specs.Kinds.{spelled};
     ghost use Rattle.ppdb_build_heaps.specs.Items.{with_use, index_of};
 
@@ -42,25 +43,27 @@ impl Keyed {
         Keyed {
             key,
             items: Spelled::new(alloc, kind),
-            marks: IndexSet::new(alloc),
+            hashes: IndexSet::new(alloc),
         }
     }
 
-    /// Notes a use of an item, and answers its index.
+    /// Interns an item, and answers its index.
     pub(crate) fn use_item(&mut self, item: &[u8]) -> Result<u64, Memory>
-        ensures items { OnOk result (self.new ≡ record self.old { items = with_use self.old.items item.now }) }
-        ensures index { IfOk result (λ index. index ≡ told (index_of (spelled self.old.kind) (with_use self.old.items item.now) item.now)) }
+        ensures items { OnOk result
+            (self.new ≡ record self.old { items = with_use self.old.items item.now }) }
+        ensures index { IfOk result (λ index. index ≡ reported
+            (index_of (spelled self.old.kind) (with_use self.old.items item.now) item.now)) }
         ensures err { OnErr result (self.new ≡ self.old) }
     {
-        let mark = match place_of(self.key, &self.marks, &self.items, item) {
+        let hash = match place_of(self.key, &self.hashes, &self.items, item) {
             Place::There(number) => return Ok(self.items.index(number)),
-            Place::Free(mark) => mark,
+            Place::Free(hash) => hash,
             Place::Full => return Err(Memory),
         };
         let index = self.items.len();
-        self.marks.reserve(1)?;
+        self.hashes.reserve(1)?;
         self.items.push(item)?;
-        let _new = self.marks.insert(mark).unwrap();
+        let _new = self.hashes.insert(hash).unwrap();
         Ok(index)
     }
 

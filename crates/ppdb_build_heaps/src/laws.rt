@@ -1,5 +1,6 @@
 // Heaps that are written.
-ghost use Rattle.ppdb_build_heaps.specs.Laws.{WrittenItemsAreRead, ItemsStay, ItemsHaveForms, AllUsesAreThere};
+ghost use Rattle.ppdb_build_heaps.specs.Laws.{WrittenItemsAreRead, ItemsStay, ItemsHaveForms};
+ghost use Rattle.ppdb_build_heaps.specs.Laws.{AllUsesAreThere};
 ghost use Rattle.ppdb_build_heaps.specs.Uses.{HeapsAreFirstUses};
 
 /// At an item's index the heap that is written has the item.

@@ -2,10 +2,10 @@
 #![tactic(auto)]
 
 mod guids;
+mod hash;
 mod heap;
 mod keyed;
 mod laws;
-mod mark;
 mod number;
 mod ordered;
 mod place;

@@ -1,6 +1,6 @@
 // The items of a heap, which are found in ordered maps, without a key.
+use crate::hash::hash_of;
 use crate::heap::HeapKind;
-use crate::mark::mark_of;
 use crate::spelled::Spelled;
 use ppdb_base::Memory;
 use std::alloc::{AllocFailed, Global};
@@ -8,36 +8,37 @@ use std::collections::BTreeMap;
 use std::collections::btree_map::Entry;
 use std::marker::Model;
 
-/// The items of a heap, each of which is kept once. Whatever their marks are, a search compares as many as the logarithm of their number.
-/// Contracts see the kind and the items.
+/// The items of a heap, each of which is kept once. Whatever their hashes are, a search compares as
+/// many as the logarithm of their number. Contracts see the kind and the items.
 #[derive(Drop)]
 pub(crate) struct Ordered {
     alloc: Global,
     items: Spelled,
-    /// The number of the first item with each mark, from 0.
+    /// The number of the first item with each hash, from 0.
     firsts: BTreeMap<u64, u64>,
-    /// The index of each item whose mark an earlier item has.
+    /// The index of each item whose hash an earlier item has.
     others: BTreeMap<Vec<u8>, u64>,
 }
 
 impl Model for Ordered {
     ghost use Rattle.ppdb_build_heaps.specs.Interned.{Contents};
-    ghost use Rattle.ppdb_build_heaps.specs.Marks.{AreFirsts, AreOthers};
+    ghost use Rattle.ppdb_build_heaps.specs.Hashes.{AreFirsts, AreOthers};
 
     ghost Value = { Contents };
 
     ghost view = { λ h. h.items };
 
-    ghost invariant = { λ h. AreFirsts h.items.items h.firsts × AreOthers h.items.kind h.items.items h.others };
+    ghost invariant = { λ h. AreFirsts h.items.items h.firsts
+        × AreOthers h.items.kind h.items.items h.others };
 }
 
 impl Ordered {
     ghost use Rattle.std.specs.Prelude.{◌≡◌, [], bytes_eq, false, OnOk, OnErr, IfOk, IsSome};
     ghost use Rattle.std.specs.List.{list_any};
-    ghost use Rattle.ppdb_base.specs.Told.{told};
+    ghost use Rattle.ppdb_base.specs.Reported.{reported};
     ghost use Rattle.ppdb_build_heaps.specs.Kinds.{spelled};
     ghost use Rattle.ppdb_build_heaps.specs.Items.{with_use, index_of};
-    ghost use Rattle.ppdb_build_heaps.specs.Marks.{mark, first_with, is_first};
+    ghost use Rattle.ppdb_build_heaps.specs.Hashes.{hash, first_with, is_first};
 
     /// No items.
     pub(crate) fn new(alloc: Global, kind: HeapKind) -> Ordered
@@ -51,14 +52,16 @@ impl Ordered {
         }
     }
 
-    /// Adds an item that is not there, whose mark another item has, and answers its index.
+    /// Adds an item that is not there, whose hash another item has, and answers its index.
     fn add_other(&mut self, key: Vec<u8>, item: &[u8]) -> Result<u64, Memory>
         requires key { key.items ≡ item.now }
         requires new { list_any (bytes_eq item.now) self.old.items ≡ false }
-        requires some { IsSome (first_with self.old.items (mark item.now)) }
+        requires some { IsSome (first_with self.old.items (hash item.now)) }
         requires other { is_first self.old.items item.now ≡ false }
-        ensures items { OnOk result (self.new ≡ record self.old { items = with_use self.old.items item.now }) }
-        ensures index { IfOk result (λ index. index ≡ told (index_of (spelled self.old.kind) (with_use self.old.items item.now) item.now)) }
+        ensures items { OnOk result
+            (self.new ≡ record self.old { items = with_use self.old.items item.now }) }
+        ensures index { IfOk result (λ index. index ≡ reported
+            (index_of (spelled self.old.kind) (with_use self.old.items item.now) item.now)) }
         ensures err { OnErr result (self.new ≡ self.old) }
     {
         let index = self.items.len();
@@ -70,12 +73,14 @@ impl Ordered {
         Ok(index)
     }
 
-    /// Notes a use of an item that is not the first with its mark, and answers its index.
+    /// Interns an item that is not the first with its hash, and answers its index.
     fn use_other(&mut self, item: &[u8]) -> Result<u64, Memory>
-        requires some { IsSome (first_with self.old.items (mark item.now)) }
+        requires some { IsSome (first_with self.old.items (hash item.now)) }
         requires other { is_first self.old.items item.now ≡ false }
-        ensures items { OnOk result (self.new ≡ record self.old { items = with_use self.old.items item.now }) }
-        ensures index { IfOk result (λ index. index ≡ told (index_of (spelled self.old.kind) (with_use self.old.items item.now) item.now)) }
+        ensures items { OnOk result
+            (self.new ≡ record self.old { items = with_use self.old.items item.now }) }
+        ensures index { IfOk result (λ index. index ≡ reported
+            (index_of (spelled self.old.kind) (with_use self.old.items item.now) item.now)) }
         ensures err { OnErr result (self.new ≡ self.old) }
     {
         let key = Vec::from_slice(self.alloc, item)?;
@@ -85,13 +90,15 @@ impl Ordered {
         }
     }
 
-    /// Notes a use of an item, and answers its index.
+    /// Interns an item, and answers its index.
     pub(crate) fn use_item(&mut self, item: &[u8]) -> Result<u64, Memory>
-        ensures items { OnOk result (self.new ≡ record self.old { items = with_use self.old.items item.now }) }
-        ensures index { IfOk result (λ index. index ≡ told (index_of (spelled self.old.kind) (with_use self.old.items item.now) item.now)) }
+        ensures items { OnOk result
+            (self.new ≡ record self.old { items = with_use self.old.items item.now }) }
+        ensures index { IfOk result (λ index. index ≡ reported
+            (index_of (spelled self.old.kind) (with_use self.old.items item.now) item.now)) }
         ensures err { OnErr result (self.new ≡ self.old) }
     {
-        let first = match self.firsts.entry(mark_of(item))? {
+        let first = match self.firsts.entry(hash_of(item))? {
             Entry::Occupied(entry) => *entry.get(),
             Entry::Vacant(entry) => {
                 let index = self.items.len();

@@ -30,7 +30,8 @@ fn part_of<'a>(bytes: &'a [u8], starts: &Starts, number: u64) -> &'a [u8]
     requires there { number < length starts.now }
     requires rise { get_or starts.now number 0 ≤ get_or starts.now (number + 1) (length bytes.now) }
     requires within { get_or starts.now (number + 1) (length bytes.now) ≤ length bytes.now }
-    ensures { result.now ≡ take (get_or starts.now (number + 1) (length bytes.now) - get_or starts.now number 0) (drop (get_or starts.now number 0) bytes.now) }
+    ensures { result.now ≡ take (get_or starts.now (number + 1) (length bytes.now)
+        - get_or starts.now number 0) (drop (get_or starts.now number 0) bytes.now) }
 {
     // There are fewer numbers than 2 ^ 64.
     let _ = starts.len();
@@ -39,7 +40,8 @@ fn part_of<'a>(bytes: &'a [u8], starts: &Starts, number: u64) -> &'a [u8]
     &bytes[start..end]
 }
 
-/// The items of a heap as the heap spells them, one after another. Contracts see it as the heap's kind and items.
+/// The items of a heap as the heap spells them, one after another. Contracts see it as the heap's
+/// kind and items.
 #[derive(Drop)]
 pub struct Spelled {
     kind: HeapKind,
@@ -56,12 +58,14 @@ impl Model for Spelled {
 
     ghost view = { λ s. record { kind = s.kind; items = items_in s.kind s.bytes s.starts } };
 
-    ghost invariant = { λ s. AreSpelled s.kind s.bytes s.starts (items_in s.kind s.bytes s.starts) };
+    ghost invariant = { λ s.
+        AreSpelled s.kind s.bytes s.starts (items_in s.kind s.bytes s.starts) };
 }
 
 impl Spelled {
-    ghost use Rattle.std.specs.Prelude.{◌≡◌, ◌<◌, [], ◌∷◌, ◌++◌, length, take, flat_map, get_or, OnOk, OnErr};
-    ghost use Rattle.ppdb_base.specs.Told.{told};
+    ghost use Rattle.std.specs.Prelude.{◌≡◌, ◌<◌, [], ◌∷◌, ◌++◌, length, take, flat_map, get_or};
+    ghost use Rattle.std.specs.Prelude.{OnOk, OnErr};
+    ghost use Rattle.ppdb_base.specs.Reported.{reported};
     ghost use Rattle.ppdb_build_heaps.specs.Kinds.{spelled};
     ghost use Rattle.ppdb_build_heaps.specs.Interned.{length_of};
 
@@ -85,7 +89,7 @@ impl Spelled {
 
     /// How many bytes the items take.
     pub fn len(&self) -> u64
-        ensures { result ≡ told (length_of self.now.kind self.now.items) }
+        ensures { result ≡ reported (length_of self.now.kind self.now.items) }
     {
         self.bytes.len() as u64
     }
@@ -102,14 +106,15 @@ impl Spelled {
     /// The index of the item of a number, from 0.
     pub(crate) fn index(&self, number: u64) -> u64
         requires { number < length self.now.items }
-        ensures { result ≡ told (length_of self.now.kind (take number self.now.items)) }
+        ensures { result ≡ reported (length_of self.now.kind (take number self.now.items)) }
     {
         self.starts.get_or(number, 0)
     }
 
     /// Adds an item.
     pub(crate) fn push(&mut self, item: &[u8]) -> Result<(), Memory>
-        ensures ok { OnOk result (self.new ≡ record self.old { items = self.old.items ++ item.now ∷ [] }) }
+        ensures ok { OnOk result
+            (self.new ≡ record self.old { items = self.old.items ++ item.now ∷ [] }) }
         ensures err { OnErr result (self.new ≡ self.old) }
     {
         let start = self.bytes.len();

@@ -8,7 +8,7 @@ use Rattle.ppdb_tables.specs.Layouts.{import_columns, machine_columns, custom_co
 use Rattle.ppdb_build_layout.specs.{declared.rows.Rows.{Rows}, declared.rows.HeapLens.{HeapLens}, Bytes.{padding, padded, with_rows, bits_of, counts_of, pdb_stream}}
 use Rattle.ppdb_build_layout.specs.Bytes.{heap_bits, sizes_of, rows_bytes, all_rows, tables_stream, prefix_bytes, root_prefix, headers, stream_headers}
 use Rattle.ppdb_build_layout.specs.Bytes.{document_cells, method_cells, scope_cells, variable_cells, constant_cells, import_cells, machine_cells, custom_cells}
-use Rattle.ppdb_base.specs.Told.{told}
+use Rattle.ppdb_base.specs.Reported.{reported}
 
 pub length-padded : (bytes : List ℕ) → length (padded bytes) ≡ length bytes + padding (length bytes)
 length-padded bytes = length-append bytes (replicate (padding (length bytes)) 0) ∙ ap (λ n. length bytes + n) (length-replicate (padding (length bytes)) 0)
@@ -160,13 +160,13 @@ padded-put old bytes all new start len is from to put =
 
 -- ---- sums that are reported
 
-pub add-told : (x y a b r : ℕ) → x ≡ told a → y ≡ told b → r ≡ min (x + y) 18446744073709551615 → r ≡ told (a + b)
-add-told x y a b r ex ey er = omega (arith, ex, ey, er)
+pub add-reported : (x y a b r : ℕ) → x ≡ reported a → y ≡ reported b → r ≡ min (x + y) 18446744073709551615 → r ≡ reported (a + b)
+add-reported x y a b r ex ey er = omega (arith, ex, ey, er)
 
-pub pad-told : (len exact r : ℕ) → len ≡ told exact → r ≡ min (len + padding len) 18446744073709551615 → r ≡ told (exact + padding exact)
-pad-told len exact r e er = omega (arith, e, er)
+pub pad-reported : (len exact r : ℕ) → len ≡ reported exact → r ≡ min (len + padding len) 18446744073709551615 → r ≡ reported (exact + padding exact)
+pad-reported len exact r e er = omega (arith, e, er)
 
 -- the rows of a table
-pub rows-told : (rows len : ℕ) (layout widths : List ℕ) (r n : ℕ) → r ≡ told (rows * len) → rows ≡ n → len ≡ sum layout → layout ≡ widths
-    → r ≡ told (n * sum widths)
-rows-told rows len layout widths r n e er el ew = e ∙ ap (λ k. told (k * len)) er ∙ ap (λ k. told (n * k)) el ∙ ap (λ ws. told (n * sum ws)) ew
+pub rows-reported : (rows len : ℕ) (layout widths : List ℕ) (r n : ℕ) → r ≡ reported (rows * len) → rows ≡ n → len ≡ sum layout → layout ≡ widths
+    → r ≡ reported (n * sum widths)
+rows-reported rows len layout widths r n e er el ew = e ∙ ap (λ k. reported (k * len)) er ∙ ap (λ k. reported (n * k)) el ∙ ap (λ ws. reported (n * sum ws)) ew

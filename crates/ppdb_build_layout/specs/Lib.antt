@@ -1,4 +1,4 @@
-pub mod Told
+pub mod Reported
 pub mod Bytes
 pub mod Laid
 pub mod Worked

@@ -3,7 +3,9 @@ ghost use Rattle.std.specs.Prelude.{◌≡◌, ◌≤◌, ◌↔◌, ◌++◌, I
 ghost use Rattle.std.specs.Prelude.{List as Seq, ℕ};
 ghost use Rattle.row_layout.specs.Rows.{Fit, row_bytes};
 ghost use Rattle.ppdb_base.specs.Written.{BeginsWith};
-ghost use Rattle.ppdb_build_layout.specs.Bytes.{document_cells, method_cells, scope_cells, variable_cells, constant_cells, import_cells, machine_cells, custom_cells};
+ghost use Rattle.ppdb_build_layout.specs.Bytes.{document_cells, method_cells, scope_cells};
+ghost use Rattle.ppdb_build_layout.specs.Bytes.{variable_cells, constant_cells, import_cells};
+ghost use Rattle.ppdb_build_layout.specs.Bytes.{machine_cells, custom_cells};
 
 use ppdb_base::{Bytes, Memory};
 use ppdb_tables::{
@@ -112,7 +114,8 @@ pub fn put_rows<R: Cells<N>, const N: usize>(
 ) -> Result<(), Memory>
     requires few { N ≤ 64 }
     requires fit { All (λ row. Fit layout.now (R.cells_of row)) rows.now }
-    ensures ok { OnOk result (into.new ≡ into.old ++ flat_map (λ row. row_bytes layout.now (R.cells_of row)) rows.now) }
+    ensures ok { OnOk result (into.new ≡ into.old
+        ++ flat_map (λ row. row_bytes layout.now (R.cells_of row)) rows.now) }
     ensures err { OnErr result (BeginsWith into.old into.new) }
 {
     for row in rows {

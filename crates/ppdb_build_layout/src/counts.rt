@@ -44,7 +44,8 @@ pub fn put_counts(
     into: &mut Bytes,
 ) -> Result<(), Memory>
     requires { first + tables ≤ 64 }
-    ensures ok { OnOk result (into.new ≡ into.old ++ counts_of counts.now (with_rows counts.now (range_with_len first tables))) }
+    ensures ok { OnOk result (into.new ≡ into.old
+        ++ counts_of counts.now (with_rows counts.now (range_with_len first tables))) }
     ensures err { OnErr result (BeginsWith into.old into.new) }
 {
     for i in 0..tables {

@@ -11,7 +11,8 @@ use ppdb_tables::{TYPE_TABLES, method_token};
 
 /// How many bytes the stream has, with its padding.
 pub fn pdb_len(counts: &[u32; 64]) -> u64
-    ensures exact { (id : Seq ℕ) (entry : ℕ) → length id ≡ 20 → result ≡ length (pdb_stream id entry counts.now) }
+    ensures exact { (id : Seq ℕ) (entry : ℕ) → length id ≡ 20
+        → result ≡ length (pdb_stream id entry counts.now) }
     ensures small { result ≤ 216 }
 {
     let len = 32 + 4 * count(counts, 0, TYPE_TABLES as usize);

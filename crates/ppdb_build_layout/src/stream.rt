@@ -3,7 +3,7 @@ ghost use Rattle.std.specs.Prelude.{◌≡◌, ◌+◌, ◌*◌, ◌++◌, ◌�
 ghost use Rattle.ppdb_base.specs.Written.{BeginsWith};
 ghost use Rattle.ppdb_build_layout.specs.Bytes.{heap_bit, sizes_of, all_rows, tables_stream};
 ghost use Rattle.ppdb_build_layout.specs.Laid.{AllRowsFit};
-ghost use Rattle.ppdb_base.specs.Told.{told};
+ghost use Rattle.ppdb_base.specs.Reported.{reported};
 
 use crate::cells::{put_rows, rows_fit};
 use crate::counts::{bits, count, put_counts};
@@ -77,14 +77,14 @@ fn put_all_rows(sizes: &Sizes, rows: &Rows, into: &mut Bytes) -> Result<(), Memo
 
 /// How many bytes so many rows of a table have.
 fn rows_len(rows: usize, len: usize) -> u64
-    ensures { result ≡ told (rows * len) }
+    ensures { result ≡ reported (rows * len) }
 {
     (rows as u64).saturating_mul(len as u64)
 }
 
 /// How many bytes the rows of all tables have.
 fn all_rows_len(sizes: &Sizes, rows: &Rows) -> u64
-    ensures { result ≡ told (length (all_rows sizes.now rows.now)) }
+    ensures { result ≡ reported (length (all_rows sizes.now rows.now)) }
 {
     rows_len(rows.documents.len(), layouts::documents(sizes).len())
         .saturating_add(rows_len(rows.methods.len(), layouts::methods(sizes).len()))
@@ -98,7 +98,7 @@ fn all_rows_len(sizes: &Sizes, rows: &Rows) -> u64
 
 /// How many bytes the stream has, with its padding.
 pub fn tables_len(counts: &[u32; 64], rows: &Rows, heaps: HeapLens) -> u64
-    ensures { result ≡ told (length (tables_stream counts.now rows.now heaps)) }
+    ensures { result ≡ reported (length (tables_stream counts.now rows.now heaps)) }
 {
     let rows_len = all_rows_len(&sizes(counts, heaps), rows);
     let len = rows_len.saturating_add(24 + 4 * count(counts, FIRST, TABLES));

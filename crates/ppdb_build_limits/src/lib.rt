@@ -1,4 +1,5 @@
-//! The limits of the format that a value passes, as far as its lists and points report, and what the types of a value carry.
+//! The limits of the format that a value passes, as far as its lists and points report, and what
+//! the types of a value carry.
 #![tactic(auto)]
 
 mod lengths;

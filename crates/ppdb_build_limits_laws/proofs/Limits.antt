@@ -3,7 +3,7 @@ use Rattle.std.{proofs.Common.{ℕ, ◌<◌, List, length, refl, sym, ◌∙◌,
 use Rattle.metadata_root.specs.{declared.kind.StreamKind.TheVariants.{Pdb, Tables}, Streams.{bytes_of}}
 use Rattle.ppdb_tables.specs.{declared.rows.ScopeRow.{ScopeRow}, RawTables.{RawTables, count}, Tables.{sizes_in}, Head.{head_in}}
 use Rattle.ppdb_values.specs.{Constants.{constant_of}, RawFile.{RawFile}, Value.{owned_by, value_of, variable_of}}
-use Rattle.ppdb_values_sound_laws.proofs.{Counts.{constants_counted, variables_counted}, Listed.{all_at}}
+use Rattle.ppdb_values_sound.proofs.{Counts.{constants_counted, variables_counted}, Listed.{all_at}}
 use Rattle.ppdb_verify.specs.Files.{IsRawOf}
 use Rattle.ppdb_build_limits_laws.{specs.Unlimited.{FilesPassNoEarlyLimit}, specs.Limits.{FilesPassNoListLimit, ValidFilesMeetLateLimits}, proofs.Lists.{last_has}}
 use Rattle.ppdb_build_limits_laws.proofs.{Narrow.{narrow_column, two_bytes}, PastEnd.{not_past_end}}

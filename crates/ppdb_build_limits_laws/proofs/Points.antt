@@ -5,7 +5,7 @@ use Rattle.sequence_points.proofs.ReadPoints.{read_points}
 use Rattle.ppdb_tables.specs.declared.rows.MethodDebugRow.{MethodDebugRow}
 use Rattle.ppdb_values.specs.{declared.file.MethodValue.{MethodValue}, Documents.{method_of, method_with, entries_of, points_in, signature_in}, Ordered.{EachRow}}
 use Rattle.ppdb_values.specs.{RawFile.{RawFile, blob, point_limits}, Rules.{KeepsRules, IsMethod, IsWhole}, Value.{value_of}}
-use Rattle.ppdb_values_sound_laws.proofs.Listed.{made}
+use Rattle.ppdb_values_sound.proofs.Listed.{made}
 use Rattle.ppdb_build_limits_laws.proofs.Steps.{no_large_steps}
 
 -- The points can be written as they are.

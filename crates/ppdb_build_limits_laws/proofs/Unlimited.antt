@@ -8,7 +8,7 @@ use Rattle.sequence_points.specs.{declared.point.Point.{Point}, Written.{first_o
 use Rattle.ppdb_values.specs.declared.{file.FileValue.{FileValue}, file.MethodValue.{MethodValue}, scope.ScopeValue.{ScopeValue}}
 use Rattle.ppdb_values.specs.{Customs.{custom_of}, Parts.{method_at}, RawFile.{RawFile}, Rules.{KeepsRules}, Value.{value_of}}
 use Rattle.ppdb_values.proofs.Typed.{each_all}
-use Rattle.ppdb_values_sound_laws.proofs.Counts.{rows_sound, documents_counted, scopes_counted, variables_counted, constants_counted, imports_counted}
+use Rattle.ppdb_values_sound.proofs.Counts.{rows_sound, documents_counted, scopes_counted, variables_counted, constants_counted, imports_counted}
 use Rattle.ppdb_build_canon.specs.{Canonical.{counts, method_rows, method_row_of}, Limits.{above, too_many_rows, large_offset, large_step_of, tables}}
 use Rattle.ppdb_build_canon.proofs.Counts as known
 use Rattle.ppdb_build_limits_laws.{specs.Unlimited.{PassesNoEarlyLimit, FilesPassNoEarlyLimit}, proofs.Points.{AreWritten, methods_written}}

@@ -1,5 +1,5 @@
-//! Laws: a file that is read passes no limit on rows and points, no list of it begins past two bytes, and of a valid file's limits only those
-//! on its bytes are left.
+//! Laws: a file that is read passes no limit on rows and points, no list of it begins past two
+//! bytes, and of a valid file's limits only those on its bytes are left.
 #![tactic(auto)]
 
 mod laws;

@@ -6,9 +6,9 @@ use Rattle.ppdb_values.specs.declared.{custom.CustomValue.{CustomValue}, import.
 use Rattle.ppdb_values.specs.declared.{scope.ScopeValue.{ScopeValue}, file.DocumentValue.{DocumentValue}, file.MethodValue.{MethodValue}, annotation.Custom.{Custom}}
 use Rattle.ppdb_values.specs.{declared.annotation.Annotation.{Annotation}, WorkedSmall.{zeros}}
 use Rattle.ppdb_tables.specs.Parents.{coded_of}
-use Rattle.ppdb_merge_items.specs.{declared.file.AnnotatedScope.{AnnotatedScope}, declared.file.AnnotatedFile.{AnnotatedFile}, Each.{Each, Pairs}}
-use Rattle.ppdb_merge_items.specs.{Annotated.{customs_of, annotated_file, placed, scope_of}, Sorted.{in_order}, Unannotated.{value_of_annotated}, Worked.{bare}}
-use Rattle.ppdb_merge_items.proofs.{Files.{file_back}, Lists.{Each-filter, Each-map, Pairs-map, each_of}, Mapped.{map_map_both}, Orders.{in_order_is, rises_of}}
+use Rattle.ppdb_merge_annotated.specs.{declared.file.AnnotatedScope.{AnnotatedScope}, declared.file.AnnotatedFile.{AnnotatedFile}, Each.{Each, Pairs}}
+use Rattle.ppdb_merge_annotated.specs.{Annotated.{customs_of, annotated_file, placed, scope_of}, Sorted.{in_order}, Unannotated.{value_of_annotated}, Worked.{bare}}
+use Rattle.ppdb_merge_annotated.proofs.{Files.{file_back}, Lists.{Each-filter, Each-map, Pairs-map, each_of}, Mapped.{map_map_both}, Orders.{in_order_is, rises_of}}
 use Rattle.ppdb_merge_joined.proofs.Each.{Each-flat}
 use Rattle.ppdb_build_sample.specs.Sample.{counted, document_of, sample_document, sample_method, sample_scope, sample_constant, sample_custom, sample_of}
 use Rattle.ppdb_merge_moved.proofs.Lists.{Pairs-filter}
@@ -169,4 +169,5 @@ module _ (n : ℕ) where
           (rises_of (λ (c : CustomValue). coded_of c.parent) (sample_annotated n).customs customs_rise))
 
   pub annotated_is : annotated_file (sample_of n) ≡ sample_annotated n
-  annotated_is = ap annotated_file (sym value_is) ∙ file_back (sample_annotated n) (each_custom n (λ c. c.parent.table < 0x2d) (λ i within. omega arith)) customs_rise
+  annotated_is =
+      ap annotated_file (sym value_is) ∙ file_back (sample_annotated n) (each_custom n (λ c. c.parent.table < 0x2d) (λ i within. omega arith)) customs_rise

@@ -9,14 +9,14 @@ use Rattle.ppdb_maps.specs.{declared.entries.RowLine.{RowLine}, Map.{Map, Method
 use Rattle.ppdb_maps.{specs.Sample.{sample_runs, sample_map_of, sample_method as sample_line}, proofs.SampleMap.{sample_readable}, proofs.Parts.{line_offsets}}
 use Rattle.ppdb_maps.proofs.Parts.{sample_row}
 use Rattle.ppdb_values.specs.{declared.custom.CustomValue.{CustomValue}, declared.file.MethodValue.{MethodValue}, WorkedSmall.{empty_value}}
-use Rattle.ppdb_merge_items.specs.{declared.file.AnnotatedScope.{AnnotatedScope}, declared.file.AnnotatedFile.{AnnotatedFile}, Each.{Each, Pairs}}
-use Rattle.ppdb_merge_items.specs.{Laws.{SoundnessIsAnnotated}, NamedRows.{Named, names, names_some, named_rows, in_constant, in_steps, live_scope, live_custom}}
-use Rattle.ppdb_merge_items.{specs.Annotated.{annotated_file}, proofs.Lists.{Each-append, Each-filter, Each-map, Each-weaker}, proofs.Parts.{live_method}}
-use Rattle.ppdb_merge_items.proofs.Parts.{with_live_signature, with_live_constants}
+use Rattle.ppdb_merge_annotated.specs.{declared.file.AnnotatedScope.{AnnotatedScope}, declared.file.AnnotatedFile.{AnnotatedFile}, Each.{Each, Pairs}}
+use Rattle.ppdb_merge_annotated.specs.{Laws.{SoundnessIsAnnotated}, NamedRows.{Named, names, names_some, named_rows, in_constant, in_steps, live_scope, live_custom}}
+use Rattle.ppdb_merge_annotated.{specs.Annotated.{annotated_file}, proofs.Lists.{Each-append, Each-filter, Each-map, Each-weaker}, proofs.Parts.{live_method}}
+use Rattle.ppdb_merge_annotated.proofs.Parts.{with_live_signature, with_live_constants}
 use Rattle.ppdb_merge_moved.{proofs.ImageRows.{within_is}, specs.Fits.{Fits, IsImaged, AreWithin, KeepsAsync, HasSlot, AreApart, NamesDiffer}}
 use Rattle.ppdb_merge_moved.proofs.Elements.{in_each}
 use Rattle.ppdb_merge_joined.proofs.Each.{Each-flat}
-use Rattle.ppdb_values_sound_laws.specs.Sound.{IsSound}
+use Rattle.ppdb_values_sound.specs.Sound.{IsSound}
 use Rattle.ppdb_merge_meaning_laws.specs.Kept.{InputsFit}
 use Rattle.ppdb_build_sample.{specs.Laws.{SamplesFit, sample_input}, specs.Sample.{sample, sample_of}, proofs.Annotated.{IsIn, sample_rows, sample_annotated}}
 use Rattle.ppdb_build_sample.proofs.{Annotated.{each_method, each_scope, each_custom, annotated_is}, Sound.{sample_is_sound}}

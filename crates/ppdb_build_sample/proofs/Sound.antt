@@ -8,11 +8,11 @@ use Rattle.ppdb_values.specs.declared.{custom.CustomValue.{CustomValue}, file.Do
 use Rattle.ppdb_values.specs.declared.{file.MethodValue.{MethodValue}, import.ImportScopeValue.{ImportScopeValue}, annotation.Annotation.{Annotation}}
 use Rattle.ppdb_values.specs.{declared.scope.ConstantValue.{ConstantValue}, declared.scope.VariableValue.{VariableValue}, Chains.{NeverEnds, parent_at}}
 use Rattle.ppdb_values.specs.{Ranges.{ComesAfter, IsInOrAfter}, WorkedSmall.{zeros}}
-use Rattle.ppdb_values_sound_laws.specs.{Customs.{SoundCustom}, Imports.{SoundImport}, Methods.{SoundMethod, SoundPoint}, Named.{count}, Scopes.{HoldsNoZero}}
-use Rattle.ppdb_values_sound_laws.{specs.Scopes.{SoundConstant, SoundVariable}, specs.Sound.{IsSound, SoundRows}, proofs.Counts.{rows_sound}}
-use Rattle.ppdb_merge_items.specs.{declared.file.AnnotatedScope.{AnnotatedScope}, Each.{Each, Pairs}, Laws.{SoundnessIsAnnotated}, Annotated.{scope_of}}
-use Rattle.ppdb_merge_items.{specs.SoundParts.{SoundIn, SoundNote, SoundAnnotatedScope, SoundParts}, specs.Worked.{bare}, proofs.Lists.{Each-append, Each-map}}
-use Rattle.ppdb_merge_items.proofs.Lists.{Pairs-map, each_of, row_each, row_pairs}
+use Rattle.ppdb_values_sound.specs.{Customs.{SoundCustom}, Imports.{SoundImport}, Methods.{SoundMethod, SoundPoint}, Named.{count}, Scopes.{HoldsNoZero}}
+use Rattle.ppdb_values_sound.{specs.Scopes.{SoundConstant, SoundVariable}, specs.Sound.{IsSound, SoundRows}, proofs.Counts.{rows_sound}}
+use Rattle.ppdb_merge_annotated.specs.{declared.file.AnnotatedScope.{AnnotatedScope}, Each.{Each, Pairs}, Laws.{SoundnessIsAnnotated}, Annotated.{scope_of}}
+use Rattle.ppdb_merge_annotated.{specs.SoundParts.{SoundIn, SoundNote, SoundAnnotatedScope, SoundParts}, specs.Worked.{bare}, proofs.Lists.{Each-append, Each-map}}
+use Rattle.ppdb_merge_annotated.proofs.Lists.{Pairs-map, each_of, row_each, row_pairs}
 use Rattle.ppdb_merge_joined.proofs.Each.{Pairs-flat, all_each, all_pairs}
 use Rattle.ppdb_build_sample.specs.Sample.{counted, document_of, sample_document, sample_method, sample_constant, sample_custom, sample_of}
 use Rattle.ppdb_build_sample.proofs.Annotated.{IsIn, pairs_counted, outer_annotated, inner_annotated, both_annotated, document_annotated, sample_annotated}

@@ -2,7 +2,9 @@
 use Rattle.std.specs.Prelude.{◌≡◌, ℕ, List, [], ◌∷◌, ◌++◌, None, codes, map}
 use Rattle.custom_info.specs.{declared.slots.Slot.TheVariants.Held, Kinds.hoisted_scopes}
 use Rattle.sequence_points.specs.declared.point.Span.TheVariants.{Hidden, Lines}
-use Rattle.ppdb_values.specs.{declared.custom.{CustomBody.TheVariants.Hoisted, CustomValue.CustomValue}, declared.file.FileValue.FileValue, declared.import.ImportValue.TheVariants.Namespace}
+use Rattle.ppdb_values.specs.declared.custom.CustomBody.TheVariants.{Hoisted}
+use Rattle.ppdb_values.specs.declared.{custom.CustomValue.CustomValue, file.FileValue.FileValue}
+use Rattle.ppdb_values.specs.declared.import.ImportValue.TheVariants.{Namespace}
 use Rattle.ppdb_values.specs.{declared.scope.ConstantBody.TheVariants.Primitive, WorkedSmall.zeros}
 use Rattle.ppdb_build_sample.specs.Sample.{sample}
 
@@ -19,8 +21,10 @@ sample_of_one = record {
   methods = record {
     method = 1;
     signature = 1;
-    points = record { offset = 0; document = 1; span = Lines 4 1 4 9 } ∷ record { offset = 4; document = 1; span = Hidden }
-        ∷ record { offset = 8; document = 1; span = Lines 5 5 6 3 } ∷ record { offset = 12; document = 1; span = Lines 6 1 6 2 } ∷ [];
+    points = record { offset = 0; document = 1; span = Lines 4 1 4 9 }
+        ∷ record { offset = 4; document = 1; span = Hidden }
+        ∷ record { offset = 8; document = 1; span = Lines 5 5 6 3 }
+        ∷ record { offset = 12; document = 1; span = Lines 6 1 6 2 } ∷ [];
   } ∷ [];
   scopes = record {
     method = 1;
@@ -33,7 +37,9 @@ sample_of_one = record {
     import = 1;
     range = record { start = 4; end = 12 };
     variables = record { attributes = 0; slot = 1; name = codes "b" } ∷ [];
-    constants = record { name = codes "k"; modifiers = []; body = Primitive 0x08 (1 ∷ 0 ∷ 0 ∷ 0 ∷ []) } ∷ [];
+    constants =
+        record { name = codes "k"; modifiers = []; body = Primitive 0x08 (1 ∷ 0 ∷ 0 ∷ 0 ∷ []) }
+        ∷ [];
   } ∷ [];
   imports = record { parent = 0; imports = Namespace (codes "System") ∷ [] } ∷ [];
   machines = [];

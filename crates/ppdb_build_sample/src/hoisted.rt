@@ -29,7 +29,8 @@ fn hoisted(alloc: Global, method: u32) -> Result<CustomValue, Memory>
 /// The records of each fourth of the methods 1 to `n`.
 pub fn customs(alloc: Global, n: u32) -> Result<List<CustomValue>, Memory>
     requires { n ≤ 100000 }
-    ensures { IfOk result (λ customs. customs ≡ map sample_custom (filter (λ i. nat_eq (i % 4) 0) (counted n))) }
+    ensures { IfOk result
+        (λ customs. customs ≡ map sample_custom (filter (λ i. nat_eq (i % 4) 0) (counted n))) }
 {
     let mut customs = List::new(alloc);
     for before in 0..n {

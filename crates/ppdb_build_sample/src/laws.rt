@@ -2,8 +2,8 @@
 ghost use Rattle.ppdb_build_sample.specs.Laws.{SamplesFit};
 ghost use Rattle.ppdb_build_sample.specs.Worked.{WorkedSamples};
 
-use ppdb_merge_items::soundness_is_annotated;
-use ppdb_values_sound_laws::worked_values_are_sound;
+use ppdb_merge_annotated::soundness_is_annotated;
+use ppdb_values_sound::worked_values_are_sound;
 
 /// A sample of at most 100000 methods is sound, and its map fits it.
 pub fn samples_fit()

@@ -37,7 +37,8 @@ pub fn documents(alloc: Global, count: u32) -> Result<List<DocumentValue>, Memor
 
 /// One import scope: the namespace System.
 pub fn imports(alloc: Global) -> Result<List<ImportScopeValue>, Memory>
-    ensures { IfOk result (λ imports. imports ≡ record { parent = 0; imports = Namespace (codes "System") ∷ [] } ∷ []) }
+    ensures { IfOk result (λ imports. imports
+        ≡ record { parent = 0; imports = Namespace (codes "System") ∷ [] } ∷ []) }
 {
     let mut imported = List::new(alloc);
     imported.push(ImportValue::Namespace {

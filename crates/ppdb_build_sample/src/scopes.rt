@@ -1,6 +1,7 @@
 // The scopes of the sample file.
 ghost use Rattle.std.specs.Prelude.{◌≡◌, ◌≤◌, [], ◌∷◌, IfOk, codes, flat_map};
-ghost use Rattle.ppdb_build_sample.specs.Sample.{counted, sample_scope, sample_constant, sample_scopes};
+ghost use Rattle.ppdb_build_sample.specs.Sample.{counted, sample_scope, sample_constant};
+ghost use Rattle.ppdb_build_sample.specs.Sample.{sample_scopes};
 
 use crate::hoisted::INNER;
 use custom_info::Range;
@@ -10,7 +11,8 @@ use std::alloc::Global;
 
 /// A list of one variable.
 fn variables(alloc: Global, name: &[u8], slot: u16) -> Result<List<VariableValue>, Memory>
-    ensures { IfOk result (λ variables. variables ≡ record { attributes = 0; slot = slot; name = name.now } ∷ []) }
+    ensures { IfOk result
+        (λ variables. variables ≡ record { attributes = 0; slot = slot; name = name.now } ∷ []) }
 {
     let mut variables = List::new(alloc);
     variables.push(VariableValue {
@@ -39,7 +41,8 @@ fn constants(alloc: Global, method: u32) -> Result<List<ConstantValue>, Memory>
 
 /// The scope of the whole method.
 fn outer(alloc: Global, method: u32) -> Result<ScopeValue, Memory>
-    ensures { IfOk result (λ scope. scope ≡ sample_scope method (record { start = 0; end = 16 }) 0 (codes "a") []) }
+    ensures { IfOk result
+        (λ scope. scope ≡ sample_scope method (record { start = 0; end = 16 }) 0 (codes "a") []) }
 {
     Ok(ScopeValue {
         method,
@@ -52,7 +55,8 @@ fn outer(alloc: Global, method: u32) -> Result<ScopeValue, Memory>
 
 /// The scope inside that of the whole method.
 fn inner(alloc: Global, method: u32) -> Result<ScopeValue, Memory>
-    ensures { IfOk result (λ scope. scope ≡ sample_scope method (record { start = 4; end = 12 }) 1 (codes "b") (sample_constant method ∷ [])) }
+    ensures { IfOk result (λ scope. scope ≡ sample_scope method (record { start = 4; end = 12 }) 1
+        (codes "b") (sample_constant method ∷ [])) }
 {
     Ok(ScopeValue {
         method,

@@ -11,7 +11,8 @@ use ppdb_tables::{ASSEMBLY_REF, METHOD_DEF, STAND_ALONE_SIG, TYPE_REF};
 use ppdb_values::FileValue;
 use std::alloc::Global;
 
-/// The rows of the type system that a sample of `n` methods counts: TypeRef 1, MethodDef `n`, StandAloneSig 1, AssemblyRef 1.
+/// The rows of the type system that a sample of `n` methods counts: TypeRef 1, MethodDef `n`,
+/// StandAloneSig 1, AssemblyRef 1.
 fn rows(n: u32) -> [u32; 64]
     ensures { result ≡ (sample_of n).rows }
 {

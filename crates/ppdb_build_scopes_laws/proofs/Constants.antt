@@ -11,7 +11,7 @@ use Rattle.ppdb_values.specs.declared.{file.FileValue.{FileValue}, scope.ScopeVa
 use Rattle.ppdb_values.specs.declared.scope.{ConstantBody.TheVariants.{Primitive, Enumerated, General, Object}, ConstantValue.{ConstantValue}}
 use Rattle.ppdb_values.specs.{Constants.{constant_of, body_value}, Ordered.{EachRow}, RawFile.{text, blob, records_of, begun_of, type_limits as raw_limits}}
 use Rattle.ppdb_values.{specs.Rules.{KeepsConstants, IsConstant}, specs.Value.{owned_by}, proofs.Readings.{modifiers_are, body_is}}
-use Rattle.ppdb_values_sound_laws.{specs.Scopes.{SoundConstant, SoundScopes, stored_body}, proofs.Listed.{row_of_map}}
+use Rattle.ppdb_values_sound.{specs.Scopes.{SoundConstant, SoundScopes, stored_body}, proofs.Listed.{row_of_map}}
 use Rattle.ppdb_build_canon.specs.{Canonical.{canonical_tables, scope_row, constant_row, text_cell, blob_cell}, Uses.{constants_of, constant_blob}}
 use Rattle.ppdb_build_canon.proofs.Counts.{type_limits_are}
 use Rattle.ppdb_build_scopes_laws.proofs.{Heaps.{HasItems}, Items.{among_pieces, each_item, read_is, read_there, differ_as}, Lists.{IsShared, made_lists, owned_are}}

@@ -3,7 +3,7 @@ use Rattle.std.{proofs.Common.{◌≡◌, ℕ, ◌<◌, length, sym, slice_get},
 use Rattle.row_layout.specs.Columns.{parent_tables}
 use Rattle.ppdb_tables.specs.RawTables.{count}
 use Rattle.ppdb_values.specs.declared.file.FileValue.{FileValue}
-use Rattle.ppdb_values_sound_laws.specs.Named.{count as value_count}
+use Rattle.ppdb_values_sound.specs.Named.{count as value_count}
 use Rattle.ppdb_build_canon.{specs.Canonical.{canonical_tables}, proofs.Counts.{type_system_named, counted_documents, counted_imports, parents_named}}
 
 module _ (value : FileValue) (entries : length value.rows ≡ 64) where

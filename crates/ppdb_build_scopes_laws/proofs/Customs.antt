@@ -16,7 +16,7 @@ use Rattle.row_layout.specs.Columns.{parent_tables}
 use Rattle.ppdb_heaps.specs.Heaps.{blob_at, guid_at}
 use Rattle.ppdb_tables.specs.{declared.parent.Parent.{Parent}, declared.rows.CustomRow.{CustomRow}, Parents.{parent_in, coded_in, CodesAreParents, coded_of}}
 use Rattle.ppdb_tables.specs.RawTables.{RawTables, count, row_at}
-use Rattle.ppdb_values_sound_laws.{specs.Customs.{IsBodyOfKind, SoundCustom, SoundCustoms}, specs.Named.{HasRow as HasValueRow}, proofs.Listed.{row_of_map}}
+use Rattle.ppdb_values_sound.{specs.Customs.{IsBodyOfKind, SoundCustom, SoundCustoms}, specs.Named.{HasRow as HasValueRow}, proofs.Listed.{row_of_map}}
 use Rattle.ppdb_build_canon.specs.{Canonical.{canonical_tables, custom_row, guid_cell}, Uses.{body_spelling}}
 use Rattle.ppdb_build_scopes_laws.proofs.{Counts.{documents_counted, type_system_counted, parents_counted}, Heaps.{HasItems}, Items.{among, read_is, read_there}}
 use Rattle.ppdb_build_scopes_laws.proofs.Pieces.{made_again}

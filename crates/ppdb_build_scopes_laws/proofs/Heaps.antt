@@ -4,7 +4,7 @@ use Rattle.std.proofs.lemmas.List.Elements.{All-nil, All-cons, All-head, All-tai
 use Rattle.ppdb_heaps.specs.Heaps.{text_at, blob_at, guid_at}
 use Rattle.ppdb_values.specs.declared.{custom.CustomValue.{CustomValue}, file.DocumentValue.{DocumentValue}, file.FileValue.{FileValue}}
 use Rattle.ppdb_values.specs.{declared.scope.ConstantValue.{ConstantValue}, declared.scope.VariableValue.{VariableValue}, Types.{HasGuids, HasTypes, IsGuid}}
-use Rattle.ppdb_values_sound_laws.specs.{Scopes.{HoldsNoZero}, Sound.{SoundRows}}
+use Rattle.ppdb_values_sound.specs.{Scopes.{HoldsNoZero}, Sound.{SoundRows}}
 use Rattle.ppdb_build_heaps.specs.Uses.{blob_bytes}
 use Rattle.ppdb_build_canon.specs.{Canonical.{canonical_tables, text_cell, blob_cell, guid_cell}, Limits.{IsWithinLimits}, Uses.{variables_of, constants_of}}
 use Rattle.ppdb_build_canon.{specs.Uses.{constant_blob, custom_blob, blobs, guid_uses}, proofs.Shape.{blobs_small}, proofs.Stand.{text_stands, blob_stands}}

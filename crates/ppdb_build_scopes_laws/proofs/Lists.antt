@@ -5,7 +5,7 @@ use Rattle.std.proofs.lemmas.{List.{length-map, take-map, drop-map}, Option.{sli
 use Rattle.ppdb_tables.specs.{declared.rows.ScopeRow.{ScopeRow}, RawTables.{numbered, row_at}}
 use Rattle.ppdb_values.specs.{Ordered.{EachPair}, Owners.{list_end}, Rules.{KeepsLists, DifferInScope}, Value.{owner_of, owned_by}}
 use Rattle.ppdb_values.proofs.Lists.{owner_in_list, owned_is_list}
-use Rattle.ppdb_values_sound_laws.proofs.Listed.{row_of, row_of_map, key_at}
+use Rattle.ppdb_values_sound.proofs.Listed.{row_of, row_of_map, key_at}
 use Rattle.ppdb_build_scopes_laws.proofs.Pieces.{unnumbered, before, before_all, before_next, before_within, before_rises, piece_at, IsIn, item_in}
 
 -- The row of each scope has as its list one more than all items of the scopes before it.

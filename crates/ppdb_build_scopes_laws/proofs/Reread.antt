@@ -2,7 +2,7 @@
 use Rattle.std.{proofs.Common.{◌≡◌, ℕ, suc, ◌≤◌, length, refl, subst, arith}, specs.Prelude.{map}}
 use Rattle.ppdb_tables.specs.{Parents.{CodesAreParents}, RawTables.{numbered}}
 use Rattle.ppdb_values.specs.{declared.file.FileValue.{FileValue}, Types.{HasTypes}, Value.{scope_of}}
-use Rattle.ppdb_values_sound_laws.specs.Sound.{IsSound}
+use Rattle.ppdb_values_sound.specs.Sound.{IsSound}
 use Rattle.ppdb_build_canon.{specs.Canonical.{canonical_tables, scope_row}, specs.Limits.{ValuesWithoutLimits}, proofs.Counts.{counted_documents}}
 use Rattle.ppdb_build_scopes_laws.{specs.Reread.{ScopesAreReread, CanonicalScopesAreReread, CanonicalCustomsAreReread}, proofs.Constants.{constants_kept}}
 use Rattle.ppdb_build_scopes_laws.proofs.{Constants.{constants_read}, Customs.{customs_kept, customs_read}, Heaps.{HasItems, has_items}, Scopes.{scopes_kept}}

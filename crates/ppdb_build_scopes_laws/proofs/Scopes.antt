@@ -5,7 +5,7 @@ use Rattle.custom_info.specs.declared.slots.Range.{Range}
 use Rattle.ppdb_tables.specs.{declared.rows.ScopeRow.{ScopeRow}, RawTables.{RawTables, numbered}}
 use Rattle.ppdb_values.specs.{declared.file.FileValue.{FileValue}, declared.scope.ScopeValue.{ScopeValue}, Ordered.{EachPair, IsSorted}, Parts.{first_item}}
 use Rattle.ppdb_values.specs.{Ranges.{ComesAfter, IsInOrAfter}, Rules.{IsScope, KeepsScopes}, Value.{range_of}}
-use Rattle.ppdb_values_sound_laws.{specs.Scopes.{SoundScope, SoundScopes}, proofs.Listed.{row_of_numbered, keys_numbered}}
+use Rattle.ppdb_values_sound.{specs.Scopes.{SoundScope, SoundScopes}, proofs.Listed.{row_of_numbered, keys_numbered}}
 use Rattle.ppdb_build_canon.specs.Canonical.{canonical_tables, scope_row}
 use Rattle.ppdb_build_scopes_laws.proofs.{Counts.{type_system_counted, imports_counted}, Lists.{IsShared}, Pieces.{before}}
 

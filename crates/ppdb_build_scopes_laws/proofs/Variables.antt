@@ -4,7 +4,7 @@ use Rattle.ppdb_heaps.specs.Heaps.{text_at}
 use Rattle.ppdb_tables.specs.{declared.rows.ScopeRow.{ScopeRow}, declared.rows.VariableRow.{VariableRow}, RawTables.{RawTables, numbered}}
 use Rattle.ppdb_values.specs.declared.{file.FileValue.{FileValue}, scope.ScopeValue.{ScopeValue}, scope.VariableValue.{VariableValue}}
 use Rattle.ppdb_values.specs.{Ordered.{EachRow}, RawFile.{text}, Rules.{KeepsVariables, HasText}, Value.{variable_of, owned_by}}
-use Rattle.ppdb_values_sound_laws.{specs.Scopes.{SoundScopes}, proofs.Listed.{row_of_map}}
+use Rattle.ppdb_values_sound.{specs.Scopes.{SoundScopes}, proofs.Listed.{row_of_map}}
 use Rattle.ppdb_build_canon.specs.{Canonical.{canonical_tables, scope_row, variable_row, text_cell}, Uses.{variables_of}}
 use Rattle.ppdb_build_scopes_laws.proofs.{Heaps.{HasItems}, Items.{among_pieces, each_item, read_is, read_there, differ_as}, Lists.{IsShared, made_lists, owned_are}}
 use Rattle.ppdb_build_scopes_laws.proofs.{Lists.{items_differ}, Pieces.{made_again}, Scopes.{lists_shared}}

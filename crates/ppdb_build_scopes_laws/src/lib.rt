@@ -1,4 +1,5 @@
-//! The scopes, variables, constants and custom records of a canonical file keep the rules, and are read back as those of its value.
+//! The scopes, variables, constants and custom records of a canonical file keep the rules, and are
+//! read back as those of its value.
 #![tactic(auto)]
 
 mod laws;

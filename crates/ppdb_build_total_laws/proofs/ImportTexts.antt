@@ -16,7 +16,7 @@ use Rattle.ppdb_values.specs.declared.import.ImportValue.TheVariants.{Namespace,
 use Rattle.ppdb_values.specs.{declared.import.ImportValue.TheVariants.{AssemblyNamespaceAlias, TargetAlias}, WrittenImports.{alias_text, assembly_row}}
 use Rattle.ppdb_values.{specs.WrittenImports.{import_numbers, kind_of_import, namespace_text, stored_import, target_type}, proofs.StoredImports.{kind_from, kind_to}}
 use Rattle.ppdb_values.proofs.StoredImports.{numbers_stand}
-use Rattle.ppdb_values_sound_laws.specs.{Imports.{SoundImport}, Named.{type_limits}, Sound.{SoundRows}}
+use Rattle.ppdb_values_sound.specs.{Imports.{SoundImport}, Named.{type_limits}, Sound.{SoundRows}}
 use Rattle.ppdb_verify_total.specs.HeapUses.{HeapUse, blob_in, in_imports, len_of, named_inside, of_import}
 use Rattle.ppdb_build_heaps.{specs.Items.{as_blob, index_of, shortest}, specs.Uses.{Piece, held_by, with_held, blob_bytes, piece_bytes}, proofs.Stable.{after-adds}}
 use Rattle.ppdb_build_canon.specs.{Uses.{blobs, blob_uses, cell_blobs, import_blob, import_pieces}, Canonical.{blob_cell, canonical_tables, import_row}}
@@ -244,7 +244,8 @@ module _ (value : FileValue) (small : length (canonical_tables value).blobs ≤ 
         held_flat : (all : List ImportValue) → flat_map held_by (flat_map import_pieces all) ≡ flat_map (λ one. flat_map held_by (import_pieces one)) all
         held_flat [] = refl
         held_flat (one ∷ others) =
-            flat_map-append held_by (import_pieces one) (flat_map import_pieces others) ∙ ap (λ rest. flat_map held_by (import_pieces one) ++ rest) (held_flat others)
+            flat_map-append held_by (import_pieces one) (flat_map import_pieces others) ∙ ap (λ rest. flat_map held_by (import_pieces one) ++ rest)
+            (held_flat others)
 
     texts_there : (import : ImportValue) → ((text : List ℕ) → Contains (flat_map held_by (import_pieces import)) text → IsReadable text) → AreTextsThere import
     texts_there (Namespace namespace) there = record { alias = readable_nothing; namespace = there namespace (among_first namespace []) }

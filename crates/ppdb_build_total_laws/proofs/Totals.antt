@@ -5,7 +5,7 @@ use Rattle.ppdb_heaps.specs.Heaps.{blob_at, text_at}
 use Rattle.ppdb_tables.specs.RawTables.{numbered}
 use Rattle.ppdb_values.specs.declared.{file.FileValue.{FileValue}, file.MethodValue.{MethodValue}, scope.ConstantValue.{ConstantValue}}
 use Rattle.ppdb_values.specs.{declared.scope.ScopeValue.{ScopeValue}, declared.scope.VariableValue.{VariableValue}, Parts.{method_at}, Types.{HasTypes}}
-use Rattle.ppdb_values_sound_laws.specs.{Imports.{SoundImport, SoundImportScope}, Scopes.{HoldsNoZero, SoundConstant, SoundScope, SoundVariable}, Sound.{IsSound}}
+use Rattle.ppdb_values_sound.specs.{Imports.{SoundImport, SoundImportScope}, Scopes.{HoldsNoZero, SoundConstant, SoundScope, SoundVariable}, Sound.{IsSound}}
 use Rattle.ppdb_verify_total.specs.HeapUses.{HeapUse, blob_in, len_of, of_constant, of_custom, of_document, of_import, of_method, of_variable, heap_uses, text_in}
 use Rattle.ppdb_build_heaps.specs.Uses.{Piece, with_held}
 use Rattle.ppdb_build_canon.specs.Uses.{cell_blobs, constant_blob, constants_of, custom_blob, import_blob, method_blob, text_uses, variables_of}

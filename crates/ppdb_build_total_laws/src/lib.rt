@@ -1,4 +1,5 @@
-//! What the rows of a canonical file refer to: its texts and blobs have in total the length that is limited.
+//! What the rows of a canonical file refer to: its texts and blobs have in total the length that is
+//! limited.
 #![tactic(auto)]
 
 mod laws;

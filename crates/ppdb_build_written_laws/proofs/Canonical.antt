@@ -1,14 +1,14 @@
 -- The canonical file of a value, from what is known of its rows and of files that are laid out.
 use Rattle.std.{proofs.Common.{◌≡◌, length, ap, ◌∙◌}, specs.Prelude.{None}}
 use Rattle.ppdb_values.specs.{declared.file.FileValue.{FileValue}, RawFile.{RawFile}, Types.{HasTypes}, Value.{value_of}}
-use Rattle.ppdb_values_sound_laws.specs.Sound.{IsSound}
+use Rattle.ppdb_values_sound.specs.Sound.{IsSound}
 use Rattle.ppdb_build_layout.specs.Laid.{IsReadBack, LaidOutFilesAreRead}
 use Rattle.ppdb_build_canon.specs.{declared.choice.IdChoice.{IdChoice}, Canon.{canon, chosen_id, with_id}, Canonical.{canonical}, Laws.{CanonicalFilesForgetIds}}
 use Rattle.ppdb_build_canon.specs.{Laws.{IdsStandAfterTheRoot}, Limits.{ValuesWithoutLimits, first_limit}}
 use Rattle.ppdb_verify.specs.Files.{IsRawOf}
-use Rattle.ppdb_verify_kept_laws.specs.Kept.{KeptRulesAccept}
+use Rattle.ppdb_verify_faultless_laws.specs.Kept.{KeptRulesAccept}
 use Rattle.ppdb_build_total_laws.specs.HeapUses.{HeapUsesAreFew}
-use Rattle.ppdb_build_rows_laws.specs.Reread.{CanonicalRowsAreReread, IsReread}
+use Rattle.ppdb_build_canon_rows_laws.specs.Reread.{CanonicalRowsAreReread, IsReread}
 use Rattle.ppdb_build_written_laws.{specs.Written.{IsSameAgain, IsValidFile, WrittenFilesAreCanonical, WrittenFilesAreValid}, proofs.Identities.{limit_stays}}
 use Rattle.ppdb_build_written_laws.proofs.Valid.{accepted, is_raw, read_once}
 

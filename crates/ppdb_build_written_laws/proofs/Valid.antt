@@ -20,7 +20,8 @@ module _ (raw : RawFile) (read : IsReadBack raw) where
   -- however the file is read, it is read as this
   pub read_once : (again : RawFile) → IsRawOf (file_bytes raw) again → again ≡ raw
   read_once again is =
-      is.raw_is ∙ ap raw_in (same_streams (file_bytes raw) (λ code at invalid. read.container code at (inl invalid)) is.streams root is.are read.streams) ∙ read.raw_is
+      is.raw_is ∙ ap raw_in
+      (same_streams (file_bytes raw) (λ code at invalid. read.container code at (inl invalid)) is.streams root is.are read.streams) ∙ read.raw_is
 
   pub accepted : IsAccepted (RowFaults raw.tables) → IsAccepted (SpanFaults raw.tables) → IsAccepted (FileFaults (file_bytes raw))
   accepted rows spans =

@@ -1,4 +1,5 @@
-//! What is promised of the one file of a value: it is valid, it says the value, and it is rebuilt to itself.
+//! What is promised of the one file of a value: it is valid, it says the value, and it is rebuilt
+//! to itself.
 #![tactic(auto)]
 
 mod laws;

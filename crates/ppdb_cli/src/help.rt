@@ -1,4 +1,5 @@
-// What the program says of itself: its help, its version, and a hint where the words are no command.
+// What the program says of itself: its help, its version, and a hint where the words are no
+// command.
 use ppdb_codes::code_text;
 use std::fmt;
 
@@ -308,7 +309,7 @@ impl Topic {
     }
 
     /// What the form does not say of the words.
-    fn note(self) -> &'static str {
+    fn remark(self) -> &'static str {
         match self {
             Topic::Query => ", METHOD and OFFSET in decimal digits",
             Topic::Breaks => ", LINE in decimal digits",
@@ -392,7 +393,7 @@ impl fmt::Display for Hint<'_> {
             ),
             Hint::Form(name, topic) => {
                 let form = topic.form();
-                let note = topic.note();
+                let remark = topic.remark();
                 write!(f, "ppdb: usage: {form}{note}; more: ppdb help {name}")
             }
         }

@@ -43,7 +43,8 @@ fn program_words(rt: &HostRuntime) -> Result<Vec<String>, Status> {
     Ok(words)
 }
 
-/// Runs the command of the words, or puts the text that the program has for them, and writes out standard output.
+/// Runs the command of the words, or puts the text that the program has for them, and writes out
+/// standard output.
 fn answer(rt: &HostRuntime, words: &[String]) -> Status {
     let mut out = StdSink::new(io::writer(rt));
     let mut folder = RealFolder::new(rt, process::id(rt.process()));
@@ -73,8 +74,8 @@ fn refusal_line(rt: &HostRuntime, status: Status, put: &[u8]) -> Option<String> 
     String::from_str(rt.alloc(), str::from_utf8(put).ok()?).ok()
 }
 
-/// Prints on standard error what the line of the run does not say: a hint for words that are no command, what a code means, or why a
-/// file was not read or written.
+/// Prints on standard error what the line of the run does not say: a hint for words that are no
+/// command, what a code means, or why a file was not read or written.
 fn tell_more(
     rt: &HostRuntime,
     words: &[String],
@@ -103,8 +104,8 @@ fn tell_more(
     };
 }
 
-/// The text of words that ask for the program itself and are no command. Only words that have such a text are read here: `run` reads
-/// those of all commands.
+/// The text of words that ask for the program itself and are no command. Only words that have such
+/// a text are read here: `run` reads those of all commands.
 fn asked_text(words: &[String]) -> Option<[&'static str; 3]> {
     match help::own_text(words) {
         Some(text) if read_words(words).is_err() => Some(text),

@@ -1,8 +1,11 @@
 -- What may be found under the name of a file, and what calls to the system make of it.
 use Rattle.std.specs.Prelude.{ℕ, Bool, false, true, List, [], ◌∷◌, ◌++◌, if◌then◌else◌}
-use Rattle.ppdb_cli_files.specs.declared.place.{Call.{Call, TheVariants.{Create, Write, Flush, Rename, FlushFolder, Remove, Overwrite}}, Made.{Made}}
+use Rattle.ppdb_cli_files.specs.declared.place.{Call.Call, Call.TheVariants.{Create, Write, Flush}}
+use Rattle.ppdb_cli_files.specs.declared.place.Call.TheVariants.{Rename, FlushFolder, Remove}
+use Rattle.ppdb_cli_files.specs.declared.place.{Call.TheVariants.Overwrite, Made.Made}
 
--- What someone may find under a name: no file, a file with exactly these bytes, or one of which parts may be missing.
+-- What someone may find under a name: no file, a file with exactly these bytes, or one of which
+-- parts may be missing.
 pub data Found : Type 0 where
   Nothing : Found
   Whole : (bytes : List ℕ) → Found
@@ -34,18 +37,23 @@ newest [] = Nothing
 newest (f ∷ []) = f
 newest (f ∷ g ∷ rest) = newest (g ∷ rest)
 
--- After a call that succeeded. A file that is given the name before it was flushed may be torn if the machine stops; the old one may
--- come back until the folder is flushed.
+-- After a call that succeeded. A file that is given the name before it was flushed may be torn if
+-- the machine stops; the old one may come back until the folder is flushed.
 abbrev pub after : Call → Disk → Disk
 after Create d = record d { beside = Whole []; flushed = false }
 after (Write bytes) d = record d { beside = longer d.beside bytes; flushed = false }
 after Flush d = record d { flushed = true }
-after Rename d = record d { seen = d.beside; after_stop = d.after_stop ++ (if d.flushed then d.beside else Torn) ∷ []; beside = Nothing }
+after Rename d = record d {
+  seen = d.beside;
+  after_stop = d.after_stop ++ (if d.flushed then d.beside else Torn) ∷ [];
+  beside = Nothing;
+}
 after FlushFolder d = record d { after_stop = newest d.after_stop ∷ [] }
 after Remove d = record d { beside = Nothing }
 after (Overwrite bytes) d = record d { seen = Whole bytes; after_stop = Whole bytes ∷ [] }
 
--- After a call that failed. A write may have left a part of its bytes; the other calls change nothing.
+-- After a call that failed. A write may have left a part of its bytes; the other calls change
+-- nothing.
 abbrev pub after_failed : Call → Disk → Disk
 after_failed (Write bytes) d = record d { beside = Torn; flushed = false }
 after_failed (Overwrite bytes) d = record d { seen = Torn; after_stop = Torn ∷ [] }

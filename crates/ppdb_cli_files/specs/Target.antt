@@ -1,6 +1,7 @@
 -- What there is under the name of a file.
 use Rattle.std.specs.Prelude.{Bool, true, false}
-use Rattle.ppdb_cli_files.specs.declared.system_place.Target.{Target, TheVariants.{Nothing, Regular, Stream, Output}}
+use Rattle.ppdb_cli_files.specs.declared.system_place.{Target.Target, Target.TheVariants.Nothing}
+use Rattle.ppdb_cli_files.specs.declared.system_place.Target.TheVariants.{Regular, Stream, Output}
 
 -- the name can be given to a new file
 abbrev pub takes_new_file : Target → Bool

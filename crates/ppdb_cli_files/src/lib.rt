@@ -1,5 +1,5 @@
-//! The files and the standard output of the system. A file is replaced so that it is never lost: which calls to the system are made, in
-//! which order, and what may be found after each.
+//! The files and the standard output of the system. A file is replaced so that it is never lost:
+//! which calls to the system are made, in which order, and what may be found after each.
 #![tactic(auto)]
 
 mod place;

@@ -33,8 +33,8 @@ pub struct Made {
     pub succeeded: bool,
 }
 
-/// The name of a file in a folder, and what a system can do there. A new file beside it has a name that no other file has. A call that a
-/// signal interrupts is made again.
+/// The name of a file in a folder, and what a system can do there. A new file beside it has a name
+/// that no other file has. A call that a signal interrupts is made again.
 pub trait Place {
     /// The calls that were made, the oldest first, where the place reports them.
     ghost log: { Self → Option (List made_call) };

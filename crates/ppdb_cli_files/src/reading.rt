@@ -46,7 +46,8 @@ impl From<Memory> for NotRead {
     }
 }
 
-/// Reads a file to its end, and at most one byte past `max`. Where the file has `expected` bytes, the first read takes them all.
+/// Reads a file to its end, and at most one byte past `max`. Where the file has `expected` bytes,
+/// the first read takes them all.
 pub fn read_to_end<R: Read>(
     alloc: Global,
     file: &mut R,
@@ -56,7 +57,8 @@ pub fn read_to_end<R: Read>(
 ) -> Result<(), NotRead>
     ensures within { OnOk result (length into.new ≤ max) }
     ensures bytes { OnOk result (IfSome (R.remaining file.old) (λ xs. into.new ≡ xs)) }
-    ensures too_long { IfErr result (λ e. e.error ≡ ReadError.TooLong → IfSome (R.remaining file.old) (λ xs. max < length xs)) }
+    ensures too_long { IfErr result (λ e. e.error ≡ ReadError.TooLong
+        → IfSome (R.remaining file.old) (λ xs. max < length xs)) }
 {
     *into = read_first(alloc, file, expected.min(max))?;
     read_rest(file, max, into)
@@ -64,7 +66,8 @@ pub fn read_to_end<R: Read>(
 
 /// Reads once, at most one byte more than `len`.
 fn read_first<R: Read>(alloc: Global, file: &mut R, len: usize) -> Result<Bytes, NotRead>
-    ensures bytes { IfOk result (λ bytes. Consumes (R.remaining file.old) (R.remaining file.new) bytes) }
+    ensures bytes { IfOk result
+        (λ bytes. Consumes (R.remaining file.old) (R.remaining file.new) bytes) }
     ensures err { IfErr result (λ e. e.error ≢ ReadError.TooLong) }
 {
     let mut bytes = vec![in alloc; 0; len.saturating_add(1)].map_err(Memory::from)?;
@@ -77,11 +80,13 @@ fn read_first<R: Read>(alloc: Global, file: &mut R, len: usize) -> Result<Bytes,
     }
 }
 
-/// Reads what is left of a file after the bytes of `into`, and at most one byte past `max` in all. A read of no bytes is the end.
+/// Reads what is left of a file after the bytes of `into`, and at most one byte past `max` in all.
+/// A read of no bytes is the end.
 fn read_rest<R: Read>(file: &mut R, max: usize, into: &mut Bytes) -> Result<(), NotRead>
     ensures within { OnOk result (length into.new ≤ max) }
     ensures bytes { OnOk result (IfSome (R.remaining file.old) (λ xs. into.new ≡ into.old ++ xs)) }
-    ensures too_long { IfErr result (λ e. e.error ≡ ReadError.TooLong → IfSome (R.remaining file.old) (λ xs. max < length (into.old ++ xs))) }
+    ensures too_long { IfErr result (λ e. e.error ≡ ReadError.TooLong
+        → IfSome (R.remaining file.old) (λ xs. max < length (into.old ++ xs))) }
 {
     let mut buffer = [0; 65536];
     while into.len() <= max {

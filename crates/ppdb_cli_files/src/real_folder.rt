@@ -53,7 +53,8 @@ impl<'a, R: Files<File = File> + Print + AllocGlobal> RealFolder<'a, R> {
         }
     }
 
-    /// Whether a file of this name was read, and begins as assemblies do. Only the last such file is known.
+    /// Whether a file of this name was read, and begins as assemblies do. Only the last such file
+    /// is known.
     pub fn is_assembly(&self, name: &str) -> bool {
         match &self.assembly {
             Some(assembly) => assembly.as_str() == name,
@@ -61,8 +62,8 @@ impl<'a, R: Files<File = File> + Print + AllocGlobal> RealFolder<'a, R> {
         }
     }
 
-    /// Notes a file that was read.
-    fn note_read(&mut self, name: &str, bytes: &[u8])
+    /// Records a file that was read.
+    fn record_read(&mut self, name: &str, bytes: &[u8])
         ensures reads { self.new.reads ≡ counted_where true self.old.reads }
         ensures read_faults { self.new.read_faults ≡ self.old.read_faults }
         ensures write_faults { self.new.write_faults ≡ self.old.write_faults }
@@ -78,8 +79,8 @@ impl<'a, R: Files<File = File> + Print + AllocGlobal> RealFolder<'a, R> {
         self.reason.as_ref()
     }
 
-    /// Notes why a read or a write failed.
-    fn note_fault(&mut self, name: &str, error: Option<io::Error>)
+    /// Records why a read or a write failed.
+    fn record_fault(&mut self, name: &str, error: Option<io::Error>)
         ensures reads { self.new.reads ≡ self.old.reads }
         ensures read_faults { self.new.read_faults ≡ self.old.read_faults }
         ensures write_faults { self.new.write_faults ≡ self.old.write_faults }
@@ -105,12 +106,12 @@ impl<R: Files<File = File> + Print + AllocGlobal> Folder for RealFolder<'_, R> {
         into.clear();
         match read_file(self.system, name, max, into) {
             Ok(()) => {
-                self.note_read(name, into.as_slice());
+                self.record_read(name, into.as_slice());
                 Ok(())
             }
             Err(NotRead { error, reason }) => {
                 into.clear();
-                self.note_fault(name, reason);
+                self.record_fault(name, reason);
                 if error != ReadError::Memory {
                     self.read_faults = self.read_faults.saturating_add(1);
                 }
@@ -124,7 +125,7 @@ impl<R: Files<File = File> + Print + AllocGlobal> Folder for RealFolder<'_, R> {
             Ok(()) => Ok(()),
             Err(error) if error.kind() == ErrorKind::OutOfMemory => Err(WriteError::Memory),
             Err(error) => {
-                self.note_fault(name, Some(error));
+                self.record_fault(name, Some(error));
                 self.write_faults = self.write_faults.saturating_add(1);
                 Err(WriteError::Failed)
             }

@@ -28,7 +28,8 @@ impl ReplaceError {
     }
 }
 
-/// Replaces a file by a new one with these bytes, which has its name only when it is whole and on the disk.
+/// Replaces a file by a new one with these bytes, which has its name only when it is whole and on
+/// the disk.
 pub fn replace_file<P: Place>(place: &mut P, bytes: &[u8]) -> Result<(), ReplaceError>
     ensures { Between (P.log place.old) (P.log place.new) (Replaces bytes.now result) }
 {
@@ -62,10 +63,11 @@ fn is_forbidden(kind: ErrorKind) -> bool {
     )
 }
 
-/// Has the file hold these bytes: by a new file if the name takes one and the folder does not forbid it, otherwise by writing into the
-/// file itself.
+/// Has the file hold these bytes: by a new file if the name takes one and the folder does not
+/// forbid it, otherwise by writing into the file itself.
 pub fn put_file<P: Place>(place: &mut P, bytes: &[u8]) -> io::Result<()>
-    ensures { Between (P.log place.old) (P.log place.new) (Puts bytes.now (P.takes_new place.old) result) }
+    ensures { Between (P.log place.old) (P.log place.new)
+        (Puts bytes.now (P.takes_new place.old) result) }
 {
     if !place.takes_new() {
         return place.overwrite(bytes);

@@ -13,7 +13,8 @@ use std::io::Write;
 /// How many bytes are kept before they are written.
 const BUFFER: usize = 65536;
 
-/// A writer to which bytes go when many are put, or by `flush`. After a failure nothing that was kept is written.
+/// A writer to which bytes go when many are put, or by `flush`. After a failure nothing that was
+/// kept is written.
 #[derive(Drop)]
 pub struct StdSink<W: Write> {
     writer: W,
@@ -55,7 +56,8 @@ impl<W: Write> StdSink<W> {
     pub fn flush(&mut self) -> Result<(), WriteError>
         ensures kept { self.new.kept ≡ 0 }
         ensures failed { OnErr result (Rose self.old.faults self.new.faults) }
-        ensures bytes { OnOk result (Keeps (kept_after (W.contents self.old.writer) self.old.buffer self.old.kept) (W.contents self.new.writer)) }
+        ensures bytes { OnOk result (Keeps (kept_after (W.contents self.old.writer) self.old.buffer
+            self.old.kept) (W.contents self.new.writer)) }
     {
         let written = self.write_out();
         self.counted(written)
@@ -83,7 +85,8 @@ impl<W: Write> StdSink<W> {
         ensures kept { self.new.kept ≡ 0 }
         ensures faults { self.new.faults ≡ self.old.faults }
         ensures failed { IfErr result (λ error. error ≡ WriteError.Failed) }
-        ensures bytes { OnOk result (Keeps (kept_after (W.contents self.old.writer) self.old.buffer self.old.kept) (W.contents self.new.writer)) }
+        ensures bytes { OnOk result (Keeps (kept_after (W.contents self.old.writer) self.old.buffer
+            self.old.kept) (W.contents self.new.writer)) }
     {
         let written = put_all(
             &mut self.writer,
@@ -99,7 +102,8 @@ impl<W: Write> StdSink<W> {
     fn keep(&mut self, bytes: &[u8])
         requires { self.old.kept + length bytes.now ≤ 65536 }
         ensures faults { self.new.faults ≡ self.old.faults }
-        ensures bytes { Appends (kept_after (W.contents self.old.writer) self.old.buffer self.old.kept)
+        ensures bytes { Appends
+            (kept_after (W.contents self.old.writer) self.old.buffer self.old.kept)
             (kept_after (W.contents self.new.writer) self.new.buffer self.new.kept) bytes.now }
     {
         let end = self.kept + bytes.len();
@@ -112,7 +116,8 @@ impl<W: Write> StdSink<W> {
     fn take(&mut self, bytes: &[u8]) -> Result<(), WriteError>
         ensures faults { self.new.faults ≡ self.old.faults }
         ensures failed { IfErr result (λ error. error ≡ WriteError.Failed) }
-        ensures bytes { OnOk result (Appends (kept_after (W.contents self.old.writer) self.old.buffer self.old.kept)
+        ensures bytes { OnOk result
+            (Appends (kept_after (W.contents self.old.writer) self.old.buffer self.old.kept)
             (kept_after (W.contents self.new.writer) self.new.buffer self.new.kept) bytes.now) }
     {
         if bytes.len() <= BUFFER - self.kept {
@@ -128,14 +133,15 @@ impl<W: Write> StdSink<W> {
     }
 }
 
-/// Writes all bytes, or notes why it did not.
+/// Writes all bytes, or records why it did not.
 fn put_all<W: Write>(
     writer: &mut W,
     reason: &mut Option<io::Error>,
     bytes: &[u8],
 ) -> Result<(), WriteError>
     ensures failed { IfErr result (λ error. error ≡ WriteError.Failed) }
-    ensures bytes { OnOk result (Appends (W.contents writer.old) (W.contents writer.new) bytes.now) }
+    ensures bytes { OnOk result
+        (Appends (W.contents writer.old) (W.contents writer.new) bytes.now) }
 {
     match write_all(writer, bytes) {
         Ok(()) => Ok(()),
@@ -154,7 +160,8 @@ impl<W: Write> Sink for StdSink<W> {
     #[inline(always)]
     fn put(&mut self, bytes: &[u8]) -> Result<(), WriteError>
         ensures puts { Puts result None None self.old.faults self.new.faults bytes.now }
-        ensures bytes { OnOk result (Appends (kept_after (W.contents self.old.writer) self.old.buffer self.old.kept)
+        ensures bytes { OnOk result
+            (Appends (kept_after (W.contents self.old.writer) self.old.buffer self.old.kept)
             (kept_after (W.contents self.new.writer) self.new.buffer self.new.kept) bytes.now) }
     {
         let taken = self.take(bytes);

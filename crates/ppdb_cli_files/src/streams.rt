@@ -67,10 +67,13 @@ fn write_some<W: Write>(writer: &mut W, bytes: &[u8]) -> io::Result<usize>
     Err(too_many_tries())
 }
 
-/// Writes all bytes, or the first of them up to a write that fails. A write that takes none has failed.
+/// Writes all bytes, or the first of them up to a write that fails. A write that takes none has
+/// failed.
 pub fn write_all<W: Write>(writer: &mut W, bytes: &[u8]) -> io::Result<()>
-    ensures bytes { OnOk result (Appends (W.contents writer.old) (W.contents writer.new) bytes.now) }
-    ensures part { OnErr result (AppendsPart (W.contents writer.old) (W.contents writer.new) bytes.now) }
+    ensures bytes { OnOk result
+        (Appends (W.contents writer.old) (W.contents writer.new) bytes.now) }
+    ensures part { OnErr result
+        (AppendsPart (W.contents writer.old) (W.contents writer.new) bytes.now) }
     ensures retried { IsRetried result }
 {
     let mut rest = bytes;

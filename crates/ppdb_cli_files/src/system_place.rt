@@ -46,7 +46,8 @@ pub struct SystemPlace<'a, R: Files<File = File> + Print + AllocGlobal> {
 }
 
 impl<'a, R: Files<File = File> + Print + AllocGlobal> SystemPlace<'a, R> {
-    /// Follows the links of a name, and opens the file that is there for writing. Nothing is changed.
+    /// Follows the links of a name, and opens the file that is there for writing. Nothing is
+    /// changed.
     pub fn find(system: &'a R, process: u32, name: &str) -> io::Result<SystemPlace<'a, R>> {
         let name = follow(system, name)?;
         let target = open_target(system, &name)?;
@@ -187,7 +188,8 @@ fn descriptor(name: &str) -> Option<&str> {
     }
 }
 
-/// Opens what there is under a name for writing. What is already open for this process is written at its end.
+/// Opens what there is under a name for writing. What is already open for this process is written
+/// at its end.
 fn open_target<R: Files<File = File>>(system: &R, name: &PathBuf) -> io::Result<Target> {
     match descriptor(name.as_str()) {
         Some("1") => return Ok(Target::Output),
@@ -232,8 +234,8 @@ fn new_name<R: AllocGlobal>(
     Ok(name.with_file_name(system.alloc(), own.as_str())?)
 }
 
-/// Gives a new file the owner, the group and the permissions of an old one, as far as the system allows. If it does not allow the
-/// group, the new group may do no more than everyone.
+/// Gives a new file the owner, the group and the permissions of an old one, as far as the system
+/// allows. If it does not allow the group, the new group may do no more than everyone.
 fn dress(new: &File, old: &Metadata) {
     let give = |owner| retried(|| fchown(new, owner, Some(old.gid()))).is_ok();
     let has_group = give(Some(old.uid())) || give(None);

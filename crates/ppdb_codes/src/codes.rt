@@ -1,4 +1,5 @@
-// What each code of a fault, of a map that does not fit and of a limit means, and what to do about it.
+// What each code of a fault, of a map that does not fit and of a limit means, and what to do about
+// it.
 use crate::rules::RULES;
 
 /// What the program says of each rule of the format after its sentence, from F1.

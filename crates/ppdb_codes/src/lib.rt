@@ -1,5 +1,5 @@
-//! The texts of codes, for the program and the library: what each status means, and each rule of the format, each reason why a file
-//! and its map do not fit and each limit.
+//! The texts of codes, for the program and the library: what each status means, and each rule of
+//! the format, each reason why a file and its map do not fit and each limit.
 #![tactic(auto)]
 
 mod codes;

@@ -48,7 +48,8 @@ pub(crate) const RULES: [&str; 40] = [
     "F40: the strings and blobs that the file refers to have more than 268435456 bytes in total",
 ];
 
-/// The sentence that says what is wrong where a file breaks a rule, by the rule's number: 1 for F1. None of a number that no rule has.
+/// The sentence that says what is wrong where a file breaks a rule, by the rule's number: 1 for F1.
+/// None of a number that no rule has.
 pub fn rule_sentence(rule: u8) -> Option<&'static str>
     ensures { option_copied result ≡ numbered rule_texts rule }
 {

@@ -53,10 +53,11 @@ module _ (blobs : List ℕ) where
       )
 
   -- each index is reported at its byte
-  told : (place : Cut NamePart) (at : ℕ) (indexes : List ℕ) → flat_map part_index (placed_from (names blobs) place at (index_fields indexes))
+  reported : (place : Cut NamePart) (at : ℕ) (indexes : List ℕ) → flat_map part_index (placed_from (names blobs) place at (index_fields indexes))
       ≡ indexes_at at indexes
-  told place at [] = refl
-  told place at (n ∷ ns) = ap (λ l. record { byte = at; index = n } ∷ l) (told (with_value (names blobs) place (number n)) (at + length (short_unsigned n)) ns)
+  reported place at [] = refl
+  reported place at (n ∷ ns) =
+      ap (λ l. record { byte = at; index = n } ∷ l) (reported (with_value (names blobs) place (number n)) (at + length (short_unsigned n)) ns)
 
   abbrev parts_of : ℕ → List (List ℕ) → List NamePart
   parts_of byte contents = separator (byte ∷ []) ∷ map (λ content. part content) contents
@@ -109,4 +110,4 @@ module _ (blobs : List ℕ) where
         let g = names blobs in
         let fs = name_fields byte indexes in
         ap (name_indexes blobs) (sym spelled) ∙ sym (fields-are g part_index (bytes_of fs) (flat_map part_index (placed_from g (after []) 0 fs))
-        (written_fields g part_index fs allowed)) ∙ told (with_value g (after []) (octets (byte ∷ []))) 1 indexes
+        (written_fields g part_index fs allowed)) ∙ reported (with_value g (after []) (octets (byte ∷ []))) 1 indexes

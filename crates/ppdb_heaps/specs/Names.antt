@@ -1,8 +1,13 @@
--- The names of documents (Portable PDB v1.0, "Document Name Blob"): a separator, and parts that are blobs of their own.
-use Rattle.std.specs.{Prelude.{◌≡◌, ◌≢◌, ℕ, zero, ◌+◌, ◌^◌, ◌<◌, List, [], ◌∷◌, length, map, All, Option, Some, None, Bool, true, false, is_some, option_map, flat_map}, List.join_by}
+-- The names of documents (Portable PDB v1.0, "Document Name Blob"): a separator, and parts that are
+-- blobs of their own.
+use Rattle.std.specs.Prelude.{◌≡◌, ◌≢◌, ℕ, zero, ◌+◌, ◌^◌, ◌<◌, List, [], ◌∷◌, length, map, All}
+use Rattle.std.specs.Prelude.{Option, Some, None, Bool, true, false, is_some, option_map, flat_map}
+use Rattle.std.specs.List.{join_by}
 use Rattle.ppdb_base.specs.declared.fault.BlobFault.{BlobFault}
-use Rattle.blob_grammar.specs.{Grammar.{Value, number, octets, Form, character, unsigned, Grammar, cut}, Reading.Reading, Reader.prefix_of}
-use Rattle.blob_grammar.specs.{declared.places.PlacedIndex.PlacedIndex, Places.{PlacedField, placed_of}}
+use Rattle.blob_grammar.specs.Grammar.{Value, number, octets, Form, character, unsigned, Grammar}
+use Rattle.blob_grammar.specs.{Grammar.cut, Reading.Reading, Reader.prefix_of}
+use Rattle.blob_grammar.specs.{declared.places.PlacedIndex.PlacedIndex, Places.PlacedField}
+use Rattle.blob_grammar.specs.Places.{placed_of}
 use Rattle.cli_ints.specs.Shortest.{short_unsigned}
 use Rattle.ppdb_heaps.specs.Heaps.{blob_at}
 
@@ -24,7 +29,8 @@ allows blobs (first ∷ others) begun value = false
 
 abbrev pub part_of : List ℕ → List NamePart → List Value → Option NamePart
 part_of blobs [] (octets bytes ∷ []) = Some (separator bytes)
-part_of blobs (first ∷ others) (number index ∷ []) = option_map (λ content. part content) (blob_at blobs index)
+part_of blobs (first ∷ others) (number index ∷ []) =
+    option_map (λ content. part content) (blob_at blobs index)
 part_of blobs before begun = None
 
 -- There is at least one part.
@@ -33,7 +39,8 @@ may_stop (first ∷ second ∷ others) [] = true
 may_stop before begun = false
 
 abbrev pub names : List ℕ → Grammar NamePart
-names blobs = record { form = form; allows = allows blobs; record_of = part_of blobs; may_stop = may_stop }
+names blobs =
+    record { form = form; allows = allows blobs; record_of = part_of blobs; may_stop = may_stop }
 
 -- Byte 00 stands for no separator.
 abbrev pub without_zero : List ℕ → List ℕ
@@ -61,15 +68,18 @@ pub record IsName (blobs blob name : List ℕ) : Type 0 where
   pub whole : Reading (names blobs) blob parts None
   pub text : name ≡ joined parts
 
--- The blob begins with a separator, and what follows it are these parts, and the fault after them, if the blob is not whole.
-pub record NameReading (blobs blob sep : List ℕ) (contents : List (List ℕ)) (fault : Option BlobFault) : Type 0 where
+-- The blob begins with a separator, and what follows it are these parts, and the fault after them,
+-- if the blob is not whole.
+pub record NameReading (blobs blob sep : List ℕ) (contents : List (List ℕ))
+    (fault : Option BlobFault) : Type 0 where
   pub bytes : List ℕ
   pub parts : List NamePart
   pub reading : Reading (names blobs) blob (separator bytes ∷ parts) fault
   pub separator_is : sep ≡ without_zero bytes
   pub contents_are : contents ≡ contents_of parts
 
--- The text of a name: the parts that the fields of its longest valid prefix make, joined by its separator.
+-- The text of a name: the parts that the fields of its longest valid prefix make, joined by its
+-- separator.
 unfoldable pub name_of : List ℕ → List ℕ → List ℕ
 name_of blobs blob = joined (cut (names blobs) (prefix_of (names blobs) blob)).whole
 
@@ -81,22 +91,27 @@ index_at at value = []
 abbrev pub part_index : PlacedField → List PlacedIndex
 part_index field = index_at field.byte field.value
 
--- The indexes of the parts in the longest valid prefix of a name, each with the byte at which it stands.
+-- The indexes of the parts in the longest valid prefix of a name, each with the byte at which it
+-- stands.
 abbrev pub name_indexes : List ℕ → List ℕ → List PlacedIndex
-name_indexes blobs blob = flat_map part_index (placed_of (names blobs) (prefix_of (names blobs) blob))
+name_indexes blobs blob =
+    flat_map part_index (placed_of (names blobs) (prefix_of (names blobs) blob))
 
--- The shortest spelling of a name: the separator's byte, and the indexes of the parts, each in its shortest form.
+-- The shortest spelling of a name: the separator's byte, and the indexes of the parts, each in its
+-- shortest form.
 abbrev pub name_spelling : ℕ → List ℕ → List ℕ
 name_spelling byte indexes = byte ∷ flat_map short_unsigned indexes
 
 -- The indexes, each with the byte at which its spelling begins.
 abbrev pub indexes_at : ℕ → List ℕ → List PlacedIndex
 indexes_at at [] = []
-indexes_at at (n ∷ ns) = record { byte = at; index = n } ∷ indexes_at (at + length (short_unsigned n)) ns
+indexes_at at (n ∷ ns) =
+    record { byte = at; index = n } ∷ indexes_at (at + length (short_unsigned n)) ns
 
--- A name that can be written: a separator of one byte below 80, and the indexes of its parts, of which there is at least one.
--- They have a spelling, and these contents stand there.
-pub record IsWritable (blobs : List ℕ) (byte : ℕ) (indexes : List ℕ) (contents : List (List ℕ)) : Type 0 where
+-- A name that can be written: a separator of one byte below 80, and the indexes of its parts, of
+-- which there is at least one. They have a spelling, and these contents stand there.
+pub record IsWritable (blobs : List ℕ) (byte : ℕ) (indexes : List ℕ)
+    (contents : List (List ℕ)) : Type 0 where
   pub one_byte : byte < 0x80
   pub some : indexes ≢ []
   pub small : All (λ n. n < 2 ^ 29) indexes

@@ -1,6 +1,6 @@
 -- The bytes of the streams that look-ups go through.
 use Rattle.std.specs.Prelude.{ℕ, List}
-use Rattle.ppdb_heaps.specs.{declared.strings.Strings.Strings, declared.blobs.Blobs.Blobs, declared.guids.Guids.Guids}
+use Rattle.ppdb_heaps.specs.declared.{strings.Strings.Strings, blobs.Blobs.Blobs, guids.Guids.Guids}
 
 abbrev pub strings_of : Strings → List ℕ
 strings_of strings = strings.bytes.now

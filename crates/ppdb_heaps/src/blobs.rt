@@ -11,7 +11,8 @@ pub struct Blobs<'a> {
     bytes: &'a [u8],
 }
 
-/// As many bytes after the number at the start as it says; None where no number stands there or there are fewer.
+/// As many bytes after the number at the start as it says; None where no number stands there or
+/// there are fewer.
 fn blob_of(bytes: &[u8]) -> Option<&[u8]>
     ensures blob { option_copied result ≡ counted bytes.now (unsigned_at bytes.now) }
     ensures short { IfSome result (λ blob. length blob.now < 2 ^ 32) }
@@ -38,8 +39,8 @@ impl<'a> Blobs<'a> {
         Blobs { bytes }
     }
 
-    /// The content of the blob at an index. Index 0 is the empty blob, which is nil; None where no length stands there or
-    /// the content passes the stream's end.
+    /// The content of the blob at an index. Index 0 is the empty blob, which is nil; None where no
+    /// length stands there or the content passes the stream's end.
     #[tactic(auto, unfolding(crate::specs::Heaps::blob_at))]
     pub fn get(&self, index: u32) -> Option<&'a [u8]>
         ensures blob { option_copied result ≡ blob_at (blobs_of self.now) index }

@@ -17,7 +17,8 @@ impl<'a> Guids<'a> {
         Guids { bytes }
     }
 
-    /// The GUID of a number, in the file's byte order. None for 0 and above the number of whole GUIDs.
+    /// The GUID of a number, in the file's byte order. None for 0 and above the number of whole
+    /// GUIDs.
     #[tactic(auto, unfolding(crate::specs::Heaps::guid_at))]
     pub fn get(&self, index: u32) -> Option<[u8; 16]>
         ensures { result ≡ guid_at (guids_of self.now) index }

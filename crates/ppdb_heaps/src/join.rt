@@ -37,7 +37,8 @@ impl From<Memory> for NameError {
     }
 }
 
-/// Appends the parts, the separator between them. After a refusal the bytes begin with what they held.
+/// Appends the parts, the separator between them. After a refusal the bytes begin with what they
+/// held.
 fn parts_into(blob: &[u8], blobs: Blobs<'_>, into: &mut Bytes) -> Result<(), NameError>
     requires { length blob.now < 2 ^ 32 }
     ensures ok { OnOk result (HasAppended (blobs_of blobs.entry) blob.now into.old into.new) }
@@ -57,7 +58,8 @@ fn parts_into(blob: &[u8], blobs: Blobs<'_>, into: &mut Bytes) -> Result<(), Nam
     Ok(())
 }
 
-/// Appends the name that a blob spells: its parts joined by the separator. After a refusal the bytes are unchanged.
+/// Appends the name that a blob spells: its parts joined by the separator. After a refusal the
+/// bytes are unchanged.
 pub fn name_into<'a>(blob: &'a [u8], blobs: Blobs<'a>, into: &mut Bytes) -> Result<(), NameError>
     requires { length blob.now < 2 ^ 32 }
     ensures ok { OnOk result (HasAppended (blobs_of blobs.entry) blob.now into.old into.new) }

@@ -1,9 +1,11 @@
-ghost use Rattle.std.specs.Prelude.{◌≡◌, ◌≤◌, ◌<◌, ◌^◌, [], length, take, Some, IfSome, IfOk, IfErr};
+ghost use Rattle.std.specs.Prelude.{◌≡◌, ◌≤◌, ◌<◌, ◌^◌, [], length, take, Some, IfSome, IfOk};
+ghost use Rattle.std.specs.Prelude.{IfErr};
 ghost use Rattle.blob_grammar.specs.Reading.{Reading};
 ghost use Rattle.blob_grammar.specs.Reader.{NextIs, answer, rest_of};
 ghost use Rattle.blob_grammar.specs.Places.{HasFields, HasEnd};
 ghost use Rattle.ppdb_heaps.specs.Names.{names, part_index, without_zero, NameReading};
-ghost use Rattle.ppdb_heaps.specs.Cursor.{lent, content_found, index_found, parts_left, indexes_left};
+ghost use Rattle.ppdb_heaps.specs.Cursor.{lent, content_found, index_found, parts_left};
+ghost use Rattle.ppdb_heaps.specs.Cursor.{indexes_left};
 ghost use Rattle.ppdb_heaps.specs.Views.{blobs_of};
 
 use crate::blobs::Blobs;
@@ -20,7 +22,8 @@ struct Part<'a> {
     end: usize,
 }
 
-/// The part at a place of a name whose separator has `start` bytes; None at the end of a whole name.
+/// The part at a place of a name whose separator has `start` bytes; None at the end of a whole
+/// name.
 fn part_at<'a>(
     blob: &[u8],
     blobs: Blobs<'a>,
@@ -30,8 +33,10 @@ fn part_at<'a>(
     requires begun { start ≤ at }
     requires within { at ≤ length blob.now }
     requires short { length blob.now < 2 ^ 32 }
-    ensures content { NextIs (parts_left (blobs_of blobs.entry) blob.now start) (length blob.now) at (content_found result) }
-    ensures index { NextIs (indexes_left (blobs_of blobs.entry) blob.now start) (length blob.now) at (index_found at result) }
+    ensures content { NextIs (parts_left (blobs_of blobs.entry) blob.now start) (length blob.now) at
+        (content_found result) }
+    ensures index { NextIs (indexes_left (blobs_of blobs.entry) blob.now start) (length blob.now) at
+        (index_found at result) }
     ensures after { IfOk result (λ found. IfSome found (λ part. at ≤ part.end)) }
 {
     if at == blob.len() && at != start {
@@ -74,15 +79,19 @@ impl<'a> Model for NameCursor<'a> {
       left = parts_left (blobs_of s.blobs) s.blob.now s.start s.at;
     } };
 
-    ghost invariant = { λ s. (s.start ≤ s.at) × (s.at ≤ length s.blob.now) × (length s.blob.now < 2 ^ 32) };
+    ghost invariant = { λ s. (s.start ≤ s.at) × (s.at ≤ length s.blob.now)
+        × (length s.blob.now < 2 ^ 32) };
 }
 
 impl<'a> NameCursor<'a> {
-    /// Reads the separator of a name. Bytes that are not empty and begin with no UTF-8 character are `ValueRange` at byte 0.
+    /// Reads the separator of a name. Bytes that are not empty and begin with no UTF-8 character
+    /// are `ValueRange` at byte 0.
     pub fn new(blob: &'a [u8], blobs: Blobs<'a>) -> Result<NameCursor<'a>, BlobFault>
         requires { length blob.now < 2 ^ 32 }
-        ensures begun { IfOk result (λ c. NameReading (blobs_of blobs.entry) blob.now c.separator c.left.items c.left.fault) }
-        ensures fault { IfErr result (λ fault. Reading (names (blobs_of blobs.entry)) blob.now [] (Some fault)) }
+        ensures begun { IfOk result (λ c.
+            NameReading (blobs_of blobs.entry) blob.now c.separator c.left.items c.left.fault) }
+        ensures fault { IfErr result
+            (λ fault. Reading (names (blobs_of blobs.entry)) blob.now [] (Some fault)) }
     {
         let start = character_field(blob, 0)?.len();
         Ok(NameCursor {
@@ -139,17 +148,22 @@ impl<'a> Model for NameIndexes<'a> {
 
     ghost view = { λ s. indexes_left (blobs_of s.blobs) s.blob.now s.start s.at };
 
-    ghost invariant = { λ s. (s.start ≤ s.at) × (s.at ≤ length s.blob.now) × (length s.blob.now < 2 ^ 32) };
+    ghost invariant = { λ s. (s.start ≤ s.at) × (s.at ≤ length s.blob.now)
+        × (length s.blob.now < 2 ^ 32) };
 }
 
 impl<'a> NameIndexes<'a> {
     /// Reads the separator of a name. Where none stands there no index does.
     pub fn new(blob: &'a [u8], blobs: Blobs<'a>) -> Result<NameIndexes<'a>, BlobFault>
         requires { length blob.now < 2 ^ 32 }
-        ensures indexes { IfOk result (λ left. HasFields (names (blobs_of blobs.entry)) part_index blob.now left.items) }
-        ensures end { IfOk result (λ left. HasEnd (names (blobs_of blobs.entry)) blob.now left.fault) }
-        ensures none { IfErr result (λ _. HasFields (names (blobs_of blobs.entry)) part_index blob.now []) }
-        ensures fault { IfErr result (λ fault. HasEnd (names (blobs_of blobs.entry)) blob.now (Some fault)) }
+        ensures indexes { IfOk result
+            (λ left. HasFields (names (blobs_of blobs.entry)) part_index blob.now left.items) }
+        ensures end { IfOk result
+            (λ left. HasEnd (names (blobs_of blobs.entry)) blob.now left.fault) }
+        ensures none { IfErr result
+            (λ _. HasFields (names (blobs_of blobs.entry)) part_index blob.now []) }
+        ensures fault { IfErr result
+            (λ fault. HasEnd (names (blobs_of blobs.entry)) blob.now (Some fault)) }
     {
         let start = character_field(blob, 0)?.len();
         Ok(NameIndexes {
@@ -160,7 +174,8 @@ impl<'a> NameIndexes<'a> {
         })
     }
 
-    /// The next index; None at the end of a whole name. After None or a fault the answer stays the same.
+    /// The next index; None at the end of a whole name. After None or a fault the answer stays the
+    /// same.
     pub fn next(&mut self) -> Result<Option<PlacedIndex>, BlobFault>
         ensures answer { result ≡ answer self.old }
         ensures left { self.new ≡ rest_of self.old }

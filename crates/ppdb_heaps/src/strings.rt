@@ -3,8 +3,9 @@ ghost use Rattle.std.specs.List.{list_any};
 ghost use Rattle.std.specs.Option.{option_copied};
 ghost use Rattle.ppdb_heaps.specs.Heaps.{text_at, until_zero};
 
-/// The stream `#Strings`: texts, each ended by a zero (ECMA-335 II.24.2.3). No zero stands at `end` or after it, so that an index
-/// after the last text is reported without a walk over what stands there.
+/// The stream `#Strings`: texts, each ended by a zero (ECMA-335 II.24.2.3). No zero stands at `end`
+/// or after it, so that an index after the last text is reported without a walk over what stands
+/// there.
 #[derive(Clone, Copy)]
 pub struct Strings<'a> {
     bytes: &'a [u8],
@@ -56,7 +57,8 @@ impl<'a> Strings<'a> {
         }
     }
 
-    /// The text at an index, without its zero. Index 0 is the empty text; None where no zero stands at or after the index.
+    /// The text at an index, without its zero. Index 0 is the empty text; None where no zero stands
+    /// at or after the index.
     #[tactic(auto, unfolding(crate::specs::Heaps::text_at))]
     pub fn get(&self, index: u32) -> Option<&'a [u8]>
         ensures { option_copied result ≡ text_at (strings_of self.now) index }

@@ -8,15 +8,15 @@ use Rattle.ppdb_library.specs.{declared.answer.Ended.{Ended}, declared.piece.Ppd
 use Rattle.ppdb_library.{specs.Pieces.{files_in}, proofs.OneList.{one_words}, proofs.Outputs.{has_output, output_held}, proofs.Statuses.{done_or_not, is_done}}
 use Rattle.ppdb_library.proofs.Statuses.{is_not}
 
-module _ (told : List (List ℕ)) (all : Files) (ended : Ended) (ends : Ends told all ended) where
+module _ (reported : List (List ℕ)) (all : Files) (ended : Ended) (ends : Ends reported all ended) where
   -- it came to its outcome
-  pub came : (asked : Option Task) → Asks told asked → (seen : Files) → AreSeen asked (Some all) seen → (due : Outcome) → IsOutcome asked seen due
+  pub came : (asked : Option Task) → Asks reported asked → (seen : Files) → AreSeen asked (Some all) seen → (due : Outcome) → IsOutcome asked seen due
       → CameTo all ended due
   came asked asks seen are due is = elim (ends.comes.due asked asks seen are due is) [ inl memory ↦ absurd (ends.memory memory) | inr ends ↦ ends ]
 
   module _ (made : List ℕ) (none : (ended.status ≡ Done → ⊥) → made ≡ [])
       (output : ended.status ≡ Done → (task : Task) → Words task (texts ended.words.items) → made ≡ held (written_file task) ended.folder.files) where
-    done_made : (asked : Option Task) → Asks told asked → (due : Outcome) → IsOutcome asked all due → CameTo all ended due → ended.status ≡ Done
+    done_made : (asked : Option Task) → Asks reported asked → (due : Outcome) → IsOutcome asked all due → CameTo all ended due → ended.status ≡ Done
         → made ≡ made_bytes due.status due.writes
     done_made None asks due is came done =
         let status : Done ≡ Usage = sym done ∙ (came.status_is ∙ ap (λ (o : Outcome). o.status) is) in absurd cc
@@ -31,7 +31,7 @@ module _ (told : List (List ℕ)) (all : Files) (ended : Ended) (ends : Ends tol
         ∙ ap (λ s. made_bytes s due.writes) (sym status))
 
     -- the bytes that are made are those of the outcome
-    pub made_due : (asked : Option Task) → Asks told asked → (seen : Files) → AreSeen asked (Some all) seen → (due : Outcome) → IsOutcome asked seen due
+    pub made_due : (asked : Option Task) → Asks reported asked → (seen : Files) → AreSeen asked (Some all) seen → (due : Outcome) → IsOutcome asked seen due
         → made ≡ made_bytes due.status due.writes
     made_due asked asks seen are due is =
         let here : IsOutcome asked all due = subst (λ files. IsOutcome asked files due) (sym are) is in
@@ -42,7 +42,7 @@ module _ (told : List (List ℕ)) (all : Files) (ended : Ended) (ends : Ends tol
         ]
 
 -- the words of a call are those that have run
-pub same_call : (words files : List ℕ) (pieces : List PpdbPiece) (told other : List (List ℕ)) (ended : Ended) → IsCall words files pieces told
-    → IsCall words files pieces other → Ends told (files_in files pieces) ended → Ends other (files_in files pieces) ended
-same_call words files pieces told other ended one call ends =
-    subst (λ list. Ends list (files_in files pieces) ended) (one_words words told other one.are call.are) ends
+pub same_call : (words files : List ℕ) (pieces : List PpdbPiece) (reported other : List (List ℕ)) (ended : Ended) → IsCall words files pieces reported
+    → IsCall words files pieces other → Ends reported (files_in files pieces) ended → Ends other (files_in files pieces) ended
+same_call words files pieces reported other ended one call ends =
+    subst (λ list. Ends list (files_in files pieces) ended) (one_words words reported other one.are call.are) ends

@@ -5,7 +5,7 @@ use Rattle.ppdb_library.proofs.{Spelled.{spelling}, Splits.{ended_whole}}
 
 module _ (words files : List ℕ) (pieces : List PpdbPiece) where
   pub not_ended : (text : List ℕ) → text ≡ words → (IsWhole text → ⊥) → NoCall words files pieces
-  not_ended text same none = λ told call. none (subst IsWhole (sym call.are.are ∙ sym same) (ended_whole told))
+  not_ended text same none = λ reported call. none (subst IsWhole (sym call.are.are ∙ sym same) (ended_whole reported))
 
   -- a text whose words are ended has words
   pub is_call : (text : List ℕ) → text ≡ words → IsUtf8 words → IsWhole text → AreApart 0 pieces (length files) → NoCall words files pieces → ⊥

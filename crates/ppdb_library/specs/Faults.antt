@@ -3,8 +3,8 @@ use Rattle.ppdb_base.specs.{declared.fault.Fault.Fault, Place.number_of}
 use Rattle.ppdb_library.specs.declared.fault.PpdbFault.{PpdbFault}
 
 -- the rule by its number, and its place
-abbrev pub told_fault : Fault → PpdbFault
-told_fault fault = record {
+abbrev pub reported_fault : Fault → PpdbFault
+reported_fault fault = record {
   row = fault.place.row;
   byte = fault.place.byte;
   code = number_of fault.code;

@@ -1,5 +1,7 @@
--- The files of a call: pieces of one list of bytes, each a name and right after it what the file of the name holds.
-use Rattle.std.specs.{Prelude.{ℕ, ◌≡◌, ◌+◌, ◌≤◌, List, [], ◌∷◌, Option, Some, None, All, map, slice_range}, FinMap.from_entries}
+-- The files of a call: pieces of one list of bytes, each a name and right after it what the file of
+-- the name holds.
+use Rattle.std.specs.Prelude.{ℕ, ◌≡◌, ◌+◌, ◌≤◌, List, [], ◌∷◌, Option, Some, None, All, map}
+use Rattle.std.specs.{Prelude.slice_range, FinMap.from_entries}
 use Rattle.ppdb_base.specs.Files.{Files}
 use Rattle.ppdb_library.specs.declared.piece.PpdbPiece.{PpdbPiece}
 
@@ -22,7 +24,8 @@ contents_in files piece = slice_range files (piece.start + piece.name_length) (e
 
 -- The files by their names. Of two pieces with one name the first counts.
 abbrev pub files_in : List ℕ → List PpdbPiece → Files
-files_in files pieces = from_entries (map (λ piece. (name_in files piece, contents_in files piece)) pieces)
+files_in files pieces =
+    from_entries (map (λ piece. (name_in files piece, contents_in files piece)) pieces)
 
 -- each piece ends among so many bytes
 abbrev pub AreWithin : List PpdbPiece → ℕ → Type 0

@@ -29,7 +29,8 @@ impl Ended<'_> {
     /// The bytes of the file that the command made; none where it made none.
     pub(crate) fn made(&self) -> &[u8]
         ensures none { self.now.status ≢ Status.Done → result.now ≡ [] }
-        ensures made { self.now.status ≡ Status.Done → (task : Task) → Words task (texts self.now.words.items)
+        ensures made { self.now.status ≡ Status.Done → (task : Task)
+            → Words task (texts self.now.words.items)
             → result.now ≡ held (written_file task) self.now.folder.files }
     {
         match self.status {
@@ -40,7 +41,8 @@ impl Ended<'_> {
 
     /// What the file holds that the words have written; nothing where they have none.
     fn output(&self) -> &[u8]
-        ensures { (task : Task) → Words task (texts self.now.words.items) → result.now ≡ held (written_file task) self.now.folder.files }
+        ensures { (task : Task) → Words task (texts self.now.words.items)
+            → result.now ≡ held (written_file task) self.now.folder.files }
     {
         match output_of(&self.words) {
             Some(name) => self.folder.held(name),
@@ -51,7 +53,8 @@ impl Ended<'_> {
 
 /// The name of the file that the command of the words makes.
 fn output_of(words: &[String]) -> Option<&str>
-    ensures { (task : Task) → Words task (texts words.now) → option_copied result ≡ written_file task }
+    ensures { (task : Task) → Words task (texts words.now)
+        → option_copied result ≡ written_file task }
 {
     match read_words(words) {
         Ok(command) => output_in(command),
@@ -72,7 +75,8 @@ fn output_in(command: Command<'_>) -> Option<&str>
     }
 }
 
-/// Runs the command of a call, or says why it does not run: there is no such call, or no memory left.
+/// Runs the command of a call, or says why it does not run: there is no such call, or no memory
+/// left.
 pub(crate) fn answer<'a>(
     alloc: Global,
     permit: CounterPermit,
@@ -80,7 +84,8 @@ pub(crate) fn answer<'a>(
     files: &'a [u8],
     pieces: &'a [PpdbPiece],
 ) -> Result<Ended<'a>, u8>
-    ensures ok { IfOk result (λ ended. (told : List (List ℕ)) × IsCall words.now files.now pieces.now told × Ends told (files_in files.now pieces.now) ended) }
+    ensures ok { IfOk result (λ ended. (reported : List (List ℕ)) × IsCall words.now files.now
+        pieces.now reported × Ends reported (files_in files.now pieces.now) ended) }
     ensures err { IfErr result (ErrIs words.now files.now pieces.now) }
 {
     let Ok(text) = str::from_utf8(words) else {

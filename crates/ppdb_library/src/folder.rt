@@ -16,7 +16,8 @@ pub(crate) struct MadeFile {
     bytes: Bytes,
 }
 
-/// A folder whose files the caller lends. It has room for one file that is written, since no command writes more.
+/// A folder whose files the caller lends. It has room for one file that is written, since no
+/// command writes more.
 #[derive(Drop)]
 pub(crate) struct LentFolder<'a> {
     alloc: Global,
@@ -37,7 +38,8 @@ impl<'a> Model for LentFolder<'a> {
 
     ghost coded = { coded_steady };
 
-    ghost view = { λ f. record { files = with_made (lent f.files.now f.pieces.now) f.made; reads = f.reads } };
+    ghost view = { λ f.
+        record { files = with_made (lent f.files.now f.pieces.now) f.made; reads = f.reads } };
 
     ghost invariant = { λ f. AreWithin f.pieces.now (count f.files.now) };
 }

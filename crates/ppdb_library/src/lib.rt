@@ -1,4 +1,5 @@
-//! The library `libppdb`: the commands, the verifier and the points of IL offsets, for callers in C and in all languages that call C.
+//! The library `libppdb`: the commands, the verifier and the points of IL offsets, for callers in C
+//! and in all languages that call C.
 #![tactic(auto)]
 
 mod answer;

@@ -28,7 +28,8 @@ pub struct PpdbFrame {
     pub offset: u32,
 }
 
-/// The sequence point of a frame. Where `kind` says that there is none all else is 0; where it is hidden its lines and columns are.
+/// The sequence point of a frame. Where `kind` says that there is none all else is 0; where it is
+/// hidden its lines and columns are.
 #[repr(C)]
 #[derive(Clone, Copy, Debug, PartialEq, Eq)]
 pub struct PpdbLine {
@@ -56,9 +57,10 @@ pub(crate) const HIDDEN: u32 = 2;
 /// The point has lines.
 pub(crate) const LINES: u32 = 3;
 
-/// Verifies a file and puts for each frame its line: 0 where the file breaks no rule; 1 where it breaks some, which `ppdb_verify`
-/// reports; 2 where there is less room for lines than there are frames; 5 where there was no memory left; 7 where the file is longer
-/// than 134217728 bytes. Where the answer is not 0 nothing is put.
+/// Verifies a file and puts for each frame its line: 0 where the file breaks no rule; 1 where it
+/// breaks some, which `ppdb_verify` reports; 2 where there is less room for lines than there are
+/// frames; 5 where there was no memory left; 7 where the file is longer than 134217728 bytes. Where
+/// the answer is not 0 nothing is put.
 #[unsafe(no_mangle)]
 pub extern "C" fn ppdb_lines(
     alloc: Global,
@@ -67,12 +69,15 @@ pub extern "C" fn ppdb_lines(
     frames: &[PpdbFrame],
     lines: &mut [PpdbLine],
 ) -> u8
-    ensures statuses { (result ≡ DONE) ⊎ (result ≡ REFUSED) ⊎ (result ≡ USAGE) ⊎ (result ≡ MEMORY) ⊎ (result ≡ TOO_LONG) }
+    ensures statuses { (result ≡ DONE) ⊎ (result ≡ REFUSED) ⊎ (result ≡ USAGE) ⊎ (result ≡ MEMORY)
+        ⊎ (result ≡ TOO_LONG) }
     ensures accepted { result ≡ DONE → IsAccepted (FileFaults file.now) }
-    ensures lines { result ≡ DONE → (raw : RawFile) → IsRawOf file.now raw → lines.new ≡ map (line_of raw) frames.now ++ drop (length frames.now) lines.old }
+    ensures lines { result ≡ DONE → (raw : RawFile) → IsRawOf file.now raw
+        → lines.new ≡ map (line_of raw) frames.now ++ drop (length frames.now) lines.old }
     ensures refused { result ≡ REFUSED → IsAccepted (FileFaults file.now) → ⊥ }
     ensures no_room { (result ≡ USAGE) ↔ (length lines.old < length frames.now) }
-    ensures too_long { (result ≡ TOO_LONG) ↔ (length frames.now ≤ length lines.old) × (MAX_FILE_BYTES < length file.now) }
+    ensures too_long { (result ≡ TOO_LONG) ↔ (length frames.now ≤ length lines.old)
+        × (MAX_FILE_BYTES < length file.now) }
     ensures kept { result ≢ DONE → lines.new ≡ lines.old }
 {
     let (file, frames) = (there(file), there(frames));
@@ -89,12 +94,15 @@ fn verified_lines<L: Ledger>(
     steps: Blank,
 ) -> u8
     requires steps { (steps.name ≡ L.name) × (steps.parts ≡ L.parts) × (0 < L.parts) }
-    ensures statuses { (result ≡ DONE) ⊎ (result ≡ REFUSED) ⊎ (result ≡ USAGE) ⊎ (result ≡ MEMORY) ⊎ (result ≡ TOO_LONG) }
+    ensures statuses { (result ≡ DONE) ⊎ (result ≡ REFUSED) ⊎ (result ≡ USAGE) ⊎ (result ≡ MEMORY)
+        ⊎ (result ≡ TOO_LONG) }
     ensures accepted { result ≡ DONE → IsAccepted (FileFaults file.now) }
-    ensures lines { result ≡ DONE → (raw : RawFile) → IsRawOf file.now raw → lines.new ≡ map (line_of raw) frames.now ++ drop (length frames.now) lines.old }
+    ensures lines { result ≡ DONE → (raw : RawFile) → IsRawOf file.now raw
+        → lines.new ≡ map (line_of raw) frames.now ++ drop (length frames.now) lines.old }
     ensures refused { result ≡ REFUSED → IsAccepted (FileFaults file.now) → ⊥ }
     ensures no_room { (result ≡ USAGE) ↔ (length lines.old < length frames.now) }
-    ensures too_long { (result ≡ TOO_LONG) ↔ (length frames.now ≤ length lines.old) × (MAX_FILE_BYTES < length file.now) }
+    ensures too_long { (result ≡ TOO_LONG) ↔ (length frames.now ≤ length lines.old)
+        × (MAX_FILE_BYTES < length file.now) }
     ensures kept { result ≢ DONE → lines.new ≡ lines.old }
 {
     if lines.len() < frames.len() {
@@ -123,7 +131,8 @@ fn put_lines<L: Ledger>(
     steps: &mut Steps<L>,
 )
     requires { length frames.now ≤ length lines.old }
-    ensures { lines.new ≡ map (line_of (raw_file file.now)) frames.now ++ drop (length frames.now) lines.old }
+    ensures { lines.new ≡ map (line_of (raw_file file.now)) frames.now
+        ++ drop (length frames.now) lines.old }
 {
     let mut known = KnownPoints::new(alloc);
     for (i, frame) in frames.iter().enumerate() {
@@ -177,7 +186,15 @@ fn of_point(point: Point) -> PpdbLine
 
 /// A line of this kind, all else 0.
 fn bare(kind: u32) -> PpdbLine
-    ensures { result ≡ record { kind = kind; document = 0; offset = 0; start_line = 0; start_column = 0; end_line = 0; end_column = 0 } }
+    ensures { result ≡ record {
+      kind = kind;
+      document = 0;
+      offset = 0;
+      start_line = 0;
+      start_column = 0;
+      end_line = 0;
+      end_column = 0;
+    } }
 {
     PpdbLine {
         kind,

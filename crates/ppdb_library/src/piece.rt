@@ -1,7 +1,8 @@
 // The files of a call, each a piece of one list of bytes.
 ghost use Rattle.std.specs.Prelude.{◌≡◌, ◌≤◌, ◌↔◌, IsTrue, length, option_copied};
 ghost use Rattle.std.specs.FinMap.{get};
-ghost use Rattle.ppdb_library.specs.Pieces.{AreApart, AreWithin, EndsAt, contents_in, end_of, files_in, name_in};
+ghost use Rattle.ppdb_library.specs.Pieces.{AreApart, AreWithin, EndsAt, contents_in, end_of};
+ghost use Rattle.ppdb_library.specs.Pieces.{files_in, name_in};
 
 /// Where a file lies among the bytes of a call: its name, and right after it what the file holds.
 #[repr(C)]

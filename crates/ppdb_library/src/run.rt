@@ -12,9 +12,10 @@ use crate::there::there;
 use ppdb_base::CounterPermit;
 use std::alloc::Global;
 
-/// Runs the command of the words over the files, and puts its text and the file that it makes. The answer is the status of the program.
-/// It is 2, and nothing is put, where the words are no text, the last of them is not ended, or the pieces do not lie one after the
-/// other among the bytes of the files.
+/// Runs the command of the words over the files, and puts its text and the file that it makes. The
+/// answer is the status of the program. It is 2, and nothing is put, where the words are no text,
+/// the last of them is not ended, or the pieces do not lie one after the other among the bytes of
+/// the files.
 #[unsafe(no_mangle)]
 pub extern "C" fn ppdb_run(
     alloc: Global,
@@ -28,15 +29,22 @@ pub extern "C" fn ppdb_run(
     made_needed: &mut usize,
 ) -> u8
     // What is given is the outcome of the words over the files, unless there was no memory left.
-    ensures due { OnCall words.now files.now pieces.now (λ told all. OnOutcome told (Some all) (λ due.
-        (result ≡ MEMORY) ⊎ GivesOutcome due result text_needed.new made_needed.new text.old text.new made.old made.new)) }
-    ensures no_memory { result ≡ MEMORY → GivesNothing text_needed.new made_needed.new text.old text.new made.old made.new }
-    ensures no_call { NoCall words.now files.now pieces.now → (result ≡ USAGE) × GivesNothing text_needed.new made_needed.new text.old text.new made.old made.new }
+    ensures due { OnCall words.now files.now pieces.now
+        (λ reported all. OnOutcome reported (Some all) (λ due.
+        (result ≡ MEMORY) ⊎ GivesOutcome due result text_needed.new made_needed.new text.old
+        text.new made.old made.new)) }
+    ensures no_memory { result ≡ MEMORY
+        → GivesNothing text_needed.new made_needed.new text.old text.new made.old made.new }
+    ensures no_call { NoCall words.now files.now pieces.now → (result ≡ USAGE)
+        × GivesNothing text_needed.new made_needed.new text.old text.new made.old made.new }
 
     // What is made is valid, is made again of itself, and means what the files meant.
-    ensures accepted { result ≡ DONE → OnCall words.now files.now pieces.now (λ told all. OnAsked told (Some all) WritesValid) }
-    ensures again { result ≡ DONE → OnCall words.now files.now pieces.now (λ told all. OnAsked told (Some all) WritesAgain) }
-    ensures means { result ≡ DONE → OnCall words.now files.now pieces.now (λ told all. OnAsked told (Some all) (WritesMeaning (Some all))) }
+    ensures accepted { result ≡ DONE → OnCall words.now files.now pieces.now
+        (λ reported all. OnAsked reported (Some all) WritesValid) }
+    ensures again { result ≡ DONE → OnCall words.now files.now pieces.now
+        (λ reported all. OnAsked reported (Some all) WritesAgain) }
+    ensures means { result ≡ DONE → OnCall words.now files.now pieces.now
+        (λ reported all. OnAsked reported (Some all) (WritesMeaning (Some all))) }
 {
     match answer(alloc, permit, there(words), there(files), there(pieces)) {
         Ok(ended) => {

@@ -73,7 +73,8 @@ fn at(method: u32, offset: u32) -> PpdbFrame {
     PpdbFrame { method, offset }
 }
 
-/// The status of a command over the file `P` of three bytes, and how much text and made file it has.
+/// The status of a command over the file `P` of three bytes, and how much text and made file it
+/// has.
 fn status_of(rt: &HostRuntime, words: &[u8], piece: PpdbPiece) -> (u8, usize, usize) {
     let mut room = [0; 64];
     let (mut text_needed, mut made_needed) = (9, 9);

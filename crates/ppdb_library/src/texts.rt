@@ -7,7 +7,8 @@ use crate::room::give;
 use crate::status::{DONE, USAGE};
 use ppdb_codes::{rule_sentence, status_text};
 
-/// Puts what a status means, in words: 0, or 2 where the number is no status of the program, and then the length is 0.
+/// Puts what a status means, in words: 0, or 2 where the number is no status of the program, and
+/// then the length is 0.
 #[unsafe(no_mangle)]
 pub extern "C" fn ppdb_status_text(status: u8, text: &mut [u8], text_needed: &mut usize) -> u8
     ensures { GivesText (slice_get status_texts status) result text_needed.new text.old text.new }
@@ -15,8 +16,8 @@ pub extern "C" fn ppdb_status_text(status: u8, text: &mut [u8], text_needed: &mu
     give_text(status_text(status), text, text_needed)
 }
 
-/// Puts the sentence of a rule, 1 for F1, that the program prints where a file breaks it: 0, or 2 where no rule has the number, and then
-/// the length is 0.
+/// Puts the sentence of a rule, 1 for F1, that the program prints where a file breaks it: 0, or 2
+/// where no rule has the number, and then the length is 0.
 #[unsafe(no_mangle)]
 pub extern "C" fn ppdb_fault_text(code: u8, text: &mut [u8], text_needed: &mut usize) -> u8
     ensures { GivesText (numbered rule_texts code) result text_needed.new text.old text.new }

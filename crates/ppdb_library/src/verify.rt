@@ -3,7 +3,7 @@ ghost use Rattle.std.specs.Prelude.{◌≡◌, ◌≢◌, ◌<◌, ◌↔◌, �
 ghost use Rattle.ppdb_base.specs.First.{IsAccepted, IsFirst};
 ghost use Rattle.ppdb_base.specs.declared.fault.Fault.{Fault};
 ghost use Rattle.ppdb_verify.specs.Files.{FileFaults};
-ghost use Rattle.ppdb_library.specs.Faults.{told_fault};
+ghost use Rattle.ppdb_library.specs.Faults.{reported_fault};
 
 use crate::fault::{PpdbFault, tell};
 use crate::status::{DONE, MEMORY, REFUSED, TOO_LONG};
@@ -15,8 +15,8 @@ use std::alloc::Global;
 use std::marker::Brand;
 use std::sync::ledger::{Blank, Ledger};
 
-/// Verifies a file: 0 where it breaks no rule; 1 where it breaks some, and then the first fault is put; 5 where there was no memory
-/// left; 7 where the file is longer than 134217728 bytes.
+/// Verifies a file: 0 where it breaks no rule; 1 where it breaks some, and then the first fault is
+/// put; 5 where there was no memory left; 7 where the file is longer than 134217728 bytes.
 #[unsafe(no_mangle)]
 pub extern "C" fn ppdb_verify(
     alloc: Global,
@@ -24,9 +24,11 @@ pub extern "C" fn ppdb_verify(
     file: &[u8],
     fault: &mut PpdbFault,
 ) -> u8
-    ensures statuses { (result ≡ DONE) ⊎ (result ≡ REFUSED) ⊎ (result ≡ MEMORY) ⊎ (result ≡ TOO_LONG) }
+    ensures statuses { (result ≡ DONE) ⊎ (result ≡ REFUSED) ⊎ (result ≡ MEMORY)
+        ⊎ (result ≡ TOO_LONG) }
     ensures accepted { result ≡ DONE → IsAccepted (FileFaults file.now) }
-    ensures refused { result ≡ REFUSED → (first : Fault) × IsFirst (FileFaults file.now) first × (fault.new ≡ told_fault first) }
+    ensures refused { result ≡ REFUSED → (first : Fault) × IsFirst (FileFaults file.now) first
+        × (fault.new ≡ reported_fault first) }
     ensures too_long { (result ≡ TOO_LONG) ↔ (MAX_FILE_BYTES < length file.now) }
     ensures kept { result ≢ REFUSED → fault.new ≡ fault.old }
 {
@@ -42,9 +44,11 @@ fn verified<L: Ledger>(
     steps: Blank,
 ) -> u8
     requires steps { (steps.name ≡ L.name) × (steps.parts ≡ L.parts) × (0 < L.parts) }
-    ensures statuses { (result ≡ DONE) ⊎ (result ≡ REFUSED) ⊎ (result ≡ MEMORY) ⊎ (result ≡ TOO_LONG) }
+    ensures statuses { (result ≡ DONE) ⊎ (result ≡ REFUSED) ⊎ (result ≡ MEMORY)
+        ⊎ (result ≡ TOO_LONG) }
     ensures accepted { result ≡ DONE → IsAccepted (FileFaults file.now) }
-    ensures refused { result ≡ REFUSED → (first : Fault) × IsFirst (FileFaults file.now) first × (fault.new ≡ told_fault first) }
+    ensures refused { result ≡ REFUSED → (first : Fault) × IsFirst (FileFaults file.now) first
+        × (fault.new ≡ reported_fault first) }
     ensures too_long { (result ≡ TOO_LONG) ↔ (MAX_FILE_BYTES < length file.now) }
     ensures kept { result ≢ REFUSED → fault.new ≡ fault.old }
 {

@@ -7,10 +7,10 @@ use Rattle.ppdb_base.specs.declared.offsets.Run.{Run}
 use Rattle.std.specs.BTreeMap as tree
 use Rattle.std.specs.{BTreeMap.{BTreeMap, is_at}, Ordering.{nat_cmp}, Cmp.Lexicographic.{slice_cmp}}
 use Rattle.ppdb_maps.specs.{Map.{MethodLine, pair_cmp}, BitSets.{has_number, has_row}, Gathered.{row_key, cross_key, gone_key, method_key, signature_key, same_pair}}
-use Rattle.ppdb_maps.specs.Before.{told, methods_of, follows_method, row_said, cross_said, gone_said, slot_said, signature_said, document_said, slot_in, document_in}
-use Rattle.ppdb_maps.specs.{Places.{Place, place, is_place, row_place, slot_place, signature_place, document_place, method_place}, Rules.{kind_of, Breaks}}
-use Rattle.ppdb_maps.specs.{Rules.{BeginsEarly, EndsBeyond, second, alone, run_alone, run_early, run_long, names_dropped}, Runs.{RefusesRun}, Drafts.{Gathers}}
-use Rattle.ppdb_maps.specs.{Drafts.{Holds, HoldsOthers, HoldsMethods, HasLines, IsClosed, RefusedBy, AddsLine}, declared.draft.Draft.{Draft}}
+use Rattle.ppdb_maps.specs.Before.{reported, methods_of, follows_method, row_said, cross_said, gone_said, slot_said, signature_said, document_said, slot_in}
+use Rattle.ppdb_maps.specs.{Before.{document_in}, Places.{Place, place, is_place, row_place, slot_place, signature_place, document_place, method_place}}
+use Rattle.ppdb_maps.specs.{Rules.{kind_of, Breaks, BeginsEarly, EndsBeyond, second, alone, run_alone, run_early, run_long, names_dropped}, Runs.{RefusesRun}}
+use Rattle.ppdb_maps.specs.{Drafts.{Gathers, Holds, HoldsOthers, HoldsMethods, HasLines, IsClosed, RefusedBy, AddsLine}, declared.draft.Draft.{Draft}}
 use Rattle.ppdb_maps.specs.declared.{refusal.Refusal.{Refusal}, refusal.Refusal.TheVariants.{Breaks as refused, Memory}, line.Line.{Line}}
 use Rattle.ppdb_maps.specs.declared.{line.Line.TheVariants.{Row, Cross, Gone, Method, Kept, Slot, Signature, Document, Link, Shares}, rule.Rule.{Rule}}
 use Rattle.ppdb_maps.specs.declared.{rule.Rule.TheVariants.{Repeated, NoMethod}, bit_set.BitSet.{BitSet}, bit_set.RowSet.{RowSet}, entries.RowLine.{RowLine}}
@@ -60,31 +60,33 @@ module _ {K X V : Type 0} (same : K → K → Bool) (equal : IsEquivalence same)
 -- ---- one line more, of any kind
 
 module _ (before : List Line) (line : Line) (once : Breaks before Repeated line → ⊥) where
-  pub new : (at : Place) → is_place at (place line) ≡ true → told before at ≡ None
-  new at hit = none_there (told before at) (λ some. once (second at (placed at (place line) hit) some))
+  pub new : (at : Place) → is_place at (place line) ≡ true → reported before at ≡ None
+  new at hit = none_there (reported before at) (λ some. once (second at (placed at (place line) hit) some))
 
   -- what it does not say is said as before
   pub other_said : {A : Type 0} (said : Line → Option A) → said line ≡ None → (at : Place)
-      → option_and_then said (told (line ∷ before) at) ≡ option_and_then said (told before at)
+      → option_and_then said (reported (line ∷ before) at) ≡ option_and_then said (reported before at)
   other_said said none at = of (is_place at (place line)) (new at)
     where
-      of : (b : Bool) → (b ≡ true → told before at ≡ None) → option_and_then said (cond b (Some line) (told before at)) ≡ option_and_then said (told before at)
+      of : (b : Bool) → (b ≡ true → reported before at ≡ None)
+          → option_and_then said (cond b (Some line) (reported before at)) ≡ option_and_then said (reported before at)
       of true fresh = none ∙ sym (ap (option_and_then said) (fresh refl))
       of false fresh = refl
 
   -- and a list that answers by it answers so still
   module _ {K X V : Type 0} (same : K → K → Bool) (key : X → K) (value : X → V) (at : K → Place) (said : Line → Option V) (xs : List X)
-      (old : Gathers same key value (λ k. option_and_then said (told before (at k))) xs) where
-    pub stays : said line ≡ None → Gathers same key value (λ k. option_and_then said (told (line ∷ before) (at k))) xs
+      (old : Gathers same key value (λ k. option_and_then said (reported before (at k))) xs) where
+    pub stays : said line ≡ None → Gathers same key value (λ k. option_and_then said (reported (line ∷ before) (at k))) xs
     stays none = record { found = λ k. old.found k ∙ sym (other_said said none (at k)); once = old.once }
 
     -- a list with an item of what it says answers by it too
     pub adds : (ys : List X) (x : X) → IsEquivalence same → ((k : K) → same (key x) k ≡ true → key x ≡ k) → ys ≡ xs ++ x ∷ [] → said line ≡ Some (value x)
-        → ((k : K) → is_place (at k) (place line) ≡ same (key x) k) → Gathers same key value (λ k. option_and_then said (told (line ∷ before) (at k))) ys
+        → ((k : K) → is_place (at k) (place line) ≡ same (key x) k) → Gathers same key value (λ k. option_and_then said (reported (line ∷ before) (at k))) ys
     adds ys x equal exact pushes is hits =
-        pushed same equal key value (λ k. option_and_then said (told before (at k))) (λ k. option_and_then said (told (line ∷ before) (at k))) xs ys x old pushes
+        pushed same equal key value (λ k. option_and_then said (reported before (at k)))
+        (λ k. option_and_then said (reported (line ∷ before) (at k))) xs ys x old pushes
         (ap (option_and_then said) (new (at (key x)) (hits (key x) ∙ equal.refl (key x)))) exact
-        (λ k. ap (λ b. option_and_then said (cond b (Some line) (told before (at k)))) (hits k) ∙ of (same (key x) k) (told before (at k)))
+        (λ k. ap (λ b. option_and_then said (cond b (Some line) (reported before (at k)))) (hits k) ∙ of (same (key x) k) (reported before (at k)))
       where
         of : (b : Bool) (o : Option Line) → option_and_then said (cond b (Some line) o) ≡ cond b (Some (value x)) (option_and_then said o)
         of b o = search rules
@@ -126,8 +128,8 @@ module _ (before : List Line) (draft : Draft) (closed : IsClosed before draft) w
       (pair_is (row_key x)) pushes refl (λ k. refl) in
       let b = stays before line once same_pair cross_key (λ r. r) (λ k. row_place k.0 k.1) cross_said draft.crossed.items here.crossed refl in
       let c = stays before line once same_pair gone_key (λ r. r) (λ k. row_place k.0 k.1) gone_said draft.gone.items here.gone refl in
-      let d : (a b : ℕ) → has_row moved a b ≡ is_some (told (line ∷ before) (row_place a b)) =
-      λ a b. marks a b ∙ there_now (nat_eq x.table a && nat_eq x.old b) (has_row draft.moved a b) line (told before (row_place a b)) (here.moved a b) in
+      let d : (a b : ℕ) → has_row moved a b ≡ is_some (reported (line ∷ before) (row_place a b)) =
+      λ a b. marks a b ∙ there_now (nat_eq x.table a && nat_eq x.old b) (has_row draft.moved a b) line (reported before (row_place a b)) (here.moved a b) in
       closed_holds before line (record draft { rows = rows; moved = moved }) closed.closed (search rules) (closed.methods, refl)
 
   pub cross_put : (crossed : Vec CrossLine Global) (moved : RowSet) (x : CrossLine) → (Breaks before Repeated (Cross x) → ⊥)
@@ -141,8 +143,8 @@ module _ (before : List Line) (draft : Draft) (closed : IsClosed before draft) w
       let b = adds before line once same_pair cross_key (λ r. r) (λ k. row_place k.0 k.1) cross_said draft.crossed.items here.crossed crossed.items x pair_equal
       (pair_is (cross_key x)) pushes refl (λ k. refl) in
       let c = stays before line once same_pair gone_key (λ r. r) (λ k. row_place k.0 k.1) gone_said draft.gone.items here.gone refl in
-      let d : (a b : ℕ) → has_row moved a b ≡ is_some (told (line ∷ before) (row_place a b)) =
-      λ a b. marks a b ∙ there_now (nat_eq x.table a && nat_eq x.old b) (has_row draft.moved a b) line (told before (row_place a b)) (here.moved a b) in
+      let d : (a b : ℕ) → has_row moved a b ≡ is_some (reported (line ∷ before) (row_place a b)) =
+      λ a b. marks a b ∙ there_now (nat_eq x.table a && nat_eq x.old b) (has_row draft.moved a b) line (reported before (row_place a b)) (here.moved a b) in
       closed_holds before line (record draft { crossed = crossed; moved = moved }) closed.closed (search rules) (closed.methods, refl)
 
   pub gone_put : (gone : Vec GoneLine Global) (moved : RowSet) (x : GoneLine) → (Breaks before Repeated (Gone x.table x.old) → ⊥)
@@ -156,8 +158,8 @@ module _ (before : List Line) (draft : Draft) (closed : IsClosed before draft) w
       let b = stays before line once same_pair cross_key (λ r. r) (λ k. row_place k.0 k.1) cross_said draft.crossed.items here.crossed refl in
       let c = adds before line once same_pair gone_key (λ r. r) (λ k. row_place k.0 k.1) gone_said draft.gone.items here.gone gone.items x pair_equal
       (pair_is (gone_key x)) pushes refl (λ k. refl) in
-      let d : (a b : ℕ) → has_row moved a b ≡ is_some (told (line ∷ before) (row_place a b)) =
-      λ a b. marks a b ∙ there_now (nat_eq x.table a && nat_eq x.old b) (has_row draft.moved a b) line (told before (row_place a b)) (here.moved a b) in
+      let d : (a b : ℕ) → has_row moved a b ≡ is_some (reported (line ∷ before) (row_place a b)) =
+      λ a b. marks a b ∙ there_now (nat_eq x.table a && nat_eq x.old b) (has_row draft.moved a b) line (reported before (row_place a b)) (here.moved a b) in
       closed_holds before line (record draft { gone = gone; moved = moved }) closed.closed (search rules) (closed.methods, refl)
 
   pub signature_put : (signatures : Vec SignatureImage Global) (signed : BitSet) (x : SignatureImage) → (Breaks before Repeated (Signature x.method x.new) → ⊥)
@@ -168,8 +170,8 @@ module _ (before : List Line) (draft : Draft) (closed : IsClosed before draft) w
       let here = closed.others in
       let a = adds before line once nat_eq signature_key (λ s. s.new) signature_place signature_said draft.signatures.items here.signatures signatures.items x
       nat_eq_equiv (same_number x.method) pushes refl (λ k. refl) in
-      let b : (k : ℕ) → has_number signed k ≡ is_some (told (line ∷ before) (signature_place k)) =
-      λ k. marks k ∙ there_now (nat_eq x.method k) (has_number draft.signed k) line (told before (signature_place k)) (here.signed k) in
+      let b : (k : ℕ) → has_number signed k ≡ is_some (reported (line ∷ before) (signature_place k)) =
+      λ k. marks k ∙ there_now (nat_eq x.method k) (has_number draft.signed k) line (reported before (signature_place k)) (here.signed k) in
       closed_holds before line (record draft { signatures = signatures; signed = signed }) closed.closed (search rules) (closed.methods, refl)
 
   pub slot_put : (slots : BTreeMap (ℕ × ℕ) ℕ) (m o n : ℕ)
@@ -178,7 +180,7 @@ module _ (before : List Line) (draft : Draft) (closed : IsClosed before draft) w
   slot_put slots m o n updates =
       let here = closed.others in
       let a : (x y : ℕ) → tree.get pair_cmp slots (x, y) ≡ slot_in (Slot m o n ∷ before) x y =
-      λ x y. updates (x, y) ∙ (rw (at_pair m o x y, here.slots x y) (of (nat_eq m x && nat_eq o y) (told before (slot_place x y)))) in
+      λ x y. updates (x, y) ∙ (rw (at_pair m o x y, here.slots x y) (of (nat_eq m x && nat_eq o y) (reported before (slot_place x y)))) in
       closed_holds before (Slot m o n) (record draft { slots = slots }) closed.closed (search rules) (closed.methods, refl)
     where
       of : (b : Bool) (l : Option Line) → cond b (Some n) (option_and_then slot_said l) ≡ option_and_then slot_said (cond b (Some (Slot m o n)) l)
@@ -191,7 +193,8 @@ module _ (before : List Line) (draft : Draft) (closed : IsClosed before draft) w
   document_put documents d updates =
       let here = closed.others in
       let a : (name : List ℕ) → tree.get_by (λ key. slice_cmp nat_cmp name key.items) documents ≡ document_in (Document d ∷ before) name =
-      λ name. updates name ∙ (ap (cond (bytes_eq d.old name) (Some d.new)) (here.documents name) ∙ of (bytes_eq d.old name) (told before (document_place name))) in
+      λ name.
+      updates name ∙ (ap (cond (bytes_eq d.old name) (Some d.new)) (here.documents name) ∙ of (bytes_eq d.old name) (reported before (document_place name))) in
       closed_holds before (Document d) (record draft { documents = documents }) closed.closed (search rules) (closed.methods, refl)
     where
       of : (b : Bool) (l : Option Line) → cond b (Some d.new) (option_and_then document_said l) ≡ option_and_then document_said (cond b (Some (Document d)) l)

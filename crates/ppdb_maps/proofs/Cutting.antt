@@ -5,12 +5,13 @@ use Rattle.std.{specs.Str.Lines.{lines, lines_of_parts, strip_carriage_return}, 
 use Rattle.std.{proofs.lemmas.List.Quantifiers.{position-Some}, proofs.lemmas.Bool.{cases_lt, lt-ltb, ne_eqb, false≢true}, specs.Option.{is_some}}
 use Rattle.ppdb_maps.specs.Cuts.{IsLineOf, parts_at}
 
-parts_at_place : (mark : ℕ) (xs : List ℕ) (i : ℕ) → i < length xs → (get_or xs i 0 == mark) ≡ true → ((k : ℕ) → k < i → (get_or xs k 0 == mark) ≡ false)
-    → parts_at mark xs ≡ take i xs ∷ parts_at mark (drop (suc i) xs)
-parts_at_place mark [] i within here before = absurd (omega arith)
-parts_at_place mark (x ∷ xs) zero within here before = rw here refl
-parts_at_place mark (x ∷ xs) (suc i) within here before =
-    let rest = parts_at_place mark xs i (omega arith) here (λ k lt. before (suc k) (omega arith)) in
+parts_at_place : (separator : ℕ) (xs : List ℕ) (i : ℕ) → i < length xs → (get_or xs i 0 == separator) ≡ true
+    → ((k : ℕ) → k < i → (get_or xs k 0 == separator) ≡ false)
+    → parts_at separator xs ≡ take i xs ∷ parts_at separator (drop (suc i) xs)
+parts_at_place separator [] i within here before = absurd (omega arith)
+parts_at_place separator (x ∷ xs) zero within here before = rw here refl
+parts_at_place separator (x ∷ xs) (suc i) within here before =
+    let rest = parts_at_place separator xs i (omega arith) here (λ k lt. before (suc k) (omega arith)) in
     let no = before 0 (omega arith) in
     rw (no, rest) refl
 
@@ -19,53 +20,54 @@ pub end_of_slice : (j : ℕ) (xs : List ℕ) → take (length xs - j) (drop j xs
 end_of_slice j xs = rw (← length-drop j xs) (take-length (drop j xs))
 
 -- the parts where the mark is found
-pub parts_found : (mark : ℕ) (xs : List ℕ) (i : ℕ) → position (λ b. b == mark) xs ≡ Some i
-    → (parts_at mark xs ≡ take i xs ∷ parts_at mark (take (length xs - (i + 1)) (drop (i + 1) xs)))
+pub parts_found : (separator : ℕ) (xs : List ℕ) (i : ℕ) → position (λ b. b == separator) xs ≡ Some i
+    → (parts_at separator xs ≡ take i xs ∷ parts_at separator (take (length xs - (i + 1)) (drop (i + 1) xs)))
     × (length (take (length xs - (i + 1)) (drop (i + 1) xs)) < length xs)
-parts_found mark xs i found =
-    let there = position-Some (λ b. b == mark) xs i 0 found in
+parts_found separator xs i found =
+    let there = position-Some (λ b. b == separator) xs i 0 found in
     rw (end_of_slice (i + 1) xs) (
-      rw add-one (parts_at_place mark xs i there.0 there.1 there.2),
+      rw add-one (parts_at_place separator xs i there.0 there.1 there.2),
       (let h = length-drop (i + 1) xs in let within : i < length xs = there.0 in omega (arith, h, within)),
     )
 
-none_before : (mark : ℕ) (xs : List ℕ) → length xs ≤ position_or_len (λ b. b == mark) xs → parts_at mark xs ≡ xs ∷ []
-none_before mark [] far = refl
-none_before mark (x ∷ xs) far = of (x == mark) refl (λ more. none_before mark xs more)
+none_before : (separator : ℕ) (xs : List ℕ) → length xs ≤ position_or_len (λ b. b == separator) xs → parts_at separator xs ≡ xs ∷ []
+none_before separator [] far = refl
+none_before separator (x ∷ xs) far = of (x == separator) refl (λ more. none_before separator xs more)
   where
-    of : (b : Bool) → (x == mark) ≡ b → (length xs ≤ position_or_len (λ b. b == mark) xs → parts_at mark xs ≡ xs ∷ []) → parts_at mark (x ∷ xs) ≡ (x ∷ xs) ∷ []
+    of : (b : Bool) → (x == separator) ≡ b → (length xs ≤ position_or_len (λ b. b == separator) xs → parts_at separator xs ≡ xs ∷ [])
+        → parts_at separator (x ∷ xs) ≡ (x ∷ xs) ∷ []
     of true is before = let here : length (x ∷ xs) ≤ 0 = rw is at far in absurd (omega (arith, here))
     of false is before =
-        let more : suc (length xs) ≤ 1 + position_or_len (λ b. b == mark) xs = rw is at far in
+        let more : suc (length xs) ≤ 1 + position_or_len (λ b. b == separator) xs = rw is at far in
         let rest = before (omega (arith, more)) in
         rw (is, rest) refl
 
 -- the parts where it is not
-pub parts_none : (mark : ℕ) (xs : List ℕ) → position (λ b. b == mark) xs ≡ None → parts_at mark xs ≡ xs ∷ []
-parts_none mark xs none = elim (cases_lt (position_or_len (λ b. b == mark) xs) (length xs)) [
-  | inl less ↦ absurd (clash (rw (lt-ltb (position_or_len (λ b. b == mark) xs) (length xs) less) at none))
-  | inr far ↦ none_before mark xs far
+pub parts_none : (separator : ℕ) (xs : List ℕ) → position (λ b. b == separator) xs ≡ None → parts_at separator xs ≡ xs ∷ []
+parts_none separator xs none = elim (cases_lt (position_or_len (λ b. b == separator) xs) (length xs)) [
+  | inl less ↦ absurd (clash (rw (lt-ltb (position_or_len (λ b. b == separator) xs) (length xs) less) at none))
+  | inr far ↦ none_before separator xs far
 ]
   where
-    clash : Some (position_or_len (λ b. b == mark) xs) ≡ None → ⊥
+    clash : Some (position_or_len (λ b. b == separator) xs) ≡ None → ⊥
     clash e = cc
 
-lines_after : (line : List ℕ) (mark_parts : List (List ℕ)) (part : List ℕ) (parts : List (List ℕ)) → mark_parts ≡ part ∷ parts
-    → lines_of_parts (line ∷ mark_parts) ≡ strip_carriage_return line ∷ lines_of_parts mark_parts
-lines_after line mark_parts part parts is = rw is refl
+lines_after : (line : List ℕ) (separator_parts : List (List ℕ)) (part : List ℕ) (parts : List (List ℕ)) → separator_parts ≡ part ∷ parts
+    → lines_of_parts (line ∷ separator_parts) ≡ strip_carriage_return line ∷ lines_of_parts separator_parts
+lines_after line separator_parts part parts is = rw is refl
 
 -- each split has a part
-some_part : (mark : ℕ) (xs : List ℕ) → (part : List ℕ) × ((parts : List (List ℕ)) × (parts_at mark xs ≡ part ∷ parts))
-some_part mark [] = ([], ([], refl))
-some_part mark (x ∷ xs) = of (x == mark) refl
+some_part : (separator : ℕ) (xs : List ℕ) → (part : List ℕ) × ((parts : List (List ℕ)) × (parts_at separator xs ≡ part ∷ parts))
+some_part separator [] = ([], ([], refl))
+some_part separator (x ∷ xs) = of (x == separator) refl
   where
     onto : (parts : List (List ℕ)) → (part : List ℕ) × ((more : List (List ℕ)) × (onto_first x parts ≡ part ∷ more))
     onto [] = (x ∷ [], ([], refl))
     onto (p ∷ ps) = (x ∷ p, (ps, refl))
 
-    of : (b : Bool) → (x == mark) ≡ b → (part : List ℕ) × ((parts : List (List ℕ)) × (parts_at mark (x ∷ xs) ≡ part ∷ parts))
-    of true is = ([], (parts_at mark xs, rw is refl))
-    of false is = let o = onto (parts_at mark xs) in (o.0, (o.1.0, rw is o.1.1))
+    of : (b : Bool) → (x == separator) ≡ b → (part : List ℕ) × ((parts : List (List ℕ)) × (parts_at separator (x ∷ xs) ≡ part ∷ parts))
+    of true is = ([], (parts_at separator xs, rw is refl))
+    of false is = let o = onto (parts_at separator xs) in (o.0, (o.1.0, rw is o.1.1))
 
 -- the first line, where an LF ends it
 pub line_ended : (text line rest : List ℕ) → parts_at 10 text ≡ line ∷ parts_at 10 rest → length rest < length text

@@ -2,13 +2,13 @@
 use Rattle.std.proofs.Common.{inl, inr, ◌⊎◌, ℕ, ◌≡◌, ◌<◌, ◌≤◌, ◌++◌, Bool, true, false, cond, List, [], ◌∷◌, Option, Some, None, refl, sym, ap, ◌∙◌, subst, arith}
 use Rattle.std.{proofs.Common.{◌≢◌, rules}, specs.Prelude.{nat_eq, is_some}, specs.List.{find}}
 use Rattle.ppdb_base.specs.{declared.offsets.Run.{Run}, Offsets.{Rise, lined}, declared.limits.TheConstants.{MAX_ROWS, MAX_OFFSET}}
-use Rattle.ppdb_maps.specs.{Before.{told, method_in, methods_of, with_run}, Forms.{AreBytes, MAX_SLOT, Values, Tells, silent, told as tells, rows_line, row_line}}
-use Rattle.ppdb_maps.specs.Forms.{method_line, run_line, drop_line, slots_line, slot_line, signature_line, document_line, link_line, cross_line, gone_line}
+use Rattle.ppdb_maps.specs.{Before.{reported, method_in, methods_of, with_run}, Forms.{AreBytes, MAX_SLOT, Values, Tells, silent, reported as tells, rows_line}}
+use Rattle.ppdb_maps.specs.Forms.{row_line, method_line, run_line, drop_line, slots_line, slot_line, signature_line, document_line, link_line, cross_line, gone_line}
 use Rattle.ppdb_maps.specs.{Forms.{shares_line, Crosses}, Map.{MethodLine}, Places.{Place, place, needs, names, named_at, is_place, drop_place}, Readable.{IsRow}}
 use Rattle.ppdb_maps.specs.{Rules.{Breaks, alone, run_early, run_long, drop_named, names_dropped, by_lines}, Text.{Read, start, further}, declared.line.Form.{Form}}
 use Rattle.ppdb_maps.specs.declared.line.{Line.{Line}, Line.TheVariants.{Silent, Rows, Row, Cross, Gone, Method, Kept, Dropped, Slots, Slot, Signature, Document}}
 use Rattle.ppdb_maps.specs.declared.{line.Line.TheVariants.{Link, Shares}, rule.Rule.{Rule}, rule.Rule.TheVariants.{Undeclared, Overlap, Beyond, NamesDropped}}
-use Rattle.ppdb_maps.proofs.{Rising.{rise_with, not_less}, Telling.{told_at, dropped}}
+use Rattle.ppdb_maps.proofs.{Rising.{rise_with, not_less}, Telling.{reported_at, dropped}}
 
 -- the numbers of a line
 abbrev pub InRange : Line → Type 0
@@ -59,7 +59,7 @@ FitsLine line =
 
 -- each line fits among all, and so do the methods
 pub record Fits (said : List Line) : Type 0 where
-  pub lines : (at : Place) (line : Line) → told said at ≡ Some line → IsPlaced (told said) line
+  pub lines : (at : Place) (line : Line) → reported said at ≡ Some line → IsPlaced (reported said) line
   pub methods : (m : ℕ) (line : MethodLine) → method_in said m ≡ Some line → FitsLine line
 
 -- ---- a line that breaks no rule, among those before it
@@ -85,31 +85,32 @@ answer_from b x y o is = search rules
 
 module _ (before : List Line) (line : Line) (fits : Fits before) (range : InRange line) (keeps : (rule : Rule) → Breaks before rule line → ⊥) where
   -- it drops no method that a line before it names, nor one that it names itself
-  apart : (at : Place) (l : Line) (m : ℕ) → told before at ≡ Some l → names l ≡ Some m → is_place (drop_place m) (place line) ≡ true → ⊥
+  apart : (at : Place) (l : Line) (m : ℕ) → reported before at ≡ Some l → names l ≡ Some m → is_place (drop_place m) (place line) ≡ true → ⊥
   apart at l m is named hit =
       keeps NamesDropped (subst (λ x. Breaks before NamesDropped x) (sym (dropped m line hit))
-      (drop_named (record { at = at; named = named_there at l m (told_at before at l is) named; there = ap is_some is })))
+      (drop_named (record { at = at; named = named_there at l m (reported_at before at l is) named; there = ap is_some is })))
 
   not_own : (m : ℕ) → names line ≡ Some m → is_place (drop_place m) (place line) ≡ true → ⊥
   not_own m is hit = let e : None ≡ Some m = ap names (sym (dropped m line hit)) ∙ is in absurd (cc)
 
-  own_placed : IsPlaced (told (line ∷ before)) line
+  own_placed : IsPlaced (reported (line ∷ before)) line
   own_placed = record {
     range = range;
-    needed = λ at is. still_there (is_place at (place line)) line (told before at) (not_none (told before at) (λ absent. keeps Undeclared (alone at is absent)));
-    live = λ m is. still_none (is_place (drop_place m) (place line)) line (told before (drop_place m)) (not_own m is)
-        (none_there (told before (drop_place m)) (λ drop. keeps NamesDropped (names_dropped m is drop)));
+    needed =
+        λ at is. still_there (is_place at (place line)) line (reported before at) (not_none (reported before at) (λ absent. keeps Undeclared (alone at is absent)));
+    live = λ m is. still_none (is_place (drop_place m) (place line)) line (reported before (drop_place m)) (not_own m is)
+        (none_there (reported before (drop_place m)) (λ drop. keeps NamesDropped (names_dropped m is drop)));
   }
 
-  lines_placed : (at : Place) (l : Line) → told (line ∷ before) at ≡ Some l → IsPlaced (told (line ∷ before)) l
-  lines_placed at l is = elim (answer_from (is_place at (place line)) line l (told before at) is) [
-    | inl (hit, same) ↦ subst (λ x. IsPlaced (told (line ∷ before)) x) same own_placed
+  lines_placed : (at : Place) (l : Line) → reported (line ∷ before) at ≡ Some l → IsPlaced (reported (line ∷ before)) l
+  lines_placed at l is = elim (answer_from (is_place at (place line)) line l (reported before at) is) [
+    | inl (hit, same) ↦ subst (λ x. IsPlaced (reported (line ∷ before)) x) same own_placed
     | inr (miss, rest) ↦
         let h = fits.lines at l rest in
         record {
           range = h.range;
-          needed = λ p needed. still_there (is_place p (place line)) line (told before p) (h.needed p needed);
-          live = λ m named. still_none (is_place (drop_place m) (place line)) line (told before (drop_place m)) (apart at l m rest named) (h.live m named);
+          needed = λ p needed. still_there (is_place p (place line)) line (reported before p) (h.needed p needed);
+          live = λ m named. still_none (is_place (drop_place m) (place line)) line (reported before (drop_place m)) (apart at l m rest named) (h.live m named);
         }
   ]
 

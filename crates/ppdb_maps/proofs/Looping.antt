@@ -1,10 +1,10 @@
 -- Lines that are read one after another.
 use Rattle.std.proofs.Common.{rules, ℕ, ◌≡◌, ◌<◌, ◌+◌, ◌++◌, List, [], ◌∷◌, Result, Ok, Err, length, append_assoc, length-append, refl, sym, ap, ◌∙◌, subst, arith}
 use Rattle.std.specs.{Prelude.{MatchResult}, Str.Lines.{lines}}
-use Rattle.ppdb_maps.specs.Forms.{Tells, Values, silent, told, run_line, rows_line, row_line, method_line, drop_line, slots_line, slot_line, signature_line, IsHead}
-use Rattle.ppdb_maps.specs.{Forms.{document_line, link_line, cross_line, gone_line, shares_line}, Cuts.{IsLineOf}, Rules.{by_lines}, Text.{Read, start, further}}
-use Rattle.ppdb_maps.specs.{Text.{Refused, at_line, at_head}, Drafts.{Holds, AddsLine, HasLength}, Loops.{TextAdded, TextRefused, IsAt, RefusedIn, RefusedAs}}
-use Rattle.ppdb_maps.specs.{Reading.{RefusedAlone}, declared.draft.Draft.{Draft}, declared.line.Form.{Form}, declared.line.Line.{Line}}
+use Rattle.ppdb_maps.specs.Forms.{Tells, Values, silent, reported, run_line, rows_line, row_line, method_line, drop_line, slots_line, slot_line, signature_line}
+use Rattle.ppdb_maps.specs.{Forms.{IsHead, document_line, link_line, cross_line, gone_line, shares_line}, Cuts.{IsLineOf}, Rules.{by_lines}, Text.{Read, start}}
+use Rattle.ppdb_maps.specs.{Text.{further, Refused, at_line, at_head}, Drafts.{Holds, AddsLine, HasLength}, Loops.{TextAdded, TextRefused, IsAt, RefusedIn}}
+use Rattle.ppdb_maps.specs.{Loops.{RefusedAs}, Reading.{RefusedAlone}, declared.draft.Draft.{Draft}, declared.line.Form.{Form}, declared.line.Line.{Line}}
 use Rattle.ppdb_maps.specs.declared.refusal.{Refusal.{Refusal}, Refusal.TheVariants.{Breaks as refused, Memory as no_memory}, MapError.{MapError}}
 use Rattle.ppdb_maps.{specs.declared.refusal.MapError.TheVariants.{Line as refused_line, Memory as out_of_memory}, proofs.Saying.{breaks_said}}
 
@@ -14,7 +14,7 @@ values_length form values line says = search rules
 
 pub tells_length : (version : ℕ) (text : List ℕ) (line : Line) → Tells version text line → HasLength line
 tells_length version text line (silent h) = tt
-tells_length version text line (told form loud has values) = values_length form has.values line values
+tells_length version text line (reported form loud has values) = values_length form has.values line values
 
 pub text_added : (version : ℕ) (before : List Line) (text : List ℕ) (line : Line) (result : Result (Unit {0}) Refusal) (new : Draft) → Tells version text line
     → AddsLine before line result new → MatchResult result (λ _. TextAdded version before text new) (TextRefused version before text)

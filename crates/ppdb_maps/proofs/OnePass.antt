@@ -5,9 +5,9 @@ use Rattle.std.specs.{List.{slice_index}, Fmt.{decimal}, Str.Lines.{strip_carria
 use Rattle.std.proofs.lemmas.{Bool.{ne_eqb}, List.Elements.{All-nil, All-cons}, List.Splits.{slice_split_at, slice_split_none}, Fmt.{digits_decimal}}
 use Rattle.std.proofs.lemmas.Str.Parse.{digit_from_value, digits_value_short}
 use Rattle.ppdb_base.specs.declared.{offsets.Run.{Run}, limits.TheConstants.{MAX_ROWS, MAX_OFFSET}}
-use Rattle.ppdb_maps.specs.{Cuts.{IsLineOf, parts_at}, Spelling.{MaySpell, IsHexDigit}, Words.{line_words, IsSilent}, Forms.{told, Values, run_line, method_line}}
-use Rattle.ppdb_maps.specs.{Forms.{row_line, cross_line, gone_line, signature_line, Crosses, name_of, words_in, since, IsTable}, OnePass.{IsNumberBefore}}
-use Rattle.ppdb_maps.specs.{OnePass.{IsRunBefore, IsLineBefore}, declared.entries.CrossLine.{CrossLine}, declared.line.Form.{Form}}
+use Rattle.ppdb_maps.specs.{Cuts.{IsLineOf, parts_at}, Spelling.{MaySpell, IsHexDigit}, Words.{line_words, IsSilent}, Forms.{reported, Values, run_line}}
+use Rattle.ppdb_maps.specs.Forms.{method_line, row_line, cross_line, gone_line, signature_line, Crosses, name_of, words_in, since, IsTable}
+use Rattle.ppdb_maps.specs.{OnePass.{IsNumberBefore, IsRunBefore, IsLineBefore}, declared.entries.CrossLine.{CrossLine}, declared.line.Form.{Form}}
 use Rattle.ppdb_maps.specs.declared.line.{Form.TheVariants.{OffsetRun, MethodSizes, RowMove, CrossMove, RowGone, MethodSignature}, Line.{Line}}
 use Rattle.ppdb_maps.{specs.declared.line.Line.TheVariants.{Method, Row, Cross, Gone, Signature, Kept}, proofs.Cutting.{line_ended, end_of_slice}}
 use Rattle.ppdb_maps.proofs.Numbers.{digits_of_table, numerals, decimal_of_digits}
@@ -51,10 +51,10 @@ from_append : (low : ℕ) (xs ys : List ℕ) → From low xs → From low ys →
 from_append low [] ys first second = second
 from_append low (x ∷ xs) ys first second = (first.0, from_append low xs ys first.1 second)
 
-unmarked : (mark low : ℕ) (xs : List ℕ) → mark < low → From low xs → All (λ b. (b == mark) ≡ false) xs
-unmarked mark low [] less from = All-nil (λ b. (b == mark) ≡ false)
-unmarked mark low (b ∷ bs) less from =
-    All-cons (λ x. (x == mark) ≡ false) b bs (ne_eqb b mark (λ e. omega (arith, e, less, from.0))) (unmarked mark low bs less from.1)
+unmarked : (separator low : ℕ) (xs : List ℕ) → separator < low → From low xs → All (λ b. (b == separator) ≡ false) xs
+unmarked separator low [] less from = All-nil (λ b. (b == separator) ≡ false)
+unmarked separator low (b ∷ bs) less from =
+    All-cons (λ x. (x == separator) ≡ false) b bs (ne_eqb b separator (λ e. omega (arith, e, less, from.0))) (unmarked separator low bs less from.1)
 
 -- a line of these words
 abbrev pub line_of : List ℕ → List (List ℕ) → List ℕ
@@ -125,7 +125,7 @@ line_there : (since_form : ℕ) (text w : List ℕ) (words : List (List ℕ)) (r
 line_there since_form text w words rest form said is fw fs named counted there loud values = record {
   line = line_of w words;
   first = line_first text (line_of w words) rest is (line_from w words fw fs);
-  tells = λ version at_least. told form loud (record {
+  tells = λ version at_least. reported form loud (record {
     values = words;
     named = words_are w words fw fs ∙ ap (λ x. x ∷ words) named;
     counted = ap length (words_are w words fw fs) ∙ counted;
@@ -243,7 +243,8 @@ cross_there text word v1 v2 other v3 rest line is table second parts to third ol
     refl refl (omega arith) (λ silent. omega (arith, silent))
     (cross_line table (record { spelled = refl; from = old; to = rows }) to (record { spelled = refl; from = new; to = most }) crosses)
 
-pub gone_word : (text : List ℕ) → 8 ≤ length text → get_or text 0 0 ≡ 103 → get_or text 1 0 ≡ 111 → get_or text 2 0 ≡ 110 → get_or text 3 0 ≡ 101 → get_or text 4 0 ≡ 32
+pub gone_word : (text : List ℕ) → 8 ≤ length text → get_or text 0 0 ≡ 103 → get_or text 1 0 ≡ 111 → get_or text 2 0 ≡ 110 → get_or text 3 0 ≡ 101
+    → get_or text 4 0 ≡ 32
     → get_or text 7 0 ≡ 32
     → text ≡ codes "gone " ++ (take 2 (drop 5 text) ++ 32 ∷ after 8 text)
 gone_word [] long h0 h1 h2 h3 h4 last = absurd (omega (arith, long))

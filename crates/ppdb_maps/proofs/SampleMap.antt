@@ -90,7 +90,8 @@ sample_readable n few = record {
 pub sample_of : (n : ℕ) (counts : List Count) (rows : List RowLine) (crossed : List CrossLine) (gone : List GoneLine) (methods : List MethodLine)
     (drops slotted : List ℕ) (slots : List SlotImage) (signatures : List SignatureImage) (documents : List NameLine) (link : Option (List ℕ)) (shares : Bool)
     → counts ≡ record { table = 0x06; rows = n } ∷ []
-    → rows ≡ map (sample_row n) (range_with_len 1 n) → crossed ≡ [] → gone ≡ [] → methods ≡ map sample_method (range_with_len 1 n) → drops ≡ [] → slotted ≡ [] → slots ≡ []
+    → rows ≡ map (sample_row n) (range_with_len 1 n) → crossed ≡ [] → gone ≡ [] → methods ≡ map sample_method (range_with_len 1 n) → drops ≡ [] → slotted ≡ []
+    → slots ≡ []
     → signatures ≡ [] → documents ≡ [] → link ≡ None → shares ≡ false
     → map_of counts rows crossed gone methods drops slotted slots signatures documents link shares ≡ sample_map_of n
 sample_of n counts rows crossed gone methods drops slotted slots signatures documents link shares c r x z m d t s g o l h =

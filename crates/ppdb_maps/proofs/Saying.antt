@@ -4,7 +4,7 @@ use Rattle.std.{specs.Prelude.{find, bytes_eq, nat_eq, ◌&&◌}, proofs.lemmas.
 use Rattle.ppdb_base.specs.declared.{offsets.Run.{Run}, limits.TheConstants.{MAX_ROWS}}
 use Rattle.ppdb_maps.specs.{Words.{IsSilent, line_words}, Forms.{Crosses, name_of, words_in, HasForm, IsNumber, IsTable, Values, Tells, rows_line, row_line}}
 use Rattle.ppdb_maps.specs.Forms.{method_line, run_line, drop_line, slots_line, slot_line, signature_line, document_line, link_line, cross_line, gone_line}
-use Rattle.ppdb_maps.specs.{Forms.{shares_line, silent, told}, declared.entries.CrossLine.{CrossLine}, declared.entries.NameLine.{NameLine}}
+use Rattle.ppdb_maps.specs.{Forms.{shares_line, silent, reported}, declared.entries.CrossLine.{CrossLine}, declared.entries.NameLine.{NameLine}}
 use Rattle.ppdb_maps.specs.declared.line.{Form.{Form}, Form.TheVariants.{TableRows, RowMove, MethodSizes, OffsetRun, MethodDrop, MethodSlots, SlotMove}}
 use Rattle.ppdb_maps.specs.declared.line.{Form.TheVariants.{MethodSignature, DocumentRename, LinkValue, CrossMove, RowGone, Sharing}, Line.{Line}}
 use Rattle.ppdb_maps.specs.{declared.line.Line.TheVariants.{Cross, Kept, Document, Link}, Cuts.{AreWordsOf}, Reading.{FitsForm, values_of}, Rules.{kind_of, Breaks}}
@@ -189,7 +189,7 @@ pub tells_form : (line : List ℕ) (words : Words) (version : ℕ) (form : Form)
     → FitsForm version words form
     → Values form (values_of form words) says → Tells version line says
 tells_form line words version form says loud are fits values =
-    told form loud (form_there line words version form are fits) values
+    reported form loud (form_there line words version form are fits) values
 
 -- the rules on what lines say have the numbers from 4 on
 pub from_four : (before : List Line) (rule : Rule) (line : Line) → Breaks before rule line → 4 ≤ kind_of rule
@@ -223,9 +223,9 @@ breaks_value line words version form before loud are fits none =
 -- what one text says is one thing
 pub one_said : (version : ℕ) (text : List ℕ) (x y : Line) → Tells version text x → Tells version text y → x ≡ y
 one_said version text x y (silent a) (silent b) = refl
-one_said version text x y (silent a) (told other loud b says) = absurd (loud a)
-one_said version text x y (told one loud a says) (silent b) = absurd (loud b)
-one_said version text x y (told one loud a says) (told other loud2 b says2) =
+one_said version text x y (silent a) (reported other loud b says) = absurd (loud a)
+one_said version text x y (reported one loud a says) (silent b) = absurd (loud b)
+one_said version text x y (reported one loud a says) (reported other loud2 b says2) =
     let words : name_of one ∷ a.values ≡ name_of other ∷ b.values = sym a.named ∙ b.named in
     let names : name_of one ≡ name_of other = cc in
     let values : b.values ≡ a.values = cc in
@@ -236,13 +236,13 @@ one_said version text x y (told one loud a says) (told other loud2 b says2) =
 pub breaks_said : (version : ℕ) (before : List Line) (text : List ℕ) (says : Line) (rule : Rule) → Tells version text says
     → BreaksLine version before text rule → Breaks before rule says
 breaks_said version before text says rule (silent a) (no_form loud none) = absurd (loud a)
-breaks_said version before text says rule (told one loud a values) (no_form loud2 none) = absurd (none one a)
+breaks_said version before text says rule (reported one loud a values) (no_form loud2 none) = absurd (none one a)
 breaks_said version before text says rule (silent a) (no_value loud has none) = absurd (loud a)
-breaks_said version before text says rule (told one loud a told_values) (no_value {form = form} loud2 has none) =
+breaks_said version before text says rule (reported one loud a reported_values) (no_value {form = form} loud2 has none) =
     let words : name_of one ∷ a.values ≡ name_of form ∷ has.values = sym a.named ∙ has.named in
     let names : name_of one ≡ name_of form = cc in
     let values : a.values ≡ has.values = cc in
     let same : one ≡ form = one_form one form names (sym a.counted ∙ has.counted) in
-    absurd (none says (subst (λ (f : Form). Values f has.values says) same (subst (λ v. Values one v says) values told_values)))
+    absurd (none says (subst (λ (f : Form). Values f has.values says) same (subst (λ v. Values one v says) values reported_values)))
 breaks_said version before text says rule tells (by_lines {line = other} tells2 breaks) =
     subst (λ l. Breaks before rule l) (one_said version text other says tells2 tells) breaks

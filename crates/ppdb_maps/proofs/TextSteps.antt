@@ -2,8 +2,8 @@
 use Rattle.std.proofs.Common.{◌≡◌, ℕ, ◌+◌, ◌<◌, ◌≤◌, ◌++◌, true, false, List, [], ◌∷◌, length, None, refl, sym, ap, subst, ◌∙◌, arith, inl, inr}
 use Rattle.std.{specs.Prelude.{codes, is_some, IsSome}, specs.Fmt.{decimal}, proofs.lemmas.Fmt.{decimal_digit, decimal_step}}
 use Rattle.ppdb_base.specs.declared.{offsets.Run.{Run}, limits.TheConstants.{MAX_ROWS, MAX_OFFSET}}
-use Rattle.ppdb_maps.specs.{Map.{MethodLine}, Words.{IsSilent, line_words}, Forms.{IsNumber, IsTable, Tells, told, rows_line, row_line, method_line, run_line}}
-use Rattle.ppdb_maps.specs.{Before.{told as last_at, methods_of, follows_method}, Drafts.{FitsIn}, Places.{place, rows_place, row_place, drop_place, method_place}}
+use Rattle.ppdb_maps.specs.{Map.{MethodLine}, Words.{IsSilent, line_words}, Forms.{IsNumber, IsTable, Tells, reported, rows_line, row_line, method_line, run_line}}
+use Rattle.ppdb_maps.specs.{Before.{reported as last_at, methods_of, follows_method}, Drafts.FitsIn, Places.{place, rows_place, row_place, drop_place, method_place}}
 use Rattle.ppdb_maps.specs.Rules.{Breaks, Keeps, BeginsEarly, EndsBeyond, second, alone, names_dropped, run_alone, run_early, run_long}
 use Rattle.ppdb_maps.specs.declared.line.{Form.TheVariants.{TableRows, RowMove, MethodSizes, OffsetRun}, Line.{Line}, Line.TheVariants.{Rows, Row, Method, Kept}}
 use Rattle.ppdb_maps.{specs.declared.rule.Rule.{Rule}, proofs.Refusing.{fits_in, keeps_all}, proofs.Saying.{breaks_said}, specs.Text.{Read, further}}
@@ -35,19 +35,19 @@ methods_table = table_of_digits (codes "06") 6
 
 pub tells_rows : (text b : List ℕ) (n : ℕ) → line_words text ≡ codes "rows" ∷ codes "06" ∷ b ∷ [] → (IsSilent text → ⊥) → IsNumber b 0 MAX_ROWS n
     → Tells 1 text (Rows 6 n)
-tells_rows text b n words loud is_number = told TableRows loud
+tells_rows text b n words loud is_number = reported TableRows loud
     (record { values = codes "06" ∷ b ∷ []; named = words; counted = ap length words; there = omega arith })
     (rows_line methods_table is_number)
 
 pub tells_row : (text a b : List ℕ) (o n : ℕ) → line_words text ≡ codes "row" ∷ codes "06" ∷ a ∷ b ∷ [] → (IsSilent text → ⊥) → IsNumber a 1 MAX_ROWS o
     → IsNumber b 1 MAX_ROWS n → Tells 1 text (Row 6 o n)
-tells_row text a b o n words loud old new = told RowMove loud
+tells_row text a b o n words loud old new = reported RowMove loud
     (record { values = codes "06" ∷ a ∷ b ∷ []; named = words; counted = ap length words; there = omega arith })
     (row_line methods_table old new)
 
 pub tells_method : (text a : List ℕ) (m : ℕ) → line_words text ≡ codes "method" ∷ a ∷ codes "16" ∷ codes "20" ∷ [] → (IsSilent text → ⊥) → IsNumber a 1 MAX_ROWS m
     → Tells 1 text (Method m 16 20)
-tells_method text a m words loud is_number = told MethodSizes loud
+tells_method text a m words loud is_number = reported MethodSizes loud
     (record { values = a ∷ codes "16" ∷ codes "20" ∷ []; named = words; counted = ap length words; there = omega arith })
     (method_line is_number (record { spelled = sym sixteen; from = omega arith; to = omega arith })
     (record { spelled = sym twenty; from = omega arith; to = omega arith }))
@@ -59,13 +59,13 @@ abbrev pub back_run : Run
 back_run = record { old = 8; new = 10; length = 8 }
 
 pub tells_prefix : Tells 1 (codes "run 0 0 4") (Kept prefix_run)
-tells_prefix = told OffsetRun (λ e. omega (arith, e))
+tells_prefix = reported OffsetRun (λ e. omega (arith, e))
     (record { values = codes "0" ∷ codes "0" ∷ codes "4" ∷ []; named = refl; counted = refl; there = omega arith })
     (run_line (number_of_digit 0 MAX_OFFSET (omega arith) (omega arith)) (number_of_digit 0 MAX_OFFSET (omega arith) (omega arith))
     (row_of_digit 4 MAX_OFFSET (omega arith) (omega arith) (omega arith)))
 
 pub tells_back : Tells 1 (codes "run 8 10 8") (Kept back_run)
-tells_back = told OffsetRun (λ e. omega (arith, e))
+tells_back = reported OffsetRun (λ e. omega (arith, e))
     (record { values = codes "8" ∷ codes "10" ∷ codes "8" ∷ []; named = refl; counted = refl; there = omega arith })
     (run_line (number_of_digit 8 MAX_OFFSET (omega arith) (omega arith)) (record { spelled = sym ten; from = omega arith; to = omega arith })
     (row_of_digit 8 MAX_OFFSET (omega arith) (omega arith) (omega arith)))

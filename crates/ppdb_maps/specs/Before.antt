@@ -1,8 +1,12 @@
 -- What lines of a map text say together; a list of lines has the last one first.
-use Rattle.std.specs.Prelude.{ℕ, ◌++◌, Bool, true, false, nat_eq, is_some, List, [], ◌∷◌, Option, Some, None, find, option_and_then}
+use Rattle.std.specs.Prelude.{ℕ, ◌++◌, Bool, true, false, nat_eq, is_some, List, [], ◌∷◌, Option}
+use Rattle.std.specs.Prelude.{Some, None, find, option_and_then}
 use Rattle.ppdb_base.specs.declared.offsets.Run.{Run}
-use Rattle.ppdb_maps.specs.{Map.MethodLine, declared.entries.{CrossLine.CrossLine, GoneLine.GoneLine}}
-use Rattle.ppdb_maps.specs.Places.{Place, place, is_place, shares_place, link_place, rows_place, row_place, drop_place, slots_place, slot_place, signature_place, document_place}
+use Rattle.ppdb_maps.specs.{Map.MethodLine, declared.entries.CrossLine.CrossLine}
+use Rattle.ppdb_maps.specs.declared.entries.GoneLine.{GoneLine}
+use Rattle.ppdb_maps.specs.Places.{Place, place, is_place, shares_place, link_place, rows_place}
+use Rattle.ppdb_maps.specs.Places.{row_place, drop_place, slots_place, slot_place, signature_place}
+use Rattle.ppdb_maps.specs.Places.{document_place}
 use Rattle.ppdb_maps.specs.declared.line.Line.{Line}
 use Rattle.ppdb_maps.specs.declared.line.Line.TheVariants.{Silent}
 use Rattle.ppdb_maps.specs.declared.line.Line.TheVariants.{Rows}
@@ -17,8 +21,8 @@ use Rattle.ppdb_maps.specs.declared.line.Line.TheVariants.{Document}
 use Rattle.ppdb_maps.specs.declared.line.Line.TheVariants.{Link}
 
 -- the last line at a place
-abbrev pub told : List Line → Place → Option Line
-told before at = find (λ line. is_place at (place line)) before
+abbrev pub reported : List Line → Place → Option Line
+reported before at = find (λ line. is_place at (place line)) before
 
 -- the N of a `rows` line
 abbrev pub rows_said : Line → Option ℕ
@@ -60,40 +64,41 @@ link_said line = None
 
 -- what the lines say of a table, of a row, of a method, of a slot and of a name
 abbrev pub count_in : List Line → ℕ → Option ℕ
-count_in before table = option_and_then rows_said (told before (rows_place table))
+count_in before table = option_and_then rows_said (reported before (rows_place table))
 
 abbrev pub row_in : List Line → ℕ → ℕ → Option ℕ
-row_in before table old = option_and_then row_said (told before (row_place table old))
+row_in before table old = option_and_then row_said (reported before (row_place table old))
 
 abbrev pub cross_in : List Line → ℕ → ℕ → Option CrossLine
-cross_in before table old = option_and_then cross_said (told before (row_place table old))
+cross_in before table old = option_and_then cross_said (reported before (row_place table old))
 
 abbrev pub gone_line_in : List Line → ℕ → ℕ → Option GoneLine
-gone_line_in before table old = option_and_then gone_said (told before (row_place table old))
+gone_line_in before table old = option_and_then gone_said (reported before (row_place table old))
 
 abbrev pub gone_in : List Line → ℕ → ℕ → Bool
 gone_in before table old = is_some (gone_line_in before table old)
 
 abbrev pub drop_in : List Line → ℕ → Bool
-drop_in before method = is_some (told before (drop_place method))
+drop_in before method = is_some (reported before (drop_place method))
 
 abbrev pub slots_in : List Line → ℕ → Bool
-slots_in before method = is_some (told before (slots_place method))
+slots_in before method = is_some (reported before (slots_place method))
 
 abbrev pub slot_in : List Line → ℕ → ℕ → Option ℕ
-slot_in before method old = option_and_then slot_said (told before (slot_place method old))
+slot_in before method old = option_and_then slot_said (reported before (slot_place method old))
 
 abbrev pub signature_in : List Line → ℕ → Option ℕ
-signature_in before method = option_and_then signature_said (told before (signature_place method))
+signature_in before method =
+    option_and_then signature_said (reported before (signature_place method))
 
 abbrev pub document_in : List Line → List ℕ → Option (List ℕ)
-document_in before name = option_and_then document_said (told before (document_place name))
+document_in before name = option_and_then document_said (reported before (document_place name))
 
 abbrev pub link_in : List Line → Option (List ℕ)
-link_in before = option_and_then link_said (told before link_place)
+link_in before = option_and_then link_said (reported before link_place)
 
 abbrev pub shares_in : List Line → Bool
-shares_in before = is_some (told before shares_place)
+shares_in before = is_some (reported before shares_place)
 
 -- a run goes to the last `method` line
 abbrev pub with_run : Run → List MethodLine → List MethodLine
@@ -103,7 +108,8 @@ with_run run (line ∷ lines) = record line { runs = line.runs ++ run ∷ [] } �
 -- the `method` lines with their runs, the last one first
 abbrev pub methods_of : List Line → List MethodLine
 methods_of [] = []
-methods_of (Method m o n ∷ before) = record { method = m; old_size = o; new_size = n; runs = [] } ∷ methods_of before
+methods_of (Method m o n ∷ before) =
+    record { method = m; old_size = o; new_size = n; runs = [] } ∷ methods_of before
 methods_of (Kept run ∷ before) = with_run run (methods_of before)
 methods_of (_ ∷ before) = methods_of before
 

@@ -1,5 +1,6 @@
 -- Sets of numbers that have a bit for each number, and of rows of tables.
-use Rattle.std.specs.{Prelude.{ℕ, ◌/◌, ◌%◌, Bool, false, nat_eq, List, Option, Some, None, slice_index_or}, Int.bit_at, Ordering.nat_cmp}
+use Rattle.std.specs.Prelude.{ℕ, ◌/◌, ◌%◌, Bool, false, nat_eq, List, Option, Some, None}
+use Rattle.std.specs.{Prelude.slice_index_or, Int.bit_at, Ordering.nat_cmp}
 use Rattle.ppdb_maps.specs.declared.bit_set.{BitSet.BitSet, RowSet.RowSet}
 use Rattle.std.specs.BTreeMap as tree
 

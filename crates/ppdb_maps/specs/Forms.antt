@@ -1,13 +1,20 @@
 -- The forms of a map text's lines, and what a line of each form says (docs/FORMAT.md, "Map texts").
-use Rattle.std.specs.{Prelude.{◌≡◌, ℕ, ◌+◌, ◌<◌, ◌≤◌, ◌≢◌, ◌⊎◌, ◌++◌, List, [], ◌∷◌, codes, length, decimal}, List.AllByRecursion, Str.Parse.{IsNumeral, digits_value}}
-use Rattle.ppdb_base.specs.{declared.{limits.TheConstants.{MAX_ROWS, MAX_OFFSET}, offsets.Run.Run}, Escaped.escaped}
+use Rattle.std.specs.Prelude.{◌≡◌, ℕ, ◌+◌, ◌<◌, ◌≤◌, ◌≢◌, ◌⊎◌, ◌++◌, List, [], ◌∷◌, codes, length}
+use Rattle.std.specs.{Prelude.decimal, List.AllByRecursion, Str.Parse.{IsNumeral, digits_value}}
+use Rattle.ppdb_base.specs.declared.{limits.TheConstants.{MAX_ROWS, MAX_OFFSET}, offsets.Run.Run}
+use Rattle.ppdb_base.specs.Escaped.{escaped}
 use Rattle.ppdb_maps.specs.Words.{IsSilent, line_words}
 use Rattle.ppdb_maps.specs.declared.line.Form.{Form}
-use Rattle.ppdb_maps.specs.declared.line.Form.TheVariants.{TableRows, RowMove, MethodSizes, OffsetRun, MethodDrop, MethodSlots, SlotMove, MethodSignature}
-use Rattle.ppdb_maps.specs.declared.line.Form.TheVariants.{DocumentRename, LinkValue, CrossMove, RowGone, Sharing}
+use Rattle.ppdb_maps.specs.declared.line.Form.TheVariants.{TableRows, RowMove, MethodSizes}
+use Rattle.ppdb_maps.specs.declared.line.Form.TheVariants.{OffsetRun, MethodDrop, MethodSlots}
+use Rattle.ppdb_maps.specs.declared.line.Form.TheVariants.{SlotMove, MethodSignature}
+use Rattle.ppdb_maps.specs.declared.line.Form.TheVariants.{DocumentRename, LinkValue, CrossMove}
+use Rattle.ppdb_maps.specs.declared.line.Form.TheVariants.{RowGone, Sharing}
 use Rattle.ppdb_maps.specs.declared.entries.{CrossLine.CrossLine, NameLine.NameLine}
 use Rattle.ppdb_maps.specs.declared.line.Line.{Line}
-use Rattle.ppdb_maps.specs.declared.line.Line.TheVariants.{Silent, Rows, Row, Cross, Gone, Method, Kept, Dropped, Slots, Slot, Signature, Document, Link, Shares}
+use Rattle.ppdb_maps.specs.declared.line.Line.TheVariants.{Silent, Rows, Row, Cross, Gone, Method}
+use Rattle.ppdb_maps.specs.declared.line.Line.TheVariants.{Kept, Dropped, Slots, Slot, Signature}
+use Rattle.ppdb_maps.specs.declared.line.Line.TheVariants.{Document, Link, Shares}
 
 -- line 1 of a text of the version: 48 is the digit 0
 pub record IsHead (line : List ℕ) (version : ℕ) : Type 0 where
@@ -15,7 +22,8 @@ pub record IsHead (line : List ℕ) (version : ℕ) : Type 0 where
   pub to : version ≤ 4
   pub spelled : line ≡ codes "ppdbmap " ++ (48 + version) ∷ []
 
--- a form's first word, the number of words of its lines with that one, and the version from which on texts have it
+-- a form's first word, the number of words of its lines with that one, and the version from which
+-- on texts have it
 pub record Shape : Type 0 where
   pub name : List ℕ
   pub words : ℕ
@@ -78,8 +86,9 @@ IsTable word table = IsHexadecimal [] 2 2 word table × (table ≤ 0x2c)
 abbrev pub IsTypeTable : ℕ → Type 0
 IsTypeTable table = (table ≡ 0x01) ⊎ (table ≡ 0x02) ⊎ (table ≡ 0x1b)
 
--- A row moves to another of the tables of types, or the row of an assembly that is referred to (AssemblyRef) becomes that of the module's
--- own (Assembly, ECMA-335 II.22.2, which has at most one row).
+-- A row moves to another of the tables of types, or the row of an assembly that is referred to
+-- (AssemblyRef) becomes that of the module's own (Assembly, ECMA-335 II.22.2, which has at most one
+-- row).
 abbrev pub Crosses : CrossLine → Type 0
 Crosses line =
     (IsTypeTable line.table × IsTypeTable line.to × (line.table ≢ line.to))
@@ -89,8 +98,8 @@ Crosses line =
 abbrev pub AreBytes : List ℕ → Type 0
 AreBytes bytes = AllByRecursion (λ b. b < 256) bytes
 
--- the one spelling of bytes: printable ASCII but for the space and the backslash stands for itself, any other byte is `\x` and two digits, and
--- no bytes are `\-`
+-- the one spelling of bytes: printable ASCII but for the space and the backslash stands for itself,
+-- any other byte is `\x` and two digits, and no bytes are `\-`
 pub record IsEscaped (word bytes : List ℕ) : Type 0 where
   pub spelled : word ≡ escaped bytes
   pub within : AreBytes bytes
@@ -103,27 +112,41 @@ MAX_SLOT = 65535
 pub data Values : Form → List (List ℕ) → Line → Type 0 where
   rows_line : {t n : List ℕ} {table rows : ℕ} → IsTable t table → IsNumber n 0 MAX_ROWS rows
       → Values TableRows (t ∷ n ∷ []) (Rows table rows)
-  row_line : {t o n : List ℕ} {table old new : ℕ} → IsTable t table → IsNumber o 1 MAX_ROWS old → IsNumber n 1 MAX_ROWS new
+  row_line : {t o n : List ℕ} {table old new : ℕ} → IsTable t table → IsNumber o 1 MAX_ROWS old
+      → IsNumber n 1 MAX_ROWS new
       → Values RowMove (t ∷ o ∷ n ∷ []) (Row table old new)
   method_line : {m o n : List ℕ} {method old_size new_size : ℕ} → IsNumber m 1 MAX_ROWS method
-      → IsNumber o 0 MAX_OFFSET old_size → IsNumber n 0 MAX_OFFSET new_size → Values MethodSizes (m ∷ o ∷ n ∷ []) (Method method old_size new_size)
-  run_line : {o n l : List ℕ} {run : Run} → IsNumber o 0 MAX_OFFSET run.old → IsNumber n 0 MAX_OFFSET run.new
+      → IsNumber o 0 MAX_OFFSET old_size → IsNumber n 0 MAX_OFFSET new_size
+      → Values MethodSizes (m ∷ o ∷ n ∷ []) (Method method old_size new_size)
+  run_line : {o n l : List ℕ} {run : Run} → IsNumber o 0 MAX_OFFSET run.old
+      → IsNumber n 0 MAX_OFFSET run.new
       → IsNumber l 1 MAX_OFFSET run.length → Values OffsetRun (o ∷ n ∷ l ∷ []) (Kept run)
-  drop_line : {m : List ℕ} {method : ℕ} → IsNumber m 1 MAX_ROWS method → Values MethodDrop (m ∷ []) (Dropped method)
-  slots_line : {m : List ℕ} {method : ℕ} → IsNumber m 1 MAX_ROWS method → Values MethodSlots (m ∷ []) (Slots method)
-  slot_line : {m o n : List ℕ} {method old new : ℕ} → IsNumber m 1 MAX_ROWS method → IsNumber o 0 MAX_SLOT old
+  drop_line : {m : List ℕ} {method : ℕ} → IsNumber m 1 MAX_ROWS method
+      → Values MethodDrop (m ∷ []) (Dropped method)
+  slots_line : {m : List ℕ} {method : ℕ} → IsNumber m 1 MAX_ROWS method
+      → Values MethodSlots (m ∷ []) (Slots method)
+  slot_line : {m o n : List ℕ} {method old new : ℕ} → IsNumber m 1 MAX_ROWS method
+      → IsNumber o 0 MAX_SLOT old
       → IsNumber n 0 MAX_SLOT new → Values SlotMove (m ∷ o ∷ n ∷ []) (Slot method old new)
-  signature_line : {m n : List ℕ} {method new : ℕ} → IsNumber m 1 MAX_ROWS method → IsNumber n 0 MAX_ROWS new
+  signature_line : {m n : List ℕ} {method new : ℕ} → IsNumber m 1 MAX_ROWS method
+      → IsNumber n 0 MAX_ROWS new
       → Values MethodSignature (m ∷ n ∷ []) (Signature method new)
-  document_line : {o n : List ℕ} {d : NameLine} → IsEscaped o d.old → IsEscaped n d.new → Values DocumentRename (o ∷ n ∷ []) (Document d)
-  cross_line : {t o u n : List ℕ} {line : CrossLine} → IsTable t line.table → IsNumber o 1 MAX_ROWS line.old → IsTable u line.to
-      → IsNumber n 1 MAX_ROWS line.new → Crosses line → Values CrossMove (t ∷ o ∷ u ∷ n ∷ []) (Cross line)
-  gone_line : {t o : List ℕ} {table old : ℕ} → IsTable t table → table ≢ 0x06 → IsNumber o 1 MAX_ROWS old → Values RowGone (t ∷ o ∷ []) (Gone table old)
+  document_line : {o n : List ℕ} {d : NameLine} → IsEscaped o d.old → IsEscaped n d.new
+      → Values DocumentRename (o ∷ n ∷ []) (Document d)
+  cross_line : {t o u n : List ℕ} {line : CrossLine} → IsTable t line.table
+      → IsNumber o 1 MAX_ROWS line.old → IsTable u line.to
+      → IsNumber n 1 MAX_ROWS line.new → Crosses line
+      → Values CrossMove (t ∷ o ∷ u ∷ n ∷ []) (Cross line)
+  gone_line : {t o : List ℕ} {table old : ℕ} → IsTable t table → table ≢ 0x06
+      → IsNumber o 1 MAX_ROWS old → Values RowGone (t ∷ o ∷ []) (Gone table old)
   shares_line : Values Sharing [] Shares
-  link_line : {v : List ℕ} {value : List ℕ} → IsEscaped v value → Values LinkValue (v ∷ []) (Link value)
+  link_line : {v : List ℕ} {value : List ℕ} → IsEscaped v value
+      → Values LinkValue (v ∷ []) (Link value)
 
--- what a line after the first says: its words are those of a form of the version, and their values are in range
+-- what a line after the first says: its words are those of a form of the version, and their values
+-- are in range
 pub data Tells (version : ℕ) (text : List ℕ) : Line → Type 0 where
   silent : IsSilent text → Tells version text Silent
-  told : {line : Line} (form : Form) → (IsSilent text → ⊥) → (has : HasForm version (line_words text) form) → Values form has.values line
+  reported : {line : Line} (form : Form) → (IsSilent text → ⊥)
+      → (has : HasForm version (line_words text) form) → Values form has.values line
       → Tells version text line

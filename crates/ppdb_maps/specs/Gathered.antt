@@ -1,7 +1,10 @@
 -- The entries of a map's lists, from those of the maps in which they were gathered.
-use Rattle.std.specs.{Prelude.{ℕ, ◌&&◌, Bool, List, nat_eq}, Cmp.Lexicographic.slice_cmp, Ordering.nat_cmp}
+use Rattle.std.specs.{Prelude.{ℕ, ◌&&◌, Bool, List, nat_eq}, Cmp.Lexicographic.slice_cmp}
+use Rattle.std.specs.Ordering.{nat_cmp}
 use Rattle.std.specs.declared.{cmp.Ordering.Ordering, alloc.Global.Global, vec.Vec.Vec}
-use Rattle.ppdb_maps.specs.declared.entries.{Count.Count, RowLine.RowLine, CrossLine.CrossLine, GoneLine.GoneLine, SlotImage.SlotImage, SignatureImage.SignatureImage, NameLine.NameLine}
+use Rattle.ppdb_maps.specs.declared.entries.{Count.Count, RowLine.RowLine, CrossLine.CrossLine}
+use Rattle.ppdb_maps.specs.declared.entries.{GoneLine.GoneLine, SlotImage.SlotImage}
+use Rattle.ppdb_maps.specs.declared.entries.{SignatureImage.SignatureImage, NameLine.NameLine}
 use Rattle.ppdb_maps.specs.{Map.MethodLine}
 
 -- the count of a pair of a table and its rows

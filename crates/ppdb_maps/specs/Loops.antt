@@ -1,8 +1,13 @@
 -- What the readers of lines answer.
 use Rattle.std.specs.Prelude.{◌≡◌, ℕ, ◌+◌, ◌++◌, List, ◌∷◌, Result, MatchResult, length}
-use Rattle.ppdb_maps.specs.{Forms.Tells, Rules.{Keeps, BreaksFirst, kind_of}, Text.{Read, Refused}, Drafts.Holds, declared.draft.Draft.Draft, declared.line.Line.Line, declared.rule.Rule.Rule}
-use Rattle.ppdb_maps.specs.declared.refusal.{Refusal.{Refusal, TheVariants.{Breaks as refused, Memory as no_memory}}, MapError.MapError}
-use Rattle.ppdb_maps.specs.declared.refusal.MapError.TheVariants.{Line as refused_line, Memory as out_of_memory}
+use Rattle.ppdb_maps.specs.{Forms.Tells, Rules.{Keeps, BreaksFirst, kind_of}, Text.{Read, Refused}}
+use Rattle.ppdb_maps.specs.{Drafts.Holds, declared.draft.Draft.Draft, declared.line.Line.Line}
+use Rattle.ppdb_maps.specs.declared.rule.Rule.{Rule}
+use Rattle.ppdb_maps.specs.declared.refusal.{Refusal.Refusal, Refusal.TheVariants.Breaks as refused}
+use Rattle.ppdb_maps.specs.declared.refusal.Refusal.TheVariants.{Memory as no_memory}
+use Rattle.ppdb_maps.specs.declared.refusal.MapError.{MapError}
+use Rattle.ppdb_maps.specs.declared.refusal.MapError.TheVariants.{Line as refused_line}
+use Rattle.ppdb_maps.specs.declared.refusal.MapError.TheVariants.{Memory as out_of_memory}
 
 -- the draft holds what the line says too, and the line breaks no rule
 pub record TextAdded (version : ℕ) (before : List Line) (text : List ℕ) (new : Draft) : Type 0 where
@@ -18,7 +23,8 @@ TextRefused version before text no_memory = Unit {0}
 
 abbrev pub IsTextAdded : ℕ → List ℕ → Draft → Result (Unit {0}) Refusal → Draft → Type 0
 IsTextAdded version text old result new =
-    (before : List Line) → Holds before old → MatchResult result (λ _. TextAdded version before text new) (TextRefused version before text)
+    (before : List Line) → Holds before old
+    → MatchResult result (λ _. TextAdded version before text new) (TextRefused version before text)
 
 -- the refusal, at its line
 abbrev pub IsAt : ℕ → Refusal → MapError → Type 0

@@ -1,9 +1,14 @@
--- What a map says: one entry for each of its lines that says something, and the questions that are asked of it.
-use Rattle.std.specs.Prelude.{ℕ, ◌&&◌, not, Bool, true, false, cond, nat_eq, bytes_eq, List, [], Option, Some, None, unwrap_or, filter, map, find, option_map}
+-- What a map says: one entry for each of its lines that says something, and the questions that are
+-- asked of it.
+use Rattle.std.specs.Prelude.{ℕ, ◌&&◌, not, Bool, true, false, cond, nat_eq, bytes_eq, List, []}
+use Rattle.std.specs.Prelude.{Option, Some, None, unwrap_or, filter, map, find, option_map}
 use Rattle.std.specs.{List.list_any, List.Sorted.IsStrictlySortedBy, Option.option_map_or}
-use Rattle.std.specs.{Ordering.{nat_cmp, ordering_then}, Cmp.Lexicographic.slice_cmp, declared.cmp.Ordering.Ordering}
+use Rattle.std.specs.{Ordering.{nat_cmp, ordering_then}, Cmp.Lexicographic.slice_cmp}
+use Rattle.std.specs.declared.cmp.Ordering.{Ordering}
 use Rattle.ppdb_base.specs.{declared.offsets.Run.Run, Offsets.{Offsets, every, gone, lined}}
-use Rattle.ppdb_maps.specs.declared.entries.{Count.Count, RowLine.RowLine, CrossLine.CrossLine, GoneLine.GoneLine, SlotImage.SlotImage, SignatureImage.SignatureImage, NameLine.NameLine}
+use Rattle.ppdb_maps.specs.declared.entries.{Count.Count, RowLine.RowLine, CrossLine.CrossLine}
+use Rattle.ppdb_maps.specs.declared.entries.{GoneLine.GoneLine, SlotImage.SlotImage}
+use Rattle.ppdb_maps.specs.declared.entries.{SignatureImage.SignatureImage, NameLine.NameLine}
 use Rattle.ppdb_maps.specs.declared.image.RowImage.{RowImage, TheVariants.{Row, Gone, Missing}}
 
 -- a method's IL sizes and the runs of its kept offsets
@@ -29,22 +34,24 @@ pub record Map : Type 0 where
   pub shares : Bool
 
 -- the map of these lists
-abbrev pub map_of : List Count → List RowLine → List CrossLine → List GoneLine → List MethodLine → List ℕ → List ℕ → List SlotImage → List SignatureImage
+abbrev pub map_of : List Count → List RowLine → List CrossLine → List GoneLine → List MethodLine
+    → List ℕ → List ℕ → List SlotImage → List SignatureImage
     → List NameLine → Option (List ℕ) → Bool → Map
-map_of counts rows crossed gone_lines methods drops slotted slots signatures documents link shares = record {
-  counts = counts;
-  rows = rows;
-  crossed = crossed;
-  gone = gone_lines;
-  methods = methods;
-  drops = drops;
-  slotted = slotted;
-  slots = slots;
-  signatures = signatures;
-  documents = documents;
-  link = link;
-  shares = shares;
-}
+map_of counts rows crossed gone_lines methods drops slotted slots signatures documents link shares =
+    record {
+      counts = counts;
+      rows = rows;
+      crossed = crossed;
+      gone = gone_lines;
+      methods = methods;
+      drops = drops;
+      slotted = slotted;
+      slots = slots;
+      signatures = signatures;
+      documents = documents;
+      link = link;
+      shares = shares;
+    }
 
 -- the map without lines
 abbrev pub no_lines : Map
@@ -77,16 +84,20 @@ pub record Ascends (said : Map) : Type 0 where
   pub drops : IsStrictlySortedBy nat_cmp said.drops
   pub slotted : IsStrictlySortedBy nat_cmp said.slotted
   pub slots : IsStrictlySortedBy pair_cmp (map (λ (s : SlotImage). (s.method, s.old)) said.slots)
-  pub signatures : IsStrictlySortedBy nat_cmp (map (λ (s : SignatureImage). s.method) said.signatures)
-  pub documents : IsStrictlySortedBy (slice_cmp nat_cmp) (map (λ (d : NameLine). d.old) said.documents)
+  pub signatures : IsStrictlySortedBy nat_cmp
+      (map (λ (s : SignatureImage). s.method) said.signatures)
+  pub documents : IsStrictlySortedBy (slice_cmp nat_cmp)
+      (map (λ (d : NameLine). d.old) said.documents)
 
 -- the count of the table's `rows` line
 abbrev pub count_of : Map → ℕ → Option ℕ
-count_of said table = option_map (λ (c : Count). c.rows) (find (λ c. nat_eq c.table table) said.counts)
+count_of said table =
+    option_map (λ (c : Count). c.rows) (find (λ c. nat_eq c.table table) said.counts)
 
 -- the NEW of the row's `row` line of four words
 abbrev pub row_line : Map → ℕ → ℕ → Option ℕ
-row_line said table old = option_map (λ (r : RowLine). r.new) (find (λ r. nat_eq r.table table && nat_eq r.old old) said.rows)
+row_line said table old = option_map (λ (r : RowLine). r.new)
+    (find (λ r. nat_eq r.table table && nat_eq r.old old) said.rows)
 
 -- the row's `row` line of five words: a table, and a row of it
 abbrev pub cross_line : Map → ℕ → ℕ → Option CrossLine
@@ -94,7 +105,8 @@ cross_line said table old = find (λ r. nat_eq r.table table && nat_eq r.old old
 
 -- the row has a `gone` line
 abbrev pub has_gone_line : Map → ℕ → ℕ → Bool
-has_gone_line said table old = list_any (λ (r : GoneLine). nat_eq r.table table && nat_eq r.old old) said.gone
+has_gone_line said table old =
+    list_any (λ (r : GoneLine). nat_eq r.table table && nat_eq r.old old) said.gone
 
 -- the method's line with its runs
 abbrev pub method_line : Map → ℕ → Option MethodLine
@@ -109,43 +121,51 @@ has_slots said method = list_any (nat_eq method) said.slotted
 
 -- the NEW of the slot's line
 abbrev pub slot_line : Map → ℕ → ℕ → Option ℕ
-slot_line said method old = option_map (λ (s : SlotImage). s.new) (find (λ s. nat_eq s.method method && nat_eq s.old old) said.slots)
+slot_line said method old = option_map (λ (s : SlotImage). s.new)
+    (find (λ s. nat_eq s.method method && nat_eq s.old old) said.slots)
 
--- the NEW of the method's `signature` line: the row of its local signature in the output, 0 for none
+-- the NEW of the method's `signature` line: the row of its local signature in the output, 0 for
+-- none
 abbrev pub signature_line : Map → ℕ → Option ℕ
-signature_line said method = option_map (λ (s : SignatureImage). s.new) (find (λ s. nat_eq s.method method) said.signatures)
+signature_line said method =
+    option_map (λ (s : SignatureImage). s.new) (find (λ s. nat_eq s.method method) said.signatures)
 
 -- the NEW of the name's `document` line
 abbrev pub document_line : Map → List ℕ → Option (List ℕ)
-document_line said name = option_map (λ (d : NameLine). d.new) (find (λ d. bytes_eq d.old name) said.documents)
+document_line said name =
+    option_map (λ (d : NameLine). d.new) (find (λ d. bytes_eq d.old name) said.documents)
 
 -- the name that a document gets: the NEW of its line, else its own
 abbrev pub moved_name : Map → List ℕ → List ℕ
 moved_name said name = unwrap_or (document_line said name) name
 
--- the row of the same table that a row becomes: none for a dropped method; the row itself where the table has no `rows` line; else that of
--- its `row` line of four words
+-- the row of the same table that a row becomes: none for a dropped method; the row itself where the
+-- table has no `rows` line; else that of its `row` line of four words
 abbrev pub row_within : Map → ℕ → ℕ → Option ℕ
 row_within said table old =
     cond (nat_eq table 0x06 && is_dropped said old) None
-    (elim (count_of said table) as (λ _. Option ℕ) [ None ↦ Some old | Some count ↦ row_line said table old ])
+    (elim (count_of said table) as (λ _.
+    Option ℕ) [ None ↦ Some old | Some count ↦ row_line said table old ])
 
 -- what a row's lines make of it, where its table has a `rows` line: at most one of them is there
-abbrev pub told_image : ℕ → Option ℕ → Option CrossLine → Bool → RowImage
-told_image table (Some new) crossed has_gone = Row table new
-told_image table None (Some line) has_gone = Row line.to line.new
-told_image table None None true = Gone
-told_image table None None false = Missing
+abbrev pub said_image : ℕ → Option ℕ → Option CrossLine → Bool → RowImage
+said_image table (Some new) crossed has_gone = Row table new
+said_image table None (Some line) has_gone = Row line.to line.new
+said_image table None None true = Gone
+said_image table None None false = Missing
 
 abbrev pub line_image : Map → ℕ → ℕ → RowImage
-line_image said table old = told_image table (row_line said table old) (cross_line said table old) (has_gone_line said table old)
+line_image said table old = said_image table (row_line said table old) (cross_line said table old)
+    (has_gone_line said table old)
 
--- the image of a row from 1 on: missing for a dropped method; the row itself where the table has no `rows` line; else that of its line: a row
--- of its table or of another one, or gone; missing where there is no line. Of 0, which names no row, `moved_row` says the image
+-- the image of a row from 1 on: missing for a dropped method; the row itself where the table has no
+-- `rows` line; else that of its line: a row of its table or of another one, or gone; missing where
+-- there is no line. Of 0, which names no row, `moved_row` says the image
 abbrev pub row_image : Map → ℕ → ℕ → RowImage
 row_image said table old =
     cond (nat_eq table 0x06 && is_dropped said old) Missing
-    (elim (count_of said table) as (λ _. RowImage) [ None ↦ Row table old | Some count ↦ line_image said table old ])
+    (elim (count_of said table) as (λ _.
+    RowImage) [ None ↦ Row table old | Some count ↦ line_image said table old ])
 
 -- the row has no successor
 abbrev pub is_gone : RowImage → Bool
@@ -165,26 +185,31 @@ abbrev pub leaves_table : ℕ → RowImage → Bool
 leaves_table table (Row other row) = not (nat_eq other table)
 leaves_table table image = false
 
--- the row of the same table that a row becomes; 0, which is no row, stays 0, and so 0 is the answer for a row that becomes none
+-- the row of the same table that a row becomes; 0, which is no row, stays 0, and so 0 is the answer
+-- for a row that becomes none
 abbrev pub moved_row : Map → ℕ → ℕ → ℕ
 moved_row said table old = cond (nat_eq old 0) 0 (unwrap_or (row_within said table old) 0)
 
--- the local signature of a method (a row of StandAloneSig, ECMA-335 II.22.36, 0 for none), where the input has the row `stored`: the NEW
--- of its `signature` line, else the image of that row, and 0 where there is none or the row is gone
+-- the local signature of a method (a row of StandAloneSig, ECMA-335 II.22.36, 0 for none), where
+-- the input has the row `stored`: the NEW of its `signature` line, else the image of that row, and
+-- 0 where there is none or the row is gone
 abbrev pub moved_signature : Map → ℕ → ℕ → ℕ
-moved_signature said method stored = unwrap_or (signature_line said method) (moved_row said 0x11 stored)
+moved_signature said method stored =
+    unwrap_or (signature_line said method) (moved_row said 0x11 stored)
 
--- what the map says of a method's offsets: none is kept if the method is dropped; each is kept if it has no line; else the runs and the
--- sizes of its line say it
+-- what the map says of a method's offsets: none is kept if the method is dropped; each is kept if
+-- it has no line; else the runs and the sizes of its line say it
 abbrev pub offsets_in : Map → ℕ → Offsets
 offsets_in said method =
-    cond (is_dropped said method) gone (option_map_or (λ line. lined line.runs line.old_size line.new_size) (method_line said method) every)
+    cond (is_dropped said method) gone (option_map_or
+    (λ line. lined line.runs line.old_size line.new_size) (method_line said method) every)
 
 -- the image of a slot: the slot itself where the method has no `slots` line, else that of its line
 abbrev pub slot_image : Map → ℕ → ℕ → Option ℕ
 slot_image said method old = cond (has_slots said method) (slot_line said method old) (Some old)
 
--- the `row` lines of four words and of five, and the `gone` lines, of a table; the `slot` lines of a method
+-- the `row` lines of four words and of five, and the `gone` lines, of a table; the `slot` lines of
+-- a method
 abbrev pub rows_of : Map → ℕ → List RowLine
 rows_of said table = filter (λ r. nat_eq r.table table) said.rows
 

@@ -1,7 +1,8 @@
 -- Lines that are read in one pass.
 use Rattle.std.specs.Prelude.{◌≡◌, ℕ, ◌<◌, ◌≤◌, ◌^◌, ◌++◌, List, ◌∷◌, Result, decimal}
 use Rattle.ppdb_base.specs.declared.offsets.Run.{Run}
-use Rattle.ppdb_maps.specs.{Cuts.IsLineOf, Forms.Tells, Reading.IsTold, declared.line.Line.{Line, TheVariants.Kept}, declared.refusal.Refusal.Refusal}
+use Rattle.ppdb_maps.specs.{Cuts.IsLineOf, Forms.Tells, Reading.IsReported, declared.line.Line.Line}
+use Rattle.ppdb_maps.specs.declared.{line.Line.TheVariants.Kept, refusal.Refusal.Refusal}
 
 -- the bytes begin with the number's decimal digits and this end
 pub record IsNumberBefore (end : ℕ) (bytes : List ℕ) (number : ℕ) (rest : List ℕ) : Type 0 where
@@ -19,7 +20,8 @@ abbrev pub IsRunBefore : List ℕ → Run → List ℕ → Type 0
 IsRunBefore text run rest = IsLineBefore 1 text (Kept run) rest
 
 -- the text's first line says this, or breaks this rule first
-pub record IsFirstTold (version : ℕ) (text : List ℕ) (said : Result Line Refusal) (rest : List ℕ) : Type 0 where
+pub record IsFirstReported (version : ℕ) (text : List ℕ) (said : Result Line Refusal)
+    (rest : List ℕ) : Type 0 where
   pub line : List ℕ
   pub first : IsLineOf text line rest
-  pub told : IsTold version line said
+  pub reported : IsReported version line said

@@ -1,6 +1,10 @@
--- What each form of line asks of the lines before it (docs/FORMAT.md, "Map texts"): where it stands, which line it needs, and which method it names.
-use Rattle.std.specs.Prelude.{ℕ, ◌&&◌, Bool, true, false, cond, nat_eq, bytes_eq, List, Option, Some, None}
-use Rattle.ppdb_maps.specs.declared.line.Line.{Line, TheVariants.{Silent, Rows, Row, Cross, Gone, Method, Kept, Dropped, Slots, Slot, Signature, Document, Link, Shares}}
+-- What each form of line asks of the lines before it (docs/FORMAT.md, "Map texts"): where it
+-- stands, which line it needs, and which method it names.
+use Rattle.std.specs.Prelude.{ℕ, ◌&&◌, Bool, true, false, cond, nat_eq, bytes_eq, List, Option}
+use Rattle.std.specs.Prelude.{Some, None}
+use Rattle.ppdb_maps.specs.declared.line.{Line.Line, Line.TheVariants.{Silent, Rows, Row, Cross}}
+use Rattle.ppdb_maps.specs.declared.line.Line.TheVariants.{Gone, Method, Kept, Dropped, Slots, Slot}
+use Rattle.ppdb_maps.specs.declared.line.Line.TheVariants.{Signature, Document, Link, Shares}
 
 -- what a line speaks of
 pub data Place : Type 0 where
@@ -29,7 +33,8 @@ same_place (document_place name) (document_place other) = bytes_eq name other
 same_place (method_place method) (method_place other) = nat_eq method other
 same_place place other = false
 
--- The place of a line: a text has at most one line at it. A line that says nothing has none, and so has a `run`.
+-- The place of a line: a text has at most one line at it. A line that says nothing has none, and so
+-- has a `run`.
 abbrev pub place : Line → Option Place
 place Shares = Some shares_place
 place (Link value) = Some link_place
@@ -51,7 +56,8 @@ abbrev pub is_place : Place → Option Place → Bool
 is_place at None = false
 is_place at (Some own) = same_place own at
 
--- the place of the line that must stand before a line: the `rows` line of a row's table, the `slots` line of a slot's method
+-- the place of the line that must stand before a line: the `rows` line of a row's table, the
+-- `slots` line of a slot's method
 abbrev pub needs : Line → Option Place
 needs (Row table old new) = Some (rows_place table)
 needs (Cross line) = Some (rows_place line.table)
@@ -67,7 +73,8 @@ named_at (signature_place method) = Some method
 named_at (method_place method) = Some method
 named_at at = None
 
--- the method that a line names, which must not be dropped; no row of another table, and none that is gone, is a method
+-- the method that a line names, which must not be dropped; no row of another table, and none that
+-- is gone, is a method
 abbrev pub names : Line → Option ℕ
 names (Row table old new) = named_at (row_place table old)
 names (Slots method) = Some method

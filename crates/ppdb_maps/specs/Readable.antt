@@ -1,9 +1,14 @@
--- What reading promises of every map, and that a text has one map or one refused line (docs/FORMAT.md, "Map texts").
-use Rattle.std.specs.{Prelude.{◌≡◌, ◌≢◌, ℕ, ◌≤◌, false, None, IfSome, IsSome, IsTrue, List}, List.AllByRecursion}
+-- What reading promises of every map, and that a text has one map or one refused line
+-- (docs/FORMAT.md, "Map texts").
+use Rattle.std.specs.Prelude.{◌≡◌, ◌≢◌, ℕ, ◌≤◌, false, None, IfSome, IsSome, IsTrue, List}
+use Rattle.std.specs.List.{AllByRecursion}
 use Rattle.ppdb_base.specs.Offsets.{Rise, lined}
-use Rattle.ppdb_maps.specs.declared.entries.{Count.Count, RowLine.RowLine, CrossLine.CrossLine, GoneLine.GoneLine, SlotImage.SlotImage, SignatureImage.SignatureImage, NameLine.NameLine}
+use Rattle.ppdb_maps.specs.declared.entries.{Count.Count, RowLine.RowLine, CrossLine.CrossLine}
+use Rattle.ppdb_maps.specs.declared.entries.{GoneLine.GoneLine, SlotImage.SlotImage}
+use Rattle.ppdb_maps.specs.declared.entries.{SignatureImage.SignatureImage, NameLine.NameLine}
 use Rattle.ppdb_maps.specs.Forms.{AreBytes, Crosses, MAX_SLOT}
-use Rattle.ppdb_maps.specs.{Map.{Map, MethodLine, Ascends, count_of, row_line, cross_line, is_dropped, has_slots}, Text.{IsMapOf, Refused}}
+use Rattle.ppdb_maps.specs.Map.{Map, MethodLine, Ascends, count_of, row_line, cross_line}
+use Rattle.ppdb_maps.specs.{Map.{is_dropped, has_slots}, Text.{IsMapOf, Refused}}
 use Rattle.ppdb_base.specs.declared.limits.TheConstants.{MAX_ROWS, MAX_OFFSET}
 
 -- the number of a row that is there
@@ -16,14 +21,18 @@ IsCount count = (count.table ≤ 0x2c) × (count.rows ≤ MAX_ROWS)
 
 -- a row and its image; its table has a count, and the row is no dropped method
 abbrev pub IsRowOf : Map → RowLine → Type 0
-IsRowOf m row = IsRow row.old × IsRow row.new × IsSome (count_of m row.table) × (row.table ≡ 0x06 → is_dropped m row.old ≡ false)
+IsRowOf m row = IsRow row.old × IsRow row.new × IsSome (count_of m row.table)
+    × (row.table ≡ 0x06 → is_dropped m row.old ≡ false)
 
--- a row and its image in another table; its table has a count, and the row has no `row` line of four words
+-- a row and its image in another table; its table has a count, and the row has no `row` line of
+-- four words
 abbrev pub IsCrossOf : Map → CrossLine → Type 0
 IsCrossOf m line =
-    IsRow line.old × IsRow line.new × Crosses line × IsSome (count_of m line.table) × (row_line m line.table line.old ≡ None)
+    IsRow line.old × IsRow line.new × Crosses line × IsSome (count_of m line.table)
+    × (row_line m line.table line.old ≡ None)
 
--- a row that is gone, of a table other than MethodDef; its table has a count, and the row has no `row` line
+-- a row that is gone, of a table other than MethodDef; its table has a count, and the row has no
+-- `row` line
 abbrev pub IsGoneOf : Map → GoneLine → Type 0
 IsGoneOf m line =
     IsRow line.old × (line.table ≢ 0x06) × IsSome (count_of m line.table)
@@ -45,7 +54,8 @@ IsSlotOf m slot = (slot.old ≤ MAX_SLOT) × (slot.new ≤ MAX_SLOT) × IsTrue (
 
 -- a method that is not dropped, and the row of its local signature, 0 for none
 abbrev pub IsSignatureOf : Map → SignatureImage → Type 0
-IsSignatureOf m signature = IsRow signature.method × (signature.new ≤ MAX_ROWS) × (is_dropped m signature.method ≡ false)
+IsSignatureOf m signature =
+    IsRow signature.method × (signature.new ≤ MAX_ROWS) × (is_dropped m signature.method ≡ false)
 
 -- names are bytes
 abbrev pub AreNames : NameLine → Type 0
@@ -76,5 +86,7 @@ TextsHaveOneMap = (text : List ℕ) (a b : Map) → IsMapOf text a → IsMapOf t
 
 -- a text with a map has no refused line, and a refused line and its number are one
 pub record RefusalsAreOne : Type 0 where
-  pub apart : (text : List ℕ) (a : Map) (line kind : ℕ) → IsMapOf text a → Refused text line kind → ⊥
-  pub refusal : (text : List ℕ) (line kind other least : ℕ) → Refused text line kind → Refused text other least → (line ≡ other) × (kind ≡ least)
+  pub apart : (text : List ℕ) (a : Map) (line kind : ℕ) → IsMapOf text a → Refused text line kind
+      → ⊥
+  pub refusal : (text : List ℕ) (line kind other least : ℕ) → Refused text line kind
+      → Refused text other least → (line ≡ other) × (kind ≡ least)

@@ -1,9 +1,15 @@
--- The rules of map texts and their numbers; a line breaks one by the lines before it alone, of which the last one stands first.
+-- The rules of map texts and their numbers; a line breaks one by the lines before it alone, of
+-- which the last one stands first.
 use Rattle.std.specs.Prelude.{◌≡◌, ℕ, ◌<◌, ◌≤◌, ◌⊎◌, false, List, [], ◌∷◌, Some, None, IsSome}
 use Rattle.ppdb_base.specs.{declared.offsets.Run.Run, Offsets.{end_of, new_end_of}}
-use Rattle.ppdb_maps.specs.{Map.MethodLine, Words.{IsSilent, line_words}, Forms.{HasForm, Values, Tells}, Places.{Place, place, needs, names, named_at, drop_place}}
-use Rattle.ppdb_maps.specs.{Before.{told, methods_of, follows_method}, declared.line.{Form.Form, Line.{Line, TheVariants.{Kept, Dropped}}}, declared.rule.Rule.Rule}
-use Rattle.ppdb_maps.specs.declared.rule.Rule.TheVariants.{FirstLine, UnknownForm, NumberFaults, Repeated, Undeclared, NoMethod, Overlap, Beyond, NamesDropped}
+use Rattle.ppdb_maps.specs.{Map.MethodLine, Words.{IsSilent, line_words}, Forms.{HasForm, Values}}
+use Rattle.ppdb_maps.specs.{Forms.Tells, Places.{Place, place, needs, names, named_at, drop_place}}
+use Rattle.ppdb_maps.specs.{Before.{reported, methods_of, follows_method}, declared.line.Form.Form}
+use Rattle.ppdb_maps.specs.declared.line.{Line.Line, Line.TheVariants.{Kept, Dropped}}
+use Rattle.ppdb_maps.specs.declared.rule.Rule.{Rule}
+use Rattle.ppdb_maps.specs.declared.rule.Rule.TheVariants.{FirstLine, UnknownForm, NumberFaults}
+use Rattle.ppdb_maps.specs.declared.rule.Rule.TheVariants.{Repeated, Undeclared, NoMethod, Overlap}
+use Rattle.ppdb_maps.specs.declared.rule.Rule.TheVariants.{Beyond, NamesDropped}
 
 -- the rule's number
 abbrev pub kind_of : Rule → ℕ
@@ -31,32 +37,41 @@ EndsBeyond run line = (line.old_size < end_of run) ⊎ (line.new_size < new_end_
 pub record IsNamed (before : List Line) (method : ℕ) : Type 0 where
   pub at : Place
   pub named : named_at at ≡ Some method
-  pub there : IsSome (told before at)
+  pub there : IsSome (reported before at)
 
 -- what a line says breaks a rule by the lines before it
 pub data Breaks (before : List Line) : Rule → Line → Type 0 where
   -- there is a line at its place
-  second : {line : Line} (at : Place) → place line ≡ Some at → IsSome (told before at) → Breaks before Repeated line
+  second : {line : Line} (at : Place) → place line ≡ Some at → IsSome (reported before at)
+      → Breaks before Repeated line
   -- the line that it needs is not there
-  alone : {line : Line} (at : Place) → needs line ≡ Some at → told before at ≡ None → Breaks before Undeclared line
+  alone : {line : Line} (at : Place) → needs line ≡ Some at → reported before at ≡ None
+      → Breaks before Undeclared line
   run_alone : {run : Run} → follows_method before ≡ false → Breaks before NoMethod (Kept run)
-  run_early : {run : Run} {line : MethodLine} {lines : List MethodLine} → methods_of before ≡ line ∷ lines
+  run_early : {run : Run} {line : MethodLine} {lines : List MethodLine}
+      → methods_of before ≡ line ∷ lines
       → BeginsEarly run line.runs → Breaks before Overlap (Kept run)
-  run_long : {run : Run} {line : MethodLine} {lines : List MethodLine} → methods_of before ≡ line ∷ lines
+  run_long : {run : Run} {line : MethodLine} {lines : List MethodLine}
+      → methods_of before ≡ line ∷ lines
       → EndsBeyond run line → Breaks before Beyond (Kept run)
   -- it drops a method that is named, or names a dropped one
   drop_named : {m : ℕ} → IsNamed before m → Breaks before NamesDropped (Dropped m)
-  names_dropped : {line : Line} (m : ℕ) → names line ≡ Some m → IsSome (told before (drop_place m)) → Breaks before NamesDropped line
+  names_dropped : {line : Line} (m : ℕ) → names line ≡ Some m
+      → IsSome (reported before (drop_place m)) → Breaks before NamesDropped line
 
 -- a line after the first breaks a rule
 pub data BreaksLine (version : ℕ) (before : List Line) (text : List ℕ) : Rule → Type 0 where
-  no_form : (IsSilent text → ⊥) → ((form : Form) → HasForm version (line_words text) form → ⊥) → BreaksLine version before text UnknownForm
+  no_form : (IsSilent text → ⊥) → ((form : Form) → HasForm version (line_words text) form → ⊥)
+      → BreaksLine version before text UnknownForm
   no_value : {form : Form} → (IsSilent text → ⊥) → (has : HasForm version (line_words text) form)
-      → ((line : Line) → Values form has.values line → ⊥) → BreaksLine version before text NumberFaults
-  by_lines : {line : Line} {rule : Rule} → Tells version text line → Breaks before rule line → BreaksLine version before text rule
+      → ((line : Line) → Values form has.values line → ⊥)
+      → BreaksLine version before text NumberFaults
+  by_lines : {line : Line} {rule : Rule} → Tells version text line → Breaks before rule line
+      → BreaksLine version before text rule
 
 -- a text breaks this rule after these lines, and none with a lesser number
-pub record BreaksFirst (version : ℕ) (before : List Line) (text : List ℕ) (rule : Rule) : Type 0 where
+pub record BreaksFirst (version : ℕ) (before : List Line) (text : List ℕ)
+    (rule : Rule) : Type 0 where
   pub broken : BreaksLine version before text rule
   pub least : (other : Rule) → BreaksLine version before text other → kind_of rule ≤ kind_of other
 

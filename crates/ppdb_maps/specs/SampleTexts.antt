@@ -10,7 +10,8 @@ text_of_one = codes "ppdbmap 1\nrows 06 1\nrow 06 1 1\nmethod 1 16 20\nrun 0 0 4
 
 abbrev pub text_of_two : List ℕ
 text_of_two =
-    codes "ppdbmap 1\nrows 06 2\nrow 06 1 2\nrow 06 2 1\nmethod 1 16 20\nrun 0 0 4\nrun 8 10 8\nmethod 2 16 20\nrun 0 0 4\nrun 8 10 8\n"
+    codes
+    "ppdbmap 1\nrows 06 2\nrow 06 1 2\nrow 06 2 1\nmethod 1 16 20\nrun 0 0 4\nrun 8 10 8\nmethod 2 16 20\nrun 0 0 4\nrun 8 10 8\n"
 
 pub record SampleTexts : Type 0 where
   pub none : IsMapOf text_of_none (sample_map_of 0)

@@ -1,9 +1,13 @@
 -- Map texts (docs/FORMAT.md, "Map texts"): the map that a text has, and its refused line.
 use Rattle.std.specs.Prelude.{◌≡◌, ℕ, ◌+◌, ◌++◌, List, [], ◌∷◌, length}
-use Rattle.ppdb_maps.specs.Map.{Map, Ascends, count_of, row_line, cross_line, has_gone_line, method_line, is_dropped, has_slots, slot_line, signature_line, document_line}
+use Rattle.ppdb_maps.specs.Map.{Map, Ascends, count_of, row_line, cross_line, has_gone_line}
+use Rattle.ppdb_maps.specs.Map.{method_line, is_dropped, has_slots, slot_line, signature_line}
+use Rattle.ppdb_maps.specs.Map.{document_line}
 use Rattle.ppdb_maps.specs.{Words.text_lines, Forms.{IsHead, Tells}}
-use Rattle.ppdb_maps.specs.Before.{count_in, row_in, cross_in, gone_in, shares_in, method_in, drop_in, slots_in, slot_in, signature_in, document_in, link_in}
-use Rattle.ppdb_maps.specs.{Rules.{Keeps, BreaksFirst, kind_of}, declared.line.Line.Line, declared.rule.Rule.Rule}
+use Rattle.ppdb_maps.specs.Before.{count_in, row_in, cross_in, gone_in, shares_in, method_in}
+use Rattle.ppdb_maps.specs.Before.{drop_in, slots_in, slot_in, signature_in, document_in, link_in}
+use Rattle.ppdb_maps.specs.{Rules.{Keeps, BreaksFirst, kind_of}, declared.line.Line.Line}
+use Rattle.ppdb_maps.specs.declared.rule.Rule.{Rule}
 
 -- the lines after line 1 say these things, the last one first, and none breaks a rule
 pub data Read (version : ℕ) : List (List ℕ) → List Line → Type 0 where
@@ -14,10 +18,13 @@ pub data Read (version : ℕ) : List (List ℕ) → List Line → Type 0 where
 
 -- the text's refused line, counted from 1, and the least number of a rule that it breaks
 pub data Refused (text : List ℕ) : ℕ → ℕ → Type 0 where
-  at_head : {head : List ℕ} {rest : List (List ℕ)} → text_lines text ≡ head ∷ rest → ((version : ℕ) → IsHead head version → ⊥)
+  at_head : {head : List ℕ} {rest : List (List ℕ)} → text_lines text ≡ head ∷ rest
+      → ((version : ℕ) → IsHead head version → ⊥)
       → Refused text 1 1
-  at_line : {head line : List ℕ} {prefix : List (List ℕ)} (back : List (List ℕ)) {version : ℕ} {before : List Line} {rule : Rule}
-      → text_lines text ≡ head ∷ (prefix ++ line ∷ back) → IsHead head version → Read version prefix before
+  at_line : {head line : List ℕ} {prefix : List (List ℕ)}
+      (back : List (List ℕ)) {version : ℕ} {before : List Line} {rule : Rule}
+      → text_lines text ≡ head ∷ (prefix ++ line ∷ back) → IsHead head version
+      → Read version prefix before
       → BreaksFirst version before line rule → Refused text (length prefix + 2) (kind_of rule)
 
 -- the map answers each question as the lines say, and its lists ascend

@@ -34,7 +34,8 @@ impl BitSet {
     /// Makes room for the word at a place.
     fn grow(&mut self, place: usize) -> Result<(), Memory>
         requires { place < 2 ^ 32 }
-        ensures same { OnOk result ((number : ℕ) → has_number self.new number ≡ has_number self.old number) }
+        ensures same { OnOk result ((number : ℕ)
+            → has_number self.new number ≡ has_number self.old number) }
         ensures there { OnOk result (place < length self.new.words.items) }
     {
         if self.words.len() <= place {
@@ -45,7 +46,8 @@ impl BitSet {
 
     /// Puts a number in.
     pub fn insert(&mut self, number: u32) -> Result<(), Memory>
-        ensures { OnOk result ((other : ℕ) → has_number self.new other ≡ (nat_eq number other || has_number self.old other)) }
+        ensures { OnOk result ((other : ℕ)
+            → has_number self.new other ≡ (nat_eq number other || has_number self.old other)) }
     {
         let place = (number / 64) as usize;
         self.grow(place)?;
@@ -81,7 +83,8 @@ impl RowSet {
 
     /// Puts a row in.
     pub fn insert(&mut self, alloc: Global, table: u8, row: u32) -> Result<(), Memory>
-        ensures { OnOk result ((t r : ℕ) → has_row self.new t r ≡ (nat_eq table t && nat_eq row r || has_row self.old t r)) }
+        ensures { OnOk result ((t r : ℕ)
+            → has_row self.new t r ≡ (nat_eq table t && nat_eq row r || has_row self.old t r)) }
     {
         if let Some(rows) = self.tables.get_mut(&table) {
             return rows.insert(row);

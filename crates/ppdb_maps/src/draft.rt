@@ -1,14 +1,18 @@
 // What the lines of a map text say together, while they are read.
 ghost use Rattle.std.specs.Prelude.{ℕ, ◌<◌, ◌↔◌, [], List, IsTrue, IsSome, OnOk, IfOk};
 ghost use Rattle.ppdb_maps.specs.Loops.{IsTextAdded};
-ghost use Rattle.ppdb_maps.specs.Reading.{IsTold};
+ghost use Rattle.ppdb_maps.specs.Reading.{IsReported};
 ghost use Rattle.ppdb_maps.specs.Text.{HoldsWhat, Read};
 ghost use Rattle.ppdb_maps.specs.declared.line.Line.{Line};
-ghost use Rattle.ppdb_maps.specs.declared.line.Line.TheVariants.{Rows, Row, Cross, Gone, Kept, Dropped, Slots, Slot, Signature, Document};
-ghost use Rattle.ppdb_maps.specs.Drafts.{Holds, IsClosed, HasNaming, IsChecked, IsPut, IsAddedTo, HasLength};
+ghost use Rattle.ppdb_maps.specs.declared.line.Line.TheVariants.{Rows, Row, Cross, Gone, Kept};
+ghost use Rattle.ppdb_maps.specs.declared.line.Line.TheVariants.{Dropped, Slots, Slot, Signature};
+ghost use Rattle.ppdb_maps.specs.declared.line.Line.TheVariants.{Document};
+ghost use Rattle.ppdb_maps.specs.Drafts.{Holds, IsClosed, HasNaming, IsChecked, IsPut, IsAddedTo};
+ghost use Rattle.ppdb_maps.specs.Drafts.{HasLength};
 ghost use Rattle.ppdb_maps.specs.Places.{place};
 ghost use Rattle.ppdb_maps.specs.Rules.{Breaks};
-ghost use Rattle.ppdb_maps.specs.declared.rule.Rule.TheVariants.{Repeated, Undeclared, NamesDropped};
+ghost use Rattle.ppdb_maps.specs.declared.rule.Rule.TheVariants.{Repeated, Undeclared};
+ghost use Rattle.ppdb_maps.specs.declared.rule.Rule.TheVariants.{NamesDropped};
 
 use crate::bit_set::{BitSet, RowSet};
 use crate::entries::{CrossLine, GoneLine, NameLine, RowLine, SignatureImage};
@@ -83,7 +87,8 @@ impl Draft {
 
     /// Puts the open method among the others.
     pub fn close(&mut self) -> Result<(), Memory>
-        ensures { OnOk result ((before : List Line) → Holds before self.old → IsClosed before self.new) }
+        ensures { OnOk result ((before : List Line) → Holds before self.old
+            → IsClosed before self.new) }
     {
         if let Some(method) = self.current.take() {
             self.listed.insert(method.number())?;
@@ -94,7 +99,8 @@ impl Draft {
 
     /// Whether there is a line at the place of this one.
     fn is_taken(&self, line: &Line) -> bool
-        ensures { (before : List Line) → IsClosed before self.now → IsTrue result ↔ Breaks before Repeated line.now }
+        ensures { (before : List Line) → IsClosed before self.now
+            → IsTrue result ↔ Breaks before Repeated line.now }
     {
         match line {
             Line::Silent | Line::Kept(_) => false,
@@ -115,7 +121,8 @@ impl Draft {
 
     /// Whether the line that this one needs is not there.
     fn is_alone(&self, line: &Line) -> bool
-        ensures { (before : List Line) → IsClosed before self.now → IsTrue result ↔ Breaks before Undeclared line.now }
+        ensures { (before : List Line) → IsClosed before self.now
+            → IsTrue result ↔ Breaks before Undeclared line.now }
     {
         match line {
             Line::Row { table, .. } => !self.counts.contains_key(table),
@@ -128,7 +135,8 @@ impl Draft {
 
     /// Whether there is a line at a place where the method is named.
     fn is_named(&self, method: u32) -> bool
-        ensures { (before : List Line) → IsClosed before self.now → IsTrue result ↔ HasNaming before method }
+        ensures { (before : List Line) → IsClosed before self.now
+            → IsTrue result ↔ HasNaming before method }
     {
         self.listed.contains(method)
             || self.moved.contains(0x06, method)
@@ -138,7 +146,8 @@ impl Draft {
 
     /// Whether this line drops a method that is named, or names a dropped one.
     fn is_barred(&self, line: &Line) -> bool
-        ensures { (before : List Line) → IsClosed before self.now → IsTrue result ↔ Breaks before NamesDropped line.now }
+        ensures { (before : List Line) → IsClosed before self.now
+            → IsTrue result ↔ Breaks before NamesDropped line.now }
     {
         match line {
             Line::Dropped(method) => self.is_named(*method),
@@ -152,7 +161,8 @@ impl Draft {
 
     /// Refuses a line that breaks a rule on its place, the line that it needs, or dropped methods.
     fn check(&self, line: &Line) -> Result<(), Refusal>
-        ensures { (before : List Line) → IsClosed before self.now → IsChecked before line.now result }
+        ensures { (before : List Line) → IsClosed before self.now
+            → IsChecked before line.now result }
     {
         if self.is_taken(line) {
             return Err(Refusal::Breaks(Rule::Repeated));
@@ -302,11 +312,16 @@ impl Draft {
     }
 
     /// Adds what a line after the first says, or refuses it by the rule that it breaks by itself.
-    pub fn add_said(&mut self, alloc: Global, told: Result<Line, Refusal>) -> Result<(), Refusal>
-        requires { (version : ℕ) × (text : List ℕ) × IsTold version text told }
-        ensures { (version : ℕ) (text : List ℕ) → IsTold version text told → IsTextAdded version text self.old result self.new }
+    pub fn add_said(
+        &mut self,
+        alloc: Global,
+        reported: Result<Line, Refusal>,
+    ) -> Result<(), Refusal>
+        requires { (version : ℕ) × (text : List ℕ) × IsReported version text reported }
+        ensures { (version : ℕ) (text : List ℕ) → IsReported version text reported
+            → IsTextAdded version text self.old result self.new }
     {
-        match told {
+        match reported {
             Ok(line) => self.add(alloc, line),
             Err(refusal) => Err(refusal),
         }
@@ -314,7 +329,8 @@ impl Draft {
 
     /// The map of the lines.
     pub fn finish(self, alloc: Global) -> Result<MapText, Memory>
-        requires { (version : ℕ) × (texts : List (List ℕ)) × (before : List Line) × Read version texts before × IsClosed before self }
+        requires { (version : ℕ) × (texts : List (List ℕ)) × (before : List Line)
+            × Read version texts before × IsClosed before self }
         ensures { (before : List Line) → IsClosed before self → IfOk result (HoldsWhat before) }
     {
         let Draft {

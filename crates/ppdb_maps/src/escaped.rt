@@ -1,5 +1,6 @@
 // Bytes that are spelled in a word.
-ghost use Rattle.std.specs.Prelude.{◌≡◌, ℕ, ◌<◌, ◌++◌, false, List, length, IfOk, IfSome, IfNone, MatchOption};
+ghost use Rattle.std.specs.Prelude.{◌≡◌, ℕ, ◌<◌, ◌++◌, false, List, length, IfOk, IfSome, IfNone};
+ghost use Rattle.std.specs.Prelude.{MatchOption};
 ghost use Rattle.ppdb_base.specs.Escaped.{is_plain, code_of, escaped_byte};
 ghost use Rattle.ppdb_maps.specs.Forms.{IsEscaped};
 ghost use Rattle.ppdb_maps.specs.Escapes.{IsLowerDigit};
@@ -21,10 +22,12 @@ fn lower_digit(byte: u8) -> Option<u8>
 
 /// The byte whose code a text begins with, and the text after the code.
 fn code_before(text: &[u8]) -> Option<(u8, &[u8])>
-    ensures some { IfSome result (λ found. (is_plain found.0 ≡ false) × (text.now ≡ code_of found.0 ++ found.1.now)) }
+    ensures some { IfSome result (λ found. (is_plain found.0 ≡ false)
+        × (text.now ≡ code_of found.0 ++ found.1.now)) }
     ensures fits { IfSome result (λ found. found.0 < 256) }
     ensures shorter { IfSome result (λ found. length found.1.now < length text.now) }
-    ensures none { IfNone result ((byte : ℕ) (rest : List ℕ) → byte < 256 → is_plain byte ≡ false → text.now ≡ code_of byte ++ rest → ⊥) }
+    ensures none { IfNone result ((byte : ℕ) (rest : List ℕ) → byte < 256 → is_plain byte ≡ false
+        → text.now ≡ code_of byte ++ rest → ⊥) }
 {
     let [slash, letter, high, low, rest @ ..] = text else {
         return None;
@@ -44,7 +47,8 @@ fn byte_before(text: &[u8]) -> Option<(u8, &[u8])>
     ensures some { IfSome result (λ found. text.now ≡ escaped_byte found.0 ++ found.1.now) }
     ensures fits { IfSome result (λ found. found.0 < 256) }
     ensures shorter { IfSome result (λ found. length found.1.now < length text.now) }
-    ensures none { IfNone result ((byte : ℕ) (rest : List ℕ) → byte < 256 → text.now ≡ escaped_byte byte ++ rest → ⊥) }
+    ensures none { IfNone result ((byte : ℕ) (rest : List ℕ) → byte < 256
+        → text.now ≡ escaped_byte byte ++ rest → ⊥) }
 {
     let [first, rest @ ..] = text else {
         return None;
@@ -57,7 +61,8 @@ fn byte_before(text: &[u8]) -> Option<(u8, &[u8])>
 
 /// The bytes that a word spells; none where it is no spelling of bytes.
 pub fn unescaped(alloc: Global, word: &[u8]) -> Result<Option<Bytes>, Memory>
-    ensures { IfOk result (λ bytes. MatchOption bytes ((bytes : List ℕ) → IsEscaped word.now bytes → ⊥) (IsEscaped word.now)) }
+    ensures { IfOk result (λ bytes.
+        MatchOption bytes ((bytes : List ℕ) → IsEscaped word.now bytes → ⊥) (IsEscaped word.now)) }
 {
     let mut bytes = Bytes::new(alloc);
     if word == b"\\-".as_slice() {

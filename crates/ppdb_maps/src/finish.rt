@@ -4,7 +4,8 @@ ghost use Rattle.std.specs.Ordering.{nat_cmp};
 ghost use Rattle.std.specs.BTreeMap.{IsOrdered};
 ghost use Rattle.std.specs.BTreeSet as sorted;
 ghost use Rattle.ppdb_maps.specs.Map.{pair_cmp};
-ghost use Rattle.ppdb_maps.specs.Gathered.{count_entry, row_key, cross_key, gone_key, method_key, signature_key, slot_entry, name_entry, name_cmp};
+ghost use Rattle.ppdb_maps.specs.Gathered.{count_entry, row_key, cross_key, gone_key, method_key};
+ghost use Rattle.ppdb_maps.specs.Gathered.{signature_key, slot_entry, name_entry, name_cmp};
 ghost use Rattle.std.specs.List.Sorted.{IsPermutation, IsSortedByKey};
 
 use crate::entries::{Count, CrossLine, GoneLine, NameLine, RowLine, SignatureImage, SlotImage};

@@ -39,7 +39,8 @@ pub enum Form {
 pub enum Line {
     /// Nothing: it is empty or a comment.
     Silent,
-    /// The number of rows that the table has in the output. A row of the table has only the image that a line gives it.
+    /// The number of rows that the table has in the output. A row of the table has only the image
+    /// that a line gives it.
     Rows {
         table: u8,
         rows: u32,

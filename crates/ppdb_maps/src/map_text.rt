@@ -1,7 +1,10 @@
 // The map that a text has.
-ghost use Rattle.std.specs.Prelude.{unwrap_or, ◌≡◌, ◌||◌, ℕ, List, [], false, None, is_some, option_copied, slice_get, option_map};
-ghost use Rattle.ppdb_maps.specs.Map.{MethodLine, map_of, count_of, row_line, row_within, moved_row, told_image, cross_line, has_gone_line, row_image};
-ghost use Rattle.ppdb_maps.specs.Map.{is_dropped, has_slots, slot_line, slot_image, offsets_in, rows_of, crossed_of, gone_of, slots_of};
+ghost use Rattle.std.specs.Prelude.{unwrap_or, ◌≡◌, ◌||◌, ℕ, List, [], false, None, is_some};
+ghost use Rattle.std.specs.Prelude.{option_copied, slice_get, option_map};
+ghost use Rattle.ppdb_maps.specs.Map.{MethodLine, map_of, count_of, row_line, row_within};
+ghost use Rattle.ppdb_maps.specs.Map.{moved_row, said_image, cross_line, has_gone_line, row_image};
+ghost use Rattle.ppdb_maps.specs.Map.{is_dropped, has_slots, slot_line, slot_image, offsets_in};
+ghost use Rattle.ppdb_maps.specs.Map.{rows_of, crossed_of, gone_of, slots_of};
 ghost use Rattle.ppdb_maps.specs.Map.{signature_line, moved_signature, document_line, moved_name};
 ghost use Rattle.ppdb_maps.specs.Readable.{IsReadable};
 ghost use Rattle.ppdb_maps.specs.declared.entries.NameLine.{NameLine};
@@ -51,10 +54,12 @@ impl Model for MapText {
 
     ghost use Rattle.ppdb_maps.specs.Readable.{IsReadable};
 
-    ghost view = { λ m. map_of m.counts.items m.rows.items m.crossed.items m.gone.items m.methods.items m.drops.items m.slotted.items m.slots.items
+    ghost view = { λ m. map_of m.counts.items m.rows.items m.crossed.items m.gone.items
+        m.methods.items m.drops.items m.slotted.items m.slots.items
         m.signatures.items m.documents.items m.link m.shares };
 
-    ghost invariant = { λ m. IsReadable (map_of m.counts.items m.rows.items m.crossed.items m.gone.items m.methods.items m.drops.items m.slotted.items
+    ghost invariant = { λ m. IsReadable (map_of m.counts.items m.rows.items m.crossed.items
+        m.gone.items m.methods.items m.drops.items m.slotted.items
         m.slots.items m.signatures.items m.documents.items m.link m.shares) };
 }
 
@@ -95,9 +100,11 @@ impl MapText {
         link: Option<Bytes>,
         shares: bool,
     ) -> MapText
-        requires { IsReadable (map_of counts.items rows.items crossed.items gone.items methods.items drops.items slotted.items slots.items signatures.items
+        requires { IsReadable (map_of counts.items rows.items crossed.items gone.items methods.items
+            drops.items slotted.items slots.items signatures.items
             documents.items link shares) }
-        ensures { result ≡ map_of counts.items rows.items crossed.items gone.items methods.items drops.items slotted.items slots.items signatures.items
+        ensures { result ≡ map_of counts.items rows.items crossed.items gone.items methods.items
+            drops.items slotted.items slots.items signatures.items
             documents.items link shares }
     {
         let starts = Starts::of(rows.as_slice());
@@ -120,7 +127,7 @@ impl MapText {
 
     /// Its lists ascend strictly, its numbers are in the ranges of map texts, and no line stands
     /// where another forbids it.
-    pub fn keeps(&self)
+    pub fn facts(&self)
         ensures { IsReadable self.now }
     {
         // For the proof alone: it opens the value, whose invariant this is.
@@ -149,8 +156,8 @@ impl MapText {
         row_near(self.rows.as_slice(), table, old, index).map(|row| row.new)
     }
 
-    /// The row of the same table that a row becomes: none for a dropped method; the row itself where
-    /// its table has no `rows` line, else the one that its `row` line of four words names.
+    /// The row of the same table that a row becomes: none for a dropped method; the row itself
+    /// where its table has no `rows` line, else the one that its `row` line of four words names.
     pub fn row(&self, table: u8, old: u32) -> Option<u32>
         ensures { result ≡ row_within self.now table old }
     {
@@ -165,7 +172,8 @@ impl MapText {
 
     /// What a row of a table becomes by its `row` line of five words or its `gone` line.
     fn other_image(&self, table: u8, old: u32) -> RowImage
-        ensures { result ≡ told_image table None (cross_line self.now table old) (has_gone_line self.now table old) }
+        ensures { result ≡ said_image table None (cross_line self.now table old)
+            (has_gone_line self.now table old) }
     {
         match cross_at(self.crossed.as_slice(), table, old) {
             Some(line) => RowImage::Row {
@@ -177,9 +185,9 @@ impl MapText {
         }
     }
 
-    /// The image of a row of the tables 00 to 2c: missing for a dropped method; the row itself where
-    /// its table has no `rows` line, else what its line says of it, and missing where there is none.
-    /// In a table above 2c it is the row itself.
+    /// The image of a row of the tables 00 to 2c: missing for a dropped method; the row itself
+    /// where its table has no `rows` line, else what its line says of it, and missing where there
+    /// is none. In a table above 2c it is the row itself.
     pub fn row_image(&self, table: u8, old: u32) -> RowImage
         ensures { result ≡ row_image self.now table old }
     {
@@ -197,7 +205,8 @@ impl MapText {
 
     /// Whether rows leave their table: there is a `row` line of five words or a `gone` line.
     pub fn has_leaving(&self) -> bool
-        ensures { result ≡ (is_some (slice_get self.now.crossed 0) || is_some (slice_get self.now.gone 0)) }
+        ensures { result
+            ≡ (is_some (slice_get self.now.crossed 0) || is_some (slice_get self.now.gone 0)) }
     {
         !self.crossed.is_empty() || !self.gone.is_empty()
     }
@@ -314,7 +323,8 @@ impl MapText {
 
     /// The methods with a `method` line, in ascending order; none past the last.
     pub fn method_line(&self, index: u32) -> Option<u32>
-        ensures { result ≡ option_map (λ (l : MethodLine). l.method) (slice_get self.now.methods index) }
+        ensures { result
+            ≡ option_map (λ (l : MethodLine). l.method) (slice_get self.now.methods index) }
     {
         self.methods.get(index as usize).map(|line| line.number())
     }
@@ -333,10 +343,11 @@ impl MapText {
         self.slotted.get(index as usize).copied()
     }
 
-    /// The rows of a table with a `row` line of four words and their images, in ascending order; none
-    /// past the last.
+    /// The rows of a table with a `row` line of four words and their images, in ascending order;
+    /// none past the last.
     pub fn row_line(&self, table: u8, index: u32) -> Option<(u32, u32)>
-        ensures { result ≡ option_map (λ (r : RowLine). (r.old, r.new)) (slice_get (rows_of self.now table) index) }
+        ensures { result ≡ option_map (λ (r : RowLine). (r.old, r.new))
+            (slice_get (rows_of self.now table) index) }
     {
         nth_row(self.rows.as_slice(), table, index).map(|row| (row.old, row.new))
     }
@@ -344,14 +355,16 @@ impl MapText {
     /// The rows of a table with a `row` line of five words, each with the table and the row that it
     /// becomes, in ascending order; none past the last.
     pub fn cross_line(&self, table: u8, index: u32) -> Option<(u32, u8, u32)>
-        ensures { result ≡ option_map (λ (r : CrossLine). (r.old, r.to, r.new)) (slice_get (crossed_of self.now table) index) }
+        ensures { result ≡ option_map (λ (r : CrossLine). (r.old, r.to, r.new))
+            (slice_get (crossed_of self.now table) index) }
     {
         nth_cross(self.crossed.as_slice(), table, index).map(|line| (line.old, line.to, line.new))
     }
 
     /// The rows of a table with a `gone` line, in ascending order; none past the last.
     pub fn gone_line(&self, table: u8, index: u32) -> Option<u32>
-        ensures { result ≡ option_map (λ (r : GoneLine). r.old) (slice_get (gone_of self.now table) index) }
+        ensures { result
+            ≡ option_map (λ (r : GoneLine). r.old) (slice_get (gone_of self.now table) index) }
     {
         nth_gone(self.gone.as_slice(), table, index).map(|line| line.old)
     }
@@ -359,7 +372,8 @@ impl MapText {
     /// The slots of a method with a `slot` line and their images, in ascending order; none past
     /// the last.
     pub fn slot_line(&self, method: u32, index: u32) -> Option<(u16, u16)>
-        ensures { result ≡ option_map (λ (s : SlotImage). (s.old, s.new)) (slice_get (slots_of self.now method) index) }
+        ensures { result ≡ option_map (λ (s : SlotImage). (s.old, s.new))
+            (slice_get (slots_of self.now method) index) }
     {
         nth_slot(self.slots.as_slice(), method, index).map(|slot| (slot.old, slot.new))
     }
@@ -367,7 +381,8 @@ impl MapText {
     /// The methods with a `signature` line and their local signatures, in ascending order; none
     /// past the last.
     pub fn signature_line(&self, index: u32) -> Option<(u32, u32)>
-        ensures { result ≡ option_map (λ (s : SignatureImage). (s.method, s.new)) (slice_get self.now.signatures index) }
+        ensures { result ≡ option_map (λ (s : SignatureImage). (s.method, s.new))
+            (slice_get self.now.signatures index) }
     {
         self.signatures
             .get(index as usize)
@@ -377,7 +392,8 @@ impl MapText {
     /// The names with a `document` line and the names that they get, in ascending order of their
     /// bytes; none past the last.
     pub fn document_line(&self, index: u32) -> Option<(&[u8], &[u8])>
-        ensures { option_map {U = List ℕ × List ℕ} (λ p. (p.0.now, p.1.now)) result ≡ option_map (λ (d : NameLine). (d.old, d.new)) (slice_get self.now.documents index) }
+        ensures { option_map {U = List ℕ × List ℕ} (λ p. (p.0.now, p.1.now)) result
+            ≡ option_map (λ (d : NameLine). (d.old, d.new)) (slice_get self.now.documents index) }
     {
         let document = self.documents.get(index as usize)?;
         Some((document.old.as_slice(), document.new.as_slice()))

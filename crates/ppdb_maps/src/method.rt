@@ -26,7 +26,8 @@ impl Model for Method {
 
     ghost Value = { MethodLine };
 
-    ghost view = { λ m. record { method = m.method; old_size = m.old_size; new_size = m.new_size; runs = m.runs } };
+    ghost view = { λ m.
+        record { method = m.method; old_size = m.old_size; new_size = m.new_size; runs = m.runs } };
 
     ghost use Rattle.ppdb_base.specs.Offsets.{Rise, lined};
 
@@ -64,7 +65,8 @@ fn ends_beyond(run: Run, old_size: u32, new_size: u32) -> bool
 impl Method {
     /// A method without runs.
     pub fn new(alloc: Global, method: u32, old_size: u32, new_size: u32) -> Method
-        ensures { result ≡ record { method = method; old_size = old_size; new_size = new_size; runs = [] } }
+        ensures { result
+            ≡ record { method = method; old_size = old_size; new_size = new_size; runs = [] } }
     {
         Method {
             method,
@@ -77,7 +79,8 @@ impl Method {
     /// A method with runs that rise within the sizes.
     pub fn with_runs(method: u32, old_size: u32, new_size: u32, runs: List<Run>) -> Method
         requires { Rise (lined runs old_size new_size) }
-        ensures { result ≡ record { method = method; old_size = old_size; new_size = new_size; runs = runs } }
+        ensures { result
+            ≡ record { method = method; old_size = old_size; new_size = new_size; runs = runs } }
     {
         Method {
             method,
@@ -104,8 +107,10 @@ impl Method {
     /// Adds a run. After an error the method is as it was.
     pub fn add(&mut self, run: Run) -> Result<(), Refusal>
         requires { 0 < run.length }
-        ensures added { OnOk result (self.new ≡ record self.old { runs = self.old.runs ++ run ∷ [] }) }
-        ensures kept { OnOk result ((BeginsEarly run self.old.runs → ⊥) × (EndsBeyond run self.old → ⊥)) }
+        ensures added { OnOk result
+            (self.new ≡ record self.old { runs = self.old.runs ++ run ∷ [] }) }
+        ensures kept { OnOk result ((BeginsEarly run self.old.runs → ⊥)
+            × (EndsBeyond run self.old → ⊥)) }
         ensures refused { IfErr result (RefusesRun run self.old) }
     {
         if begins_early(run, self.runs.as_slice()) {

@@ -1,6 +1,7 @@
 // How a map moves the offsets of one method.
 ghost use Rattle.std.specs.Prelude.{◌≡◌, ◌≤◌, slice_get, option_map};
-ghost use Rattle.ppdb_base.specs.Offsets.{Rise, RiseFrom-prop, stop_runs, old_size, every, gone, lined};
+ghost use Rattle.ppdb_base.specs.Offsets.{Rise, RiseFrom-prop, stop_runs, old_size, every, gone};
+ghost use Rattle.ppdb_base.specs.Offsets.{lined};
 ghost use Rattle.ppdb_maps.specs.Says.{offsets_of, sizes_of, lined_runs, run_numbers};
 
 use crate::runs::{image_in, is_kept_in, next_image_in};
@@ -102,7 +103,8 @@ impl<'a> MethodMap<'a> {
 impl MethodMap<'_> {
     /// The runs, in ascending order, as OLD, NEW and LENGTH; none past the last.
     pub fn run_line(&self, index: u32) -> Option<(u32, u32, u32)>
-        ensures { result ≡ option_map run_numbers (slice_get (lined_runs (offsets_of self.now.says)) index) }
+        ensures { result
+            ≡ option_map run_numbers (slice_get (lined_runs (offsets_of self.now.says)) index) }
     {
         match self.says {
             Says::Lined { runs, .. } => {

@@ -1,5 +1,6 @@
 // The numbers of a map text.
-ghost use Rattle.std.specs.Prelude.{◌≡◌, ℕ, ◌<◌, ◌≤◌, ◌^◌, ◌↔◌, length, IsTrue, IfSome, IfNone, MatchOption};
+ghost use Rattle.std.specs.Prelude.{◌≡◌, ℕ, ◌<◌, ◌≤◌, ◌^◌, ◌↔◌, length, IsTrue, IfSome, IfNone};
+ghost use Rattle.std.specs.Prelude.{MatchOption};
 ghost use Rattle.std.specs.Str.Parse.{AllDigits, digits_value};
 ghost use Rattle.std.specs.Fmt.{decimal};
 ghost use Rattle.ppdb_maps.specs.Spelling.{IsHexDigit, MaySpell};
@@ -9,7 +10,8 @@ ghost use Rattle.ppdb_maps.specs.Forms.{IsNumber, IsTable, MAX_SLOT};
 /// What decimal digits say.
 fn digits(word: &[u8]) -> Option<u64>
     requires { length word.now ≤ 10 }
-    ensures { MatchOption result (AllDigits 10 word.now → ⊥) (λ n. AllDigits 10 word.now × (n ≡ digits_value 10 word.now)) }
+    ensures { MatchOption result (AllDigits 10 word.now
+        → ⊥) (λ n. AllDigits 10 word.now × (n ≡ digits_value 10 word.now)) }
 {
     let mut value: u64 = 0;
     for byte in word {

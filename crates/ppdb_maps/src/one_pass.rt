@@ -1,4 +1,5 @@
-// Lines that are read in one pass: runs, methods, rows and local signatures, as most lines of a map are.
+// Lines that are read in one pass: runs, methods, rows and local signatures, as most lines of a map
+// are.
 ghost use Rattle.std.specs.Prelude.{◌<◌, IfSome};
 ghost use Rattle.ppdb_maps.specs.OnePass.{IsNumberBefore, IsRunBefore, IsLineBefore};
 
@@ -103,8 +104,8 @@ pub fn line_before(text: &[u8]) -> Option<(Line, &[u8])>
     }
 }
 
-/// The row of another table that a row becomes, which the first line of a text says, and what stands
-/// after that line.
+/// The row of another table that a row becomes, which the first line of a text says, and what
+/// stands after that line.
 fn cross_before(text: &[u8]) -> Option<(Line, &[u8])>
     ensures { IfSome result (λ found. IsLineBefore 4 text.now found.0 found.1.now) }
 {

@@ -3,7 +3,7 @@ ghost use Rattle.std.specs.Prelude.{◌≤◌, length, IfOk, IfErr};
 ghost use Rattle.std.specs.Str.Lines.{lines};
 ghost use Rattle.ppdb_maps.specs.Text.{IsMapOf};
 ghost use Rattle.ppdb_maps.specs.Loops.{IsAt, ReadWhole, RefusedIn, RefusedAs};
-ghost use Rattle.ppdb_maps.specs.OnePass.{IsFirstTold};
+ghost use Rattle.ppdb_maps.specs.OnePass.{IsFirstReported};
 
 use crate::draft::Draft;
 use crate::line::Line;
@@ -32,7 +32,7 @@ fn refusal_at(line: u32, refusal: Refusal) -> MapError
 /// What the first line of a text says, and what stands after that line.
 fn first_said(alloc: Global, version: u8, text: &[u8]) -> (Result<Line, Refusal>, &[u8])
     requires { 1 ≤ version }
-    ensures { IsFirstTold version text.now result.0 result.1.now }
+    ensures { IsFirstReported version text.now result.0 result.1.now }
 {
     if let Some((line, rest)) = line_before(text) {
         return (Ok(line), rest);

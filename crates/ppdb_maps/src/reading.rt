@@ -2,9 +2,14 @@
 ghost use Rattle.std.specs.Prelude.{◌≡◌, ℕ, codes, IfOk, IfSome, IfNone, IsTrue, ◌↔◌};
 ghost use Rattle.ppdb_maps.specs.Words.{IsSilent};
 ghost use Rattle.ppdb_maps.specs.Forms.{Crosses, IsHead, IsTypeTable, words_in, since};
-ghost use Rattle.ppdb_maps.specs.Reading.{IsNamed, IsNamedAlone, IsFormOf, IsLineOfForm, IsTold};
-ghost use Rattle.ppdb_maps.specs.declared.line.Form.TheVariants.{TableRows, RowMove, MethodSizes, OffsetRun, MethodDrop, MethodSlots, SlotMove, MethodSignature};
-ghost use Rattle.ppdb_maps.specs.declared.line.Form.TheVariants.{DocumentRename, LinkValue, CrossMove, RowGone};
+ghost use Rattle.ppdb_maps.specs.Reading.{IsNamed, IsNamedAlone, IsFormOf, IsLineOfForm};
+ghost use Rattle.ppdb_maps.specs.Reading.{IsReported};
+ghost use Rattle.ppdb_maps.specs.declared.line.Form.TheVariants.{TableRows, RowMove, MethodSizes};
+ghost use Rattle.ppdb_maps.specs.declared.line.Form.TheVariants.{OffsetRun, MethodDrop};
+ghost use Rattle.ppdb_maps.specs.declared.line.Form.TheVariants.{MethodSlots, SlotMove};
+ghost use Rattle.ppdb_maps.specs.declared.line.Form.TheVariants.{MethodSignature};
+ghost use Rattle.ppdb_maps.specs.declared.line.Form.TheVariants.{DocumentRename, LinkValue};
+ghost use Rattle.ppdb_maps.specs.declared.line.Form.TheVariants.{CrossMove, RowGone};
 
 use crate::boxed::Boxed;
 use crate::entries::{CrossLine, NameLine};
@@ -301,7 +306,7 @@ fn line_of(alloc: Global, form: Form, words: &Words<'_>) -> Result<Option<Line>,
 
 /// What a line after the first says.
 pub fn said(alloc: Global, version: u8, line: &[u8]) -> Result<Line, Refusal>
-    ensures { IsTold version line.now result }
+    ensures { IsReported version line.now result }
 {
     if is_silent(line) {
         return Ok(Line::Silent);

@@ -35,7 +35,8 @@ fn sample_method(alloc: Global, method: u32) -> Result<Method, Memory>
     Ok(Method::with_runs(method, 16, 20, runs))
 }
 
-/// The map that turns the order of a sample file's `n` methods round, with sizes and kept offsets for each.
+/// The map that turns the order of a sample file's `n` methods round, with sizes and kept offsets
+/// for each.
 pub fn sample_map(alloc: Global, n: u32) -> Result<MapText, Memory>
     requires { n ≤ 100000 }
     ensures { IfOk result (λ map. map ≡ sample_map_of n) }

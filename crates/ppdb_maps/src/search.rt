@@ -1,5 +1,6 @@
 // A halving search in a list that is in order.
-ghost use Rattle.std.specs.Prelude.{◌≡◌, ◌&&◌, Bool, bytes_eq, map, nat_eq, option_copied, find, filter, slice_get};
+ghost use Rattle.std.specs.Prelude.{◌≡◌, ◌&&◌, Bool, bytes_eq, map, nat_eq, option_copied, find};
+ghost use Rattle.std.specs.Prelude.{filter, slice_get};
 ghost use Rattle.std.specs.Fn.{ComputesKey};
 ghost use Rattle.std.specs.List.{list_any};
 ghost use Rattle.std.specs.List.Sorted.{IsStrictlySortedBy};
@@ -26,7 +27,8 @@ pub fn find_by<T, B: FnMut(&T) -> bool, A: FnMut(&T) -> bool>(
 ) -> Option<&T>
     requires before_callable { B.IsAlwaysCallable before }
     requires at_callable { A.IsAlwaysCallable at }
-    ensures { (low hit : T → Bool) → ComputesKey B.FnMut low before → ComputesKey A.FnMut hit at → FindsBy low hit items.now (option_copied result) }
+    ensures { (low hit : T → Bool) → ComputesKey B.FnMut low before → ComputesKey A.FnMut hit at
+        → FindsBy low hit items.now (option_copied result) }
 {
     let place = items.partition_point(before);
     let item = items.get(place)?;
@@ -43,7 +45,8 @@ pub fn nth_by<T, B: FnMut(&T) -> bool, A: FnMut(&T) -> bool>(
 ) -> Option<&T>
     requires before_callable { B.IsAlwaysCallable before }
     requires at_callable { A.IsAlwaysCallable at }
-    ensures { (low hit : T → Bool) → ComputesKey B.FnMut low before → ComputesKey A.FnMut hit at → CountsBy low hit items.now index (option_copied result) }
+    ensures { (low hit : T → Bool) → ComputesKey B.FnMut low before → ComputesKey A.FnMut hit at
+        → CountsBy low hit items.now index (option_copied result) }
 {
     let first = items.partition_point(before);
     let index = index as usize;
@@ -92,7 +95,8 @@ pub fn row_near(rows: &[RowLine], table: u8, old: u32, index: usize) -> Option<&
 /// The line of a row that becomes one of another table.
 pub fn cross_at(lines: &[CrossLine], table: u8, old: u32) -> Option<&CrossLine>
     requires { IsStrictlySortedBy pair_cmp (map (λ (r : CrossLine). (r.table, r.old)) lines.now) }
-    ensures { option_copied result ≡ find (λ r. nat_eq r.table table && nat_eq r.old old) lines.now }
+    ensures { option_copied result
+        ≡ find (λ r. nat_eq r.table table && nat_eq r.old old) lines.now }
 {
     find_by(
         lines,
@@ -117,7 +121,8 @@ pub fn is_gone_at(lines: &[GoneLine], table: u8, old: u32) -> bool
 /// The image of a slot.
 pub fn slot_at(slots: &[SlotImage], method: u32, old: u16) -> Option<&SlotImage>
     requires { IsStrictlySortedBy pair_cmp (map (λ (s : SlotImage). (s.method, s.old)) slots.now) }
-    ensures { option_copied result ≡ find (λ s. nat_eq s.method method && nat_eq s.old old) slots.now }
+    ensures { option_copied result
+        ≡ find (λ s. nat_eq s.method method && nat_eq s.old old) slots.now }
 {
     find_by(
         slots,
@@ -140,7 +145,8 @@ pub fn signature_at(signatures: &[SignatureImage], method: u32) -> Option<&Signa
 
 /// The line of a document's name.
 pub fn document_at<'a>(documents: &'a [NameLine], name: &[u8]) -> Option<&'a NameLine>
-    requires { IsStrictlySortedBy (slice_cmp nat_cmp) (map (λ (d : NameLine). d.old) documents.now) }
+    requires { IsStrictlySortedBy (slice_cmp nat_cmp)
+        (map (λ (d : NameLine). d.old) documents.now) }
     ensures { option_copied result ≡ find (λ d. bytes_eq d.old name.now) documents.now }
 {
     find_by(
@@ -183,10 +189,12 @@ pub fn nth_row(rows: &[RowLine], table: u8, index: u32) -> Option<&RowLine>
     )
 }
 
-/// The line of a row of the table that becomes one of another table, by its index among those of the table.
+/// The line of a row of the table that becomes one of another table, by its index among those of
+/// the table.
 pub fn nth_cross(lines: &[CrossLine], table: u8, index: u32) -> Option<&CrossLine>
     requires { IsStrictlySortedBy pair_cmp (map (λ (r : CrossLine). (r.table, r.old)) lines.now) }
-    ensures { option_copied result ≡ slice_get (filter (λ r. nat_eq r.table table) lines.now) index }
+    ensures { option_copied result
+        ≡ slice_get (filter (λ r. nat_eq r.table table) lines.now) index }
 {
     nth_by(
         lines,
@@ -199,7 +207,8 @@ pub fn nth_cross(lines: &[CrossLine], table: u8, index: u32) -> Option<&CrossLin
 /// A row of the table that has no successor, by its index among those of the table.
 pub fn nth_gone(lines: &[GoneLine], table: u8, index: u32) -> Option<&GoneLine>
     requires { IsStrictlySortedBy pair_cmp (map (λ (r : GoneLine). (r.table, r.old)) lines.now) }
-    ensures { option_copied result ≡ slice_get (filter (λ r. nat_eq r.table table) lines.now) index }
+    ensures { option_copied result
+        ≡ slice_get (filter (λ r. nat_eq r.table table) lines.now) index }
 {
     nth_by(
         lines,
@@ -212,7 +221,8 @@ pub fn nth_gone(lines: &[GoneLine], table: u8, index: u32) -> Option<&GoneLine>
 /// The image of a slot of the method, by its index among those of the method.
 pub fn nth_slot(slots: &[SlotImage], method: u32, index: u32) -> Option<&SlotImage>
     requires { IsStrictlySortedBy pair_cmp (map (λ (s : SlotImage). (s.method, s.old)) slots.now) }
-    ensures { option_copied result ≡ slice_get (filter (λ s. nat_eq s.method method) slots.now) index }
+    ensures { option_copied result
+        ≡ slice_get (filter (λ s. nat_eq s.method method) slots.now) index }
 {
     nth_by(
         slots,

@@ -1,8 +1,8 @@
 // Where the rows of a table are likely to be.
 use crate::entries::RowLine;
 
-/// Where the rows of each table begin in a list that is in order. No clause speaks of it: whoever looks there sees whether the row is
-/// there.
+/// Where the rows of each table begin in a list that is in order. No clause speaks of it: whoever
+/// looks there sees whether the row is there.
 #[derive(Clone, Copy)]
 pub struct Starts {
     starts: [u32; 45],

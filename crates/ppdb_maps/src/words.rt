@@ -3,18 +3,19 @@ ghost use Rattle.std.specs.Prelude.{◌≡◌, ◌==◌, position, MatchOption};
 ghost use Rattle.std.specs.Str.Lines.{strip_carriage_return};
 ghost use Rattle.ppdb_maps.specs.Cuts.{IsCut, IsUncut, IsLineOf, AreWordsOf};
 
-/// Where the first `mark` is.
-fn place_of(bytes: &[u8], mark: u8) -> Option<usize>
-    ensures { result ≡ position (λ b. b == mark) bytes.now }
+/// Where the first `separator` is.
+fn place_of(bytes: &[u8], separator: u8) -> Option<usize>
+    ensures { result ≡ position (λ b. b == separator) bytes.now }
 {
-    bytes.iter().position(|byte| *byte == mark)
+    bytes.iter().position(|byte| *byte == separator)
 }
 
-/// What is before the first `mark`, and what is after it.
-pub fn cut_at(bytes: &[u8], mark: u8) -> (&[u8], Option<&[u8]>)
-    ensures { MatchOption result.1 (IsUncut mark bytes.now result.0.now) (λ rest. IsCut mark bytes.now result.0.now rest.now) }
+/// What is before the first `separator`, and what is after it.
+pub fn cut_at(bytes: &[u8], separator: u8) -> (&[u8], Option<&[u8]>)
+    ensures { MatchOption result.1 (IsUncut separator bytes.now result.0.now)
+        (λ rest. IsCut separator bytes.now result.0.now rest.now) }
 {
-    match place_of(bytes, mark) {
+    match place_of(bytes, separator) {
         Some(at) => (&bytes[..at], Some(&bytes[at + 1..])),
         None => (bytes, None),
     }

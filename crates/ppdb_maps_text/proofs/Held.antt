@@ -7,7 +7,7 @@ use Rattle.ppdb_base.specs.declared.offsets.Run.{Run}
 use Rattle.ppdb_maps.specs.declared.entries.{Count.{Count}, RowLine.{RowLine}, CrossLine.{CrossLine}, GoneLine.{GoneLine}, SlotImage.{SlotImage}}
 use Rattle.ppdb_maps.specs.declared.{entries.SignatureImage.{SignatureImage}, entries.NameLine.{NameLine}, line.Line.{Line}, line.Line.TheVariants.{Silent, Rows}}
 use Rattle.ppdb_maps.specs.declared.line.Line.TheVariants.{Row, Cross, Gone, Method, Kept, Dropped, Slots, Slot, Signature, Document, Link, Shares}
-use Rattle.ppdb_maps.specs.{declared.rule.Rule.TheVariants.{Repeated}, Before.{told, methods_of, rows_said, row_said, cross_said, gone_said, slot_said}}
+use Rattle.ppdb_maps.specs.{declared.rule.Rule.TheVariants.{Repeated}, Before.{reported, methods_of, rows_said, row_said, cross_said, gone_said, slot_said}}
 use Rattle.ppdb_maps.specs.Before.{signature_said, document_said, count_in, row_in, cross_in, gone_in, slot_in, drop_in, slots_in, signature_in, document_in}
 use Rattle.ppdb_maps.specs.{Places.{rows_place, row_place, drop_place, slots_place, slot_place, signature_place, document_place}, Gathered.{same_pair, row_key}}
 use Rattle.ppdb_maps.specs.{Gathered.{cross_key, gone_key, method_key, signature_key}, Rules.{Breaks, by_lines}, Text.{HoldsWhat, Read, start, further}, Map.{Map}}
@@ -73,7 +73,7 @@ module _ (said : List Line) (m : Map) (h : HoldsWhat said m) where
       let x : Count = record { table = t; rows = n } in
       let a : (k : ℕ) → count_of (record m { counts = by_number (λ (c : Count). c.table) x m.counts }) k ≡ count_in (Rows t n ∷ said) k =
       λ k. put_says (λ (c : Count). c.table) nat_eq nat_cmp same_number nat_cmp_total exact_unsigned (λ (c : Count). c.rows) rows_said x m.counts (Rows t n)
-      (told said (rows_place k)) k refl (h.counts k) in
+      (reported said (rows_place k)) k refl (h.counts k) in
       let b = put_rises (λ (c : Count). c.table) nat_eq nat_cmp same_number nat_cmp_total exact_unsigned x m.counts up.counts in
       search rules
 
@@ -94,7 +94,7 @@ module _ (said : List Line) (m : Map) (h : HoldsWhat said m) where
       let x : RowLine = record { table = t; old = o; new = n } in
       let a : (k j : ℕ) → row_line (record m { rows = by_pair row_key x m.rows }) k j ≡ row_in (Row t o n ∷ said) k j =
       λ k j. put_says row_key same_pair pair_cmp pair_is pair_total pair_exact (λ (r : RowLine). r.new) row_said x m.rows (Row t o n)
-      (told said (row_place k j)) (k, j) refl (h.rows k j) in
+      (reported said (row_place k j)) (k, j) refl (h.rows k j) in
       let b = no_cross (Row t o n) once refl in
       let c = no_gone (Row t o n) once refl in
       let d = put_rises row_key same_pair pair_cmp pair_is pair_total pair_exact x m.rows up.rows in
@@ -104,7 +104,7 @@ module _ (said : List Line) (m : Map) (h : HoldsWhat said m) where
   cross_held x once =
       let a : (k j : ℕ) → cross_line (record m { crossed = by_pair cross_key x m.crossed }) k j ≡ cross_in (Cross x ∷ said) k j =
       λ k j. sym (same _) ∙ put_says cross_key same_pair pair_cmp pair_is pair_total pair_exact (λ r. r) cross_said x m.crossed (Cross x)
-      (told said (row_place k j)) (k, j) refl (same _ ∙ h.crossed k j) in
+      (reported said (row_place k j)) (k, j) refl (same _ ∙ h.crossed k j) in
       let b = no_row (Cross x) once refl in
       let c = no_gone (Cross x) once refl in
       let d = put_rises cross_key same_pair pair_cmp pair_is pair_total pair_exact x m.crossed up.crossed in
@@ -120,7 +120,7 @@ module _ (said : List Line) (m : Map) (h : HoldsWhat said m) where
       let a : (k j : ℕ) → has_gone_line (record m { gone = by_pair gone_key x m.gone }) k j ≡ gone_in (Gone t o ∷ said) k j =
       λ k j. any_is (λ (r : GoneLine). same_pair (gone_key r) (k, j)) (by_pair gone_key x m.gone)
       ∙ (ap is_some (put_found gone_key same_pair pair_cmp pair_is pair_total pair_exact (k, j) x m.gone)
-      ∙ of (same_pair (t, o) (k, j)) x (find (λ (r : GoneLine). same_pair (gone_key r) (k, j)) m.gone) (told said (row_place k j))
+      ∙ of (same_pair (t, o) (k, j)) x (find (λ (r : GoneLine). same_pair (gone_key r) (k, j)) m.gone) (reported said (row_place k j))
       (sym (any_is (λ (r : GoneLine). same_pair (gone_key r) (k, j)) m.gone) ∙ h.gone k j)) in
       let b = no_row (Gone t o) once refl in
       let c = no_cross (Gone t o) once refl in
@@ -134,14 +134,14 @@ module _ (said : List Line) (m : Map) (h : HoldsWhat said m) where
   drop_held : (k : ℕ) → HoldsWhat (Dropped k ∷ said) (record m { drops = by_number (λ n. n) k m.drops })
   drop_held k =
       let a : (n : ℕ) → is_dropped (record m { drops = by_number (λ n. n) k m.drops }) n ≡ drop_in (Dropped k ∷ said) n =
-      λ n. number_says n k m.drops (Dropped k) (told said (drop_place n)) (h.drops n) in
+      λ n. number_says n k m.drops (Dropped k) (reported said (drop_place n)) (h.drops n) in
       let b = number_rises k m.drops up.drops in
       search rules
 
   slots_held : (k : ℕ) → HoldsWhat (Slots k ∷ said) (record m { slotted = by_number (λ n. n) k m.slotted })
   slots_held k =
       let a : (n : ℕ) → has_slots (record m { slotted = by_number (λ n. n) k m.slotted }) n ≡ slots_in (Slots k ∷ said) n =
-      λ n. number_says n k m.slotted (Slots k) (told said (slots_place n)) (h.slotted n) in
+      λ n. number_says n k m.slotted (Slots k) (reported said (slots_place n)) (h.slotted n) in
       let b = number_rises k m.slotted up.slotted in
       search rules
 
@@ -152,7 +152,7 @@ module _ (said : List Line) (m : Map) (h : HoldsWhat said m) where
       let key : SlotImage → ℕ × ℕ = λ s. (s.method, s.old) in
       let a : (i j : ℕ) → slot_line (record m { slots = by_pair (λ (s : SlotImage). (s.method, s.old)) x m.slots }) i j ≡ slot_in (Slot k o n ∷ said) i j =
       λ i j. put_says (λ (s : SlotImage). (s.method, s.old)) same_pair pair_cmp pair_is pair_total pair_exact (λ (s : SlotImage). s.new) slot_said x m.slots
-      (Slot k o n) (told said (slot_place i j)) (i, j) refl (h.slots i j) in
+      (Slot k o n) (reported said (slot_place i j)) (i, j) refl (h.slots i j) in
       let b = put_rises (λ (s : SlotImage). (s.method, s.old)) same_pair pair_cmp pair_is pair_total pair_exact x m.slots up.slots in
       search rules
 
@@ -161,7 +161,7 @@ module _ (said : List Line) (m : Map) (h : HoldsWhat said m) where
       let x : SignatureImage = record { method = k; new = n } in
       let a : (i : ℕ) → signature_line (record m { signatures = by_number signature_key x m.signatures }) i ≡ signature_in (Signature k n ∷ said) i =
       λ i. put_says signature_key nat_eq nat_cmp same_number nat_cmp_total exact_unsigned (λ (s : SignatureImage). s.new) signature_said x m.signatures
-      (Signature k n) (told said (signature_place i)) i refl (h.signatures i) in
+      (Signature k n) (reported said (signature_place i)) i refl (h.signatures i) in
       let b = put_rises signature_key nat_eq nat_cmp same_number nat_cmp_total exact_unsigned x m.signatures up.signatures in
       search rules
 
@@ -169,7 +169,7 @@ module _ (said : List Line) (m : Map) (h : HoldsWhat said m) where
   document_held d =
       let a : (i : List ℕ) → document_line (record m { documents = by_name (λ (d : NameLine). d.old) d m.documents }) i ≡ document_in (Document d ∷ said) i =
       λ i. put_says (λ (d : NameLine). d.old) bytes_eq (slice_cmp nat_cmp) same_bytes nat_list_cmp_total exact_bytes (λ (d : NameLine). d.new) document_said d
-      m.documents (Document d) (told said (document_place i)) i refl (h.documents i) in
+      m.documents (Document d) (reported said (document_place i)) i refl (h.documents i) in
       let b = put_rises (λ (d : NameLine). d.old) bytes_eq (slice_cmp nat_cmp) same_bytes nat_list_cmp_total exact_bytes d m.documents up.documents in
       search rules
 

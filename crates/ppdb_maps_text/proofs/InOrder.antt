@@ -4,12 +4,12 @@ use Rattle.std.{proofs.Common.{arith, map}, specs.Prelude.{is_some, unwrap_or}, 
 use Rattle.std.specs.{List.Sorted.{IsStrictlySortedBy}, Ordering.{nat_cmp, ordering_reverse, ordering_then}, Cmp.Lexicographic.{slice_cmp, nat_list_cmp_total}}
 use Rattle.std.{specs.declared.cmp.Ordering.{Ordering}, specs.declared.cmp.Ordering.TheVariants.{Less, Equal}, proofs.lemmas.List.{append_assoc}}
 use Rattle.ppdb_base.specs.declared.offsets.Run.{Run}
-use Rattle.ppdb_maps.specs.{Before.{told}, Places.{Place, place, is_place, needs, names, named_at, shares_place, link_place, rows_place, row_place, drop_place}}
+use Rattle.ppdb_maps.specs.{Before.{reported}, Places.{Place, place, is_place, needs, names, named_at, shares_place, link_place, rows_place, row_place, drop_place}}
 use Rattle.ppdb_maps.specs.{Places.{slots_place, slot_place, signature_place, document_place, method_place}, Rules.{IsNamed, Breaks}, Text.{Read, further}}
 use Rattle.ppdb_maps.specs.declared.{line.Line.{Line}, line.Line.TheVariants.{Dropped, Cross, Gone, Kept}, rule.Rule.{Rule}}
-use Rattle.ppdb_maps.proofs.{InRange.{InRange, IsPlaced}, Refusing.{fits_in, keeps_all}, Saying.{breaks_said}, Telling.{none_there, told_at, placed, place_itself}}
+use Rattle.ppdb_maps.proofs.{InRange.{InRange, IsPlaced}, Refusing.{fits_in, keeps_all}, Saying.breaks_said, Telling.{none_there, reported_at, placed, place_itself}}
 use Rattle.ppdb_maps.proofs.Telling.{from_some}
-use Rattle.ppdb_maps_text.{specs.MapTexts.{line_text}, proofs.OneLine.{methods_stay}, proofs.Told.{IsTold}, proofs.Words.{IsPlain}, proofs.Orders.{is_less}}
+use Rattle.ppdb_maps_text.{specs.MapTexts.{line_text}, proofs.OneLine.{methods_stay}, proofs.Reported.{IsReported}, proofs.Words.{IsPlain}, proofs.Orders.{is_less}}
 use Rattle.ppdb_maps_text.proofs.Groups.{of_found}
 
 -- ---- the order of places: the number of a section, then what the line speaks of
@@ -104,7 +104,8 @@ beyond (x ∷ p) k rest = ap (λ o. ordering_then o (places p (p ++ k ∷ rest))
 pub first_less : (x y : ℕ) (r s : List ℕ) → nat_cmp x y ≡ Less → places (x ∷ r) (y ∷ s) ≡ Less
 first_less x y r s less = ap (λ o. ordering_then o (places r s)) less
 
-module _ {X : Type 0} (p : List ℕ) (key : X → ℕ) (make : X → List Line) (starts : (x : X) → Each (Starts (p ++ key x ∷ [])) (make x)) (ups : (x : X) → Up (make x)) where
+module _ {X : Type 0} (p : List ℕ) (key : X → ℕ) (make : X → List Line) (starts : (x : X) → Each (Starts (p ++ key x ∷ [])) (make x)) (ups : (x : X)
+    → Up (make x)) where
   pub groups_up : (xs : List X) → IsStrictlySortedBy nat_cmp (map key xs) → Up (flat_map make xs)
   unfolding IsStrictlySortedBy
   groups_up [] up = tt
@@ -164,11 +165,11 @@ at_place line at hit = by_place line at (placed at (place line) hit)
 needs_earlier : (line : Line) (at : Place) → needs line ≡ Some at → places (order at) (order_of line) ≡ Less
 needs_earlier line at is = search (rules, itself_equal)
 
-pub none_below : (at : Place) (lines : List Line) → Below (order at) lines → told lines at ≡ None
+pub none_below : (at : Place) (lines : List Line) → Below (order at) lines → reported lines at ≡ None
 none_below at [] below = refl
 none_below at (line ∷ lines) below = of (is_place at (place line)) refl (none_below at lines below.1)
   where
-    of : (b : Bool) → is_place at (place line) ≡ b → told lines at ≡ None → cond b (Some line) (told lines at) ≡ None
+    of : (b : Bool) → is_place at (place line) ≡ b → reported lines at ≡ None → cond b (Some line) (reported lines at) ≡ None
     of true hit rest = absurd (not_itself (order at) (subst (λ y. places (order at) y ≡ Less) (at_place line at hit) below.0))
     of false miss rest = rest
 
@@ -193,7 +194,8 @@ some_if o is = search rules
 from_either : {A : Type 0} (b : Bool) (x y : A) (o : Option A) → cond b (Some x) o ≡ Some y → (x ≡ y) ⊎ (o ≡ Some y)
 from_either b x y o is = search rules
 
-pub moved_on : {A : Type 0} (b : Bool) (x : A) (o p all : Option A) → (b ≡ true → o ≡ None) → option_or o (cond b (Some x) p) ≡ all → option_or (cond b (Some x) o) p ≡ all
+pub moved_on : {A : Type 0} (b : Bool) (x : A) (o p all : Option A) → (b ≡ true → o ≡ None) → option_or o (cond b (Some x) p) ≡ all
+    → option_or (cond b (Some x) o) p ≡ all
 moved_on true x o p all none is = sym (or_none o (Some x) (none refl)) ∙ is
 moved_on false x o p all none is = is
 
@@ -215,15 +217,15 @@ pub record Stands (version : ℕ) (all : Place → Option Line) (line : Line) : 
   pub own : place line ≡ Some at
   pub there : all at ≡ Some line
   pub fits : IsPlaced all line
-  pub told : IsTold version line
+  pub reported : IsReported version line
 
 -- lines that stand are told as all, where none that is told is missing
 pub stand_whole : (version : ℕ) (all : Place → Option Line) (lines : List Line) → AllByRecursion (Stands version all) lines
-    → ((at : Place) → is_some (all at) ≡ true → is_some (told lines at) ≡ true) → (at : Place) → told lines at ≡ all at
-stand_whole version all lines stand full at = of (told lines at) refl
+    → ((at : Place) → is_some (all at) ≡ true → is_some (reported lines at) ≡ true) → (at : Place) → reported lines at ≡ all at
+stand_whole version all lines stand full at = of (reported lines at) refl
   where
-    of : (o : Option Line) → told lines at ≡ o → o ≡ all at
-    of None is = sym (none_there (all at) (λ some. some_not (told lines at) is (full at some)))
+    of : (o : Option Line) → reported lines at ≡ o → o ≡ all at
+    of None is = sym (none_there (all at) (λ some. some_not (reported lines at) is (full at some)))
     of (Some line) is =
         let h = of_found (Stands version all) (λ l. is_place at (place l)) lines line stand is in
         let same : Some h.0.at ≡ Some at = sym h.0.own ∙ placed at (place line) h.1 in
@@ -235,11 +237,11 @@ pub record Reads (version : ℕ) (texts : List (List ℕ)) (all : Place → Opti
   pub read : Read version prefix said
   pub plain : AllByRecursion IsPlain prefix
   pub cut : prefix ++ map line_text rest ≡ texts
-  pub whole : (at : Place) → option_or (told said at) (told ahead at) ≡ all at
-  pub below : (at : Place) → is_some (told said at) ≡ true → Below (order at) ahead
+  pub whole : (at : Place) → option_or (reported said at) (reported ahead at) ≡ all at
+  pub below : (at : Place) → is_some (reported said at) ≡ true → Below (order at) ahead
   pub rises : Up ahead
   pub stand : AllByRecursion (Stands version all) ahead
-  pub fits : (at : Place) (line : Line) → told said at ≡ Some line → IsPlaced all line
+  pub fits : (at : Place) (line : Line) → reported said at ≡ Some line → IsPlaced all line
 
 all_then : (xs : List (List ℕ)) (x : List ℕ) → AllByRecursion IsPlain xs → IsPlain x → AllByRecursion IsPlain (xs ++ x ∷ [])
 all_then [] x all is = (is, tt)
@@ -251,13 +253,13 @@ module _ (version : ℕ) (texts : List (List ℕ)) (all : Place → Option Line)
     unfolding IsStrictlySortedBy
     above = g.rises.0
 
-    pub new : (at : Place) → is_place at (place x) ≡ true → told said at ≡ None
-    new at hit = none_there (told said at) (λ some. not_itself (order at) (subst (λ y. places (order at) y ≡ Less) (at_place x at hit) (g.below at some).0))
+    pub new : (at : Place) → is_place at (place x) ≡ true → reported said at ≡ None
+    new at hit = none_there (reported said at) (λ some. not_itself (order at) (subst (λ y. places (order at) y ≡ Less) (at_place x at hit) (g.below at some).0))
 
     -- what is told of all and is below the next line was read
-    earlier : (at : Place) → places (order at) (order_of x) ≡ Less → is_some (all at) ≡ true → is_some (told said at) ≡ true
-    earlier at less some = some_if (told said at) (λ none. some_not (all at)
-        (sym (g.whole at) ∙ (or_none (told said at) (told (x ∷ ahead) at) none
+    earlier : (at : Place) → places (order at) (order_of x) ≡ Less → is_some (all at) ≡ true → is_some (reported said at) ≡ true
+    earlier at less some = some_if (reported said at) (λ none. some_not (all at)
+        (sym (g.whole at) ∙ (or_none (reported said at) (reported (x ∷ ahead) at) none
         ∙ none_below at (x ∷ ahead) (less, above_all (order at) (order_of x) ahead less above))) some)
 
     kept : (rule : Rule) → Breaks said rule x → ⊥
@@ -268,42 +270,42 @@ module _ (version : ℕ) (texts : List (List ℕ)) (all : Place → Option Line)
         own : Stands version all x
         own = g.stand.0
 
-        live : (m : ℕ) → names x ≡ Some m → told said (drop_place m) ≡ None
-        live m is = none_there (told said (drop_place m)) (λ some. some_not (all (drop_place m)) (own.fits.live m is)
-            (ap is_some (sym (g.whole (drop_place m))) ∙ or_some (told said (drop_place m)) (told (x ∷ ahead) (drop_place m)) some))
+        live : (m : ℕ) → names x ≡ Some m → reported said (drop_place m) ≡ None
+        live m is = none_there (reported said (drop_place m)) (λ some. some_not (all (drop_place m)) (own.fits.live m is)
+            (ap is_some (sym (g.whole (drop_place m))) ∙ or_some (reported said (drop_place m)) (reported (x ∷ ahead) (drop_place m)) some))
 
         unnamed : (m : ℕ) → x ≡ Dropped m → IsNamed said m → ⊥
         unnamed m is n =
-            let line = from_some (told said n.at) n.there in
+            let line = from_some (reported said n.at) n.there in
             let fits = g.fits n.at line.0 line.1 in
             let same : Some own.at ≡ Some (drop_place m) = sym own.own ∙ ap place is in
             let e : own.at ≡ drop_place m = cc in
-            some_not (all (drop_place m)) (fits.live m (named_in_range n.at line.0 m fits.range (told_at said n.at line.0 line.1) n.named))
+            some_not (all (drop_place m)) (fits.live m (named_in_range n.at line.0 m fits.range (reported_at said n.at line.0 line.1) n.named))
             (ap is_some (sym (ap all e) ∙ own.there))
 
     pub next : Reads version texts all (x ∷ said) ahead rest
     unfolding IsStrictlySortedBy
     next = record {
       prefix = g.prefix ++ line_text x ∷ [];
-      read = further g.read g.stand.0.told.tells (λ rule broken. kept rule (breaks_said version said (line_text x) x rule g.stand.0.told.tells broken));
-      plain = all_then g.prefix (line_text x) g.plain g.stand.0.told.plain;
+      read = further g.read g.stand.0.reported.tells (λ rule broken. kept rule (breaks_said version said (line_text x) x rule g.stand.0.reported.tells broken));
+      plain = all_then g.prefix (line_text x) g.plain g.stand.0.reported.plain;
       cut = append_assoc g.prefix (line_text x ∷ []) (map line_text rest) ∙ g.cut;
-      whole = λ at. moved_on (is_place at (place x)) x (told said at) (told ahead at) (all at) (new at) (g.whole at);
+      whole = λ at. moved_on (is_place at (place x)) x (reported said at) (reported ahead at) (all at) (new at) (g.whole at);
       below = λ at some. of at (is_place at (place x)) refl some;
       rises = g.rises.1;
       stand = g.stand.1;
-      fits = λ at line is. elim (from_either (is_place at (place x)) x line (told said at) is) [
+      fits = λ at line is. elim (from_either (is_place at (place x)) x line (reported said at) is) [
         | inl e ↦ subst (IsPlaced all) e g.stand.0.fits
         | inr h ↦ g.fits at line h
       ];
     }
       where
-        of : (at : Place) (b : Bool) → is_place at (place x) ≡ b → is_some (cond b (Some x) (told said at)) ≡ true → Below (order at) ahead
+        of : (at : Place) (b : Bool) → is_place at (place x) ≡ b → is_some (cond b (Some x) (reported said at)) ≡ true → Below (order at) ahead
         of at true hit some = subst (λ p. Below p ahead) (at_place x at hit) above
         of at false miss some = (g.below at some).1
 
   -- a run has no place
-  pub run_next : (said ahead rest : List Line) (run : Run) → IsTold version (Kept run) → ((rule : Rule) → Breaks said rule (Kept run) → ⊥)
+  pub run_next : (said ahead rest : List Line) (run : Run) → IsReported version (Kept run) → ((rule : Rule) → Breaks said rule (Kept run) → ⊥)
       → Reads version texts all said ahead (Kept run ∷ rest) → Reads version texts all (Kept run ∷ said) ahead rest
   run_next said ahead rest run is keeps g = record {
     prefix = g.prefix ++ line_text (Kept run) ∷ [];
@@ -317,5 +319,5 @@ module _ (version : ℕ) (texts : List (List ℕ)) (all : Place → Option Line)
     fits = g.fits;
   }
 
-  pub told_all : (said : List Line) → Reads version texts all said [] [] → (at : Place) → told said at ≡ all at
-  told_all said g at = sym (or_nothing (told said at)) ∙ g.whole at
+  pub reported_all : (said : List Line) → Reads version texts all said [] [] → (at : Place) → reported said at ≡ all at
+  reported_all said g at = sym (or_nothing (reported said at)) ∙ g.whole at

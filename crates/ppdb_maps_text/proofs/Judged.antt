@@ -3,8 +3,8 @@ use Rattle.std.proofs.Common.{ℕ, zero, suc, ◌≡◌, ◌<◌, ◌++◌, Bool
 use Rattle.std.{specs.Prelude.{◌==◌}, specs.Str.Lines.{lines_of_parts, strip_carriage_return}, proofs.lemmas.Bool.{cases_lt, ne_eqb}}
 use Rattle.std.proofs.lemmas.List.{append-nil, append_assoc}
 use Rattle.ppdb_maps.specs.declared.{line.Line.{Line}, line.Line.TheVariants.{Silent}, rule.Rule.{Rule}, rule.Rule.TheVariants.{UnknownForm, NumberFaults}}
-use Rattle.ppdb_maps.specs.{Forms.{IsHead, Tells, silent, told}, Map.{Map}, Rules.{BreaksLine, BreaksFirst, Keeps, kind_of, no_form, no_value}, Text.{IsMapOf, Read}}
-use Rattle.ppdb_maps.specs.{Text.{Refused, start, further, at_head, at_line}, Words.{IsSilent, text_lines}, Cuts.{parts_at}}
+use Rattle.ppdb_maps.specs.{Forms.{IsHead, Tells, silent, reported}, Map.{Map}, Rules.{BreaksLine, BreaksFirst, Keeps, kind_of, no_form, no_value}, Text.{IsMapOf}}
+use Rattle.ppdb_maps.specs.{Text.{Read, Refused, start, further, at_head, at_line}, Words.{IsSilent, text_lines}, Cuts.{parts_at}}
 use Rattle.ppdb_maps_text.{specs.Laws.{TextsAreJudged}, proofs.Held.{held}}
 
 -- ---- each text has a first line
@@ -58,7 +58,7 @@ line_judged : (version : ℕ) (before : List Line) (text : List ℕ) → ((rule 
     → ((line : Line) → Tells version text line → Keeps version before text → ⊥) → ⊥
 line_judged version before text none more =
     broken UnknownForm (no_form loud (λ form has. broken NumberFaults (no_value loud has (λ line values.
-    more line (told form loud has values) broken))))
+    more line (reported form loud has values) broken))))
   where
     broken : Keeps version before text
     broken rule = none_broken version before text none (suc (kind_of rule)) rule (omega arith)

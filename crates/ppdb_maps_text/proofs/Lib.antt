@@ -4,7 +4,7 @@ pub mod Putting
 mod Words
 pub mod Groups
 pub mod OneLine
-mod Told
+mod Reported
 pub mod InOrder
 pub mod Lined
 pub mod Starting

@@ -7,19 +7,19 @@ use Rattle.std.proofs.lemmas.{Cmp.{nat_cmp_total}, List.Folds.{find-append}}
 use Rattle.ppdb_maps.specs.declared.entries.{Count.{Count}, SlotImage.{SlotImage}, SignatureImage.{SignatureImage}, NameLine.{NameLine}}
 use Rattle.ppdb_maps.specs.declared.line.{Line.{Line}, Line.TheVariants.{Rows, Row, Cross, Gone, Method, Dropped, Slots, Slot, Signature, Document, Link, Shares}}
 use Rattle.ppdb_maps.specs.declared.{entries.CrossLine.{CrossLine}, image.RowImage.{RowImage}, image.RowImage.TheVariants.{Row as Becomes, Gone as Vanishes}}
-use Rattle.ppdb_maps.specs.{declared.image.RowImage.TheVariants.{Missing}, Before.{told}, Forms.{AreBytes}, Places.{Place, place, is_place, needs, names, named_at}}
-use Rattle.ppdb_maps.specs.Places.{shares_place, link_place, rows_place, row_place, drop_place, slots_place, slot_place, signature_place, document_place}
-use Rattle.ppdb_maps.specs.{Places.{method_place}, Gathered.{same_pair}, Map.{Map, MethodLine, pair_cmp, count_of, row_line, cross_line, has_gone_line, told_image}}
+use Rattle.ppdb_maps.specs.{declared.image.RowImage.TheVariants.{Missing}, Before.{reported}, Forms.{AreBytes}, Places.{Place, place, is_place, needs, names}}
+use Rattle.ppdb_maps.specs.Places.{named_at, shares_place, link_place, rows_place, row_place, drop_place, slots_place, slot_place, signature_place, document_place}
+use Rattle.ppdb_maps.specs.{Places.{method_place}, Gathered.{same_pair}, Map.{Map, MethodLine, pair_cmp, count_of, row_line, cross_line, has_gone_line, said_image}}
 use Rattle.ppdb_maps.specs.{Map.{line_image, method_line, is_dropped, has_slots, slot_line, signature_line, document_line, slots_of}, Readable.{IsReadable, IsCount}}
 use Rattle.ppdb_maps.{specs.Readable.{IsRow, IsLineOf, IsSlottedOf, IsSlotOf, IsSignatureOf, AreNames}, proofs.InRange.{InRange}, proofs.Named.{same_bytes}}
 use Rattle.ppdb_maps.proofs.{Named.{bytes_same}, OneList.{each_found}, OneMap.{same_number, number_same, pair_is, is_pair, pair_total, number_found, map_itself}}
 use Rattle.ppdb_maps.proofs.{Readable.{each_number}, Telling.{from_some}}
 use Rattle.ppdb_maps_text.{specs.MapTexts.{version_of, has_items, image_says, olds_of, count_says, slots_say}, proofs.Found.{find_filter}, proofs.Groups.{of_found}}
-use Rattle.ppdb_maps_text.proofs.{Groups.{of_any, of_passed, of_each}, Told.{is_newer, line_told, to_known}, Orders.{key_up}, OneLine.{has_line, OneLine, by_row}}
-use Rattle.ppdb_maps_text.proofs.{OneLine.{by_cross, by_gone, one_line, some_items, says_row, says_cross, says_gone}, Parts.{slot_says, signature_says, link_says}}
-use Rattle.ppdb_maps_text.proofs.{Parts.{shares_says, has_newer}, Starting.{some_mapped, olds_have, olds_lined, olds_up, line_counted}, InOrder.{Up, Each, Starts}}
-use Rattle.ppdb_maps_text.proofs.InOrder.{each_made, made_in_order, prefixed, beyond, first_less, groups_up, groups_start, groups_above, places, Rises, last_section}
-use Rattle.ppdb_maps_text.proofs.InOrder.{section, Stands, stand_whole}
+use Rattle.ppdb_maps_text.proofs.{Groups.{of_any, of_passed, of_each}, Reported.{is_newer, line_reported, to_known}, Orders.{key_up}, OneLine.{has_line, OneLine}}
+use Rattle.ppdb_maps_text.proofs.{OneLine.{by_row, by_cross, by_gone, one_line, some_items, says_row, says_cross, says_gone}, Parts.{slot_says, signature_says}}
+use Rattle.ppdb_maps_text.proofs.{Parts.{link_says, shares_says, has_newer}, Starting.{some_mapped, olds_have, olds_lined, olds_up, line_counted}, InOrder.{Up}}
+use Rattle.ppdb_maps_text.proofs.InOrder.{Each, Starts, each_made, made_in_order, prefixed, beyond, first_less, groups_up, groups_start, groups_above, places, Rises}
+use Rattle.ppdb_maps_text.proofs.InOrder.{last_section, section, Stands, stand_whole}
 
 -- ---- what a map says at each place
 
@@ -89,7 +89,8 @@ own_slots n (x ∷ xs) = of (nat_eq x.method n) refl (own_slots n xs)
     of : (b : Bool) → nat_eq x.method n ≡ b → map slot_says (filter (λ (s : SlotImage). nat_eq s.method n) xs)
         ≡ map (λ (s : SlotImage). Slot n s.old s.new) (filter (λ (s : SlotImage). nat_eq s.method n) xs)
         → map slot_says (cond b (x ∷ filter (λ (s : SlotImage). nat_eq s.method n) xs) (filter (λ (s : SlotImage). nat_eq s.method n) xs))
-        ≡ map (λ (s : SlotImage). Slot n s.old s.new) (cond b (x ∷ filter (λ (s : SlotImage). nat_eq s.method n) xs) (filter (λ (s : SlotImage). nat_eq s.method n) xs))
+        ≡ map (λ (s : SlotImage). Slot n s.old s.new)
+        (cond b (x ∷ filter (λ (s : SlotImage). nat_eq s.method n) xs) (filter (λ (s : SlotImage). nat_eq s.method n) xs))
     of true hit rest = ap (λ k. Slot k x.old x.new ∷ map slot_says (filter (λ (s : SlotImage). nat_eq s.method n) xs)) (eqb-true x.method n hit)
         ∙ ap (λ l. Slot n x.old x.new ∷ l) rest
     of false miss rest = rest
@@ -186,7 +187,8 @@ module _ (m : Map) (is : IsReadable m) where
 
   newer : (m.shares ≡ true) ⊎ ((is_some m.link ≡ true) ⊎ ((has_items m.crossed ≡ true) ⊎ ((has_items m.gone ≡ true) ⊎ ((has_items m.signatures ≡ true)
       ⊎ (has_items m.documents ≡ true))))) → 4 ≤ version_of m
-  newer some = let new : has_newer m ≡ true = any_of m.shares (is_some m.link) (has_items m.crossed) (has_items m.gone) (has_items m.signatures) (has_items m.documents) some in
+  newer some = let new : has_newer m ≡ true =
+      any_of m.shares (is_some m.link) (has_items m.crossed) (has_items m.gone) (has_items m.signatures) (has_items m.documents) some in
       rw new (lit≤ tt)
 
   not_dropped : (k : ℕ) → is_dropped m k ≡ false → at_place m (drop_place k) ≡ None
@@ -203,7 +205,7 @@ module _ (m : Map) (is : IsReadable m) where
     own = own;
     there = there;
     fits = record { range = range; needed = needed; live = live };
-    told = line_told (version_of m) (from_three m) line (λ silent. let e : None ≡ Some at = sym (ap place silent) ∙ own in absurd (cc)) range new;
+    reported = line_reported (version_of m) (from_three m) line (λ silent. let e : None ≡ Some at = sym (ap place silent) ∙ own in absurd (cc)) range new;
   }
 
   counted : (t : ℕ) → is_some (count_of m t) ≡ true → (p : Place) → Some (rows_place t) ≡ Some p → is_some (at_place m p) ≡ true
@@ -320,93 +322,95 @@ module _ (m : Map) (is : IsReadable m) where
 
 -- ---- and none is missing
 
-sooner : (xs ys : List Line) (at : Place) → is_some (told xs at) ≡ true → is_some (told (xs ++ ys) at) ≡ true
-sooner xs ys at some = ap is_some (find-append (λ l. is_place at (place l)) xs ys) ∙ of (told xs at) (told ys at) some
+sooner : (xs ys : List Line) (at : Place) → is_some (reported xs at) ≡ true → is_some (reported (xs ++ ys) at) ≡ true
+sooner xs ys at some = ap is_some (find-append (λ l. is_place at (place l)) xs ys) ∙ of (reported xs at) (reported ys at) some
   where
     of : (o p : Option Line) → is_some o ≡ true → is_some (option_or o p) ≡ true
     of o p some = search rules
 
-later : (xs ys : List Line) (at : Place) → is_some (told ys at) ≡ true → is_some (told (xs ++ ys) at) ≡ true
-later xs ys at some = ap is_some (find-append (λ l. is_place at (place l)) xs ys) ∙ of (told xs at) (told ys at) some
+later : (xs ys : List Line) (at : Place) → is_some (reported ys at) ≡ true → is_some (reported (xs ++ ys) at) ≡ true
+later xs ys at some = ap is_some (find-append (λ l. is_place at (place l)) xs ys) ∙ of (reported xs at) (reported ys at) some
   where
     of : (o p : Option Line) → is_some p ≡ true → is_some (option_or o p) ≡ true
     of o p some = search rules
 
-pub made_told : {X : Type 0} (f : X → Line) (test : X → Bool) (at : Place) → ((x : X) → is_place at (place (f x)) ≡ test x) → (xs : List X)
-    → is_some (find test xs) ≡ true → is_some (told (map f xs) at) ≡ true
-made_told f test at hits [] some = some
-made_told {X} f test at hits (x ∷ xs) some = ap (λ b. is_some (cond b (Some (f x)) (told (map f xs) at))) (hits x) ∙ of (test x) some (made_told f test at hits xs)
+pub made_reported : {X : Type 0} (f : X → Line) (test : X → Bool) (at : Place) → ((x : X) → is_place at (place (f x)) ≡ test x) → (xs : List X)
+    → is_some (find test xs) ≡ true → is_some (reported (map f xs) at) ≡ true
+made_reported f test at hits [] some = some
+made_reported {X} f test at hits (x ∷ xs) some =
+    ap (λ b. is_some (cond b (Some (f x)) (reported (map f xs) at))) (hits x) ∙ of (test x) some (made_reported f test at hits xs)
   where
-    of : (b : Bool) → is_some (cond b (Some x) (find test xs)) ≡ true → (is_some (find test xs) ≡ true → is_some (told (map f xs) at) ≡ true)
-        → is_some (cond b (Some (f x)) (told (map f xs) at)) ≡ true
+    of : (b : Bool) → is_some (cond b (Some x) (find test xs)) ≡ true → (is_some (find test xs) ≡ true → is_some (reported (map f xs) at) ≡ true)
+        → is_some (cond b (Some (f x)) (reported (map f xs) at)) ≡ true
     of b some rest = search rules
 
-flat_told : {X : Type 0} (make : X → List Line) (test : X → Bool) (at : Place) (xs : List X) (x : X) → find test xs ≡ Some x → is_some (told (make x) at) ≡ true
-    → is_some (told (flat_map make xs) at) ≡ true
-flat_told make test at [] x found some = absurd (cc)
-flat_told {X} make test at (y ∷ ys) x found some = of (test y) found (λ rest. flat_told make test at ys x rest some)
+flat_reported : {X : Type 0} (make : X → List Line) (test : X → Bool) (at : Place) (xs : List X) (x : X) → find test xs ≡ Some x
+    → is_some (reported (make x) at) ≡ true
+    → is_some (reported (flat_map make xs) at) ≡ true
+flat_reported make test at [] x found some = absurd (cc)
+flat_reported {X} make test at (y ∷ ys) x found some = of (test y) found (λ rest. flat_reported make test at ys x rest some)
   where
-    of : (b : Bool) → cond b (Some y) (find test ys) ≡ Some x → (find test ys ≡ Some x → is_some (told (flat_map make ys) at) ≡ true)
-        → is_some (told (make y ++ flat_map make ys) at) ≡ true
-    of true found rest = let e : x ≡ y = cc in sooner (make y) (flat_map make ys) at (subst (λ z. is_some (told (make z) at) ≡ true) e some)
+    of : (b : Bool) → cond b (Some y) (find test ys) ≡ Some x → (find test ys ≡ Some x → is_some (reported (flat_map make ys) at) ≡ true)
+        → is_some (reported (make y ++ flat_map make ys) at) ≡ true
+    of true found rest = let e : x ≡ y = cc in sooner (make y) (flat_map make ys) at (subst (λ z. is_some (reported (make z) at) ≡ true) e some)
     of false found rest = later (make y) (flat_map make ys) at (rest found)
 
 module _ (m : Map) (is : IsReadable m) where
-  image_some : (t o : ℕ) (a : Option ℕ) (b : Option CrossLine) (c : Bool) → is_some (first_of (image_says t o (told_image t a b c))) ≡ true
+  image_some : (t o : ℕ) (a : Option ℕ) (b : Option CrossLine) (c : Bool) → is_some (first_of (image_says t o (said_image t a b c))) ≡ true
       → (is_some a || (is_some b || c)) ≡ true
   image_some t o a b c some = search rules
 
-  image_told : (t o : ℕ) → OneLine m t o → is_some (told (image_says t o (line_image m t o)) (row_place t o)) ≡ true
-  image_told _ _ (by_row line of row crossed gone) =
-      ap (λ ls. is_some (told ls (row_place line.table line.old))) (says_row m line.table line.old line.new row)
+  image_reported : (t o : ℕ) → OneLine m t o → is_some (reported (image_says t o (line_image m t o)) (row_place t o)) ≡ true
+  image_reported _ _ (by_row line of row crossed gone) =
+      ap (λ ls. is_some (reported ls (row_place line.table line.old))) (says_row m line.table line.old line.new row)
       ∙ ap (λ b. is_some (cond b (Some (Row line.table line.old line.new)) None)) (is_pair (line.table, line.old))
-  image_told _ _ (by_cross line of some row crossed gone) =
-      ap (λ ls. is_some (told ls (row_place line.table line.old))) (says_cross m line of.2 row crossed)
+  image_reported _ _ (by_cross line of some row crossed gone) =
+      ap (λ ls. is_some (reported ls (row_place line.table line.old))) (says_cross m line of.2 row crossed)
       ∙ ap (λ b. is_some (cond b (Some (Cross line)) None)) (is_pair (line.table, line.old))
-  image_told _ _ (by_gone line of some row crossed gone) =
-      ap (λ ls. is_some (told ls (row_place line.table line.old))) (says_gone m line.table line.old row crossed gone)
+  image_reported _ _ (by_gone line of some row crossed gone) =
+      ap (λ ls. is_some (reported ls (row_place line.table line.old))) (says_gone m line.table line.old row crossed gone)
       ∙ ap (λ b. is_some (cond b (Some (Gone line.table line.old)) None)) (is_pair (line.table, line.old))
 
   -- a number that is in a list is found there
   number_there : (n : ℕ) (xs : List ℕ) → list_any (nat_eq n) xs ≡ true → find (λ x. nat_eq x n) xs ≡ Some n
   number_there n xs there = number_found n xs ∙ ap (λ b. cond b (Some n) None) there
 
-  table_told : (t : ℕ) (at : Place) → is_some (count_of m t) ≡ true → ((c : Count) → c.table ≡ t → is_some (told (count_says m c) at) ≡ true)
-      → is_some (told (flat_map (count_says m) m.counts) at) ≡ true
-  table_told t at some all =
+  table_reported : (t : ℕ) (at : Place) → is_some (count_of m t) ≡ true → ((c : Count) → c.table ≡ t → is_some (reported (count_says m c) at) ≡ true)
+      → is_some (reported (flat_map (count_says m) m.counts) at) ≡ true
+  table_reported t at some all =
       let c = from_some (find (λ (c : Count). nat_eq c.table t) m.counts)
       (sym (some_mapped (λ (c : Count). c.rows) (find (λ (c : Count). nat_eq c.table t) m.counts)) ∙ some) in
-      flat_told (count_says m) (λ (c : Count). nat_eq c.table t) at m.counts c.0 c.1
+      flat_reported (count_says m) (λ (c : Count). nat_eq c.table t) at m.counts c.0 c.1
       (all c.0 (eqb-true c.0.table t (of_found IsCount (λ (c : Count). nat_eq c.table t) m.counts c.0 is.counts c.1).1))
 
-  row_told : (t o : ℕ) → has_line m t o ≡ true → is_some (told (flat_map (count_says m) m.counts) (row_place t o)) ≡ true
-  row_told t o has = table_told t (row_place t o) (line_counted m is t o has) (λ c same.
-      subst (λ u. is_some (told (flat_map (λ old. image_says u old (line_image m u old)) (olds_of m u)) (row_place t o)) ≡ true) (sym same)
-      (flat_told (λ old. image_says t old (line_image m t old)) (λ x. nat_eq x o) (row_place t o) (olds_of m t) o
-      (number_there o (olds_of m t) (olds_have m t o ∙ has)) (image_told t o (one_line m is t o has))))
+  row_reported : (t o : ℕ) → has_line m t o ≡ true → is_some (reported (flat_map (count_says m) m.counts) (row_place t o)) ≡ true
+  row_reported t o has = table_reported t (row_place t o) (line_counted m is t o has) (λ c same.
+      subst (λ u. is_some (reported (flat_map (λ old. image_says u old (line_image m u old)) (olds_of m u)) (row_place t o)) ≡ true) (sym same)
+      (flat_reported (λ old. image_says t old (line_image m t old)) (λ x. nat_eq x o) (row_place t o) (olds_of m t) o
+      (number_there o (olds_of m t) (olds_have m t o ∙ has)) (image_reported t o (one_line m is t o has))))
 
-  slot_told : (k o : ℕ) → is_some (slot_line m k o) ≡ true → is_some (told (flat_map (slots_say m) m.slotted) (slot_place k o)) ≡ true
-  slot_told k o some =
+  slot_reported : (k o : ℕ) → is_some (slot_line m k o) ≡ true → is_some (reported (flat_map (slots_say m) m.slotted) (slot_place k o)) ≡ true
+  slot_reported k o some =
       let test : SlotImage → Bool = λ s. nat_eq s.method k && nat_eq s.old o in
       let there : is_some (find (λ (s : SlotImage). nat_eq s.method k && nat_eq s.old o) m.slots) ≡ true
       = sym (some_mapped (λ (s : SlotImage). s.new) (find (λ (s : SlotImage). nat_eq s.method k && nat_eq s.old o) m.slots)) ∙ some in
       let s = from_some (find (λ (s : SlotImage). nat_eq s.method k && nat_eq s.old o) m.slots) there in
       let h = of_found (IsSlotOf m) (λ (s : SlotImage). nat_eq s.method k && nat_eq s.old o) m.slots s.0 is.slots s.1 in
       let same : s.0.method ≡ k = eqb-true s.0.method k (and_parts (nat_eq s.0.method k) (nat_eq s.0.old o) h.1).0 in
-      flat_told (slots_say m) (λ x. nat_eq x k) (slot_place k o) m.slotted k (number_there k m.slotted (subst (λ n. has_slots m n ≡ true) same h.0.2))
-      (subst (λ ls. is_some (told ls (slot_place k o)) ≡ true) (sym (own_slots k m.slots))
-      (made_told (λ (s : SlotImage). Slot k s.old s.new) (λ (s : SlotImage). nat_eq s.old o) (slot_place k o)
+      flat_reported (slots_say m) (λ x. nat_eq x k) (slot_place k o) m.slotted k (number_there k m.slotted (subst (λ n. has_slots m n ≡ true) same h.0.2))
+      (subst (λ ls. is_some (reported ls (slot_place k o)) ≡ true) (sym (own_slots k m.slots))
+      (made_reported (λ (s : SlotImage). Slot k s.old s.new) (λ (s : SlotImage). nat_eq s.old o) (slot_place k o)
       (λ x. ap (λ b. b && nat_eq x.old o) (number_same k)) (slots_of m k)
       (ap is_some (find_filter (λ (s : SlotImage). nat_eq s.method k) (λ (s : SlotImage). nat_eq s.old o) m.slots) ∙ there)))
 
   some_if : (b : Bool) (l : Line) → is_some (cond b (Some l) None) ≡ true → b ≡ true
   some_if b l some = search rules
 
-  shares_told : (b : Bool) → is_some (cond b (Some Shares) None) ≡ true → is_some (told (shares_says b) shares_place) ≡ true
-  shares_told b some = search rules
+  shares_reported : (b : Bool) → is_some (cond b (Some Shares) None) ≡ true → is_some (reported (shares_says b) shares_place) ≡ true
+  shares_reported b some = search rules
 
-  link_told : (o : Option (List ℕ)) → is_some (option_map Link o) ≡ true → is_some (told (link_says o) link_place) ≡ true
-  link_told o some = search rules
+  link_reported : (o : Option (List ℕ)) → is_some (option_map Link o) ≡ true → is_some (reported (link_says o) link_place) ≡ true
+  link_reported o some = search rules
 
   -- the sections
   abbrev tables : List Line
@@ -421,49 +425,49 @@ module _ (m : Map) (is : IsReadable m) where
   abbrev after : List Line
   after = map Dropped m.drops ++ (slots ++ ends)
 
-  from_tables : (at : Place) → is_some (told (tables ++ after) at) ≡ true → is_some (told (placed_lines m) at) ≡ true
+  from_tables : (at : Place) → is_some (reported (tables ++ after) at) ≡ true → is_some (reported (placed_lines m) at) ≡ true
   from_tables at some =
       later (shares_says m.shares) (link_says m.link ++ (tables ++ after)) at (later (link_says m.link) (tables ++ after) at some)
 
-  after_tables : (at : Place) → is_some (told after at) ≡ true → is_some (told (placed_lines m) at) ≡ true
+  after_tables : (at : Place) → is_some (reported after at) ≡ true → is_some (reported (placed_lines m) at) ≡ true
   after_tables at some = from_tables at (later tables after at some)
 
-  in_tables : (at : Place) → is_some (told tables at) ≡ true → is_some (told (placed_lines m) at) ≡ true
+  in_tables : (at : Place) → is_some (reported tables at) ≡ true → is_some (reported (placed_lines m) at) ≡ true
   in_tables at some = from_tables at (sooner tables after at some)
 
-  in_slots : (at : Place) → is_some (told slots at) ≡ true → is_some (told (placed_lines m) at) ≡ true
+  in_slots : (at : Place) → is_some (reported slots at) ≡ true → is_some (reported (placed_lines m) at) ≡ true
   in_slots at some = after_tables at (later (map Dropped m.drops) (slots ++ ends) at (sooner slots ends at some))
 
-  after_slots : (at : Place) → is_some (told ends at) ≡ true → is_some (told (placed_lines m) at) ≡ true
+  after_slots : (at : Place) → is_some (reported ends at) ≡ true → is_some (reported (placed_lines m) at) ≡ true
   after_slots at some = after_tables at (later (map Dropped m.drops) (slots ++ ends) at (later slots ends at some))
 
-  pub full : (at : Place) → is_some (at_place m at) ≡ true → is_some (told (placed_lines m) at) ≡ true
-  full shares_place some = sooner (shares_says m.shares) _ shares_place (shares_told m.shares some)
-  full link_place some = later (shares_says m.shares) _ link_place (sooner (link_says m.link) _ link_place (link_told m.link some))
-  full (rows_place t) some = in_tables (rows_place t) (table_told t (rows_place t) (sym (some_mapped (Rows t) (count_of m t)) ∙ some)
+  pub full : (at : Place) → is_some (at_place m at) ≡ true → is_some (reported (placed_lines m) at) ≡ true
+  full shares_place some = sooner (shares_says m.shares) _ shares_place (shares_reported m.shares some)
+  full link_place some = later (shares_says m.shares) _ link_place (sooner (link_says m.link) _ link_place (link_reported m.link some))
+  full (rows_place t) some = in_tables (rows_place t) (table_reported t (rows_place t) (sym (some_mapped (Rows t) (count_of m t)) ∙ some)
       (λ c same. ap (λ b. is_some (cond b (Some (Rows c.table c.rows))
-      (told (flat_map (λ o. image_says c.table o (line_image m c.table o)) (olds_of m c.table)) (rows_place t)))) (eq-eqb c.table t same)))
-  full (row_place t o) some = in_tables (row_place t o) (row_told t o (image_some t o (row_line m t o) (cross_line m t o) (has_gone_line m t o) some))
+      (reported (flat_map (λ o. image_says c.table o (line_image m c.table o)) (olds_of m c.table)) (rows_place t)))) (eq-eqb c.table t same)))
+  full (row_place t o) some = in_tables (row_place t o) (row_reported t o (image_some t o (row_line m t o) (cross_line m t o) (has_gone_line m t o) some))
   full (drop_place k) some = after_tables (drop_place k) (sooner (map Dropped m.drops) _ (drop_place k)
-      (made_told Dropped (λ n. nat_eq n k) (drop_place k) (λ n. refl) m.drops
+      (made_reported Dropped (λ n. nat_eq n k) (drop_place k) (λ n. refl) m.drops
       (ap is_some (number_there k m.drops (some_if (is_dropped m k) (Dropped k) some)))))
-  full (slots_place k) some = in_slots (slots_place k) (flat_told (slots_say m) (λ x. nat_eq x k) (slots_place k) m.slotted k
+  full (slots_place k) some = in_slots (slots_place k) (flat_reported (slots_say m) (λ x. nat_eq x k) (slots_place k) m.slotted k
       (number_there k m.slotted (some_if (has_slots m k) (Slots k) some))
-      (ap (λ b. is_some (cond b (Some (Slots k)) (told (map slot_says (slots_of m k)) (slots_place k)))) (number_same k)))
-  full (slot_place k o) some = in_slots (slot_place k o) (slot_told k o (sym (some_mapped (Slot k o) (slot_line m k o)) ∙ some))
+      (ap (λ b. is_some (cond b (Some (Slots k)) (reported (map slot_says (slots_of m k)) (slots_place k)))) (number_same k)))
+  full (slot_place k o) some = in_slots (slot_place k o) (slot_reported k o (sym (some_mapped (Slot k o) (slot_line m k o)) ∙ some))
   full (signature_place k) some = after_slots (signature_place k) (sooner (map signature_says m.signatures) _ (signature_place k)
-      (made_told signature_says (λ (s : SignatureImage). nat_eq s.method k) (signature_place k) (λ s. refl) m.signatures
+      (made_reported signature_says (λ (s : SignatureImage). nat_eq s.method k) (signature_place k) (λ s. refl) m.signatures
       (sym (some_mapped (λ (s : SignatureImage). s.new) (find (λ (s : SignatureImage). nat_eq s.method k) m.signatures))
       ∙ sym (some_mapped (Signature k) (signature_line m k)) ∙ some)))
   full (document_place name) some = after_slots (document_place name) (later (map signature_says m.signatures) _ (document_place name)
       (sooner (map Document m.documents) _ (document_place name)
-      (made_told Document (λ (d : NameLine). bytes_eq d.old name) (document_place name) (λ d. refl) m.documents
+      (made_reported Document (λ (d : NameLine). bytes_eq d.old name) (document_place name) (λ d. refl) m.documents
       (sym (some_mapped (λ (d : NameLine). d.new) (find (λ (d : NameLine). bytes_eq d.old name) m.documents))
       ∙ sym (some_mapped (λ new. Document (record { old = name; new = new })) (document_line m name)) ∙ some))))
   full (method_place k) some = after_slots (method_place k) (later (map signature_says m.signatures) _ (method_place k)
       (later (map Document m.documents) _ (method_place k)
-      (made_told sizes_say (λ (l : MethodLine). nat_eq l.method k) (method_place k) (λ l. refl) m.methods
+      (made_reported sizes_say (λ (l : MethodLine). nat_eq l.method k) (method_place k) (λ l. refl) m.methods
       (sym (some_mapped (λ (l : MethodLine). Method k l.old_size l.new_size) (method_line m k)) ∙ some))))
 
-  pub placed_whole : (at : Place) → told (placed_lines m) at ≡ at_place m at
+  pub placed_whole : (at : Place) → reported (placed_lines m) at ≡ at_place m at
   placed_whole = stand_whole (version_of m) (at_place m) (placed_lines m) (all_stand m is) full

@@ -7,7 +7,7 @@ use Rattle.ppdb_maps.specs.{declared.line.Line.{Line}, declared.line.Line.TheVar
 use Rattle.ppdb_maps.specs.{Before.{with_run}, Map.{Map, MethodLine, method_line}, Places.{method_place}, Readable.{IsLineOf}, Rules.{Breaks, BeginsEarly}}
 use Rattle.ppdb_maps.{specs.Rules.{EndsBeyond, run_alone, second, alone, names_dropped, run_early, run_long}, proofs.Refusing.{none_of}, proofs.Telling.{has_method}}
 use Rattle.ppdb_maps_text.{specs.MapTexts.{version_of, method_says}, proofs.InOrder.{Reads, new, next, run_next, moved_on}, proofs.Lined.{at_place, sizes_say}}
-use Rattle.ppdb_maps_text.proofs.{Lined.{from_three}, Told.{line_told}}
+use Rattle.ppdb_maps_text.proofs.{Lined.{from_three}, Reported.{line_reported}}
 
 -- the method's line among these
 abbrev pub line_among : List MethodLine → ℕ → Option MethodLine
@@ -89,7 +89,8 @@ module _ (m : Map) (texts : List (List ℕ)) where
       let within : EndsBeyond run (with_runs l done) → ⊥ = λ beyond. elim beyond [ inl b ↦ omega (arith, b, old) | inr b ↦ omega (arith, b, new) ] in
       let late : BeginsEarly run done → ⊥ = begins_late 0 0 done (later ++ sizes l.old_size l.new_size ∷ []) run rise in (
         run_next (version_of m) texts (at_place m) said ahead rest run
-            (line_told (version_of m) (from_three m) (Kept run) (λ e. absurd (cc)) (omega (arith, old, old_to), omega (arith, new, new_to), long, omega (arith, old, old_to))
+            (line_reported (version_of m) (from_three m) (Kept run) (λ e. absurd (cc))
+            (omega (arith, old, old_to), omega (arith, new, new_to), long, omega (arith, old, old_to))
             (λ e. absurd (cc)))
             (run_keeps said run (with_runs l done) o.lines o.is o.follows late within) g,
         record { lines = o.lines; is = ap (with_run run) o.is; follows = o.follows; ahead = o.ahead; fresh = o.fresh },

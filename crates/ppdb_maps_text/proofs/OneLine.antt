@@ -2,7 +2,7 @@
 use Rattle.std.proofs.Common.{rules, ℕ, ◌≡◌, ◌&&◌, ◌||◌, Bool, true, false, cond, List, [], ◌∷◌, Option, Some, None, refl, sym, ap, ◌∙◌, subst, arith, inl, inr}
 use Rattle.std.{specs.Prelude.{nat_eq, is_some}, specs.List.{find}, specs.Option.{option_map}, proofs.lemmas.Bool.{false≢true, eqb-true, and_parts, eq-eqb, ne_eqb}}
 use Rattle.ppdb_maps.specs.declared.{entries.RowLine.{RowLine}, entries.CrossLine.{CrossLine}, entries.GoneLine.{GoneLine}, line.Line.{Line}}
-use Rattle.ppdb_maps.specs.{declared.line.Line.TheVariants.{Row, Cross, Gone}, Forms.{Crosses}, Map.{Map, row_line, cross_line, has_gone_line, told_image}}
+use Rattle.ppdb_maps.specs.{declared.line.Line.TheVariants.{Row, Cross, Gone}, Forms.{Crosses}, Map.{Map, row_line, cross_line, has_gone_line, said_image}}
 use Rattle.ppdb_maps.{specs.Map.{line_image}, specs.Readable.{IsReadable, IsRowOf, IsCrossOf, IsGoneOf}, proofs.OneList.{any_is}}
 use Rattle.ppdb_maps_text.{specs.MapTexts.{image_says, has_items}, proofs.Groups.{of_found}}
 
@@ -174,7 +174,7 @@ methods_stay line crosses six = elim crosses [
 
 module _ (m : Map) (table old : ℕ) where
   abbrev said : Option ℕ → Option CrossLine → Bool → List Line
-  said a b c = image_says table old (told_image table a b c)
+  said a b c = image_says table old (said_image table a b c)
 
   pub says_row : (new : ℕ) → row_line m table old ≡ Some new → image_says table old (line_image m table old) ≡ Row table old new ∷ []
   says_row new row =

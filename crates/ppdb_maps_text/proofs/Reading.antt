@@ -2,16 +2,16 @@
 use Rattle.std.proofs.Common.{ℕ, ◌≡◌, ◌||◌, ◌++◌, Bool, true, false, cond, List, [], ◌∷◌, Option, Some, None, refl, sym, ap, ◌∙◌, subst, rules, arith, map, inl, inr}
 use Rattle.std.specs.{Prelude.{nat_eq, is_some, option_and_then}, List.{AllByRecursion, flat_map}, Option.{option_map, option_or}}
 use Rattle.std.proofs.lemmas.{Bool.{false≢true}, List.{append-nil}}
-use Rattle.ppdb_maps.specs.declared.{entries.CrossLine.{CrossLine}, line.Line.{Line}, line.Line.TheVariants.{Rows, Row, Cross, Gone, Dropped, Slots, Slot, Signature, Document, Link}}
-use Rattle.ppdb_maps.specs.{declared.line.Line.TheVariants.{Shares}, Before.{told, methods_of, rows_said, row_said, cross_said, gone_said, slot_said}}
-use Rattle.ppdb_maps.specs.{Before.{signature_said, document_said, link_said, row_in, cross_in, gone_in}, Places.{Place, shares_place, link_place, rows_place}}
-use Rattle.ppdb_maps.specs.{Places.{row_place, drop_place, slots_place, slot_place, signature_place, document_place, method_place}, Map.{Map, MethodLine, row_line}}
-use Rattle.ppdb_maps.specs.{Map.{cross_line, has_gone_line, told_image, line_image, method_line}, Readable.{IsReadable}, Forms.{IsHead}, Text.{Read, HoldsWhat}}
-use Rattle.ppdb_maps.{specs.Text.{start}, proofs.OneMap.{number_same}, proofs.Telling.{has_method}}
+use Rattle.ppdb_maps.specs.declared.{entries.CrossLine.{CrossLine}, line.Line.{Line}, line.Line.TheVariants.{Rows, Row, Cross, Gone, Dropped, Slots, Slot}}
+use Rattle.ppdb_maps.specs.{declared.line.Line.TheVariants.{Signature, Document, Link, Shares}, Before.{reported, methods_of, rows_said, row_said, cross_said}}
+use Rattle.ppdb_maps.specs.{Before.{gone_said, slot_said, signature_said, document_said, link_said, row_in, cross_in, gone_in}, Places.{Place, shares_place}}
+use Rattle.ppdb_maps.specs.Places.{link_place, rows_place, row_place, drop_place, slots_place, slot_place, signature_place, document_place, method_place}
+use Rattle.ppdb_maps.specs.{Map.{Map, MethodLine, row_line, cross_line, has_gone_line, said_image, line_image, method_line}, Readable.{IsReadable}, Forms.{IsHead}}
+use Rattle.ppdb_maps.{specs.Text.{Read, HoldsWhat, start}, proofs.OneMap.{number_same}, proofs.Telling.{has_method}}
 use Rattle.ppdb_maps_text.specs.{Laws.{TextsAreRead}, MapTexts.{version_of, head_text, line_text, image_says, count_says, slots_say, method_says, map_says}}
-use Rattle.ppdb_maps_text.proofs.{InOrder.{Reads, next, told_all, none_below, some_not, or_some, or_nothing}, Lined.{at_place, first_of, placed_lines, sizes_say}}
-use Rattle.ppdb_maps_text.proofs.{Lined.{rises, all_stand, placed_whole, made_told, version_known, from_three}, OneLine.{has_line, OneLine, by_row, by_cross}}
-use Rattle.ppdb_maps_text.proofs.{OneLine.{by_gone, one_line, says_row, says_cross, says_gone}, Methods.{add_methods, LinesAhead, line_among}}
+use Rattle.ppdb_maps_text.proofs.{InOrder.{Reads, next, reported_all, none_below, some_not, or_some, or_nothing}, Lined.{at_place, first_of, placed_lines}}
+use Rattle.ppdb_maps_text.proofs.{Lined.{sizes_say, rises, all_stand, placed_whole, made_reported, version_known, from_three}, OneLine.{has_line, OneLine, by_row}}
+use Rattle.ppdb_maps_text.proofs.{OneLine.{by_cross, by_gone, one_line, says_row, says_cross, says_gone}, Methods.{add_methods, LinesAhead, line_among}}
 use Rattle.ppdb_maps_text.proofs.{Starting.{some_mapped}, Words.{IsPlain, lines_ended}, Parts.{signature_says, link_says, shares_says}}
 
 module _ (m : Map) (is : IsReadable m) where
@@ -47,12 +47,12 @@ module _ (m : Map) (is : IsReadable m) where
       of (l ∷ lines) e =
           let here : List Line = map sizes_say m.methods in
           let at : Place = method_place l.method in
-          let some : is_some (told said at) ≡ true = sym (has_method said l.method)
+          let some : is_some (reported said at) ≡ true = sym (has_method said l.method)
           ∙ (ap (λ ls. is_some (line_among ls l.method)) e ∙ ap (λ b. is_some (cond b (Some l) (line_among lines l.method))) (number_same l.method)) in
           let lined : is_some (method_line m l.method) ≡ true = sym (some_mapped _ (method_line m l.method))
-          ∙ (ap is_some (sym (g.whole at)) ∙ or_some (told said at) (told here at) some) in
-          absurd (some_not (told here at) (none_below at here (g.below at some))
-          (made_told sizes_say (λ (x : MethodLine). nat_eq x.method l.method) at (λ x. refl) m.methods lined))
+          ∙ (ap is_some (sym (g.whole at)) ∙ or_some (reported said at) (reported here at) some) in
+          absurd (some_not (reported here at) (none_below at here (g.below at some))
+          (made_reported sizes_say (λ (x : MethodLine). nat_eq x.method l.method) at (λ x. refl) m.methods lined))
 
   all_read : (lines : List Line) × Got lines [] [] × LinesAhead m (methods_of lines) []
   all_read =
@@ -73,7 +73,7 @@ module _ (m : Map) (is : IsReadable m) where
     pub crossed : cross_line m t o ≡ cross_in said t o
     pub gone : has_gone_line m t o ≡ gone_in said t o
 
-  by_line : (said : List Line) (t o : ℕ) (line : Option Line) → told said (row_place t o) ≡ line → row_line m t o ≡ option_and_then row_said line
+  by_line : (said : List Line) (t o : ℕ) (line : Option Line) → reported said (row_place t o) ≡ line → row_line m t o ≡ option_and_then row_said line
       → cross_line m t o ≡ option_and_then cross_said line → has_gone_line m t o ≡ is_some (option_and_then gone_said line) → SaysRow said t o
   by_line said t o line e row crossed gone = record {
     row = row ∙ sym (ap (option_and_then row_said) e);
@@ -81,10 +81,10 @@ module _ (m : Map) (is : IsReadable m) where
     gone = gone ∙ sym (ap (λ l. is_some (option_and_then gone_said l)) e);
   }
 
-  row_says : (said : List Line) (t o : ℕ) → told said (row_place t o) ≡ first_of (image_says t o (line_image m t o)) → SaysRow said t o
-  row_says said t o is_told = of (has_line m t o) refl
+  row_says : (said : List Line) (t o : ℕ) → reported said (row_place t o) ≡ first_of (image_says t o (line_image m t o)) → SaysRow said t o
+  row_says said t o is_reported = of (has_line m t o) refl
     where
-      lined : (t o : ℕ) → OneLine m t o → told said (row_place t o) ≡ first_of (image_says t o (line_image m t o)) → SaysRow said t o
+      lined : (t o : ℕ) → OneLine m t o → reported said (row_place t o) ≡ first_of (image_says t o (line_image m t o)) → SaysRow said t o
       lined _ _ (by_row line of row crossed gone) at = by_line said line.table line.old (Some (Row line.table line.old line.new))
           (at ∙ ap first_of (says_row m line.table line.old line.new row)) row crossed gone
       lined _ _ (by_cross line of some row crossed gone) at = by_line said line.table line.old (Some (Cross line))
@@ -93,19 +93,19 @@ module _ (m : Map) (is : IsReadable m) where
           (at ∙ ap first_of (says_gone m line.table line.old row crossed gone)) row crossed gone
 
       lineless : (a : Option ℕ) (b : Option CrossLine) (c : Bool) → row_line m t o ≡ a → cross_line m t o ≡ b → has_gone_line m t o ≡ c
-          → (is_some a || (is_some b || c)) ≡ false → told said (row_place t o) ≡ first_of (image_says t o (told_image t a b c)) → SaysRow said t o
+          → (is_some a || (is_some b || c)) ≡ false → reported said (row_place t o) ≡ first_of (image_says t o (said_image t a b c)) → SaysRow said t o
       lineless (Some n) b c x y z none at = absurd (false≢true (sym none))
       lineless None (Some l) c x y z none at = absurd (false≢true (sym none))
       lineless None None true x y z none at = absurd (false≢true (sym none))
       lineless None None false x y z none at = by_line said t o None at x y z
 
       of : (b : Bool) → has_line m t o ≡ b → SaysRow said t o
-      of true has = lined t o (one_line m is t o has) is_told
-      of false has = lineless (row_line m t o) (cross_line m t o) (has_gone_line m t o) refl refl refl has is_told
+      of true has = lined t o (one_line m is t o has) is_reported
+      of false has = lineless (row_line m t o) (cross_line m t o) (has_gone_line m t o) refl refl refl has is_reported
 
   read_holds : (said : List Line) → Got said [] [] → LinesAhead m (methods_of said) [] → HoldsWhat said m
   read_holds said g ahead =
-      let t : (at : Place) → told said at ≡ at_place m at = told_all (version_of m) texts (at_place m) said g in
+      let t : (at : Place) → reported said at ≡ at_place m at = reported_all (version_of m) texts (at_place m) said g in
       record {
         counts = λ k. sym (ap (option_and_then rows_said) (t (rows_place k)) ∙ again (Rows k) rows_said (λ n. refl) _);
         rows = λ k o. (row_says said k o (t (row_place k o))).row;

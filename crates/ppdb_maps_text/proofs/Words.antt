@@ -17,15 +17,15 @@ abbrev pub IsWord : List ℕ → Type 0
 IsWord bytes = AllByRecursion (λ b. 33 ≤ b) bytes
 
 abbrev Lacks : ℕ → List ℕ → Type 0
-Lacks mark bytes = AllByRecursion (λ b. (b == mark) ≡ false) bytes
+Lacks separator bytes = AllByRecursion (λ b. (b == separator) ≡ false) bytes
 
-split_first : (mark : ℕ) (prefix rest : List ℕ) → Lacks mark prefix → parts_at mark (prefix ++ mark ∷ rest) ≡ prefix ∷ parts_at mark rest
-split_first mark [] rest lacks = rw (eq-eqb mark mark refl) refl
-split_first mark (b ∷ bs) rest lacks = rw (lacks.0, split_first mark bs rest lacks.1) refl
+split_first : (separator : ℕ) (prefix rest : List ℕ) → Lacks separator prefix → parts_at separator (prefix ++ separator ∷ rest) ≡ prefix ∷ parts_at separator rest
+split_first separator [] rest lacks = rw (eq-eqb separator separator refl) refl
+split_first separator (b ∷ bs) rest lacks = rw (lacks.0, split_first separator bs rest lacks.1) refl
 
-split_last : (mark : ℕ) (bytes : List ℕ) → Lacks mark bytes → parts_at mark bytes ≡ bytes ∷ []
-split_last mark [] lacks = refl
-split_last mark (b ∷ bs) lacks = rw (lacks.0, split_last mark bs lacks.1) refl
+split_last : (separator : ℕ) (bytes : List ℕ) → Lacks separator bytes → parts_at separator bytes ≡ bytes ∷ []
+split_last separator [] lacks = refl
+split_last separator (b ∷ bs) lacks = rw (lacks.0, split_last separator bs lacks.1) refl
 
 no_space : (bytes : List ℕ) → IsWord bytes → Lacks 32 bytes
 no_space [] word = tt

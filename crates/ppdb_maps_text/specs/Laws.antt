@@ -9,4 +9,5 @@ TextsAreRead = (m : Map) → IsReadable m → IsMapOf (map_text m) m
 
 -- each text has a map or a refused line: it cannot be that it has neither
 abbrev pub TextsAreJudged : Type 0
-TextsAreJudged = (text : List ℕ) → ((m : Map) → IsMapOf text m → ⊥) → ((line kind : ℕ) → Refused text line kind → ⊥) → ⊥
+TextsAreJudged = (text : List ℕ) → ((m : Map) → IsMapOf text m → ⊥)
+    → ((line kind : ℕ) → Refused text line kind → ⊥) → ⊥

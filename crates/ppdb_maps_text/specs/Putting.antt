@@ -3,7 +3,8 @@ use Rattle.std.specs.Prelude.{ℕ, ◌≡◌, ◌+◌, ◌≤◌, ◌++◌, List
 use Rattle.ppdb_base.specs.declared.limits.TheConstants.{MAX_FILE_BYTES}
 use Rattle.ppdb_maps_text.specs.declared.counted.Counted.{Counted}
 
--- each byte is counted, and a count of 2 ^ 64 or more stays the greatest below; the text is kept as long as it is not too long
+-- each byte is counted, and a count of 2 ^ 64 or more stays the greatest below; the text is kept as
+-- long as it is not too long
 pub record Puts (old new : Counted) (text : List ℕ) : Type 0 where
   pub counted : new.length ≡ min (old.length + length text) 0xffffffffffffffff
   pub kept : new.length ≤ MAX_FILE_BYTES → new.text ≡ old.text ++ text

@@ -2,7 +2,9 @@
 ghost use Rattle.std.specs.Prelude.{◌≡◌, ◌<◌, ◌≤◌, map, OnOk};
 ghost use Rattle.std.specs.Char.{digit_char};
 ghost use Rattle.std.specs.Fmt.{decimal};
-ghost use Rattle.ppdb_maps.specs.declared.line.Line.TheVariants.{Rows, Row, Cross, Gone, Method, Kept, Dropped, Slots, Slot, Signature, Document, Link, Shares};
+ghost use Rattle.ppdb_maps.specs.declared.line.Line.TheVariants.{Rows, Row, Cross, Gone, Method};
+ghost use Rattle.ppdb_maps.specs.declared.line.Line.TheVariants.{Kept, Dropped, Slots, Slot};
+ghost use Rattle.ppdb_maps.specs.declared.line.Line.TheVariants.{Signature, Document, Link, Shares};
 ghost use Rattle.ppdb_maps_text.specs.MapTexts.{spaced, ended, head_text, line_text};
 ghost use Rattle.ppdb_maps_text.specs.Putting.{Puts};
 
@@ -38,7 +40,8 @@ impl Counted {
 
     /// Puts the line `row TT OLD TT2 NEW`.
     pub fn put_cross(&mut self, table: u8, old: u32, to: u8, new: u32) -> Result<(), Memory>
-        ensures { OnOk result (Puts self.old self.new (ended (line_text (Cross (record { table = table; old = old; to = to; new = new }))))) }
+        ensures { OnOk result (Puts self.old self.new
+            (ended (line_text (Cross (record { table = table; old = old; to = to; new = new }))))) }
     {
         self.put(&[b'r', b'o', b'w', b' ', digit(table / 16), digit(table % 16)])?;
         self.put_number(old)?;
@@ -92,7 +95,8 @@ impl Counted {
 
     /// Puts the line `document OLD NEW`, of names that are not escaped.
     pub fn put_document(&mut self, old: &[u8], new: &[u8]) -> Result<(), Memory>
-        ensures { OnOk result (Puts self.old self.new (ended (line_text (Document (record { old = old.now; new = new.now }))))) }
+        ensures { OnOk result (Puts self.old self.new
+            (ended (line_text (Document (record { old = old.now; new = new.now }))))) }
     {
         self.put(b"document")?;
         self.put_spelled(old)?;
@@ -111,7 +115,8 @@ impl Counted {
 
     /// Puts the line `method M OLDSIZE NEWSIZE`.
     pub fn put_method(&mut self, method: u32, old_size: u32, new_size: u32) -> Result<(), Memory>
-        ensures { OnOk result (Puts self.old self.new (ended (line_text (Method method old_size new_size)))) }
+        ensures { OnOk result
+            (Puts self.old self.new (ended (line_text (Method method old_size new_size)))) }
     {
         self.put_line(b"method", &[method, old_size, new_size])
     }
@@ -126,7 +131,8 @@ impl Counted {
     /// Puts words, decimal numbers after them, and the line's end.
     #[tactic(auto, using(crate::proofs::Putting::puts_then, crate::proofs::Putting::puts_none, crate::proofs::Putting::puts_number, crate::proofs::Putting::puts_all))]
     fn put_line(&mut self, words: &[u8], numbers: &[u32]) -> Result<(), Memory>
-        ensures { OnOk result (Puts self.old self.new (ended (spaced words.now (map decimal numbers.now)))) }
+        ensures { OnOk result
+            (Puts self.old self.new (ended (spaced words.now (map decimal numbers.now)))) }
     {
         self.put(words)?;
         for number in numbers {

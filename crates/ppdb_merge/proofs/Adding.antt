@@ -7,21 +7,21 @@ use Rattle.ppdb_tables.specs.{declared.rows.CustomRow.{CustomRow}, declared.rows
 use Rattle.ppdb_values.specs.{Customs.{custom_of}, Documents.{document_of}, declared.custom.CustomValue.{CustomValue}, declared.file.DocumentValue.{DocumentValue}}
 use Rattle.ppdb_values.specs.{declared.file.FileValue.{FileValue}, declared.annotation.Annotation.{Annotation}, Meaning.{annotated_from}, RawFile.{RawFile}}
 use Rattle.ppdb_values.specs.{Rules.{KeepsRules}, Value.{value_of}}
-use Rattle.ppdb_values_sound_laws.specs.Sound.{IsSound}
-use Rattle.ppdb_merge_items.specs.{declared.file.AnnotatedFile.{AnnotatedFile}, Each.{Pairs}, Laws.{SoundnessIsAnnotated}, Annotated.{annotated_file, items_of}}
-use Rattle.ppdb_merge_items.{specs.Annotated.{with_item}, specs.Unannotated.{value_of_annotated}, proofs.Lists.{Each-append, Each-map, Each-weaker, Pairs-map}}
-use Rattle.ppdb_merge_items.specs.SoundParts.{SoundMoved}
+use Rattle.ppdb_values_sound.specs.Sound.{IsSound}
+use Rattle.ppdb_merge_annotated.specs.{declared.file.AnnotatedFile.{AnnotatedFile}, Each.{Pairs}, Laws.{SoundnessIsAnnotated}, Annotated.{annotated_file, items_of}}
+use Rattle.ppdb_merge_annotated.{specs.Annotated.{with_item}, specs.Unannotated.{value_of_annotated}, proofs.Lists.{Each-append, Each-map, Each-weaker, Pairs-map}}
+use Rattle.ppdb_merge_annotated.specs.SoundParts.{SoundMoved}
 use Rattle.ppdb_merge_names_laws.specs.Laws.{ReferencesAreNamed}
 use Rattle.ppdb_merge_joined.specs.{Joined.{joined}, Laws.{JoinedIsSound}, Small.{AreFew, HasFewRows}}
 use Rattle.ppdb_merge_moved.{specs.Fits.{Fits}, specs.Moved.{moved_file, moved_document}, proofs.SoundMoves.{moved_sound}}
 use Rattle.ppdb_merge_meaning_laws.{specs.Kept.{MovedBy, InputsFit, joined_inputs}, proofs.Counts.{moved_counts_sound}}
 use Rattle.ppdb_merge_names.specs.declared.imaged.Imaged.{Imaged}
 use Rattle.ppdb_merge_fits.{specs.Clashes.{first_clash}, specs.Signatures.{all_images}, proofs.First.{nil_parts, no_first}}
-use Rattle.ppdb_merge.specs.{declared.index.Index.{Index}, declared.trace.Trace.{Trace}, Indexes.{Indexes}, Kept.{AreInputs}, Merged.{trace_of, moved_files}}
+use Rattle.ppdb_merge.specs.{declared.index.Index.{Index}, declared.summary.Summary.{Summary}, Indexes.{Indexes}, Kept.{AreInputs}, Merged.{summary_of, moved_files}}
 use Rattle.ppdb_merge.specs.{Merged.{is_first, unless}, Refusals.{methods_taken, documents_differ, links_differ, clashes_before, refusal_of, added}}
-use Rattle.ppdb_merge.{specs.Sound.{SoundTrace, SoundTraces, AreMethodsApart, HasEntry, documents_in}, specs.Together.{misfit_of}, proofs.Apart.{all_apart}}
-use Rattle.ppdb_merge.proofs.{Apart.{one_by_name, Pairs-push}, Counted.{can_be_joined, counts_rows}, Few.{few_rows}, Indexing.{documents_more}, Traced.{file_sound}}
-use Rattle.ppdb_merge.proofs.Traced.{moved_images, moved_entry}
+use Rattle.ppdb_merge.{specs.Sound.{SoundSummary, SoundSummaries, AreMethodsApart, HasEntry, documents_in}, specs.Together.{misfit_of}, proofs.Apart.{all_apart}}
+use Rattle.ppdb_merge.proofs.{Apart.{one_by_name, Pairs-push}, Counted.{can_be_joined, counts_rows}, Few.few_rows, Indexing.documents_more, Summarized.file_sound}
+use Rattle.ppdb_merge.proofs.Summarized.{moved_images, moved_entry}
 
 -- the documents of a moved file, with their records, are its documents with the names that the map gives
 pub items_are : (m : Map) (value : FileValue) (n : ℕ) (ds : List DocumentValue)
@@ -34,26 +34,27 @@ length_next [] x = omega arith
 length_next (y ∷ ys) x = let rest = length_next ys x in omega (arith, rest)
 
 -- a file that is not refused does not clash
-pub none_before : (marks : List (List ℕ)) (traces : List Trace) (m : Map) (raw : RawFile) → refusal_of marks traces m raw ≡ None
-    → clashes_before traces m (trace_of (is_first traces) m raw).rows (value_of raw) ≡ []
-none_before marks traces m raw is = no_first _ (by (first_clash marks (is_first traces) m raw) is)
+pub none_before : (marks : List (List ℕ)) (summaries : List Summary) (m : Map) (raw : RawFile) → refusal_of marks summaries m raw ≡ None
+    → clashes_before summaries m (summary_of (is_first summaries) m raw).rows (value_of raw) ≡ []
+none_before marks summaries m raw is = no_first _ (by (first_clash marks (is_first summaries) m raw) is)
   where
     by : (o : Option MergeError)
-        → option_or o (slice_get (clashes_before traces m (trace_of (is_first traces) m raw).rows (value_of raw)) 0) ≡ None
-        → slice_get (clashes_before traces m (trace_of (is_first traces) m raw).rows (value_of raw)) 0 ≡ None
+        → option_or o (slice_get (clashes_before summaries m (summary_of (is_first summaries) m raw).rows (value_of raw)) 0) ≡ None
+        → slice_get (clashes_before summaries m (summary_of (is_first summaries) m raw).rows (value_of raw)) 0 ≡ None
     by None e = e
-    by (Some told) e = absurd cc
+    by (Some reported) e = absurd cc
 
-pub refused_by : (marks : List (List ℕ)) (traces : List Trace) (m : Map) (raw : RawFile) (o : Option MergeError)
-    → first_clash marks (is_first traces) m raw ≡ None
-    → o ≡ slice_get (clashes_before traces m (trace_of (is_first traces) m raw).rows (value_of raw)) 0 → refusal_of marks traces m raw ≡ o
-refused_by marks traces m raw o none is =
-    ap (λ (first : Option MergeError). option_or first (slice_get (clashes_before traces m (trace_of (is_first traces) m raw).rows (value_of raw)) 0)) none ∙ sym is
+pub refused_by : (marks : List (List ℕ)) (summaries : List Summary) (m : Map) (raw : RawFile) (o : Option MergeError)
+    → first_clash marks (is_first summaries) m raw ≡ None
+    → o ≡ slice_get (clashes_before summaries m (summary_of (is_first summaries) m raw).rows (value_of raw)) 0 → refusal_of marks summaries m raw ≡ o
+refused_by marks summaries m raw o none is =
+    ap (λ (first : Option MergeError).
+    option_or first (slice_get (clashes_before summaries m (summary_of (is_first summaries) m raw).rows (value_of raw)) 0)) none ∙ sym is
 
-pub refused_first : (marks : List (List ℕ)) (traces : List Trace) (m : Map) (raw : RawFile) (e : MergeError)
-    → first_clash marks (is_first traces) m raw ≡ Some e → refusal_of marks traces m raw ≡ Some e
-refused_first marks traces m raw e is =
-    ap (λ (first : Option MergeError). option_or first (slice_get (clashes_before traces m (trace_of (is_first traces) m raw).rows (value_of raw)) 0)) is
+pub refused_first : (marks : List (List ℕ)) (summaries : List Summary) (m : Map) (raw : RawFile) (e : MergeError)
+    → first_clash marks (is_first summaries) m raw ≡ Some e → refusal_of marks summaries m raw ≡ Some e
+refused_first marks summaries m raw e is =
+    ap (λ (first : Option MergeError). option_or first (slice_get (clashes_before summaries m (summary_of (is_first summaries) m raw).rows (value_of raw)) 0)) is
 
 -- a moved file has few documents
 pub few_moved : (m : Map) (raw : RawFile) → HasShape raw.tables → length (moved_file m (annotated_file (value_of raw))).documents < 0x20000000
@@ -64,8 +65,8 @@ module _ (annotated : SoundnessIsAnnotated) (named : ReferencesAreNamed) (m : Ma
   pub moved_is_sound : (first : Bool) → Fits first m (annotated_file (value_of raw)) → SoundMoved (moved_file m (annotated_file (value_of raw)))
   moved_is_sound first fits = moved_sound first m (annotated_file (value_of raw)) ready (file_sound annotated named first m raw keeps sound ready fits) fits
 
-  trace_sound : (first : Bool) → Fits first m (annotated_file (value_of raw)) → SoundTrace (trace_of first m raw)
-  trace_sound first fits = record {
+  summary_sound : (first : Bool) → Fits first m (annotated_file (value_of raw)) → SoundSummary (summary_of first m raw)
+  summary_sound first fits = record {
     sound = moved_is_sound first fits;
     counts = moved_counts_sound m ready (value_of raw).rows sound.rows;
     few = few_rows m raw keeps.shape;
@@ -82,55 +83,57 @@ module _ (annotated : SoundnessIsAnnotated) (named : ReferencesAreNamed) (m : Ma
       fits.documents))
 
   -- the inputs with one more
-  pub added_sound : (marks : List (List ℕ)) (traces : List Trace) → SoundTraces traces → length traces < 256
-      → Fits (is_first traces) m (annotated_file (value_of raw)) → refusal_of marks traces m raw ≡ None
-      → SoundTraces (traces ++ trace_of (is_first traces) m raw ∷ [])
-  added_sound marks traces all few fits is =
-      let t : Trace = trace_of (is_first traces) m raw in
-      let none = nil_parts (methods_taken traces t.rows) (documents_differ traces m (value_of raw).documents ++ links_differ traces m (value_of raw).customs)
-      (none_before marks traces m raw is) in
-      let agree = nil_parts (documents_differ traces m (value_of raw).documents) (links_differ traces m (value_of raw).customs) none.1 in
+  pub added_sound : (marks : List (List ℕ)) (summaries : List Summary) → SoundSummaries summaries → length summaries < 256
+      → Fits (is_first summaries) m (annotated_file (value_of raw)) → refusal_of marks summaries m raw ≡ None
+      → SoundSummaries (summaries ++ summary_of (is_first summaries) m raw ∷ [])
+  added_sound marks summaries all few fits is =
+      let t : Summary = summary_of (is_first summaries) m raw in
+      let none =
+      nil_parts (methods_taken summaries t.rows) (documents_differ summaries m (value_of raw).documents ++ links_differ summaries m (value_of raw).customs)
+      (none_before marks summaries m raw is) in
+      let agree = nil_parts (documents_differ summaries m (value_of raw).documents) (links_differ summaries m (value_of raw).customs) none.1 in
       record {
-        few = let more = length_next traces t in omega (arith, few, more);
-        each = Each-append SoundTrace traces (t ∷ []) all.each (trace_sound (is_first traces) fits, tt);
-        methods_apart = Pairs-push AreMethodsApart traces t all.methods_apart (all_apart traces t none.0);
+        few = let more = length_next summaries t in omega (arith, few, more);
+        each = Each-append SoundSummary summaries (t ∷ []) all.each (summary_sound (is_first summaries) fits, tt);
+        methods_apart = Pairs-push AreMethodsApart summaries t all.methods_apart (all_apart summaries t none.0);
         documents_agree = subst (Pairs (λ (d e : DocumentValue). d.name ≡ e.name → d ≡ e))
-            (sym (documents_more traces t ∙ ap (λ l. documents_in traces ++ l) (items_are m (value_of raw) 1 (value_of raw).documents)))
-            (one_by_name m (documents_in traces) (value_of raw).documents all.documents_agree (names_differ (is_first traces) fits) agree.0);
-        entry = entry_of traces all.entry fits;
+            (sym (documents_more summaries t ∙ ap (λ l. documents_in summaries ++ l) (items_are m (value_of raw) 1 (value_of raw).documents)))
+            (one_by_name m (documents_in summaries) (value_of raw).documents all.documents_agree (names_differ (is_first summaries) fits) agree.0);
+        entry = entry_of summaries all.entry fits;
       }
     where
-      entry_of : (ts : List Trace) → HasEntry ts → Fits (is_first ts) m (annotated_file (value_of raw)) → HasEntry (ts ++ trace_of (is_first ts) m raw ∷ [])
+      entry_of : (ts : List Summary) → HasEntry ts → Fits (is_first ts) m (annotated_file (value_of raw)) → HasEntry (ts ++ summary_of (is_first ts) m raw ∷ [])
       entry_of [] has fits = moved_entry annotated named true m raw keeps sound ready fits refl
       entry_of (first ∷ others) has fits = has
 
 -- ---- all inputs together
 
-pub have_few : (traces : List Trace) → SoundTraces traces → AreFew (moved_files traces)
-have_few traces sound = record {
-  count = let few = sound.few in let same = length_map traces in omega (arith, few, same);
-  each = Each-map (λ (t : Trace). t.moved) HasFewRows traces (Each-weaker SoundTrace (λ (t : Trace). HasFewRows t.moved) (λ t s. s.few) traces sound.each);
+pub have_few : (summaries : List Summary) → SoundSummaries summaries → AreFew (moved_files summaries)
+have_few summaries sound = record {
+  count = let few = sound.few in let same = length_map summaries in omega (arith, few, same);
+  each =
+      Each-map (λ (t : Summary). t.moved) HasFewRows summaries (Each-weaker SoundSummary (λ (t : Summary). HasFewRows t.moved) (λ t s. s.few) summaries sound.each);
 }
   where
-    length_map : (ts : List Trace) → length (moved_files ts) ≡ length ts
+    length_map : (ts : List Summary) → length (moved_files ts) ≡ length ts
     length_map [] = refl
     length_map (t ∷ ts) = ap suc (length_map ts)
 
-pub joined_sound : SoundnessIsAnnotated → JoinedIsSound → (traces : List Trace) → traces ≢ [] → SoundTraces traces → misfit_of traces ≡ None
-    → IsSound (value_of_annotated (joined (moved_files traces)))
+pub joined_sound : SoundnessIsAnnotated → JoinedIsSound → (summaries : List Summary) → summaries ≢ [] → SoundSummaries summaries → misfit_of summaries ≡ None
+    → IsSound (value_of_annotated (joined (moved_files summaries)))
 joined_sound annotated law [] some sound fit = absurd (some refl)
 joined_sound annotated law (first ∷ others) some sound fit =
     annotated.value (joined (moved_files (first ∷ others)))
     (law first.moved (moved_files others) (can_be_joined (first ∷ others) sound) (counts_rows first others sound fit))
 
-pub some_files : (traces : List Trace) → traces ≢ [] → moved_files traces ≢ []
+pub some_files : (summaries : List Summary) → summaries ≢ [] → moved_files summaries ≢ []
 some_files [] some is = some refl
 some_files (t ∷ ts) some is = cc
 
-pub if_sound : (r : Result FileValue Memory) (files : List AnnotatedFile) (traces : List Trace) → IfOk r (λ value. value ≡ value_of_annotated (joined files))
-    → files ≡ moved_files traces → IsSound (value_of_annotated (joined (moved_files traces))) → IfOk r IsSound
-if_sound (Err e) files traces is same sound = tt
-if_sound (Ok value) files traces is same sound =
+pub if_sound : (r : Result FileValue Memory) (files : List AnnotatedFile) (summaries : List Summary) → IfOk r (λ value. value ≡ value_of_annotated (joined files))
+    → files ≡ moved_files summaries → IsSound (value_of_annotated (joined (moved_files summaries))) → IfOk r IsSound
+if_sound (Err e) files summaries is same sound = tt
+if_sound (Ok value) files summaries is same sound =
     subst IsSound (sym (is ∙ ap (λ l. value_of_annotated (joined l)) same)) sound
 
 -- ---- a file that is read
@@ -156,43 +159,44 @@ few_customs raw customs shape is =
     length_all [] = refl
     length_all (c ∷ cs) = ap suc (length_all cs)
 
-pub refused_as : (marks : List (List ℕ)) (traces : List Trace) (m : Map) (raw : RawFile) (o : Option MergeError) (rows : List Imaged)
-    (value : FileValue) → first_clash marks (is_first traces) m raw ≡ None → rows ≡ all_images (is_first traces) m raw
-    → value ≡ value_of raw → o ≡ slice_get (clashes_before traces m rows value) 0 → refusal_of marks traces m raw ≡ o
-refused_as marks traces m raw o rows value none same also is =
-    refused_by marks traces m raw o none
-    (is ∙ ap (λ l. slice_get (clashes_before traces m l value) 0) same
-    ∙ ap (λ v. slice_get (clashes_before traces m (all_images (is_first traces) m raw) v) 0) also)
+pub refused_as : (marks : List (List ℕ)) (summaries : List Summary) (m : Map) (raw : RawFile) (o : Option MergeError) (rows : List Imaged)
+    (value : FileValue) → first_clash marks (is_first summaries) m raw ≡ None → rows ≡ all_images (is_first summaries) m raw
+    → value ≡ value_of raw → o ≡ slice_get (clashes_before summaries m rows value) 0 → refusal_of marks summaries m raw ≡ o
+refused_as marks summaries m raw o rows value none same also is =
+    refused_by marks summaries m raw o none
+    (is ∙ ap (λ l. slice_get (clashes_before summaries m l value) 0) same
+    ∙ ap (λ v. slice_get (clashes_before summaries m (all_images (is_first summaries) m raw) v) 0) also)
 
-pub is_sound : (traces : List Trace) (m : Map) (raw : RawFile) (moved annotated : AnnotatedFile) (rows : List Imaged) → moved ≡ moved_file m annotated
-    → annotated ≡ annotated_file (value_of raw) → rows ≡ all_images (is_first traces) m raw → SoundTraces (traces ++ trace_of (is_first traces) m raw ∷ [])
-    → SoundTraces (traces ++ record { moved = moved; rows = rows } ∷ [])
-is_sound traces m raw moved annotated rows is from same sound =
-    subst (λ file. SoundTraces (traces ++ record { moved = file; rows = rows } ∷ [])) (sym (is ∙ ap (moved_file m) from))
-    (subst (λ l. SoundTraces (traces ++ record { moved = moved_file m (annotated_file (value_of raw)); rows = l } ∷ [])) (sym same) sound)
+pub is_sound : (summaries : List Summary) (m : Map) (raw : RawFile) (moved annotated : AnnotatedFile) (rows : List Imaged) → moved ≡ moved_file m annotated
+    → annotated ≡ annotated_file (value_of raw) → rows ≡ all_images (is_first summaries) m raw
+    → SoundSummaries (summaries ++ summary_of (is_first summaries) m raw ∷ [])
+    → SoundSummaries (summaries ++ record { moved = moved; rows = rows } ∷ [])
+is_sound summaries m raw moved annotated rows is from same sound =
+    subst (λ file. SoundSummaries (summaries ++ record { moved = file; rows = rows } ∷ [])) (sym (is ∙ ap (moved_file m) from))
+    (subst (λ l. SoundSummaries (summaries ++ record { moved = moved_file m (annotated_file (value_of raw)); rows = l } ∷ [])) (sym same) sound)
 
-pub added_as : (marks : List (List ℕ)) (traces : List Trace) (m : Map) (raw : RawFile) (t : Trace) → t ≡ trace_of (is_first traces) m raw
-    → refusal_of marks traces m raw ≡ None → added marks traces m raw ≡ Ok (traces ++ t ∷ [])
-added_as marks traces m raw t is none =
-    ap (λ (o : Option MergeError). unless o (Ok (traces ++ trace_of (is_first traces) m raw ∷ []))) none ∙ ap (λ x. Ok (traces ++ x ∷ [])) (sym is)
+pub added_as : (marks : List (List ℕ)) (summaries : List Summary) (m : Map) (raw : RawFile) (t : Summary) → t ≡ summary_of (is_first summaries) m raw
+    → refusal_of marks summaries m raw ≡ None → added marks summaries m raw ≡ Ok (summaries ++ t ∷ [])
+added_as marks summaries m raw t is none =
+    ap (λ (o : Option MergeError). unless o (Ok (summaries ++ summary_of (is_first summaries) m raw ∷ []))) none ∙ ap (λ x. Ok (summaries ++ x ∷ [])) (sym is)
 
 -- the inputs with one more, of which the index holds all but the last
-pub grown : (traces new : List Trace) (t : Trace) (index : Index) → new ≡ traces ++ t ∷ [] → Indexes traces index → SoundTraces (traces ++ t ∷ [])
-    → SoundTraces new × (index.inputs ≤ length new) × Indexes (take index.inputs new) index
-grown traces new t index is holds sound = (
-  subst SoundTraces (sym is) sound,
-  (let counted = holds.inputs in let more = length_next traces t in let same = ap (λ (l : List Trace). length l) is in omega (arith, counted, more, same)),
-  subst (λ l. Indexes l index) (sym (ap (take index.inputs) is ∙ ap (λ n. take n (traces ++ t ∷ [])) holds.inputs ∙ prefix traces)) holds,
+pub grown : (summaries new : List Summary) (t : Summary) (index : Index) → new ≡ summaries ++ t ∷ [] → Indexes summaries index → SoundSummaries (summaries ++ t ∷ [])
+    → SoundSummaries new × (index.inputs ≤ length new) × Indexes (take index.inputs new) index
+grown summaries new t index is holds sound = (
+  subst SoundSummaries (sym is) sound,
+  (let counted = holds.inputs in let more = length_next summaries t in let same = ap (λ (l : List Summary). length l) is in omega (arith, counted, more, same)),
+  subst (λ l. Indexes l index) (sym (ap (take index.inputs) is ∙ ap (λ n. take n (summaries ++ t ∷ [])) holds.inputs ∙ prefix summaries)) holds,
 )
   where
-    prefix : (ts : List Trace) → take (length ts) (ts ++ t ∷ []) ≡ ts
+    prefix : (ts : List Summary) → take (length ts) (ts ++ t ∷ []) ≡ ts
     prefix [] = refl
     prefix (x ∷ ts) = ap (λ l. x ∷ l) (prefix ts)
 
-pub if_kept : (K : List MovedBy → FileValue → Type 0) (r : Result FileValue Memory) (files : List AnnotatedFile) (traces : List Trace)
-    → IfOk r (λ value. value ≡ value_of_annotated (joined files)) → files ≡ moved_files traces
+pub if_kept : (K : List MovedBy → FileValue → Type 0) (r : Result FileValue Memory) (files : List AnnotatedFile) (summaries : List Summary)
+    → IfOk r (λ value. value ≡ value_of_annotated (joined files)) → files ≡ moved_files summaries
     → ((inputs : List MovedBy) → InputsFit inputs → K inputs (joined_inputs inputs))
-    → IfOk r (λ value. (inputs : List MovedBy) → AreInputs traces inputs → K inputs value)
-if_kept K (Err e) files traces is same law = tt
-if_kept K (Ok value) files traces is same law = λ inputs are.
+    → IfOk r (λ value. (inputs : List MovedBy) → AreInputs summaries inputs → K inputs value)
+if_kept K (Err e) files summaries is same law = tt
+if_kept K (Ok value) files summaries is same law = λ inputs are.
     subst (K inputs) (sym (is ∙ ap (λ l. value_of_annotated (joined l)) (same ∙ are.moved))) (law inputs are.fit)

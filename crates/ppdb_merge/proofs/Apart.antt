@@ -6,11 +6,11 @@ use Rattle.ppdb_base.specs.declared.merge_error.MergeError.TheVariants.{MethodTa
 use Rattle.ppdb_maps.specs.Map.{Map}
 use Rattle.ppdb_tables.specs.RawTables.{numbered}
 use Rattle.ppdb_values.specs.declared.file.DocumentValue.{DocumentValue}
-use Rattle.ppdb_merge_items.{specs.Each.{Each, Pairs}, specs.Sorted.{in_order}, proofs.Lists.{Each-weaker, Each-unmap, Each-append, Pairs-weaker}}
+use Rattle.ppdb_merge_annotated.{specs.Each.{Each, Pairs}, specs.Sorted.{in_order}, proofs.Lists.{Each-weaker, Each-unmap, Each-append, Pairs-weaker}}
 use Rattle.ppdb_merge_joined.{specs.Joined.{firsts}, proofs.Names.{same_bytes, bytes_same}, proofs.Each.{Pairs-append}}
 use Rattle.ppdb_merge_moved.{specs.Moved.{moved_document}, proofs.Elements.{each_made}, proofs.Lists.{Each-both}}
 use Rattle.ppdb_merge_names.specs.declared.imaged.Imaged.{Imaged}
-use Rattle.ppdb_merge.specs.{declared.trace.Trace.{Trace}, Refusals.{methods_in, claims, taken, methods_taken, same_contents, conflict, moved_conflict}}
+use Rattle.ppdb_merge.specs.{declared.summary.Summary.{Summary}, Refusals.{methods_in, claims, taken, methods_taken, same_contents, conflict, moved_conflict}}
 use Rattle.ppdb_merge.{specs.Sound.{AreMethodsApart}, proofs.Imaged.{Each-unsorted}}
 
 -- ---- lists
@@ -71,18 +71,18 @@ methods_apart_from claimed rows is =
         by None e = refl
         by (Some c) e = absurd cc
 
-pub all_apart : (traces : List Trace) (t : Trace) → methods_taken traces t.rows ≡ [] → Each (λ a. AreMethodsApart a t) traces
-all_apart traces t is =
-    Each-unnumbered (λ a. AreMethodsApart a t) 1 traces
-    (Each-weaker (λ (x : ℕ × Trace). Each (λ (c : ℕ × Imaged). Each (λ (j : Imaged). c.1.image ≢ j.image) (methods_in t.rows))
-    (map (λ i. (x.0, i)) (methods_in x.1.rows))) (λ (x : ℕ × Trace). AreMethodsApart x.1 t)
+pub all_apart : (summaries : List Summary) (t : Summary) → methods_taken summaries t.rows ≡ [] → Each (λ a. AreMethodsApart a t) summaries
+all_apart summaries t is =
+    Each-unnumbered (λ a. AreMethodsApart a t) 1 summaries
+    (Each-weaker (λ (x : ℕ × Summary). Each (λ (c : ℕ × Imaged). Each (λ (j : Imaged). c.1.image ≢ j.image) (methods_in t.rows))
+    (map (λ i. (x.0, i)) (methods_in x.1.rows))) (λ (x : ℕ × Summary). AreMethodsApart x.1 t)
     (λ x each. Each-unmap (λ (i : Imaged). (x.0, i)) (λ (c : ℕ × Imaged). Each (λ (j : Imaged). c.1.image ≢ j.image) (methods_in t.rows))
     (methods_in x.1.rows) each)
-    (numbered traces)
-    (each_made (λ (x : ℕ × Trace). map (λ i. (x.0, i)) (methods_in x.1.rows))
-    (λ (c : ℕ × Imaged). Each (λ (j : Imaged). c.1.image ≢ j.image) (methods_in t.rows)) (numbered traces)
-    (Each-swap (λ (c : ℕ × Imaged) (j : Imaged). c.1.image ≢ j.image) (claims traces) (methods_in t.rows)
-    (methods_apart_from (claims traces) t.rows is))))
+    (numbered summaries)
+    (each_made (λ (x : ℕ × Summary). map (λ i. (x.0, i)) (methods_in x.1.rows))
+    (λ (c : ℕ × Imaged). Each (λ (j : Imaged). c.1.image ≢ j.image) (methods_in t.rows)) (numbered summaries)
+    (Each-swap (λ (c : ℕ × Imaged) (j : Imaged). c.1.image ≢ j.image) (claims summaries) (methods_in t.rows)
+    (methods_apart_from (claims summaries) t.rows is))))
 
 -- ---- documents
 

@@ -6,13 +6,14 @@ use Rattle.ppdb_base.specs.declared.merge_error.{MergeError.{MergeError}, MergeE
 use Rattle.ppdb_tables.specs.{declared.rows.MachineRow.{MachineRow}, RawTables.{numbered}}
 use Rattle.ppdb_values.specs.declared.{custom.CustomValue.{CustomValue}, file.DocumentValue.{DocumentValue}, file.MethodValue.{MethodValue}}
 use Rattle.ppdb_values.specs.declared.{import.ImportScopeValue.{ImportScopeValue}, annotation.Annotation.{Annotation}}
-use Rattle.ppdb_merge_items.specs.{declared.file.AnnotatedFile.{AnnotatedFile}, declared.file.AnnotatedScope.{AnnotatedScope}, Each.{Each, Pairs}, NamedRows.{Named}}
-use Rattle.ppdb_merge_items.specs.{NamedRows.{names, names_some, all_named, in_constant, in_import, in_steps}, Annotated.{items_of}, SoundParts.{SoundMoved}}
-use Rattle.ppdb_merge_items.proofs.Lists.{Each-weaker, Each-map, Each-unmap, Each-append, Each-filter, Pairs-map}
+use Rattle.ppdb_merge_annotated.specs.{declared.file.AnnotatedFile.AnnotatedFile, declared.file.AnnotatedScope.AnnotatedScope, Each.{Each, Pairs}, NamedRows.Named}
+use Rattle.ppdb_merge_annotated.specs.{NamedRows.{names, names_some, all_named, in_constant, in_import, in_steps}, Annotated.{items_of}, SoundParts.{SoundMoved}}
+use Rattle.ppdb_merge_annotated.proofs.Lists.{Each-weaker, Each-map, Each-unmap, Each-append, Each-filter, Pairs-map}
 use Rattle.ppdb_merge_joined.{specs.Joinable.{AreJoinable, CountsRows, AreApart, AgreeOnDocuments, methods_of}, proofs.Each.{Each-flat}}
 use Rattle.ppdb_merge_moved.proofs.Elements.{each_parts, each_made, each_left, in_each}
 use Rattle.ppdb_merge_names.specs.declared.imaged.Imaged.{Imaged}
-use Rattle.ppdb_merge.specs.{declared.trace.Trace.{Trace}, Merged.{moved_files}, Refusals.{methods_in}, Sound.{SoundTrace, SoundTraces, IsImageIn, AreMethodsApart}}
+use Rattle.ppdb_merge.specs.{declared.summary.Summary.Summary, Merged.moved_files, Refusals.methods_in, Sound.{SoundSummary, SoundSummaries, IsImageIn}}
+use Rattle.ppdb_merge.specs.Sound.{AreMethodsApart}
 use Rattle.ppdb_merge.{specs.Together.{count_in, differs, rows_differ, above, images_above, misfit_of}, proofs.Apart.{none_made, Each-unnumbered}}
 use Rattle.ppdb_merge_fits.proofs.{First.{nil_parts, no_first}, Fitting.{flat_none}}
 use Rattle.ppdb_merge_meaning_laws.proofs.Inputs.{pairs_given}
@@ -91,8 +92,8 @@ methods_named P file each =
     machines : Each P (flat_map of_machine file.machines) × Each P (flat_map of_custom file.customs)
     machines = each_parts P (flat_map of_machine file.machines) (flat_map of_custom file.customs) imports.1
 
-traces_apart : (a b : Trace) → SoundTrace a → SoundTrace b → AreMethodsApart a b → AreApart (methods_of a.moved) (methods_of b.moved)
-traces_apart a b sound also apart =
+summaries_apart : (a b : Summary) → SoundSummary a → SoundSummary b → AreMethodsApart a b → AreApart (methods_of a.moved) (methods_of b.moved)
+summaries_apart a b sound also apart =
     Each-weaker (λ row. IsImageIn a.rows (names 0x06 row)) (λ row. Each (λ other. row ≢ other) (methods_of b.moved))
     (λ row of_a. Each-weaker (λ other. IsImageIn b.rows (names 0x06 other)) (λ other. row ≢ other)
     (λ other of_b same. differ of_a.0 of_b.0 of_a.1 of_b.1 of_a.2 of_b.2 (of_a.3 ∙ same ∙ sym of_b.3)) (methods_of b.moved)
@@ -139,18 +140,20 @@ agree (a ∷ files) pairs =
           (λ d here. (each_parts (OneByName d) (items_of b.documents) _ here).1) (items_of a.documents) each),
     )
 
-pub can_be_joined : (traces : List Trace) → SoundTraces traces → AreJoinable (moved_files traces)
-can_be_joined traces sound = record {
-  each = Each-map (λ (t : Trace). t.moved) SoundMoved traces (Each-weaker SoundTrace (λ (t : Trace). SoundMoved t.moved) (λ t s. s.sound) traces sound.each);
-  methods_differ = Pairs-map (λ (t : Trace). t.moved) (λ a b. AreApart (methods_of a) (methods_of b)) traces
-      (pairs_given SoundTrace AreMethodsApart (λ a b. AreApart (methods_of a.moved) (methods_of b.moved)) traces_apart traces sound.each sound.methods_apart);
-  documents_agree = agree (moved_files traces) sound.documents_agree;
+pub can_be_joined : (summaries : List Summary) → SoundSummaries summaries → AreJoinable (moved_files summaries)
+can_be_joined summaries sound = record {
+  each = Each-map (λ (t : Summary). t.moved) SoundMoved summaries
+      (Each-weaker SoundSummary (λ (t : Summary). SoundMoved t.moved) (λ t s. s.sound) summaries sound.each);
+  methods_differ = Pairs-map (λ (t : Summary). t.moved) (λ a b. AreApart (methods_of a) (methods_of b)) summaries
+      (pairs_given SoundSummary AreMethodsApart
+      (λ a b. AreApart (methods_of a.moved) (methods_of b.moved)) summaries_apart summaries sound.each sound.methods_apart);
+  documents_agree = agree (moved_files summaries) sound.documents_agree;
 }
 
 -- ---- the counts
 
 -- a table of the type system has as many rows in each input as in the first
-same_count : (first : Trace) (others : List Trace) → SoundTrace first → Each SoundTrace others → rows_differ (first ∷ others) ≡ []
+same_count : (first : Summary) (others : List Summary) → SoundSummary first → Each SoundSummary others → rows_differ (first ∷ others) ≡ []
     → Each (λ t. (table : ℕ) → count_in t table ≡ count_in first table) others
 same_count first others sound also none =
     each_of_all others also (λ table low. low_same table low)
@@ -158,7 +161,7 @@ same_count first others sound also none =
     low_same : (table : ℕ) → table < 0x2d → Each (λ t. count_in first table ≡ count_in t table) others
     low_same table low =
         Each-unnumbered (λ t. count_in first table ≡ count_in t table) 2 others
-        (Each-weaker (λ x. differs first table x ≡ None) (λ (x : ℕ × Trace). count_in first table ≡ count_in x.1 table)
+        (Each-weaker (λ x. differs first table x ≡ None) (λ (x : ℕ × Summary). count_in first table ≡ count_in x.1 table)
         (λ x is. eqb-true (count_in first table) (count_in x.1 table) (by x (nat_eq (count_in first table) (count_in x.1 table)) is))
         (enumerate_from 2 others)
         (none_made (differs first table) (enumerate_from 2 others)
@@ -169,11 +172,11 @@ same_count first others sound also none =
         from_zero : 0 + table ≡ table
         from_zero = omega arith
 
-        by : (x : ℕ × Trace) (b : Bool) → cond b None (Some (RowsDiffer x.0 table (count_in first table) (count_in x.1 table))) ≡ None → b ≡ true
+        by : (x : ℕ × Summary) (b : Bool) → cond b None (Some (RowsDiffer x.0 table (count_in first table) (count_in x.1 table))) ≡ None → b ≡ true
         by x true is = refl
         by x false is = absurd cc
 
-    each_of_all : (ts : List Trace) → Each SoundTrace ts → ((table : ℕ) → table < 0x2d → Each (λ t. count_in first table ≡ count_in t table) ts)
+    each_of_all : (ts : List Summary) → Each SoundSummary ts → ((table : ℕ) → table < 0x2d → Each (λ t. count_in first table ≡ count_in t table) ts)
         → Each (λ t. (table : ℕ) → count_in t table ≡ count_in first table) ts
     each_of_all [] sounds low = tt
     each_of_all (t ∷ ts) sounds low = (
@@ -185,7 +188,7 @@ same_count first others sound also none =
     )
 
 -- each image is a row of its table
-image_there : (t : Trace) (i : Imaged) (n : ℕ) → above (n, t) i ≡ None → i.image ≤ count_in t i.to
+image_there : (t : Summary) (i : Imaged) (n : ℕ) → above (n, t) i ≡ None → i.image ≤ count_in t i.to
 image_there t i n is = elim (cases_lt (count_in t i.to) i.image) [
   | inl more ↦ absurd (some (sym (ap (λ b. cond b (Some (ImageRange n i.table i.row i.image (count_in t i.to))) None)
       (lt-ltb (count_in t i.to) i.image more)) ∙ is))
@@ -195,20 +198,20 @@ image_there t i n is = elim (cases_lt (count_in t i.to) i.image) [
     some : {e : MergeError} → ◌≡◌ {A = Option MergeError} (Some e) None → ⊥
     some is = cc
 
-images_there : (traces : List Trace) → images_above traces ≡ [] → Each (λ t. Each (λ (i : Imaged). i.image ≤ count_in t i.to) t.rows) traces
-images_there traces none =
-    Each-unnumbered (λ t. Each (λ (i : Imaged). i.image ≤ count_in t i.to) t.rows) 1 traces
-    (Each-weaker (λ (x : ℕ × Trace). filter_map (above x) x.1.rows ≡ []) (λ (x : ℕ × Trace). Each (λ (i : Imaged). i.image ≤ count_in x.1 i.to) x.1.rows)
+images_there : (summaries : List Summary) → images_above summaries ≡ [] → Each (λ t. Each (λ (i : Imaged). i.image ≤ count_in t i.to) t.rows) summaries
+images_there summaries none =
+    Each-unnumbered (λ t. Each (λ (i : Imaged). i.image ≤ count_in t i.to) t.rows) 1 summaries
+    (Each-weaker (λ (x : ℕ × Summary). filter_map (above x) x.1.rows ≡ []) (λ (x : ℕ × Summary). Each (λ (i : Imaged). i.image ≤ count_in x.1 i.to) x.1.rows)
     (λ x is. Each-weaker (λ i. above x i ≡ None) (λ (i : Imaged). i.image ≤ count_in x.1 i.to) (λ i no_more. image_there x.1 i x.0 no_more) x.1.rows
-    (none_made (above x) x.1.rows is)) (numbered traces)
-    (flat_none (λ (x : ℕ × Trace). filter_map (above x) x.1.rows) (numbered traces) none))
+    (none_made (above x) x.1.rows is)) (numbered summaries)
+    (flat_none (λ (x : ℕ × Summary). filter_map (above x) x.1.rows) (numbered summaries) none))
 
-named_there : (t : Trace) (n : Named) → Each (λ (i : Imaged). i.image ≤ count_in t i.to) t.rows → IsImageIn t.rows n → n.row ≤ count_in t n.table
+named_there : (t : Summary) (n : Named) → Each (λ (i : Imaged). i.image ≤ count_in t i.to) t.rows → IsImageIn t.rows n → n.row ≤ count_in t n.table
 named_there t n each is =
     subst (λ row. row ≤ count_in t n.table) is.3
     (subst (λ table. is.0.image ≤ count_in t table) is.2 (in_each (λ (i : Imaged). i.image ≤ count_in t i.to) t.rows is.0 each is.1))
 
-entry_there : (t : Trace) → Each (λ (i : Imaged). i.image ≤ count_in t i.to) t.rows → Each (IsImageIn t.rows) (names_some 0x06 t.moved.entry)
+entry_there : (t : Summary) → Each (λ (i : Imaged). i.image ≤ count_in t i.to) t.rows → Each (IsImageIn t.rows) (names_some 0x06 t.moved.entry)
     → t.moved.entry ≤ count_in t 0x06
 entry_there t each is = by (nat_eq t.moved.entry 0) refl is
   where
@@ -216,7 +219,7 @@ entry_there t each is = by (nat_eq t.moved.entry 0) refl is
     by true none is = let zero_entry = eqb-true t.moved.entry 0 none in omega (arith, zero_entry)
     by false some is = named_there t (names 0x06 t.moved.entry) each is.0
 
-pub counts_rows : (first : Trace) (others : List Trace) → SoundTraces (first ∷ others) → misfit_of (first ∷ others) ≡ None
+pub counts_rows : (first : Summary) (others : List Summary) → SoundSummaries (first ∷ others) → misfit_of (first ∷ others) ≡ None
     → CountsRows first.moved (moved_files (first ∷ others))
 counts_rows first others sound none =
     let parts = nil_parts (rows_differ (first ∷ others)) (images_above (first ∷ others)) (no_first _ none) in
@@ -225,22 +228,22 @@ counts_rows first others sound none =
     record {
       rows = sound.each.0.counts;
       entry = entry_there first images.0 sound.entry;
-      named = Each-map (λ (t : Trace). t.moved) (λ file. Each (λ named. named.row ≤ slice_index first.moved.rows named.table) (all_named file)) (first ∷ others)
-          (Each-weaker (λ t. SoundTrace t × Each (λ (i : Imaged). i.image ≤ count_in t i.to) t.rows
+      named = Each-map (λ (t : Summary). t.moved) (λ file. Each (λ named. named.row ≤ slice_index first.moved.rows named.table) (all_named file)) (first ∷ others)
+          (Each-weaker (λ t. SoundSummary t × Each (λ (i : Imaged). i.image ≤ count_in t i.to) t.rows
           × ((table : ℕ) → count_in t table ≡ count_in first table))
-          (λ (t : Trace). Each (λ named. named.row ≤ slice_index first.moved.rows named.table) (all_named t.moved)) all_there (first ∷ others)
+          (λ (t : Summary). Each (λ named. named.row ≤ slice_index first.moved.rows named.table) (all_named t.moved)) all_there (first ∷ others)
           (three (first ∷ others) sound.each images ((λ table. refl), counts)));
     }
   where
-    all_there : (t : Trace) → SoundTrace t × Each (λ (i : Imaged). i.image ≤ count_in t i.to) t.rows
+    all_there : (t : Summary) → SoundSummary t × Each (λ (i : Imaged). i.image ≤ count_in t i.to) t.rows
         × ((table : ℕ) → count_in t table ≡ count_in first table)
         → Each (λ named. named.row ≤ slice_index first.moved.rows named.table) (all_named t.moved)
     all_there t holds =
         Each-weaker (IsImageIn t.rows) (λ named. named.row ≤ slice_index first.moved.rows named.table)
         (λ n is. subst (λ count. n.row ≤ count) (holds.2 n.table) (named_there t n holds.1 is)) (all_named t.moved) holds.0.images
 
-    three : (ts : List Trace) → Each SoundTrace ts → Each (λ t. Each (λ (i : Imaged). i.image ≤ count_in t i.to) t.rows) ts
+    three : (ts : List Summary) → Each SoundSummary ts → Each (λ t. Each (λ (i : Imaged). i.image ≤ count_in t i.to) t.rows) ts
         → Each (λ t. (table : ℕ) → count_in t table ≡ count_in first table) ts
-        → Each (λ t. SoundTrace t × Each (λ (i : Imaged). i.image ≤ count_in t i.to) t.rows × ((table : ℕ) → count_in t table ≡ count_in first table)) ts
+        → Each (λ t. SoundSummary t × Each (λ (i : Imaged). i.image ≤ count_in t i.to) t.rows × ((table : ℕ) → count_in t table ≡ count_in first table)) ts
     three [] a b c = tt
     three (t ∷ ts) a b c = ((a.0, b.0, c.0), three ts a.1 b.1 c.1)

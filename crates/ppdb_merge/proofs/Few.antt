@@ -7,8 +7,8 @@ use Rattle.ppdb_tables.specs.{RawTables.{HasShape, numbered}, declared.rows.Vari
 use Rattle.ppdb_values.specs.{declared.scope.ScopeValue.{ScopeValue}, declared.file.FileValue.{FileValue}, Meaning.{annotated_from}, RawFile.{RawFile}}
 use Rattle.ppdb_values.specs.{Value.{value_of, scope_of, variable_of, owned_by, owner_of}, Constants.{constant_of}, Documents.{document_of}}
 use Rattle.ppdb_values.specs.{Imports.{import_scope_of}, Parts.{first_item}}
-use Rattle.ppdb_merge_items.specs.{declared.file.AnnotatedScope.{AnnotatedScope}, Annotated.{annotated_file, annotated_scope, with_item}, NamedRows.{live_constants}}
-use Rattle.ppdb_merge_items.{specs.NamedRows.{with_live_body}, proofs.Parts.{live_constant}}
+use Rattle.ppdb_merge_annotated.specs.{declared.file.AnnotatedScope.AnnotatedScope, Annotated.{annotated_file, annotated_scope, with_item}, NamedRows.live_constants}
+use Rattle.ppdb_merge_annotated.{specs.NamedRows.{with_live_body}, proofs.Parts.{live_constant}}
 use Rattle.ppdb_merge_moved.specs.Moved.{moved_document, moved_variable, moved_constant, moved_scope, moved_import_scope, moved_file, scope_image, is_empty}
 use Rattle.ppdb_merge_joined.specs.Small.{HasFewRows}
 use Rattle.ppdb_values_reading.proofs.Rows.{length-numbered}
@@ -154,13 +154,16 @@ owned_moved : {I : Type 0} (m : Map) (raw : RawFile) (of_annotated : AnnotatedSc
     → sum_by of_annotated (moved_file m (annotated_file (value_of raw))).scopes ≤ length items
 owned_moved m raw of_annotated of_value owner items kept annotated owned =
     let is = sum_is of_annotated (moved_file m (annotated_file (value_of raw))).scopes in
-    let moved = total_fewer (moved_scope m) of_annotated of_annotated (λ s t eq. subst (λ r. of_annotated r ≤ of_annotated s) (scope_is m s t eq) (kept s)) (annotated_file
+    let moved =
+    total_fewer (moved_scope m) of_annotated of_annotated (λ s t eq. subst (λ r. of_annotated r ≤ of_annotated s) (scope_is m s t eq) (kept s)) (annotated_file
     (value_of raw)).scopes in
     let of_file = total_map of_annotated (annotated_scope (value_of raw)) (numbered (value_of raw).scopes) in
-    let of_values = total_same (λ x. of_annotated (annotated_scope (value_of raw) x)) (λ (x : ℕ × ScopeValue). of_value x.1) annotated (numbered (value_of raw).scopes) in
+    let of_values =
+    total_same (λ x. of_annotated (annotated_scope (value_of raw) x)) (λ (x : ℕ × ScopeValue). of_value x.1) annotated (numbered (value_of raw).scopes) in
     let plain = unnumbered of_value 1 (value_of raw).scopes in
     let of_rows = total_map of_value (scope_of raw.tables) (numbered raw.tables.scopes) in
-    let of_owned = total_same (λ x. of_value (scope_of raw.tables x)) (λ x. length (filter (λ item. option_map_or (nat_eq x.0) (owner item) false) (numbered items))) owned
+    let of_owned =
+    total_same (λ x. of_value (scope_of raw.tables x)) (λ x. length (filter (λ item. option_map_or (nat_eq x.0) (owner item) false) (numbered items))) owned
     (numbered raw.tables.scopes) in
     let few = owned_few owner 1 raw.tables.scopes (numbered items) in
     let many = length-numbered 1 items in

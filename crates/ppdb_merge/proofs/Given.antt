@@ -3,7 +3,7 @@ use Rattle.std.{proofs.Common.{◌≡◌, ℕ, Bool, true, false, cond, List, []
 use Rattle.std.specs.Option.{option_and_then}
 use Rattle.ppdb_maps.specs.Map.{Map, signature_line}
 use Rattle.ppdb_values.specs.{RawFile.{RawFile}, Value.{value_of}, declared.file.MethodValue.{MethodValue}}
-use Rattle.ppdb_merge_items.{specs.Each.{Each}, specs.NamedRows.{names, names_some}, specs.Sorted.{in_order}, proofs.Lists.{Each-weaker}}
+use Rattle.ppdb_merge_annotated.{specs.Each.{Each}, specs.NamedRows.{names, names_some}, specs.Sorted.{in_order}, proofs.Lists.{Each-weaker}}
 use Rattle.ppdb_merge_moved.proofs.Elements.{each_in, in_each, each_parts}
 use Rattle.ppdb_merge_names.specs.declared.imaged.Imaged.{Imaged}
 use Rattle.ppdb_merge_fits.specs.{Rows.{image_key, imaged_rows}, Signatures.{given, given_signature, given_signatures, with_given, all_images}}

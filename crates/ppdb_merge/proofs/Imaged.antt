@@ -3,8 +3,8 @@ use Rattle.std.proofs.Common.{◌≡◌, ℕ, ◌⊎◌, ◌&&◌, Bool, true, f
 use Rattle.std.{specs.Prelude.{nat_eq, nat_le, Contains}, specs.List.{filter_map, cons_option, dedup, dedup_from}, proofs.lemmas.Bool.{eqb-true, and_parts}}
 use Rattle.ppdb_maps.specs.{Map.{Map, row_image}, declared.image.RowImage.{RowImage}, declared.image.RowImage.TheVariants.{Row, Gone, Missing}}
 use Rattle.ppdb_values.specs.{RawFile.{RawFile}, Rules.{KeepsRules}, Value.{value_of}}
-use Rattle.ppdb_merge_items.specs.{Each.{Each}, NamedRows.{Named, named_rows}, Annotated.{annotated_file}, Sorted.{put, in_order}}
-use Rattle.ppdb_merge_items.proofs.{Lists.{Each-weaker, Each-map, each_of}, Orders.{in_order_each}}
+use Rattle.ppdb_merge_annotated.specs.{Each.{Each}, NamedRows.{Named, named_rows}, Annotated.{annotated_file}, Sorted.{put, in_order}}
+use Rattle.ppdb_merge_annotated.proofs.{Lists.{Each-weaker, Each-map, each_of}, Orders.{in_order_each}}
 use Rattle.ppdb_merge_moved.{specs.Moved.{table_in, row_in}, proofs.Elements.{each_in}, proofs.Lists.{Each-both, Each-filter_map}}
 use Rattle.ppdb_merge_names.specs.{declared.imaged.Imaged.{Imaged}, References.{Reference, references}}
 use Rattle.ppdb_merge_names_laws.specs.Laws.{ReferencesAreNamed, named_by}

@@ -13,6 +13,6 @@ pub mod RowIndexing
 pub mod RowLinks
 pub mod RowWalks
 pub mod Taken
-pub mod Told
-pub mod Traced
+pub mod Reported
+pub mod Summarized
 pub mod Turns

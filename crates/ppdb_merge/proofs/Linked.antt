@@ -5,24 +5,24 @@ use Rattle.ppdb_base.specs.declared.merge_error.{MergeError.{MergeError}, MergeE
 use Rattle.ppdb_maps.specs.Map.{Map}
 use Rattle.ppdb_tables.specs.RawTables.{numbered}
 use Rattle.ppdb_values.specs.{declared.custom.CustomValue.{CustomValue}, Parts.{is_link}}
-use Rattle.ppdb_merge.specs.{declared.trace.Trace.{Trace}, Indexes.{link_row}, Refusals.{has_other_link, is_other_link, link_differs, links_differ}}
+use Rattle.ppdb_merge.specs.{declared.summary.Summary.{Summary}, Indexes.{link_row}, Refusals.{has_other_link, is_other_link, link_differs, links_differ}}
 use Rattle.ppdb_merge.specs.Refusals.{says_other_before}
 
 -- ---- among the inputs
 
-abbrev pub input_has : ℕ → List ℕ → Trace → Bool
+abbrev pub input_has : ℕ → List ℕ → Summary → Bool
 input_has row value t = list_any (is_other_link row value) t.moved.customs
 
-pub by_inputs : (row : ℕ) (value : List ℕ) (traces : List Trace) → list_any (input_has row value) traces ≡ has_other_link traces row value
+pub by_inputs : (row : ℕ) (value : List ℕ) (summaries : List Summary) → list_any (input_has row value) summaries ≡ has_other_link summaries row value
 by_inputs row value [] = refl
 by_inputs row value (t ∷ ts) = ap (λ b. input_has row value t || b) (by_inputs row value ts)
 
 -- ---- the first record
 
-module _ (traces : List Trace) (m : Map) (value : List ℕ) where
+module _ (summaries : List Summary) (m : Map) (value : List ℕ) where
   -- where an input has another one, the first record is reported
-  pub first_differs : (b : Bool) → says_other_before traces m value ≡ b → (cs : List (ℕ × CustomValue))
-      → slice_get (filter_map (link_differs traces m value) cs) 0
+  pub first_differs : (b : Bool) → says_other_before summaries m value ≡ b → (cs : List (ℕ × CustomValue))
+      → slice_get (filter_map (link_differs summaries m value) cs) 0
       ≡ cond b (option_map (λ (row : ℕ). LinkDiffers row) (slice_get (filter_map link_row cs) 0)) None
   first_differs b is cs = ap (λ h. slice_get (filter_map (λ (c : ℕ × CustomValue). cond (is_link c.1 && h) (Some (LinkDiffers c.0)) None) cs) 0) is ∙ by b cs
     where
@@ -52,28 +52,28 @@ module _ (traces : List Trace) (m : Map) (value : List ℕ) where
 
   -- where the map has no `link` line, nothing is reported; else what its value differs from
   pub with_line : (cs : List CustomValue) → m.link ≡ Some value
-      → slice_get (links_differ traces m cs) 0 ≡ slice_get (filter_map (link_differs traces m value) (numbered cs)) 0
+      → slice_get (links_differ summaries m cs) 0 ≡ slice_get (filter_map (link_differs summaries m value) (numbered cs)) 0
   with_line cs line =
-      ap (λ l. slice_get (flat_map (λ v. filter_map (link_differs traces m v) (numbered cs)) (option_to_list l)) 0) line
-      ∙ ap (λ l. slice_get l 0) (append-nil (filter_map (link_differs traces m value) (numbered cs)))
+      ap (λ l. slice_get (flat_map (λ v. filter_map (link_differs summaries m v) (numbered cs)) (option_to_list l)) 0) line
+      ∙ ap (λ l. slice_get l 0) (append-nil (filter_map (link_differs summaries m value) (numbered cs)))
 
-pub without_line : (traces : List Trace) (m : Map) (cs : List CustomValue) → m.link ≡ None → slice_get (links_differ traces m cs) 0 ≡ None
-without_line traces m cs none = ap (λ l. slice_get (flat_map (λ v. filter_map (link_differs traces m v) (numbered cs)) (option_to_list l)) 0) none
+pub without_line : (summaries : List Summary) (m : Map) (cs : List CustomValue) → m.link ≡ None → slice_get (links_differ summaries m cs) 0 ≡ None
+without_line summaries m cs none = ap (λ l. slice_get (flat_map (λ v. filter_map (link_differs summaries m v) (numbered cs)) (option_to_list l)) 0) none
 
 -- what is reported of the first record
-pub told_of : (traces : List Trace) (m : Map) (value : List ℕ) (cs : List CustomValue) (b : Bool) (o : Option ℕ) → m.link ≡ Some value
-    → says_other_before traces m value ≡ b → o ≡ slice_get (filter_map link_row (numbered cs)) 0
-    → slice_get (links_differ traces m cs) 0 ≡ cond b (option_map (λ (row : ℕ). LinkDiffers row) o) None
-told_of traces m value cs b o line has is =
-    with_line traces m value cs line ∙ first_differs traces m value b has (numbered cs)
+pub reported_of : (summaries : List Summary) (m : Map) (value : List ℕ) (cs : List CustomValue) (b : Bool) (o : Option ℕ) → m.link ≡ Some value
+    → says_other_before summaries m value ≡ b → o ≡ slice_get (filter_map link_row (numbered cs)) 0
+    → slice_get (links_differ summaries m cs) 0 ≡ cond b (option_map (λ (row : ℕ). LinkDiffers row) o) None
+reported_of summaries m value cs b o line has is =
+    with_line summaries m value cs line ∙ first_differs summaries m value b has (numbered cs)
     ∙ ap (λ r. cond b (option_map (λ (row : ℕ). LinkDiffers row) r) None) (sym is)
 
 -- where there is no record, nothing is
-pub no_record : (traces : List Trace) (m : Map) (value : List ℕ) (cs : List CustomValue) → m.link ≡ Some value
-    → slice_get (filter_map link_row (numbered cs)) 0 ≡ None → slice_get (links_differ traces m cs) 0 ≡ None
-no_record traces m value cs line none =
-    told_of traces m value cs (says_other_before traces m value) None line refl (sym none)
-    ∙ either (says_other_before traces m value)
+pub no_record : (summaries : List Summary) (m : Map) (value : List ℕ) (cs : List CustomValue) → m.link ≡ Some value
+    → slice_get (filter_map link_row (numbered cs)) 0 ≡ None → slice_get (links_differ summaries m cs) 0 ≡ None
+no_record summaries m value cs line none =
+    reported_of summaries m value cs (says_other_before summaries m value) None line refl (sym none)
+    ∙ either (says_other_before summaries m value)
   where
     either : (b : Bool) → ◌≡◌ {A = Option MergeError} (cond b None None) None
     either true = refl

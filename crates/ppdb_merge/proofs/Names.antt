@@ -7,7 +7,7 @@ use Rattle.std.{specs.BTreeMap.{insert_entry, is_at}, specs.Map.{lookup}, proofs
 use Rattle.ppdb_base.specs.declared.merge_error.{MergeError.{MergeError}, MergeError.TheVariants.{DocumentConflict}}
 use Rattle.ppdb_tables.specs.RawTables.{numbered}
 use Rattle.ppdb_values.specs.declared.{file.DocumentValue.{DocumentValue}, annotation.Annotation.{Annotation}}
-use Rattle.ppdb_merge_items.specs.Annotated.{items_of}
+use Rattle.ppdb_merge_annotated.specs.Annotated.{items_of}
 use Rattle.ppdb_merge_joined.{specs.Joined.{firsts}, proofs.Names.{same_bytes}}
 use Rattle.ppdb_merge.specs.{declared.documents.Documents.{Documents}, declared.documents.Standing.{Standing}, Indexes.{HoldsDocuments, standing}}
 use Rattle.ppdb_merge.specs.Refusals.{conflict, same_contents}
@@ -151,31 +151,31 @@ documents_all all documents xs k end holds =
 
 -- ---- what is reported of a document
 
-told_by : ℕ → DocumentValue → Option Standing → Option MergeError
-told_by row d None = None
-told_by row d (Some s) = cond (same_contents s.document d) None (Some (DocumentConflict row s.row))
+reported_by : ℕ → DocumentValue → Option Standing → Option MergeError
+reported_by row d None = None
+reported_by row d (Some s) = cond (same_contents s.document d) None (Some (DocumentConflict row s.row))
 
-told_of : (all : List DocumentValue) (documents : Documents) (row : ℕ) (d : DocumentValue) → HoldsDocuments all documents
-    → conflict all (row, d) ≡ told_by row d (tree.get_by (λ key. names d.name key.items) documents.by_name)
-unfolding told_by
-told_of all documents row d holds =
-    by (find (λ (e : ℕ × DocumentValue). bytes_eq e.1.name d.name) (numbered all)) ∙ sym (ap (told_by row d) (holds.found d.name))
+reported_of : (all : List DocumentValue) (documents : Documents) (row : ℕ) (d : DocumentValue) → HoldsDocuments all documents
+    → conflict all (row, d) ≡ reported_by row d (tree.get_by (λ key. names d.name key.items) documents.by_name)
+unfolding reported_by
+reported_of all documents row d holds =
+    by (find (λ (e : ℕ × DocumentValue). bytes_eq e.1.name d.name) (numbered all)) ∙ sym (ap (reported_by row d) (holds.found d.name))
   where
     by : (o : Option (ℕ × DocumentValue))
         → option_and_then (λ (e : ℕ × DocumentValue). cond (same_contents e.1 d) None (Some (DocumentConflict row e.0))) o
-        ≡ told_by row d (option_map standing o)
+        ≡ reported_by row d (option_map standing o)
     by None = refl
     by (Some e) = refl
 
 pub none_standing : (all : List DocumentValue) (documents : Documents) (row : ℕ) (d : DocumentValue) (q : List ℕ) → HoldsDocuments all documents → q ≡ d.name
     → tree.get_by (λ key. names q key.items) documents.by_name ≡ None → conflict all (row, d) ≡ None
-unfolding told_by
+unfolding reported_by
 none_standing all documents row d q holds same none =
-    told_of all documents row d holds ∙ ap (told_by row d) (subst (λ l. tree.get_by (λ key. names l key.items) documents.by_name ≡ None) same none)
+    reported_of all documents row d holds ∙ ap (reported_by row d) (subst (λ l. tree.get_by (λ key. names l key.items) documents.by_name ≡ None) same none)
 
 pub some_standing : (all : List DocumentValue) (documents : Documents) (row : ℕ) (d : DocumentValue) (q : List ℕ) (s : Standing) → HoldsDocuments all documents
     → q ≡ d.name → tree.get_by (λ key. names q key.items) documents.by_name ≡ Some s
     → conflict all (row, d) ≡ cond (same_contents s.document d) None (Some (DocumentConflict row s.row))
-unfolding told_by
+unfolding reported_by
 some_standing all documents row d q s holds same some =
-    told_of all documents row d holds ∙ ap (told_by row d) (subst (λ l. tree.get_by (λ key. names l key.items) documents.by_name ≡ Some s) same some)
+    reported_of all documents row d holds ∙ ap (reported_by row d) (subst (λ l. tree.get_by (λ key. names l key.items) documents.by_name ≡ Some s) same some)

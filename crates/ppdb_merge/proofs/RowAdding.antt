@@ -4,22 +4,22 @@ use Rattle.std.{proofs.Common.{◌⊎◌, inl, inr}, specs.Prelude.{Result, Ok, 
 use Rattle.ppdb_base.specs.declared.merge_error.{MergeError.{MergeError}, MergeError.TheVariants.{Memory as NoMemory}}
 use Rattle.ppdb_maps.specs.{Map.{Map}, Readable.{IsReadable}}
 use Rattle.ppdb_values.specs.{RawFile.{RawFile}, Rules.{KeepsRules}, Value.{value_of}}
-use Rattle.ppdb_values_sound_laws.specs.Sound.{IsSound}
+use Rattle.ppdb_values_sound.specs.Sound.{IsSound}
 use Rattle.ppdb_verify.specs.Views.{raw_file}
-use Rattle.ppdb_merge_items.{specs.Laws.{SoundnessIsAnnotated}, proofs.Mapped.{map_map_both}, specs.Unannotated.{value_of_annotated}}
+use Rattle.ppdb_merge_annotated.{specs.Laws.{SoundnessIsAnnotated}, proofs.Mapped.{map_map_both}, specs.Unannotated.{value_of_annotated}}
 use Rattle.ppdb_merge_joined.specs.{Joined.{joined}, Laws.{JoinedIsSound}}
 use Rattle.ppdb_merge_names_laws.specs.Laws.{ReferencesAreNamed}
 use Rattle.ppdb_merge_names.specs.declared.imaged.Imaged.{Imaged}
 use Rattle.ppdb_merge_moved.specs.Moved.{moved_counts}
 use Rattle.ppdb_merge_fits.specs.{Clashes.{first_clash}, Signatures.{all_images}, Laws.{NothingClashes}}
 use Rattle.ppdb_merge_meaning_laws.specs.Kept.{joined_inputs}
-use Rattle.ppdb_merge_rows.specs.{Inputs.{moved_by, moved_inputs}, declared.inputs.RowInput.{RowInput}}
-use Rattle.ppdb_merge.specs.{declared.row_index.RowIndex.{RowIndex}, declared.row_trace.RowTrace.{RowTrace}, declared.trace.Trace.{Trace}, Inputs.{AreFitting}}
-use Rattle.ppdb_merge.specs.Inputs.{ReadInput, traces_of}
+use Rattle.ppdb_merge_moved_rows.specs.{Inputs.{moved_by, moved_inputs}, declared.inputs.RowInput.{RowInput}}
+use Rattle.ppdb_merge.specs.{declared.row_index.RowIndex.RowIndex, declared.row_summary.RowSummary.RowSummary, declared.summary.Summary.Summary, Inputs.AreFitting}
+use Rattle.ppdb_merge.specs.Inputs.{ReadInput, summaries_of}
 use Rattle.ppdb_merge.specs.Inputs as read
-use Rattle.ppdb_merge.specs.{Kept.{AreInputs}, Merged.{trace_of, is_first, moved_files, unless}, Refusals.{added, refusal_of}, Rows.{AreKept, IndexesRows}}
-use Rattle.ppdb_merge.specs.{Rows.{IsIndexOf, read_input, read_inputs, row_trace, row_traces, traces_in}, Together.{joined_of, misfit_of}}
-use Rattle.ppdb_merge.proofs.{Adding.{added_as, joined_sound, refused_first}, RowIndexing.{many_traces}, Turns.{are_inputs_of, one_fits, traces_more}}
+use Rattle.ppdb_merge.specs.{Kept.{AreInputs}, Merged.{summary_of, is_first, moved_files, unless}, Refusals.{added, refusal_of}, Rows.{AreKept, IndexesRows}}
+use Rattle.ppdb_merge.specs.{Rows.{IsIndexOf, read_input, read_inputs, row_summary, row_summaries, summaries_in}, Together.{joined_of, misfit_of}}
+use Rattle.ppdb_merge.proofs.{Adding.{added_as, joined_sound, refused_first}, RowIndexing.{many_summaries}, Turns.{are_inputs_of, one_fits, summaries_more}}
 
 map_push : {A B : Type 0} (f : A → B) (xs : List A) (x : A) → map f (xs ++ x ∷ []) ≡ map f xs ++ f x ∷ []
 map_push f [] x = refl
@@ -37,37 +37,37 @@ take_push (y ∷ xs) x (suc n) within = ap (λ l. y ∷ l) (take_push xs x n (om
 
 -- ---- one more input
 
-pub more_traces : (inputs new : List RowInput) (i : RowInput) → new ≡ inputs ++ i ∷ []
-    → traces_in new ≡ traces_in inputs ++ trace_of (is_first (traces_in inputs)) i.map (raw_file i.file) ∷ []
-more_traces inputs new i is = ap traces_in is ∙ ap traces_of (map_push read_input inputs i) ∙ traces_more (read_inputs inputs) (read_input i)
+pub more_summaries : (inputs new : List RowInput) (i : RowInput) → new ≡ inputs ++ i ∷ []
+    → summaries_in new ≡ summaries_in inputs ++ summary_of (is_first (summaries_in inputs)) i.map (raw_file i.file) ∷ []
+more_summaries inputs new i is = ap summaries_in is ∙ ap summaries_of (map_push read_input inputs i) ∙ summaries_more (read_inputs inputs) (read_input i)
 
 pub added_rows : (marks : List (List ℕ)) (inputs new : List RowInput) (i : RowInput) → new ≡ inputs ++ i ∷ []
-    → refusal_of marks (traces_in inputs) i.map (raw_file i.file) ≡ None → added marks (traces_in inputs) i.map (raw_file i.file) ≡ Ok (traces_in new)
+    → refusal_of marks (summaries_in inputs) i.map (raw_file i.file) ≡ None → added marks (summaries_in inputs) i.map (raw_file i.file) ≡ Ok (summaries_in new)
 added_rows marks inputs new i is none =
-    added_as marks (traces_in inputs) i.map (raw_file i.file) (trace_of (is_first (traces_in inputs)) i.map (raw_file i.file)) refl none
-    ∙ ap Ok (sym (more_traces inputs new i is))
+    added_as marks (summaries_in inputs) i.map (raw_file i.file) (summary_of (is_first (summaries_in inputs)) i.map (raw_file i.file)) refl none
+    ∙ ap Ok (sym (more_summaries inputs new i is))
 
 -- the inputs with one more
-pub grown_rows : (marks : List (List ℕ)) (inputs new : List RowInput) (i : RowInput) (kept more : List RowTrace) (t : RowTrace) (before index : RowIndex)
-    → new ≡ inputs ++ i ∷ [] → more ≡ kept ++ t ∷ [] → t ≡ row_trace (trace_of (is_first (traces_in inputs)) i.map (raw_file i.file))
-    → AreKept marks inputs kept before → AreFitting marks (read_inputs inputs ++ read_input i ∷ []) → IsIndexOf (traces_in inputs) index
+pub grown_rows : (marks : List (List ℕ)) (inputs new : List RowInput) (i : RowInput) (kept more : List RowSummary) (t : RowSummary) (before index : RowIndex)
+    → new ≡ inputs ++ i ∷ [] → more ≡ kept ++ t ∷ [] → t ≡ row_summary (summary_of (is_first (summaries_in inputs)) i.map (raw_file i.file))
+    → AreKept marks inputs kept before → AreFitting marks (read_inputs inputs ++ read_input i ∷ []) → IsIndexOf (summaries_in inputs) index
     → AreKept marks new more index
 grown_rows marks inputs new i kept more t before index is pushed made there fit holds =
-    let last : Trace = trace_of (is_first (traces_in inputs)) i.map (raw_file i.file) in
-    let grown = more_traces inputs new i is in
+    let last : Summary = summary_of (is_first (summaries_in inputs)) i.map (raw_file i.file) in
+    let grown = more_summaries inputs new i is in
     record {
       fitting = subst (AreFitting marks) (sym (ap read_inputs is ∙ map_push read_input inputs i)) fit;
-      traces = pushed ∙ ap (λ l. l ++ t ∷ []) there.traces ∙ ap (λ x. row_traces inputs ++ x ∷ []) made
-          ∙ sym (map_push row_trace (traces_in inputs) last) ∙ ap (map row_trace) (sym grown);
+      summaries = pushed ∙ ap (λ l. l ++ t ∷ []) there.summaries ∙ ap (λ x. row_summaries inputs ++ x ∷ []) made
+          ∙ sym (map_push row_summary (summaries_in inputs) last) ∙ ap (map row_summary) (sym grown);
       index = subst (λ l. IsIndexOf l index) (sym grown) (longer last);
     }
   where
-    longer : (last : Trace) → IsIndexOf (traces_in inputs ++ last ∷ []) index
+    longer : (last : Summary) → IsIndexOf (summaries_in inputs ++ last ∷ []) index
     longer last =
         let within = holds.0 in
-        let one = length_push (traces_in inputs) last in (
+        let one = length_push (summaries_in inputs) last in (
           omega (arith, within, one),
-          subst (λ l. IndexesRows l index) (sym (take_push (traces_in inputs) last index.index.inputs within)) holds.1,
+          subst (λ l. IndexesRows l index) (sym (take_push (summaries_in inputs) last index.index.inputs within)) holds.1,
         )
 
 -- an item that was put after the others and taken away again
@@ -77,21 +77,21 @@ taken_back xs more left x n many pushed is =
 
 -- ---- an input that is read
 
-pub first_of : (inputs : List RowInput) → nat_eq (length inputs) 0 ≡ is_first (traces_in inputs)
-first_of inputs = ap (λ k. nat_eq k 0) (sym (many_traces inputs))
+pub first_of : (inputs : List RowInput) → nat_eq (length inputs) 0 ≡ is_first (summaries_in inputs)
+first_of inputs = ap (λ k. nat_eq k 0) (sym (many_summaries inputs))
 
 pub unfit_if : (marks : List (List ℕ)) (inputs : List RowInput) (m : Map) (raw : RawFile) (r : Result (List Imaged) MergeError)
     → IfErr r (λ e. (e ≡ NoMemory) ⊎ (first_clash marks (nat_eq (length inputs) 0) m raw ≡ Some e))
-    → IfErr r (λ e. (e ≡ NoMemory) ⊎ (refusal_of marks (traces_in inputs) m raw ≡ Some e))
-unfit_if marks inputs m raw (Ok rows) told = tt
+    → IfErr r (λ e. (e ≡ NoMemory) ⊎ (refusal_of marks (summaries_in inputs) m raw ≡ Some e))
+unfit_if marks inputs m raw (Ok rows) reported = tt
 unfit_if marks inputs m raw (Err e) (inl none) = inl none
 unfit_if marks inputs m raw (Err e) (inr is) =
-    inr (refused_first marks (traces_in inputs) m raw e (subst (λ b. first_clash marks b m raw ≡ Some e) (first_of inputs) is))
+    inr (refused_first marks (summaries_in inputs) m raw e (subst (λ b. first_clash marks b m raw ≡ Some e) (first_of inputs) is))
 
-pub read_trace : (inputs : List RowInput) (m : Map) (raw : RawFile) (counts : List ℕ) (rows : List Imaged)
-    → counts ≡ moved_counts m 0 (value_of raw).rows → rows ≡ all_images (is_first (traces_in inputs)) m raw
-    → ◌≡◌ {A = RowTrace} (record { counts = counts; rows = rows }) (row_trace (trace_of (is_first (traces_in inputs)) m raw))
-read_trace inputs m raw counts rows counted same =
+pub read_summary : (inputs : List RowInput) (m : Map) (raw : RawFile) (counts : List ℕ) (rows : List Imaged)
+    → counts ≡ moved_counts m 0 (value_of raw).rows → rows ≡ all_images (is_first (summaries_in inputs)) m raw
+    → ◌≡◌ {A = RowSummary} (record { counts = counts; rows = rows }) (row_summary (summary_of (is_first (summaries_in inputs)) m raw))
+read_summary inputs m raw counts rows counted same =
     ap (λ (l : List ℕ). record { counts = l; rows = rows }) counted
     ∙ ap (λ (l : List Imaged). record { counts = moved_counts m 0 (value_of raw).rows; rows = l }) same
 
@@ -99,30 +99,31 @@ read_trace inputs m raw counts rows counted same =
 
 module _ (sounds : (raw : RawFile) → KeepsRules raw → IsSound (value_of raw)) (annotated : SoundnessIsAnnotated) (named : ReferencesAreNamed)
     (clashes : NothingClashes) (marks : List (List ℕ)) where
-  pub rows_are_inputs : (inputs : List RowInput) → AreFitting marks (read_inputs inputs) → AreInputs (traces_in inputs) (moved_inputs inputs)
+  pub rows_are_inputs : (inputs : List RowInput) → AreFitting marks (read_inputs inputs) → AreInputs (summaries_in inputs) (moved_inputs inputs)
   rows_are_inputs inputs fit =
-      subst (λ l. AreInputs (traces_in inputs) l) (map_map_both read.moved_by read_input inputs)
+      subst (λ l. AreInputs (summaries_in inputs) l) (map_map_both read.moved_by read_input inputs)
       (are_inputs_of sounds annotated named clashes marks (read_inputs inputs) fit)
 
   pub read_fitting : (inputs : List RowInput) (input : ReadInput) → AreFitting marks (read_inputs inputs) → KeepsRules input.raw → IsReadable input.map
-      → length inputs < 256 → refusal_of marks (traces_in inputs) input.map input.raw ≡ None → AreFitting marks (read_inputs inputs ++ input ∷ [])
+      → length inputs < 256 → refusal_of marks (summaries_in inputs) input.map input.raw ≡ None → AreFitting marks (read_inputs inputs ++ input ∷ [])
   read_fitting inputs input fit rules ready few none =
       one_fits sounds annotated named clashes marks (read_inputs inputs) input fit (record { rules = rules; ready = ready })
       (let same = length-map inputs read_input in omega (arith, few, same)) none
 
-  some_traces : (traces : List Trace) → 1 ≤ length traces → traces ≢ []
-  some_traces [] some is = absurd (omega (arith, some))
-  some_traces (t ∷ ts) some is = absurd cc
+  some_summaries : (summaries : List Summary) → 1 ≤ length summaries → summaries ≢ []
+  some_summaries [] some is = absurd (omega (arith, some))
+  some_summaries (t ∷ ts) some is = absurd cc
 
   joined_is : (inputs : List RowInput) → AreFitting marks (read_inputs inputs)
-      → value_of_annotated (joined (moved_files (traces_in inputs))) ≡ joined_inputs (moved_inputs inputs)
+      → value_of_annotated (joined (moved_files (summaries_in inputs))) ≡ joined_inputs (moved_inputs inputs)
   joined_is inputs fit = ap (λ l. value_of_annotated (joined l)) (rows_are_inputs inputs fit).moved
 
-  pub rows_sound : JoinedIsSound → (inputs : List RowInput) → AreFitting marks (read_inputs inputs) → 1 ≤ length (traces_in inputs)
-      → misfit_of (traces_in inputs) ≡ None → IsSound (joined_inputs (moved_inputs inputs))
+  pub rows_sound : JoinedIsSound → (inputs : List RowInput) → AreFitting marks (read_inputs inputs) → 1 ≤ length (summaries_in inputs)
+      → misfit_of (summaries_in inputs) ≡ None → IsSound (joined_inputs (moved_inputs inputs))
   rows_sound law inputs fit some none =
-      subst IsSound (joined_is inputs fit) (joined_sound annotated law (traces_in inputs) (some_traces (traces_in inputs) some) fit.sound none)
+      subst IsSound (joined_is inputs fit) (joined_sound annotated law (summaries_in inputs) (some_summaries (summaries_in inputs) some) fit.sound none)
 
-  pub rows_joined : (inputs : List RowInput) → AreFitting marks (read_inputs inputs) → misfit_of (traces_in inputs) ≡ None
-      → joined_of (traces_in inputs) ≡ Ok (joined_inputs (moved_inputs inputs))
-  rows_joined inputs fit none = ap (λ (o : Option MergeError). unless o (Ok (value_of_annotated (joined (moved_files (traces_in inputs)))))) none ∙ ap Ok (joined_is inputs fit)
+  pub rows_joined : (inputs : List RowInput) → AreFitting marks (read_inputs inputs) → misfit_of (summaries_in inputs) ≡ None
+      → joined_of (summaries_in inputs) ≡ Ok (joined_inputs (moved_inputs inputs))
+  rows_joined inputs fit none =
+      ap (λ (o : Option MergeError). unless o (Ok (value_of_annotated (joined (moved_files (summaries_in inputs)))))) none ∙ ap Ok (joined_is inputs fit)

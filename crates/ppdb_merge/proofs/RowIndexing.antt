@@ -8,72 +8,72 @@ use Rattle.ppdb_tables.specs.RawTables.{numbered}
 use Rattle.ppdb_values.specs.{RawFile.{RawFile}, Value.{value_of}, declared.custom.CustomValue.{CustomValue}, declared.file.DocumentValue.{DocumentValue}}
 use Rattle.ppdb_values.specs.{declared.file.FileValue.{FileValue}, Parts.{is_link}}
 use Rattle.ppdb_verify.specs.Views.{raw_file}
-use Rattle.ppdb_merge_items.specs.{declared.file.AnnotatedFile.{AnnotatedFile}, Each.{Each}, Sorted.{in_order}, Annotated.{annotated_file}}
+use Rattle.ppdb_merge_annotated.specs.{declared.file.AnnotatedFile.{AnnotatedFile}, Each.{Each}, Sorted.{in_order}, Annotated.{annotated_file}}
 use Rattle.ppdb_merge_joined.specs.Joined.{firsts}
 use Rattle.ppdb_merge_moved.specs.Moved.{moved_document, moved_file}
 use Rattle.ppdb_merge_names.specs.declared.imaged.Imaged.{Imaged}
 use Rattle.ppdb_merge_fits.specs.Signatures.{all_images}
-use Rattle.ppdb_merge_rows.specs.declared.inputs.RowInput.{RowInput}
-use Rattle.ppdb_merge.specs.{declared.row_index.RowIndex.{RowIndex}, declared.row_trace.RowTrace.{RowTrace}, declared.trace.Trace.{Trace}, Indexes.{HoldsMethods}}
-use Rattle.ppdb_merge.specs.{Indexes.{HoldsDocuments, claims_of}, Inputs.{trace_by}, Merged.{trace_of}, Refusals.{claims, clashes_before, documents_differ}}
-use Rattle.ppdb_merge.specs.{Refusals.{link_differs, links_differ, methods_in, moved_conflict, says_other_before, taken}, Rows.{IndexesRows, link_after, read_input}}
-use Rattle.ppdb_merge.{specs.Rows.{row_trace, row_traces, traces_in}, specs.Sound.{SoundTrace, SoundTraces}, proofs.Adding.{items_are}, proofs.Indexing.{index_more}}
-use Rattle.ppdb_merge.proofs.RowLinks.{links_more}
+use Rattle.ppdb_merge_moved_rows.specs.declared.inputs.RowInput.{RowInput}
+use Rattle.ppdb_merge.specs.declared.{row_index.RowIndex.{RowIndex}, row_summary.RowSummary.{RowSummary}, summary.Summary.{Summary}}
+use Rattle.ppdb_merge.specs.{Indexes.{HoldsMethods, HoldsDocuments, claims_of}, Inputs.{summary_by}, Merged.{summary_of}, Refusals.{claims, clashes_before}}
+use Rattle.ppdb_merge.specs.{Refusals.{documents_differ, link_differs, links_differ, methods_in, moved_conflict, says_other_before, taken}, Rows.{IndexesRows}}
+use Rattle.ppdb_merge.specs.{Rows.{link_after, read_input, row_summary, row_summaries, summaries_in}, Sound.{SoundSummary, SoundSummaries}}
+use Rattle.ppdb_merge.proofs.{Adding.{items_are}, Indexing.{index_more}, RowLinks.{links_more}}
 
 -- ---- one more input
 
-pub rows_more : (traces : List Trace) (first : Bool) (m : Map) (raw : RawFile) (rows : List Imaged) (index after : RowIndex) → IndexesRows traces index
+pub rows_more : (summaries : List Summary) (first : Bool) (m : Map) (raw : RawFile) (rows : List Imaged) (index after : RowIndex) → IndexesRows summaries index
     → rows ≡ all_images first m raw → after.index.inputs ≡ index.index.inputs + 1
     → ((claimed : List (ℕ × Imaged)) → HoldsMethods claimed index.index.methods
     → HoldsMethods (claimed ++ claims_of (index.index.inputs + 1) rows) after.index.methods)
     → ((all : List DocumentValue) → HoldsDocuments (firsts [] all) index.index.documents
     → HoldsDocuments (firsts [] (all ++ map (moved_document m) (value_of raw).documents)) after.index.documents)
     → after.links ≡ index.links ++ filter_map (link_after m) (value_of raw).customs
-    → IndexesRows (traces ++ trace_of first m raw ∷ []) after
-rows_more traces first m raw rows index after holds named counted methods documents links = record {
-  index = index_more traces (trace_of first m raw) index.index after.index holds.index counted
+    → IndexesRows (summaries ++ summary_of first m raw ∷ []) after
+rows_more summaries first m raw rows index after holds named counted methods documents links = record {
+  index = index_more summaries (summary_of first m raw) index.index after.index holds.index counted
       (λ claimed before. subst (λ l. HoldsMethods (claimed ++ claims_of (index.index.inputs + 1) l) after.index.methods) named (methods claimed before))
       (λ all before. subst (λ l. HoldsDocuments (firsts [] (all ++ l)) after.index.documents) (sym (items_are m (value_of raw) 1 (value_of raw).documents))
       (documents all before));
-  links = links_more traces first m raw index.links after.links holds.links links;
+  links = links_more summaries first m raw index.links after.links holds.links links;
 }
 
 -- ---- inputs by their places
 
-later_at : (inputs : List RowInput) (k : ℕ) (d : RowInput) (e : Trace) → k < length inputs
-    → get_or (map trace_by (map (λ input. (false, input)) (map read_input inputs))) k e
-    ≡ trace_of false (get_or inputs k d).map (raw_file (get_or inputs k d).file)
+later_at : (inputs : List RowInput) (k : ℕ) (d : RowInput) (e : Summary) → k < length inputs
+    → get_or (map summary_by (map (λ input. (false, input)) (map read_input inputs))) k e
+    ≡ summary_of false (get_or inputs k d).map (raw_file (get_or inputs k d).file)
 later_at [] k d e within = absurd (omega (arith, within))
 later_at (i ∷ inputs) zero d e within = refl
 later_at (i ∷ inputs) (suc k) d e within = later_at inputs k d e (omega (arith, within))
 
-pub trace_at : (inputs : List RowInput) (k : ℕ) (d : RowInput) (e : Trace) → k < length inputs
-    → (first : Bool) × (get_or (traces_in inputs) k e ≡ trace_of first (get_or inputs k d).map (raw_file (get_or inputs k d).file))
-trace_at [] k d e within = absurd (omega (arith, within))
-trace_at (i ∷ inputs) zero d e within = (true, refl)
-trace_at (i ∷ inputs) (suc k) d e within = (false, later_at inputs k d e (omega (arith, within)))
+pub summary_at : (inputs : List RowInput) (k : ℕ) (d : RowInput) (e : Summary) → k < length inputs
+    → (first : Bool) × (get_or (summaries_in inputs) k e ≡ summary_of first (get_or inputs k d).map (raw_file (get_or inputs k d).file))
+summary_at [] k d e within = absurd (omega (arith, within))
+summary_at (i ∷ inputs) zero d e within = (true, refl)
+summary_at (i ∷ inputs) (suc k) d e within = (false, later_at inputs k d e (omega (arith, within)))
 
-later_many : (inputs : List RowInput) → length (map trace_by (map (λ input. (false, input)) (map read_input inputs))) ≡ length inputs
+later_many : (inputs : List RowInput) → length (map summary_by (map (λ input. (false, input)) (map read_input inputs))) ≡ length inputs
 later_many [] = refl
 later_many (i ∷ inputs) = ap suc (later_many inputs)
 
-pub many_traces : (inputs : List RowInput) → length (traces_in inputs) ≡ length inputs
-many_traces [] = refl
-many_traces (i ∷ inputs) = ap suc (later_many inputs)
+pub many_summaries : (inputs : List RowInput) → length (summaries_in inputs) ≡ length inputs
+many_summaries [] = refl
+many_summaries (i ∷ inputs) = ap suc (later_many inputs)
 
 -- an input, what is kept of it, and the traces up to it
-pub traced_at : (inputs : List RowInput) (kept : List RowTrace) (k : ℕ) (d : RowInput) (e : RowTrace) → kept ≡ row_traces inputs → k < length inputs
+pub summarized_at : (inputs : List RowInput) (kept : List RowSummary) (k : ℕ) (d : RowInput) (e : RowSummary) → kept ≡ row_summaries inputs → k < length inputs
     → (first : Bool) × ((get_or kept k e).rows ≡ all_images first (get_or inputs k d).map (raw_file (get_or inputs k d).file))
-    × (take (k + 1) (traces_in inputs) ≡ take k (traces_in inputs) ++ trace_of first (get_or inputs k d).map (raw_file (get_or inputs k d).file) ∷ [])
-traced_at inputs kept k d e is within =
-    let t : Trace = trace_of true (get_or inputs k d).map (raw_file (get_or inputs k d).file) in
-    let at = trace_at inputs k d t within in
-    let many = many_traces inputs in
-    let inside : k < length (traces_in inputs) = omega (arith, within, many) in (
+    × (take (k + 1) (summaries_in inputs) ≡ take k (summaries_in inputs) ++ summary_of first (get_or inputs k d).map (raw_file (get_or inputs k d).file) ∷ [])
+summarized_at inputs kept k d e is within =
+    let t : Summary = summary_of true (get_or inputs k d).map (raw_file (get_or inputs k d).file) in
+    let at = summary_at inputs k d t within in
+    let many = many_summaries inputs in
+    let inside : k < length (summaries_in inputs) = omega (arith, within, many) in (
       at.0,
-      ap (λ l. (get_or l k e).rows) is ∙ ap (λ (r : RowTrace). r.rows) (get_or-map row_trace (traces_in inputs) k t e inside)
-          ∙ ap (λ (x : Trace). x.rows) at.1,
-      take_more (traces_in inputs) k t inside ∙ ap (λ x. take k (traces_in inputs) ++ x ∷ []) at.1,
+      ap (λ l. (get_or l k e).rows) is ∙ ap (λ (r : RowSummary). r.rows) (get_or-map row_summary (summaries_in inputs) k t e inside)
+          ∙ ap (λ (x : Summary). x.rows) at.1,
+      take_more (summaries_in inputs) k t inside ∙ ap (λ x. take k (summaries_in inputs) ++ x ∷ []) at.1,
     )
 
 -- ---- before the first input nothing stands
@@ -104,19 +104,20 @@ no_links m cs = by m.link
     by None = refl
     by (Some value) = ap (λ l. l ++ []) (nothing (link_differs [] m value) (none_differs m value) (numbered cs))
 
-pub none_before : (traces : List Trace) (index : RowIndex) (m : Map) (rows : List Imaged) (value : FileValue) → IndexesRows traces index → index.index.inputs ≡ 0
-    → ◌≡◌ {A = Option MergeError} None (slice_get (clashes_before traces m rows value) 0)
+pub none_before : (summaries : List Summary) (index : RowIndex) (m : Map) (rows : List Imaged) (value : FileValue) → IndexesRows summaries index
+    → index.index.inputs ≡ 0
+    → ◌≡◌ {A = Option MergeError} None (slice_get (clashes_before summaries m rows value) 0)
 none_before [] index m rows value holds none =
     sym (ap (λ l. slice_get (l ++ (documents_differ [] m value.documents ++ links_differ [] m value.customs)) 0)
     (nothing (taken (claims [])) (λ i. refl) (in_order (λ (i : Imaged). i.image) (methods_in rows)))
     ∙ ap (λ l. slice_get (l ++ links_differ [] m value.customs) 0) (nothing (moved_conflict m []) (λ d. refl) (numbered value.documents))
     ∙ ap (λ l. slice_get l 0) (no_links m value.customs))
-none_before (t ∷ traces) index m rows value holds none = let counted = holds.index.inputs in absurd (omega (arith, counted, none))
+none_before (t ∷ summaries) index m rows value holds none = let counted = holds.index.inputs in absurd (omega (arith, counted, none))
 
 -- ---- what is kept of an input, made again
 
-pub many_kept : (inputs : List RowInput) (kept : List RowTrace) → kept ≡ row_traces inputs → length kept ≡ length inputs
-many_kept inputs kept is = ap length is ∙ length-map (traces_in inputs) row_trace ∙ many_traces inputs
+pub many_kept : (inputs : List RowInput) (kept : List RowSummary) → kept ≡ row_summaries inputs → length kept ≡ length inputs
+many_kept inputs kept is = ap length is ∙ length-map (summaries_in inputs) row_summary ∙ many_summaries inputs
 
 pub each_get : {A : Type 0} (P : A → Type 0) (xs : List A) (k : ℕ) (d : A) → k < length xs → Each P xs → P (get_or xs k d)
 each_get P [] k d within each = absurd (omega (arith, within))
@@ -124,39 +125,39 @@ each_get P (x ∷ xs) zero d within each = each.0
 each_get P (x ∷ xs) (suc k) d within each = each_get P xs k d (omega (arith, within)) each.1
 
 -- what is kept of the input at a place is sound
-pub sound_at : (inputs : List RowInput) (k : ℕ) (d : RowInput) → k < length inputs → SoundTraces (traces_in inputs)
-    → (first : Bool) × SoundTrace (trace_of first (get_or inputs k d).map (raw_file (get_or inputs k d).file))
+pub sound_at : (inputs : List RowInput) (k : ℕ) (d : RowInput) → k < length inputs → SoundSummaries (summaries_in inputs)
+    → (first : Bool) × SoundSummary (summary_of first (get_or inputs k d).map (raw_file (get_or inputs k d).file))
 sound_at inputs k d within sound =
-    let t : Trace = trace_of true (get_or inputs k d).map (raw_file (get_or inputs k d).file) in
-    let at = trace_at inputs k d t within in
-    let many = many_traces inputs in
-    (at.0, subst SoundTrace at.1 (each_get SoundTrace (traces_in inputs) k t (omega (arith, within, many)) sound.each))
+    let t : Summary = summary_of true (get_or inputs k d).map (raw_file (get_or inputs k d).file) in
+    let at = summary_at inputs k d t within in
+    let many = many_summaries inputs in
+    (at.0, subst SoundSummary at.1 (each_get SoundSummary (summaries_in inputs) k t (omega (arith, within, many)) sound.each))
 
 pub made_again : (first : Bool) (m : Map) (raw : RawFile) (value : FileValue) (moved : AnnotatedFile) (rows : List Imaged)
     → moved ≡ moved_file m (annotated_file value) → value ≡ value_of raw → rows ≡ all_images first m raw
-    → ◌≡◌ {A = Trace} (record { moved = moved; rows = rows }) (trace_of first m raw)
+    → ◌≡◌ {A = Summary} (record { moved = moved; rows = rows }) (summary_of first m raw)
 made_again first m raw value moved rows is from same =
     ap (λ (f : AnnotatedFile). record { moved = f; rows = rows }) (is ∙ ap (λ (v : FileValue). moved_file m (annotated_file v)) from)
     ∙ ap (λ (l : List Imaged). record { moved = moved_file m (annotated_file (value_of raw)); rows = l }) same
 
 -- ---- of an input that stands at a place
 
-pub traced_by : (inputs : List RowInput) (kept : List RowTrace) (k : ℕ) (x : RowInput) (y : RowTrace) → kept ≡ row_traces inputs → k < length inputs
+pub summarized_by : (inputs : List RowInput) (kept : List RowSummary) (k : ℕ) (x : RowInput) (y : RowSummary) → kept ≡ row_summaries inputs → k < length inputs
     → x ≡ get_or inputs k x → y ≡ get_or kept k y
     → (first : Bool) × (y.rows ≡ all_images first x.map (raw_file x.file))
-    × (take (k + 1) (traces_in inputs) ≡ take k (traces_in inputs) ++ trace_of first x.map (raw_file x.file) ∷ [])
-traced_by inputs kept k x y is within here beside =
-    let at = traced_at inputs kept k x y is within in (
+    × (take (k + 1) (summaries_in inputs) ≡ take k (summaries_in inputs) ++ summary_of first x.map (raw_file x.file) ∷ [])
+summarized_by inputs kept k x y is within here beside =
+    let at = summarized_at inputs kept k x y is within in (
       at.0,
-      ap (λ (r : RowTrace). r.rows) beside ∙ at.1 ∙ ap (λ (i : RowInput). all_images at.0 i.map (raw_file i.file)) (sym here),
-      at.2 ∙ ap (λ (i : RowInput). take k (traces_in inputs) ++ trace_of at.0 i.map (raw_file i.file) ∷ []) (sym here),
+      ap (λ (r : RowSummary). r.rows) beside ∙ at.1 ∙ ap (λ (i : RowInput). all_images at.0 i.map (raw_file i.file)) (sym here),
+      at.2 ∙ ap (λ (i : RowInput). take k (summaries_in inputs) ++ summary_of at.0 i.map (raw_file i.file) ∷ []) (sym here),
     )
 
-pub sound_by : (inputs : List RowInput) (k : ℕ) (x : RowInput) → k < length inputs → x ≡ get_or inputs k x → SoundTraces (traces_in inputs)
-    → (first : Bool) × SoundTrace (trace_of first x.map (raw_file x.file))
+pub sound_by : (inputs : List RowInput) (k : ℕ) (x : RowInput) → k < length inputs → x ≡ get_or inputs k x → SoundSummaries (summaries_in inputs)
+    → (first : Bool) × SoundSummary (summary_of first x.map (raw_file x.file))
 sound_by inputs k x within here sound =
     let at = sound_at inputs k x within sound in
-    (at.0, subst (λ (i : RowInput). SoundTrace (trace_of at.0 i.map (raw_file i.file))) (sym here) at.1)
+    (at.0, subst (λ (i : RowInput). SoundSummary (summary_of at.0 i.map (raw_file i.file))) (sym here) at.1)
 
-pub named_by : (rows : List Imaged) (there y : RowTrace) (all : List Imaged) → rows ≡ there.rows → y ≡ there → y.rows ≡ all → rows ≡ all
-named_by rows there y all is here same = is ∙ ap (λ (r : RowTrace). r.rows) (sym here) ∙ same
+pub named_by : (rows : List Imaged) (there y : RowSummary) (all : List Imaged) → rows ≡ there.rows → y ≡ there → y.rows ≡ all → rows ≡ all
+named_by rows there y all is here same = is ∙ ap (λ (r : RowSummary). r.rows) (sym here) ∙ same

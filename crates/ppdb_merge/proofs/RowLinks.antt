@@ -6,10 +6,10 @@ use Rattle.custom_info.specs.Kinds.{source_link}
 use Rattle.ppdb_maps.specs.Map.{Map, moved_row, is_gone_row}
 use Rattle.ppdb_tables.specs.RawTables.{numbered}
 use Rattle.ppdb_values.specs.{Parts.{is_at}, RawFile.{RawFile}, Value.{value_of}, declared.custom.CustomValue.{CustomValue}}
-use Rattle.ppdb_merge_items.specs.NamedRows.{live_custom}
+use Rattle.ppdb_merge_annotated.specs.NamedRows.{live_custom}
 use Rattle.ppdb_merge_moved.specs.Moved.{linked, moved_body, moved_custom, moved_parent}
-use Rattle.ppdb_merge.specs.{declared.trace.Trace.{Trace}, Indexes.{link_row}, Merged.{trace_of}, Refusals.{has_other_link, is_other_link, links_differ, says_other}}
-use Rattle.ppdb_merge.{specs.Refusals.{says_other_before}, specs.Rows.{HoldsLinks, link_after}, proofs.Linked.{told_of}}
+use Rattle.ppdb_merge.specs.{declared.summary.Summary.{Summary}, Indexes.{link_row}, Merged.{summary_of}, Refusals.{has_other_link, is_other_link, links_differ}}
+use Rattle.ppdb_merge.{specs.Refusals.{says_other, says_other_before}, specs.Rows.{HoldsLinks, link_after}, proofs.Linked.{reported_of}}
 
 or_assoc : (a b c : Bool) → (a || (b || c)) ≡ ((a || b) || c)
 or_assoc true b c = refl
@@ -60,7 +60,8 @@ module _ (m : Map) (row : ℕ) (value : List ℕ) where
       kept : List CustomValue
       kept = filter (λ (x : CustomValue). nat_lt x.parent.table 0x2d) cs
 
-      by : (l k : Bool) → bytes_eq c.kind source_link ≡ k → list_any (is_other_link row value) here ≡ list_any (is_other_link row value) (filter_map (moved_custom m) kept)
+      by : (l k : Bool) → bytes_eq c.kind source_link ≡ k
+          → list_any (is_other_link row value) here ≡ list_any (is_other_link row value) (filter_map (moved_custom m) kept)
           → list_any (is_other_link row value) (cons_option (cond (l && k) (moved_custom m c) None) here)
           ≡ list_any (is_other_link row value) (filter_map (moved_custom m) (cond l (c ∷ kept) kept))
       by false k is rest = rest
@@ -69,31 +70,32 @@ module _ (m : Map) (row : ℕ) (value : List ℕ) where
 
 -- ---- one more input
 
-has_more : (traces : List Trace) (t : Trace) (row : ℕ) (value : List ℕ)
-    → has_other_link (traces ++ t ∷ []) row value ≡ (has_other_link traces row value || list_any (is_other_link row value) t.moved.customs)
+has_more : (summaries : List Summary) (t : Summary) (row : ℕ) (value : List ℕ)
+    → has_other_link (summaries ++ t ∷ []) row value ≡ (has_other_link summaries row value || list_any (is_other_link row value) t.moved.customs)
 has_more [] t row value = or_none (list_any (is_other_link row value) t.moved.customs)
-has_more (x ∷ traces) t row value =
-    ap (λ b. list_any (is_other_link row value) x.moved.customs || b) (has_more traces t row value)
-    ∙ or_assoc (list_any (is_other_link row value) x.moved.customs) (has_other_link traces row value) (list_any (is_other_link row value) t.moved.customs)
+has_more (x ∷ summaries) t row value =
+    ap (λ b. list_any (is_other_link row value) x.moved.customs || b) (has_more summaries t row value)
+    ∙ or_assoc (list_any (is_other_link row value) x.moved.customs) (has_other_link summaries row value) (list_any (is_other_link row value) t.moved.customs)
 
-pub links_more : (traces : List Trace) (first : Bool) (m : Map) (raw : RawFile) (links more : List CustomValue) → HoldsLinks traces links
-    → more ≡ links ++ filter_map (link_after m) (value_of raw).customs → HoldsLinks (traces ++ trace_of first m raw ∷ []) more
-links_more traces first m raw links more holds is = λ row value.
+pub links_more : (summaries : List Summary) (first : Bool) (m : Map) (raw : RawFile) (links more : List CustomValue) → HoldsLinks summaries links
+    → more ≡ links ++ filter_map (link_after m) (value_of raw).customs → HoldsLinks (summaries ++ summary_of first m raw ∷ []) more
+links_more summaries first m raw links more holds is = λ row value.
     ap (list_any (is_other_link row value)) is
     ∙ any_append (is_other_link row value) links (filter_map (link_after m) (value_of raw).customs)
     ∙ ap (λ b. b || list_any (is_other_link row value) (filter_map (link_after m) (value_of raw).customs)) (holds row value)
-    ∙ ap (λ b. has_other_link traces row value || b) (links_are m row value (value_of raw).customs)
-    ∙ sym (has_more traces (trace_of first m raw) row value)
+    ∙ ap (λ b. has_other_link summaries row value || b) (links_are m row value (value_of raw).customs)
+    ∙ sym (has_more summaries (summary_of first m raw) row value)
 
 -- ---- what is reported
 
-pub says_before : (traces : List Trace) (links : List CustomValue) (m : Map) (value : List ℕ) (b : Bool) → HoldsLinks traces links
-    → (not (is_gone_row m 0x00 1) && list_any (is_other_link (moved_row m 0x00 1) value) links) ≡ b → says_other_before traces m value ≡ b
-says_before traces links m value b holds is =
+pub says_before : (summaries : List Summary) (links : List CustomValue) (m : Map) (value : List ℕ) (b : Bool) → HoldsLinks summaries links
+    → (not (is_gone_row m 0x00 1) && list_any (is_other_link (moved_row m 0x00 1) value) links) ≡ b → says_other_before summaries m value ≡ b
+says_before summaries links m value b holds is =
     ap (λ h. not (is_gone_row m 0x00 1) && h) (sym (holds (moved_row m 0x00 1) value)) ∙ is
 
-pub told_by : (traces : List Trace) (links : List CustomValue) (m : Map) (value : List ℕ) (cs : List CustomValue) (b : Bool) (row : ℕ) → HoldsLinks traces links
+pub reported_by : (summaries : List Summary) (links : List CustomValue) (m : Map) (value : List ℕ) (cs : List CustomValue) (b : Bool) (row : ℕ)
+    → HoldsLinks summaries links
     → m.link ≡ Some value → (not (is_gone_row m 0x00 1) && list_any (is_other_link (moved_row m 0x00 1) value) links) ≡ b
-    → Some row ≡ slice_get (filter_map link_row (numbered cs)) 0 → cond b (Some (LinkDiffers row)) None ≡ slice_get (links_differ traces m cs) 0
-told_by traces links m value cs b row holds line is at =
-    sym (told_of traces m value cs b (Some row) line (says_before traces links m value b holds is) at)
+    → Some row ≡ slice_get (filter_map link_row (numbered cs)) 0 → cond b (Some (LinkDiffers row)) None ≡ slice_get (links_differ summaries m cs) 0
+reported_by summaries links m value cs b row holds line is at =
+    sym (reported_of summaries m value cs b (Some row) line (says_before summaries links m value b holds is) at)

@@ -4,7 +4,7 @@ use Rattle.std.{proofs.Common.{arith, append_assoc, append-nil}, specs.Prelude.{
 use Rattle.std.{specs.Option.{option_to_list}, proofs.lemmas.List.Elements.{filter_map-append}, proofs.lemmas.List.{map-append}}
 use Rattle.ppdb_tables.specs.RawTables.{numbered, row_at}
 use Rattle.ppdb_values_reading.proofs.Rows.{given_all, given_more, numbered_row, take_row}
-use Rattle.ppdb_merge.proofs.Told.{none_left, some_of}
+use Rattle.ppdb_merge.proofs.Reported.{none_left, some_of}
 use Rattle.ppdb_maps.proofs.Refusing.{none_of}
 
 -- ---- what is said of a row that is there
@@ -23,10 +23,10 @@ at_get f (z ∷ ys) (suc i) y e at before is =
     let parts = none_left (f z) (filter_map f (take i ys)) before in
     ap (λ o. slice_get (cons_option o (filter_map f ys)) 0) parts.0 ∙ at_get f ys i y e at parts.1 is
 
-pub row_told : {X B : Type 0} (f : ℕ × X → Option B) (xs : List X) (row : ℕ) (x : X) (o : Option B) → row_at xs row ≡ Some x
+pub row_reported : {X B : Type 0} (f : ℕ × X → Option B) (xs : List X) (row : ℕ) (x : X) (o : Option B) → row_at xs row ≡ Some x
     → filter_map f (take (row - 1) (numbered xs)) ≡ [] → f (row, x) ≡ o → is_some o ≡ true → o ≡ slice_get (filter_map f (numbered xs)) 0
-row_told f xs zero x o at before is some = absurd cc
-row_told f xs (suc i) x o at before is some =
+row_reported f xs zero x o at before is some = absurd cc
+row_reported f xs (suc i) x o at before is some =
     let e = some_of o some in
     let down : suc i - 1 ≡ i = omega arith in
     e.1 ∙ sym (at_get f (numbered xs) i (suc i, x) e.0 (numbered_row xs (suc i) x at) (subst (λ n. filter_map f (take n (numbered xs)) ≡ []) down before)

@@ -5,7 +5,7 @@ use Rattle.std.specs.{List.{filter_map, cons_option}, Option.{option_and_then}, 
 use Rattle.std.specs.BTreeMap as tree
 use Rattle.std.proofs.lemmas.{Bool.{eqb-true, cases_lt, lt-ltb, le-ltb, le-leb, lt-leb}, List.{append_assoc, take_more}}
 use Rattle.ppdb_maps.proofs.Refusing.{at_number}
-use Rattle.ppdb_merge_items.{specs.Sorted.{put, in_order}, proofs.Orders.{in_order_filter}}
+use Rattle.ppdb_merge_annotated.{specs.Sorted.{put, in_order}, proofs.Orders.{in_order_filter}}
 use Rattle.ppdb_merge_names.specs.declared.imaged.Imaged.{Imaged}
 use Rattle.ppdb_merge_fits.proofs.Looking.{present, absent, some_mapped}
 use Rattle.ppdb_merge.specs.{declared.methods.Methods.{Methods}, Indexes.{HoldsMethods, claims_of, claim_of, before, lesser, least_taken}, Refusals.{methods_in}}
@@ -133,7 +133,7 @@ least_next claimed rows (suc place) d above within =
     same = omega arith
 
 -- what is reported where the least is known
-pub told_least : (claimed : List (ℕ × Imaged)) (rows : List Imaged) (place : ℕ) (o : Option Imaged) → place ≡ 0 → o ≡ least_taken claimed (drop place rows)
+pub reported_least : (claimed : List (ℕ × Imaged)) (rows : List Imaged) (place : ℕ) (o : Option Imaged) → place ≡ 0 → o ≡ least_taken claimed (drop place rows)
     → slice_get (filter_map (taken claimed) (in_order (λ i. i.image) (methods_in rows))) 0 ≡ option_and_then (taken claimed) o
-told_least claimed rows place o end is =
+reported_least claimed rows place o end is =
     first_is_least claimed rows ∙ ap (option_and_then (taken claimed)) (sym (is ∙ ap (λ n. least_taken claimed (drop n rows)) end))

@@ -1,11 +1,13 @@
--- Inputs that were read, and added one after the other under the same marks (docs/FORMAT.md, "Joining").
+-- Inputs that were read, and added one after the other under the same marks (docs/FORMAT.md,
+-- "Joining").
 use Rattle.std.specs.Prelude.{◌≡◌, ℕ, Bool, List, [], ◌∷◌, Ok, map}
 use Rattle.ppdb_maps.specs.{Map.Map, Readable.IsReadable}
 use Rattle.ppdb_values.specs.{RawFile.RawFile, Rules.KeepsRules, Value.value_of}
-use Rattle.ppdb_merge_items.specs.Each.{Each}
+use Rattle.ppdb_merge_annotated.specs.Each.{Each}
 use Rattle.ppdb_merge_fits.specs.Laws.{NoClash}
 use Rattle.ppdb_merge_meaning_laws.specs.Kept.{MovedBy, in_turn}
-use Rattle.ppdb_merge.specs.{declared.trace.Trace.Trace, Merged.trace_of, Refusals.added, Sound.SoundTraces}
+use Rattle.ppdb_merge.specs.{declared.summary.Summary.Summary, Merged.summary_of, Refusals.added}
+use Rattle.ppdb_merge.specs.Sound.{SoundSummaries}
 
 -- what a file is read as, and the map by which it is moved
 pub record ReadInput : Type 0 where
@@ -21,21 +23,23 @@ pub record IsValidInput (input : ReadInput) : Type 0 where
 abbrev pub moved_by : ReadInput → MovedBy
 moved_by input = record { value = value_of input.raw; map = input.map }
 
--- the inputs are added one after the other to those with the traces `there`, none is refused, and together they leave these traces
-abbrev pub AreAdded : List (List ℕ) → List Trace → List ReadInput → List Trace → Type 0
-AreAdded marks there [] traces = traces ≡ there
-AreAdded marks there (input ∷ inputs) traces =
-    (more : List Trace) × (added marks there input.map input.raw ≡ Ok more) × AreAdded marks more inputs traces
+-- the inputs are added one after the other to those with the summaries `there`, none is refused,
+-- and together they leave these summaries
+abbrev pub AreAdded : List (List ℕ) → List Summary → List ReadInput → List Summary → Type 0
+AreAdded marks there [] summaries = summaries ≡ there
+AreAdded marks there (input ∷ inputs) summaries =
+    (more : List Summary) × (added marks there input.map input.raw ≡ Ok more)
+    × AreAdded marks more inputs summaries
 
 -- ---- in turn
 
 -- what is kept of an input, by whether it is the first
-abbrev pub trace_by : Bool × ReadInput → Trace
-trace_by x = trace_of x.0 x.1.map x.1.raw
+abbrev pub summary_by : Bool × ReadInput → Summary
+summary_by x = summary_of x.0 x.1.map x.1.raw
 
 -- what is kept of inputs, in order
-abbrev pub traces_of : List ReadInput → List Trace
-traces_of inputs = map trace_by (in_turn inputs)
+abbrev pub summaries_of : List ReadInput → List Summary
+summaries_of inputs = map summary_by (in_turn inputs)
 
 -- A valid input whose map fits it.
 pub record IsFitting (marks : List (List ℕ)) (x : Bool × ReadInput) : Type 0 where
@@ -44,5 +48,5 @@ pub record IsFitting (marks : List (List ℕ)) (x : Bool × ReadInput) : Type 0 
 
 -- Valid inputs that fit each other, and each its map.
 pub record AreFitting (marks : List (List ℕ)) (inputs : List ReadInput) : Type 0 where
-  pub sound : SoundTraces (traces_of inputs)
+  pub sound : SoundSummaries (summaries_of inputs)
   pub each : Each (IsFitting marks) (in_turn inputs)

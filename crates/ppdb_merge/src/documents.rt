@@ -1,9 +1,10 @@
 // The documents of inputs, by their names.
-ghost use Rattle.std.specs.Prelude.{◌≡◌, ◌-◌, ◌<◌, ◌^◌, List, [], ◌∷◌, ◌++◌, OnOk, IfOk, length, slice_get};
+ghost use Rattle.std.specs.Prelude.{◌≡◌, ◌-◌, ◌<◌, ◌^◌, List, [], ◌∷◌, ◌++◌, OnOk, IfOk, length};
+ghost use Rattle.std.specs.Prelude.{slice_get};
 ghost use Rattle.std.specs.List.{filter_map};
 ghost use Rattle.ppdb_tables.specs.RawTables.{numbered};
 ghost use Rattle.ppdb_merge_joined.specs.Joined.{firsts};
-ghost use Rattle.ppdb_merge_items.specs.Annotated.{items_of};
+ghost use Rattle.ppdb_merge_annotated.specs.Annotated.{items_of};
 ghost use Rattle.ppdb_values.specs.declared.file.DocumentValue.{DocumentValue as document_value};
 ghost use Rattle.ppdb_merge.specs.Indexes.{HoldsDocuments};
 ghost use Rattle.ppdb_merge.specs.Refusals.{moved_conflict, same_contents};
@@ -91,14 +92,16 @@ impl Documents {
         Ok(())
     }
 
-    /// What is reported of a document of a further input, with the name that its map gives it, by its row there.
+    /// What is reported of a document of a further input, with the name that its map gives it, by
+    /// its row there.
     pub(crate) fn conflict(
         &self,
         map: &MapText,
         row: u32,
         document: &DocumentValue,
     ) -> Option<MergeError>
-        ensures { (all : List document_value) → HoldsDocuments all self.now → result ≡ moved_conflict map.now all (row, document.now) }
+        ensures { (all : List document_value) → HoldsDocuments all self.now
+            → result ≡ moved_conflict map.now all (row, document.now) }
     {
         let standing = self.by_name.get(map.moved_name(document.name.as_slice()))?;
         if same_contents(&standing.document, document) {
@@ -116,13 +119,14 @@ impl Documents {
     ) -> Option<MergeError>
         requires { length documents.now < 2 ^ 32 - 1 }
         ensures { (all : List document_value) → HoldsDocuments all self.now
-            → result ≡ slice_get (filter_map (moved_conflict map.now all) (numbered documents.now)) 0 }
+            → result
+            ≡ slice_get (filter_map (moved_conflict map.now all) (numbered documents.now)) 0 }
     {
         let mut row = 1;
         for document in documents {
-            let told = self.conflict(map, row, document);
-            if told.is_some() {
-                return told;
+            let reported = self.conflict(map, row, document);
+            if reported.is_some() {
+                return reported;
             }
             row += 1;
         }

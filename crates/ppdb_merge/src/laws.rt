@@ -2,10 +2,10 @@
 ghost use Rattle.ppdb_merge.specs.Laws.{AddedInputsFit};
 ghost use Rattle.ppdb_merge.specs.Worked.{WorkedMerges};
 
+use ppdb_merge_annotated::soundness_is_annotated;
 use ppdb_merge_fits::nothing_clashes;
-use ppdb_merge_items::soundness_is_annotated;
 use ppdb_merge_names_laws::references_are_named;
-use ppdb_values_sound_laws::values_are_sound;
+use ppdb_values_sound::values_are_sound;
 
 /// Worked inputs that do not fit each other, and that do.
 pub fn worked_merges()

@@ -3,9 +3,10 @@ ghost use Rattle.std.specs.Prelude.{◌≡◌, ◌-◌, ◌<◌, ◌^◌, length
 ghost use Rattle.std.specs.List.{filter_map, list_any};
 ghost use Rattle.ppdb_tables.specs.RawTables.{numbered};
 ghost use Rattle.ppdb_merge.specs.Indexes.{link_row};
-ghost use Rattle.ppdb_merge.specs.Refusals.{has_other_link, is_other_link, links_differ, says_other, says_other_before};
+ghost use Rattle.ppdb_merge.specs.Refusals.{has_other_link, is_other_link, links_differ};
+ghost use Rattle.ppdb_merge.specs.Refusals.{says_other, says_other_before};
 
-use crate::trace::Trace;
+use crate::summary::Summary;
 use custom_info::SOURCE_LINK;
 use ppdb_base::MergeError;
 use ppdb_maps::MapText;
@@ -46,11 +47,11 @@ pub(crate) fn input_has_other(customs: &[CustomValue], row: u32, value: &[u8]) -
 }
 
 /// Whether there is one among the records of inputs.
-fn has_other_link(traces: &[Trace], row: u32, value: &[u8]) -> bool
-    ensures { result ≡ has_other_link traces.now row value.now }
+fn has_other_link(summaries: &[Summary], row: u32, value: &[u8]) -> bool
+    ensures { result ≡ has_other_link summaries.now row value.now }
 {
-    for trace in traces {
-        if input_has_other(trace.moved.customs(), row, value) {
+    for summary in summaries {
+        if input_has_other(summary.moved.customs(), row, value) {
             return true;
         }
     }
@@ -58,10 +59,10 @@ fn has_other_link(traces: &[Trace], row: u32, value: &[u8]) -> bool
 }
 
 /// Whether row 1 of Module is not gone, and there is one on its image.
-fn says_other_before(traces: &[Trace], map: &MapText, value: &[u8]) -> bool
-    ensures { result ≡ says_other_before traces.now map.now value.now }
+fn says_other_before(summaries: &[Summary], map: &MapText, value: &[u8]) -> bool
+    ensures { result ≡ says_other_before summaries.now map.now value.now }
 {
-    !is_gone_row(map, MODULE, 1) && has_other_link(traces, map.moved_row(MODULE, 1), value)
+    !is_gone_row(map, MODULE, 1) && has_other_link(summaries, map.moved_row(MODULE, 1), value)
 }
 
 /// The row of a record, if it is a Source Link record on row 1 of Module.
@@ -92,16 +93,16 @@ fn first_link(customs: &[CustomValue]) -> Option<u32>
 
 /// What is reported first of the records of a further input.
 pub(crate) fn first_link_differing(
-    traces: &[Trace],
+    summaries: &[Summary],
     map: &MapText,
     customs: &[CustomValue],
 ) -> Option<MergeError>
     requires { length customs.now < 2 ^ 32 - 1 }
-    ensures { result ≡ slice_get (links_differ traces.now map.now customs.now) 0 }
+    ensures { result ≡ slice_get (links_differ summaries.now map.now customs.now) 0 }
 {
     let value = map.link()?;
     let row = first_link(customs)?;
-    if says_other_before(traces, map, value) {
+    if says_other_before(summaries, map, value) {
         return Some(MergeError::LinkDiffers { row });
     }
     None

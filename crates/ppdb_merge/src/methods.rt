@@ -1,7 +1,7 @@
 // The methods that inputs name, by their images.
 ghost use Rattle.std.specs.Prelude.{◌≡◌, ℕ, List, [], ◌∷◌, ◌++◌, slice_get, OnOk};
 ghost use Rattle.std.specs.List.{filter_map};
-ghost use Rattle.ppdb_merge_items.specs.Sorted.{in_order};
+ghost use Rattle.ppdb_merge_annotated.specs.Sorted.{in_order};
 ghost use Rattle.ppdb_merge_names.specs.declared.imaged.Imaged.{Imaged as image_entry};
 ghost use Rattle.ppdb_merge.specs.Indexes.{HoldsMethods, claims_of, lesser};
 ghost use Rattle.ppdb_merge.specs.Refusals.{methods_in, taken};
@@ -65,7 +65,8 @@ impl Methods {
 
     /// What is reported of a row whose image one of the methods has.
     fn taken(&self, imaged: &Imaged) -> Option<MergeError>
-        ensures { (claimed : List (ℕ × image_entry)) → HoldsMethods claimed self.now → result ≡ taken claimed imaged.now }
+        ensures { (claimed : List (ℕ × image_entry)) → HoldsMethods claimed self.now
+            → result ≡ taken claimed imaged.now }
     {
         let claim = self.by_image.get(&imaged.image)?;
         Some(MergeError::MethodTaken {
@@ -76,10 +77,11 @@ impl Methods {
         })
     }
 
-    /// The one of two rows that a further input names that is reported first: the later one that has been found, unless the other is a
-    /// method whose image is taken and not above its.
+    /// The one of two rows that a further input names that is reported first: the later one that
+    /// has been found, unless the other is a method whose image is taken and not above its.
     fn lesser(&self, imaged: Imaged, found: Option<Imaged>) -> Option<Imaged>
-        ensures { (claimed : List (ℕ × image_entry)) → HoldsMethods claimed self.now → result ≡ lesser claimed imaged found }
+        ensures { (claimed : List (ℕ × image_entry)) → HoldsMethods claimed self.now
+            → result ≡ lesser claimed imaged found }
     {
         if imaged.to != METHOD_DEF || !self.by_image.contains_key(&imaged.image) {
             return found;
@@ -93,7 +95,8 @@ impl Methods {
     /// What is reported first of the rows that a further input names.
     pub(crate) fn first_taken(&self, rows: &[Imaged]) -> Option<MergeError>
         ensures { (claimed : List (ℕ × image_entry)) → HoldsMethods claimed self.now
-            → result ≡ slice_get (filter_map (taken claimed) (in_order (λ i. i.image) (methods_in rows.now))) 0 }
+            → result ≡ slice_get
+            (filter_map (taken claimed) (in_order (λ i. i.image) (methods_in rows.now))) 0 }
     {
         let mut found = None;
         let mut place = rows.len();

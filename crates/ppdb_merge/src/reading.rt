@@ -3,54 +3,58 @@ ghost use Rattle.std.specs.Prelude.{◌≡◌, ◌⊎◌, ◌<◌, ◌∷◌, �
 ghost use Rattle.ppdb_base.specs.declared.merge_error.MergeError.TheVariants as merge_errors;
 ghost use Rattle.ppdb_verify.specs.Views.{raw_file};
 ghost use Rattle.ppdb_merge.specs.Indexes.{Indexes};
-ghost use Rattle.ppdb_merge.specs.Merged.{trace_of, is_first};
+ghost use Rattle.ppdb_merge.specs.Merged.{summary_of, is_first};
 ghost use Rattle.ppdb_merge.specs.Refusals.{refusal_of};
-ghost use Rattle.ppdb_merge.specs.Sound.{SoundTraces};
+ghost use Rattle.ppdb_merge.specs.Sound.{SoundSummaries};
 
 use crate::index::{Index, clash_before};
-use crate::trace::Trace;
+use crate::summary::Summary;
 use custom_info::Marks;
 use ppdb_base::{MergeError, Steps};
 use ppdb_maps::MapText;
+use ppdb_merge_annotated::soundness_is_annotated;
 use ppdb_merge_fits::{judge, nothing_clashes};
-use ppdb_merge_items::soundness_is_annotated;
-use ppdb_merge_kept::KeptFile;
 use ppdb_merge_names_laws::references_are_named;
+use ppdb_merge_packed::PackedFile;
 use ppdb_values_reading::value_of;
 use ppdb_verify::Verified;
 use std::alloc::Global;
 use std::sync::ledger::Ledger;
 
-/// Reads a file, and judges whether its map fits it and whether it fits the inputs before it, of which this is the index.
+/// Reads a file, and judges whether its map fits it and whether it fits the inputs before it, of
+/// which this is the index.
 pub(crate) fn read_input<L: Ledger>(
     alloc: Global,
     file: &Verified<'_>,
     map: &MapText,
     marks: &Marks,
-    traces: &[Trace],
+    summaries: &[Summary],
     index: &Index,
     steps: &mut Steps<L>,
-) -> Result<Trace, MergeError>
-    requires few { length traces.now < 256 }
-    requires sound { SoundTraces traces.now }
-    requires indexes { Indexes traces.now index.now }
-    ensures trace { IfOk result (λ trace. trace ≡ trace_of (is_first traces.now) map.now (raw_file file.now)) }
-    ensures fits { IfOk result (λ trace. refusal_of marks.now traces.now map.now (raw_file file.now) ≡ None) }
-    ensures sound { IfOk result (λ trace. SoundTraces (traces.now ++ trace ∷ [])) }
-    ensures refused { IfErr result (λ e. (e ≡ merge_errors.Memory) ⊎ (refusal_of marks.now traces.now map.now (raw_file file.now) ≡ Some e)) }
+) -> Result<Summary, MergeError>
+    requires few { length summaries.now < 256 }
+    requires sound { SoundSummaries summaries.now }
+    requires indexes { Indexes summaries.now index.now }
+    ensures summary { IfOk result
+        (λ summary. summary ≡ summary_of (is_first summaries.now) map.now (raw_file file.now)) }
+    ensures fits { IfOk result
+        (λ summary. refusal_of marks.now summaries.now map.now (raw_file file.now) ≡ None) }
+    ensures sound { IfOk result (λ summary. SoundSummaries (summaries.now ++ summary ∷ [])) }
+    ensures refused { IfErr result (λ e. (e ≡ merge_errors.Memory)
+        ⊎ (refusal_of marks.now summaries.now map.now (raw_file file.now) ≡ Some e)) }
 {
-    let _ = file.keeps();
-    let _ = map.keeps();
+    let _ = file.facts();
+    let _ = map.facts();
     soundness_is_annotated();
     references_are_named();
     nothing_clashes();
-    let first = traces.len() == 0;
+    let first = summaries.len() == 0;
     let value = value_of(alloc, file, steps)?;
     let rows = judge(alloc, file, map, marks, first, steps)?;
-    match clash_before(index, traces, map, rows.as_slice(), &value) {
-        Some(told) => return Err(told),
+    match clash_before(index, summaries, map, rows.as_slice(), &value) {
+        Some(reported) => return Err(reported),
         None => {}
     }
-    let moved = KeptFile::moved(alloc, value, map)?;
-    Ok(Trace { moved, rows })
+    let moved = PackedFile::moved(alloc, value, map)?;
+    Ok(Summary { moved, rows })
 }

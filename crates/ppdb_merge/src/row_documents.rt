@@ -14,12 +14,12 @@ ghost use Rattle.ppdb_merge.specs.Refusals.{moved_conflict};
 use crate::documents::Documents;
 use ppdb_base::{List, Memory, MergeError, Steps};
 use ppdb_maps::MapText;
-use ppdb_merge_rows::RowInput;
+use ppdb_merge_moved_rows::RowInput;
 use ppdb_tables::DOCUMENT;
 use ppdb_values::DocumentValue;
 use ppdb_values_reading::{Scratch, document_value};
 use ppdb_verify::Verified;
-use ppdb_verify_rows::count;
+use ppdb_verify_readers::count;
 use std::alloc::Global;
 use std::sync::ledger::Ledger;
 
@@ -44,8 +44,10 @@ fn add_row<L: Ledger>(
 ) -> Result<(), Memory>
     requires there { HasRow (raw_file input.now.file).tables 0x30 row }
     ensures { OnOk result ((all : List document_value)
-        → HoldsDocuments (firsts [] (all ++ map (moved_document input.now.map) (take (row - 1) (value_of (raw_file input.now.file)).documents))) documents.old
-        → HoldsDocuments (firsts [] (all ++ map (moved_document input.now.map) (take row (value_of (raw_file input.now.file)).documents))) documents.new) }
+        → HoldsDocuments (firsts [] (all ++ map (moved_document input.now.map)
+        (take (row - 1) (value_of (raw_file input.now.file)).documents))) documents.old
+        → HoldsDocuments (firsts [] (all ++ map (moved_document input.now.map)
+        (take row (value_of (raw_file input.now.file)).documents))) documents.new) }
 {
     let document = document_value(documents.alloc, &input.file, row, scratch, steps)?;
     let document = named(documents.alloc, document, &input.map)?;
@@ -59,10 +61,12 @@ pub(crate) fn add_rows<L: Ledger>(
     input: &RowInput<'_>,
     steps: &mut Steps<L>,
 ) -> Result<(), Memory>
-    ensures { OnOk result ((all : List document_value) → HoldsDocuments (firsts [] all) documents.old
-        → HoldsDocuments (firsts [] (all ++ map (moved_document input.now.map) (value_of (raw_file input.now.file)).documents)) documents.new) }
+    ensures { OnOk result ((all : List document_value)
+        → HoldsDocuments (firsts [] all) documents.old
+        → HoldsDocuments (firsts [] (all ++ map (moved_document input.now.map)
+        (value_of (raw_file input.now.file)).documents)) documents.new) }
 {
-    let _ = input.file.keeps();
+    let _ = input.file.facts();
     let count = count(&input.file, DOCUMENT);
     let mut scratch = Scratch::new(documents.alloc);
     let mut row = 1;
@@ -80,18 +84,20 @@ pub(crate) fn first_conflict_in<L: Ledger>(
     map: &MapText,
     steps: &mut Steps<L>,
 ) -> Result<Option<MergeError>, Memory>
-    ensures { IfOk result (λ told. (all : List document_value) → HoldsDocuments all documents.now
-        → told ≡ slice_get (filter_map (moved_conflict map.now all) (numbered (value_of (raw_file file.now)).documents)) 0) }
+    ensures { IfOk result (λ reported. (all : List document_value)
+        → HoldsDocuments all documents.now
+        → reported ≡ slice_get (filter_map (moved_conflict map.now all)
+        (numbered (value_of (raw_file file.now)).documents)) 0) }
 {
-    let _ = file.keeps();
+    let _ = file.facts();
     let count = count(file, DOCUMENT);
     let mut scratch = Scratch::new(documents.alloc);
     let mut row = 1;
     'rows: while row <= count {
         let document = document_value(documents.alloc, file, row, &mut scratch, steps)?;
-        let told = documents.conflict(map, row, &document);
-        if told.is_some() {
-            return Ok(told);
+        let reported = documents.conflict(map, row, &document);
+        if reported.is_some() {
+            return Ok(reported);
         }
         row += 1;
     }

@@ -1,28 +1,29 @@
 // What is looked up of inputs whose rows are read again before a further one.
-ghost use Rattle.std.specs.Prelude.{◌≡◌, Bool, List, [], ◌∷◌, ◌++◌, ◌+◌, ◌-◌, ◌<◌, ◌^◌, OnOk, IfOk, length, slice_get};
+ghost use Rattle.std.specs.Prelude.{◌≡◌, Bool, List, [], ◌∷◌, ◌++◌, ◌+◌, ◌-◌, ◌<◌, ◌^◌, OnOk, IfOk};
+ghost use Rattle.std.specs.Prelude.{length, slice_get};
 ghost use Rattle.ppdb_values.specs.Value.{value_of};
 ghost use Rattle.ppdb_verify.specs.Views.{raw_file};
 ghost use Rattle.ppdb_merge_fits.specs.Signatures.{all_images};
-ghost use Rattle.ppdb_merge.specs.Merged.{trace_of};
+ghost use Rattle.ppdb_merge.specs.Merged.{summary_of};
 ghost use Rattle.ppdb_merge.specs.Refusals.{clashes_before};
-ghost use Rattle.ppdb_merge.specs.Rows.{IndexesRows, IsIndexOf, row_traces, traces_in};
-ghost use Rattle.ppdb_merge.specs.declared.trace.Trace.{Trace as trace_value};
+ghost use Rattle.ppdb_merge.specs.Rows.{IndexesRows, IsIndexOf, row_summaries, summaries_in};
+ghost use Rattle.ppdb_merge.specs.declared.summary.Summary.{Summary as summary_value};
 
 use crate::index::Index;
 use crate::row_documents::{add_rows, first_conflict_in};
 use crate::row_links::{add_links, first_link_differing_in};
-use crate::row_trace::RowTrace;
+use crate::row_summary::RowSummary;
 use ppdb_base::{List, Memory, MergeError, Steps};
 use ppdb_maps::MapText;
+use ppdb_merge_moved_rows::RowInput;
 use ppdb_merge_names::Imaged;
-use ppdb_merge_rows::RowInput;
 use ppdb_values::CustomValue;
 use ppdb_verify::Verified;
 use std::alloc::Global;
 use std::sync::ledger::Ledger;
 
-/// The methods and the documents of inputs, to be looked up by image and by name, and their Source Link records on rows of the type
-/// system.
+/// The methods and the documents of inputs, to be looked up by image and by name, and their Source
+/// Link records on rows of the type system.
 #[derive(Drop)]
 pub(crate) struct RowIndex {
     pub(crate) index: Index,
@@ -50,8 +51,10 @@ impl RowIndex {
     ) -> Result<(), Memory>
         requires { self.old.index.inputs + 1 < 2 ^ 32 }
         ensures inputs { OnOk result (self.new.index.inputs ≡ self.old.index.inputs + 1) }
-        ensures holds { OnOk result ((traces : List trace_value) (first : Bool) → rows.now ≡ all_images first input.now.map (raw_file input.now.file)
-            → IndexesRows traces self.old → IndexesRows (traces ++ trace_of first input.now.map (raw_file input.now.file) ∷ []) self.new) }
+        ensures holds { OnOk result ((summaries : List summary_value) (first : Bool)
+            → rows.now ≡ all_images first input.now.map (raw_file input.now.file)
+            → IndexesRows summaries self.old → IndexesRows (summaries
+            ++ summary_of first input.now.map (raw_file input.now.file) ∷ []) self.new) }
     {
         let number = self.index.inputs + 1;
         self.index.methods.add(number, rows)?;
@@ -66,24 +69,30 @@ impl RowIndex {
         self,
         alloc: Global,
         inputs: &[RowInput<'_>],
-        traces: &[RowTrace],
+        summaries: &[RowSummary],
         steps: &mut Steps<L>,
     ) -> Result<RowIndex, Memory>
         requires few { length inputs.now < 2 ^ 32 - 1 }
-        requires traces { traces.now ≡ row_traces inputs.now }
-        requires holds { IsIndexOf (traces_in inputs.now) self }
-        ensures { IfOk result (λ index. IndexesRows (traces_in inputs.now) index) }
+        requires summaries { summaries.now ≡ row_summaries inputs.now }
+        requires holds { IsIndexOf (summaries_in inputs.now) self }
+        ensures { IfOk result (λ index. IndexesRows (summaries_in inputs.now) index) }
     {
         let mut index = self;
         let mut place = index.index.inputs as usize;
         'inputs: while place < inputs.len() {
-            index.add(alloc, &inputs[place], traces[place].rows.as_slice(), steps)?;
+            index.add(
+                alloc,
+                &inputs[place],
+                summaries[place].rows.as_slice(),
+                steps,
+            )?;
             place += 1;
         }
         Ok(index)
     }
 
-    /// Why a further input, which names these rows, does not fit the inputs of which this is the index.
+    /// Why a further input, which names these rows, does not fit the inputs of which this is the
+    /// index.
     pub(crate) fn clash<L: Ledger>(
         &self,
         alloc: Global,
@@ -92,19 +101,21 @@ impl RowIndex {
         rows: &[Imaged],
         steps: &mut Steps<L>,
     ) -> Result<Option<MergeError>, Memory>
-        ensures { IfOk result (λ told. (traces : List trace_value) → IndexesRows traces self.now
-            → told ≡ slice_get (clashes_before traces map.now rows.now (value_of (raw_file file.now))) 0) }
+        ensures { IfOk result (λ reported. (summaries : List summary_value)
+            → IndexesRows summaries self.now
+            → reported ≡ slice_get
+            (clashes_before summaries map.now rows.now (value_of (raw_file file.now))) 0) }
     {
         if self.index.inputs == 0 {
             return Ok(None);
         }
-        let told = self.index.methods.first_taken(rows);
-        if told.is_some() {
-            return Ok(told);
+        let reported = self.index.methods.first_taken(rows);
+        if reported.is_some() {
+            return Ok(reported);
         }
-        let told = first_conflict_in(&self.index.documents, file, map, steps)?;
-        if told.is_some() {
-            return Ok(told);
+        let reported = first_conflict_in(&self.index.documents, file, map, steps)?;
+        if reported.is_some() {
+            return Ok(reported);
         }
         Ok(first_link_differing_in(alloc, self.links.as_slice(), file, map, steps))
     }

@@ -1,5 +1,6 @@
 // The Source Link records of inputs whose rows are read again.
-ghost use Rattle.std.specs.Prelude.{◌≡◌, ◌++◌, ◌&&◌, not, List, IfOk, IfSome, OnOk, option_to_list, slice_get};
+ghost use Rattle.std.specs.Prelude.{◌≡◌, ◌++◌, ◌&&◌, not, List, IfOk, IfSome, OnOk, option_to_list};
+ghost use Rattle.std.specs.Prelude.{slice_get};
 ghost use Rattle.std.specs.List.{filter_map, list_any};
 ghost use Rattle.ppdb_tables.specs.RawTables.{numbered, row_at};
 ghost use Rattle.ppdb_values.specs.Rules.{HasRow};
@@ -11,23 +12,24 @@ ghost use Rattle.ppdb_merge_moved.specs.Moved.{linked};
 ghost use Rattle.ppdb_merge.specs.Indexes.{link_row};
 ghost use Rattle.ppdb_merge.specs.Refusals.{is_other_link, links_differ};
 ghost use Rattle.ppdb_merge.specs.Rows.{HoldsLinks, link_after};
-ghost use Rattle.ppdb_merge.specs.declared.trace.Trace.{Trace as trace_value};
+ghost use Rattle.ppdb_merge.specs.declared.summary.Summary.{Summary as summary_value};
 
 use crate::links::input_has_other;
 use custom_info::SOURCE_LINK;
 use ppdb_base::{List, Memory, MergeError, Steps};
 use ppdb_maps::MapText;
 use ppdb_merge_moved::{Stays, is_gone_row, is_link};
-use ppdb_merge_rows::RowInput;
+use ppdb_merge_moved_rows::RowInput;
 use ppdb_tables::{CUSTOM, MODULE, TYPE_TABLES};
 use ppdb_values::{CustomBody, CustomValue};
 use ppdb_values_reading::{Scratch, custom_value, read_custom};
 use ppdb_verify::Verified;
-use ppdb_verify_rows::count;
+use ppdb_verify_readers::count;
 use std::alloc::Global;
 use std::sync::ledger::Ledger;
 
-/// The record, with the value of the map's `link` line, if it is a Source Link record on row 1 of Module and there is such a line.
+/// The record, with the value of the map's `link` line, if it is a Source Link record on row 1 of
+/// Module and there is such a line.
 fn linked(alloc: Global, custom: CustomValue, map: &MapText) -> Result<CustomValue, Memory>
     ensures { IfOk result (λ said. said ≡ linked map.now custom) }
 {
@@ -41,7 +43,8 @@ fn linked(alloc: Global, custom: CustomValue, map: &MapText) -> Result<CustomVal
     Ok(custom)
 }
 
-/// The record of a row of an input, moved, if it is a Source Link record on a row of the type system that is kept.
+/// The record of a row of an input, moved, if it is a Source Link record on a row of the type
+/// system that is kept.
 fn moved_link<L: Ledger>(
     alloc: Global,
     input: &RowInput<'_>,
@@ -50,7 +53,8 @@ fn moved_link<L: Ledger>(
     steps: &mut Steps<L>,
 ) -> Result<Option<CustomValue>, Memory>
     requires there { HasRow (raw_file input.now.file).tables 0x37 row }
-    ensures { IfOk result (λ link. IfSome (row_at (value_of (raw_file input.now.file)).customs row) (λ custom. link ≡ link_after input.now.map custom)) }
+    ensures { IfOk result (λ link. IfSome (row_at (value_of (raw_file input.now.file)).customs row)
+        (λ custom. link ≡ link_after input.now.map custom)) }
 {
     let lent = read_custom(alloc, &input.file, row, steps);
     if lent.parent.table >= TYPE_TABLES || lent.kind != SOURCE_LINK {
@@ -60,7 +64,8 @@ fn moved_link<L: Ledger>(
     Ok(linked(alloc, custom, &input.map)?.stay_by(&input.map))
 }
 
-/// Adds the record of a row of an input, moved, if it is a Source Link record on a row of the type system that is kept.
+/// Adds the record of a row of an input, moved, if it is a Source Link record on a row of the type
+/// system that is kept.
 fn add_link<L: Ledger>(
     alloc: Global,
     links: &mut List<CustomValue>,
@@ -86,9 +91,10 @@ pub(crate) fn add_links<L: Ledger>(
     input: &RowInput<'_>,
     steps: &mut Steps<L>,
 ) -> Result<(), Memory>
-    ensures { OnOk result (links.new ≡ links.old ++ filter_map (link_after input.now.map) (value_of (raw_file input.now.file)).customs) }
+    ensures { OnOk result (links.new ≡ links.old
+        ++ filter_map (link_after input.now.map) (value_of (raw_file input.now.file)).customs) }
 {
-    let _ = input.file.keeps();
+    let _ = input.file.facts();
     let count = count(&input.file, CUSTOM);
     let mut scratch = Scratch::new(alloc);
     let mut row = 1;
@@ -102,7 +108,8 @@ pub(crate) fn add_links<L: Ledger>(
 /// Whether the record of a row is a Source Link record on row 1 of Module.
 fn is_link_in<L: Ledger>(alloc: Global, file: &Verified<'_>, row: u32, steps: &mut Steps<L>) -> bool
     requires there { HasRow (raw_file file.now).tables 0x37 row }
-    ensures { IfSome (row_at (value_of (raw_file file.now)).customs row) (λ custom. result ≡ is_link custom) }
+    ensures { IfSome (row_at (value_of (raw_file file.now)).customs row)
+        (λ custom. result ≡ is_link custom) }
 {
     let lent = read_custom(alloc, file, row, steps);
     lent.parent.table == MODULE && lent.parent.row == 1 && lent.kind == SOURCE_LINK
@@ -110,9 +117,10 @@ fn is_link_in<L: Ledger>(alloc: Global, file: &Verified<'_>, row: u32, steps: &m
 
 /// The row of the first Source Link record on row 1 of Module.
 fn first_link_in<L: Ledger>(alloc: Global, file: &Verified<'_>, steps: &mut Steps<L>) -> Option<u32>
-    ensures { result ≡ slice_get (filter_map link_row (numbered (value_of (raw_file file.now)).customs)) 0 }
+    ensures { result
+        ≡ slice_get (filter_map link_row (numbered (value_of (raw_file file.now)).customs)) 0 }
 {
-    let _ = file.keeps();
+    let _ = file.facts();
     let count = count(file, CUSTOM);
     let mut row = 1;
     'rows: while row <= count {
@@ -124,14 +132,17 @@ fn first_link_in<L: Ledger>(alloc: Global, file: &Verified<'_>, steps: &mut Step
     None
 }
 
-/// Whether row 1 of Module is not gone, and one of the records is a Source Link record on its image with another value.
+/// Whether row 1 of Module is not gone, and one of the records is a Source Link record on its image
+/// with another value.
 fn says_other_among(links: &[CustomValue], map: &MapText, value: &[u8]) -> bool
-    ensures { result ≡ (not (is_gone_row map.now 0x00 1) && list_any (is_other_link (moved_row map.now 0x00 1) value.now) links.now) }
+    ensures { result ≡ (not (is_gone_row map.now 0x00 1)
+        && list_any (is_other_link (moved_row map.now 0x00 1) value.now) links.now) }
 {
     !is_gone_row(map, MODULE, 1) && input_has_other(links, map.moved_row(MODULE, 1), value)
 }
 
-/// What is reported first of the records of a further input, where those of the inputs before it are these.
+/// What is reported first of the records of a further input, where those of the inputs before it
+/// are these.
 pub(crate) fn first_link_differing_in<L: Ledger>(
     alloc: Global,
     links: &[CustomValue],
@@ -139,8 +150,9 @@ pub(crate) fn first_link_differing_in<L: Ledger>(
     map: &MapText,
     steps: &mut Steps<L>,
 ) -> Option<MergeError>
-    ensures { (traces : List trace_value) → HoldsLinks traces links.now
-        → result ≡ slice_get (links_differ traces map.now (value_of (raw_file file.now)).customs) 0 }
+    ensures { (summaries : List summary_value) → HoldsLinks summaries links.now
+        → result
+        ≡ slice_get (links_differ summaries map.now (value_of (raw_file file.now)).customs) 0 }
 {
     let value = map.link()?;
     let row = first_link_in(alloc, file, steps)?;

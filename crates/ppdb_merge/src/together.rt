@@ -1,9 +1,10 @@
 // Why the inputs do not fit each other as a whole.
 ghost use Rattle.std.specs.Prelude.{◌≡◌, ◌∷◌, ◌-◌, ◌<◌, ◌^◌, length, map, slice_get};
 ghost use Rattle.std.specs.List.{enumerate_from, filter_map};
-ghost use Rattle.ppdb_merge.specs.Together.{above, count_in, differs, images_above, misfit_of, rows_differ};
+ghost use Rattle.ppdb_merge.specs.Together.{above, count_in, differs, images_above, misfit_of};
+ghost use Rattle.ppdb_merge.specs.Together.{rows_differ};
 
-use crate::trace::Trace;
+use crate::summary::Summary;
 use ppdb_base::MergeError;
 use ppdb_merge_names::Imaged;
 use ppdb_tables::TYPE_TABLES;
@@ -11,22 +12,22 @@ use ppdb_tables::TYPE_TABLES;
 /// What counts the output's rows and names images, as an input does.
 pub(crate) trait Counted {
     ghost use Rattle.std.specs.Prelude.{◌≡◌};
-    ghost use Rattle.ppdb_merge.specs.declared.trace.Trace.{Trace};
+    ghost use Rattle.ppdb_merge.specs.declared.summary.Summary.{Summary};
 
     /// An input with these counts and images.
-    ghost trace: { Self → Trace };
+    ghost summary: { Self → Summary };
 
     /// The rows of each table in the output.
     fn counts(&self) -> &[u32; 64]
-        ensures { result.now ≡ (trace self.now).moved.rows };
+        ensures { result.now ≡ (summary self.now).moved.rows };
 
     /// The rows that are named, with their images.
     fn images(&self) -> &[Imaged]
-        ensures { result.now ≡ (trace self.now).rows };
+        ensures { result.now ≡ (summary self.now).rows };
 }
 
-impl Counted for Trace {
-    ghost trace = { λ trace. trace };
+impl Counted for Summary {
+    ghost summary = { λ summary. summary };
 
     fn counts(&self) -> &[u32; 64] {
         self.moved.rows()
@@ -38,17 +39,17 @@ impl Counted for Trace {
 }
 
 /// The rows of a table in the output, as an input has it.
-fn count<T: Counted>(trace: &T, table: u8) -> u32
+fn count<T: Counted>(summary: &T, table: u8) -> u32
     requires { table < 64 }
-    ensures { result ≡ count_in (T.trace trace.now) table }
+    ensures { result ≡ count_in (T.summary summary.now) table }
 {
-    trace.counts()[table as usize]
+    summary.counts()[table as usize]
 }
 
 /// What is reported of a table that an input counts otherwise than the first.
 fn differs<T: Counted>(first: &T, table: u8, input: u32, other: &T) -> Option<MergeError>
     requires { table < 64 }
-    ensures { result ≡ differs (T.trace first.now) table (input, T.trace other.now) }
+    ensures { result ≡ differs (T.summary first.now) table (input, T.summary other.now) }
 {
     let (first, second) = (count(first, table), count(other, table));
     if first == second {
@@ -66,13 +67,14 @@ fn differs<T: Counted>(first: &T, table: u8, input: u32, other: &T) -> Option<Me
 fn first_differing<T: Counted>(first: &T, others: &[T], table: u8) -> Option<MergeError>
     requires low { table < 64 }
     requires few { length others.now < 2 ^ 32 - 2 }
-    ensures { result ≡ slice_get (filter_map (differs (T.trace first.now) table) (enumerate_from 2 (map T.trace others.now))) 0 }
+    ensures { result ≡ slice_get (filter_map (differs (T.summary first.now) table)
+        (enumerate_from 2 (map T.summary others.now))) 0 }
 {
     let mut input = 2;
     for other in others {
-        let told = differs(first, table, input, other);
-        if told.is_some() {
-            return told;
+        let reported = differs(first, table, input, other);
+        if reported.is_some() {
+            return reported;
         }
         input += 1;
     }
@@ -82,20 +84,20 @@ fn first_differing<T: Counted>(first: &T, others: &[T], table: u8) -> Option<Mer
 /// What is reported first of the inputs' row counts.
 fn rows_differ<T: Counted>(first: &T, others: &[T]) -> Option<MergeError>
     requires { length others.now < 2 ^ 32 - 2 }
-    ensures { result ≡ slice_get (rows_differ (T.trace first.now ∷ map T.trace others.now)) 0 }
+    ensures { result ≡ slice_get (rows_differ (T.summary first.now ∷ map T.summary others.now)) 0 }
 {
     for table in 0..TYPE_TABLES {
-        let told = first_differing(first, others, table);
-        if told.is_some() {
-            return told;
+        let reported = first_differing(first, others, table);
+        if reported.is_some() {
+            return reported;
         }
     }
     None
 }
 
 /// What is reported of a row whose image is above the rows of the image's table.
-fn above<T: Counted>(input: u32, trace: &T, imaged: &Imaged) -> Option<MergeError>
-    ensures { result ≡ above (input, T.trace trace.now) imaged.now }
+fn above<T: Counted>(input: u32, summary: &T, imaged: &Imaged) -> Option<MergeError>
+    ensures { result ≡ above (input, T.summary summary.now) imaged.now }
 {
     let Imaged {
         table,
@@ -103,7 +105,7 @@ fn above<T: Counted>(input: u32, trace: &T, imaged: &Imaged) -> Option<MergeErro
         to,
         image,
     } = *imaged;
-    let rows = *trace.counts().get(to as usize).unwrap_or(&0);
+    let rows = *summary.counts().get(to as usize).unwrap_or(&0);
     if image <= rows {
         return None;
     }
@@ -117,28 +119,29 @@ fn above<T: Counted>(input: u32, trace: &T, imaged: &Imaged) -> Option<MergeErro
 }
 
 /// What is reported first of an input's images.
-fn first_above<T: Counted>(input: u32, trace: &T) -> Option<MergeError>
-    ensures { result ≡ slice_get (filter_map (above (input, T.trace trace.now)) (T.trace trace.now).rows) 0 }
+fn first_above<T: Counted>(input: u32, summary: &T) -> Option<MergeError>
+    ensures { result ≡ slice_get
+        (filter_map (above (input, T.summary summary.now)) (T.summary summary.now).rows) 0 }
 {
-    for imaged in trace.images() {
-        let told = above(input, trace, imaged);
-        if told.is_some() {
-            return told;
+    for imaged in summary.images() {
+        let reported = above(input, summary, imaged);
+        if reported.is_some() {
+            return reported;
         }
     }
     None
 }
 
 /// What is reported first of the images of all inputs.
-fn images_above<T: Counted>(traces: &[T]) -> Option<MergeError>
-    requires { length traces.now < 2 ^ 32 - 1 }
-    ensures { result ≡ slice_get (images_above (map T.trace traces.now)) 0 }
+fn images_above<T: Counted>(summaries: &[T]) -> Option<MergeError>
+    requires { length summaries.now < 2 ^ 32 - 1 }
+    ensures { result ≡ slice_get (images_above (map T.summary summaries.now)) 0 }
 {
     let mut input = 1;
-    for trace in traces {
-        let told = first_above(input, trace);
-        if told.is_some() {
-            return told;
+    for summary in summaries {
+        let reported = first_above(input, summary);
+        if reported.is_some() {
+            return reported;
         }
         input += 1;
     }
@@ -146,16 +149,16 @@ fn images_above<T: Counted>(traces: &[T]) -> Option<MergeError>
 }
 
 /// What is reported of inputs together: M8, or else M9.
-pub(crate) fn misfit<T: Counted>(traces: &[T]) -> Option<MergeError>
-    requires { length traces.now < 2 ^ 32 - 1 }
-    ensures { result ≡ misfit_of (map T.trace traces.now) }
+pub(crate) fn misfit<T: Counted>(summaries: &[T]) -> Option<MergeError>
+    requires { length summaries.now < 2 ^ 32 - 1 }
+    ensures { result ≡ misfit_of (map T.summary summaries.now) }
 {
-    let Some((first, others)) = traces.split_first() else {
+    let Some((first, others)) = summaries.split_first() else {
         return None;
     };
-    let told = rows_differ(first, others);
-    if told.is_some() {
-        return told;
+    let reported = rows_differ(first, others);
+    if reported.is_some() {
+        return reported;
     }
-    images_above(traces)
+    images_above(summaries)
 }

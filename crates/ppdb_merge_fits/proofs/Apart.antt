@@ -1,8 +1,8 @@
 -- Items of a group of which nothing is reported have one image only where they have one number.
 use Rattle.std.{proofs.Common.{◌≡◌, ℕ, ◌<◌, ◌≤◌, ◌⊎◌, Bool, true, false, cond, List, [], ◌∷◌, refl, sym, ◌∙◌, subst, inl, inr, arith}, specs.Prelude.{nat_eq}}
 use Rattle.std.{specs.Prelude.{nat_le}, specs.List.{dedup, dedup_from}, proofs.lemmas.Bool.{cases_lt, eq-eqb, eqb-true, and_parts, le-leb, lt-leb}}
-use Rattle.ppdb_merge_items.{specs.Each.{Each, Pairs}, specs.Sorted.{put, in_order}, proofs.Orders.{in_order_each, in_order_rises, pairs_of, put_each}}
-use Rattle.ppdb_merge_items.proofs.Lists.{Each-weaker}
+use Rattle.ppdb_merge_annotated.{specs.Each.{Each, Pairs}, specs.Sorted.{put, in_order}, proofs.Orders.{in_order_each, in_order_rises, pairs_of, put_each}}
+use Rattle.ppdb_merge_annotated.proofs.Lists.{Each-weaker}
 use Rattle.ppdb_merge_fits.{specs.Twice.{beside, beside_from, each_once, is_same, if_one_image, twice}, proofs.First.{nil_parts}}
 
 pub each_both : {A : Type 0} (P Q R : A → Type 0) → ((x : A) → P x → Q x → R x) → (xs : List A) → Each P xs → Each Q xs → Each R xs
@@ -84,16 +84,16 @@ module _ {A : Type 0} (group number image : A → ℕ) where
   pub sorted : (xs : List A) → Pairs Le (in_order group (in_order image xs))
   sorted xs = by_group (in_order image xs) (pairs_of image 0 (in_order image xs) (in_order_rises image xs))
 
-  module _ {B : Type 0} (told : A → A → B) where
-    silent : (x y : A) → if_one_image group number image told x y ≡ [] → OneNumber x y
+  module _ {B : Type 0} (reported : A → A → B) where
+    silent : (x y : A) → if_one_image group number image reported x y ≡ [] → OneNumber x y
     silent x y none is also = step (nat_eq (number x) (number y)) refl none
       where
-        step : (b : Bool) → nat_eq (number x) (number y) ≡ b → if_one_image group number image told x y ≡ [] → number x ≡ number y
+        step : (b : Bool) → nat_eq (number x) (number y) ≡ b → if_one_image group number image reported x y ≡ [] → number x ≡ number y
         step true eq none = eqb-true (number x) (number y) eq
         step false eq none =
-            let e : if_one_image group number image told x y ≡ told x y ∷ [] =
+            let e : if_one_image group number image reported x y ≡ reported x y ∷ [] =
             rw (eq-eqb (group x) (group y) is, eq-eqb (image x) (image y) also, eq) refl in
-            let f : ◌≡◌ {A = List B} (told x y ∷ []) [] = sym e ∙ none in absurd (cc)
+            let f : ◌≡◌ {A = List B} (reported x y ∷ []) [] = sym e ∙ none in absurd (cc)
 
     onward : (x y z : A) → Le x y → OneNumber x y → Le y z → OneNumber y z → OneNumber x z
     onward x y z (inl less) first (inl more) then is also = absurd (omega (arith, less, more, is))
@@ -105,15 +105,15 @@ module _ {A : Type 0} (group number image : A → ℕ) where
         let two : image y ≡ image z = omega (arith, p, q, also) in
         first g one ∙ then h two
 
-    one_numbers : (x : A) (ys : List A) → Pairs Le (x ∷ ys) → beside_from (if_one_image group number image told) x ys ≡ [] → Pairs OneNumber (x ∷ ys)
+    one_numbers : (x : A) (ys : List A) → Pairs Le (x ∷ ys) → beside_from (if_one_image group number image reported) x ys ≡ [] → Pairs OneNumber (x ∷ ys)
     one_numbers x [] pairs none = (tt, tt)
     one_numbers x (y ∷ ys) pairs none =
-        let parts = nil_parts (if_one_image group number image told x y) (beside_from (if_one_image group number image told) y ys) none in
+        let parts = nil_parts (if_one_image group number image reported x y) (beside_from (if_one_image group number image reported) y ys) none in
         let rest = one_numbers y ys pairs.1 parts.1 in
         let here = silent x y parts.0 in
         ((here, each_both (Le y) (OneNumber y) (OneNumber x) (λ z le one. onward x y z pairs.0.0 here le one) ys pairs.1.0 rest.0), rest)
 
-    numbers : (xs : List A) → Pairs Le xs → beside (if_one_image group number image told) xs ≡ [] → Pairs OneNumber xs
+    numbers : (xs : List A) → Pairs Le xs → beside (if_one_image group number image reported) xs ≡ [] → Pairs OneNumber xs
     numbers [] pairs none = tt
     numbers (x ∷ xs) pairs none = one_numbers x xs pairs none
 
@@ -135,7 +135,7 @@ module _ {A : Type 0} (group number image : A → ℕ) where
           (some P (unsorted image P judged (unsorted group P (in_order image judged) each)))))
 
       -- each two of the items that are judged have one number where they have one group and one image
-      pub apart : twice group number image told judged ≡ [] → Each (λ a. IsJudged a → Each (λ b. IsJudged b → OneNumber a b) xs) xs
+      pub apart : twice group number image reported judged ≡ [] → Each (λ a. IsJudged a → Each (λ b. IsJudged b → OneNumber a b) xs) xs
       apart none =
           back (λ a. Each (λ b. IsJudged b → OneNumber a b) xs)
           (Each-weaker (λ a. Each (OneNumber a) (in_order group (in_order image judged))) (λ a. Each (λ b. IsJudged b → OneNumber a b) xs)

@@ -1,7 +1,7 @@
 -- A file has few variables.
 use Rattle.std.{proofs.Common.{◌≡◌, ◌+◌, ◌≤◌, List, [], ◌∷◌, length, flat_map, refl, sym, ◌∙◌, ap, subst, arith}, specs.List.{sum_by}}
 use Rattle.std.proofs.lemmas.{List.{length-map, length-append}, List.Sums.{sum_by-cons}}
-use Rattle.ppdb_values_sound_laws.proofs.Counts.{variables_counted}
+use Rattle.ppdb_values_sound.proofs.Counts.{variables_counted}
 use Rattle.ppdb_values.specs.{RawFile.{RawFile}, Rules.{KeepsRules}, Value.{value_of}, declared.scope.ScopeValue.{ScopeValue}}
 use Rattle.ppdb_merge_fits.specs.Slots.{scope_slots, variable_slots}
 

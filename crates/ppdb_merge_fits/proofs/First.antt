@@ -56,24 +56,24 @@ numbered_at n (y ∷ ys) (suc i) x d less is =
 module _ {A B : Type 0} (f : A → List B) where
   pub hit : (xs : List A) (i : ℕ) (x : A) (e : B) → flat_map f (take i xs) ≡ [] → i < length xs → x ≡ get_or xs i x → slice_get (f x) 0 ≡ Some e
       → slice_get (flat_map f xs) 0 ≡ Some e
-  hit [] i x e none less is told = absurd (omega (arith, less))
-  hit (y ∷ ys) zero x e none less is told = first_prefix (f y) (flat_map f ys) e (subst (λ z. slice_get (f z) 0 ≡ Some e) is told)
-  hit (y ∷ ys) (suc i) x e none less is told =
+  hit [] i x e none less is reported = absurd (omega (arith, less))
+  hit (y ∷ ys) zero x e none less is reported = first_prefix (f y) (flat_map f ys) e (subst (λ z. slice_get (f z) 0 ≡ Some e) is reported)
+  hit (y ∷ ys) (suc i) x e none less is reported =
       let parts = nil_parts (f y) (flat_map f (take i ys)) none in
-      ap (λ l. slice_get (l ++ flat_map f ys) 0) parts.0 ∙ hit ys i x e parts.1 (omega (arith, less)) is told
+      ap (λ l. slice_get (l ++ flat_map f ys) 0) parts.0 ∙ hit ys i x e parts.1 (omega (arith, less)) is reported
 
   after : (xs : List A) (i : ℕ) (x : A) → flat_map f (take i xs) ≡ [] → i < length xs → x ≡ get_or xs i x → f x ≡ [] → flat_map f (take (suc i) xs) ≡ []
-  after [] i x none less is told = absurd (omega (arith, less))
-  after (y ∷ ys) zero x none less is told = ap (λ l. l ++ []) (subst (λ z. f z ≡ []) is told)
-  after (y ∷ ys) (suc i) x none less is told =
+  after [] i x none less is reported = absurd (omega (arith, less))
+  after (y ∷ ys) zero x none less is reported = ap (λ l. l ++ []) (subst (λ z. f z ≡ []) is reported)
+  after (y ∷ ys) (suc i) x none less is reported =
       let parts = nil_parts (f y) (flat_map f (take i ys)) none in
-      ap (λ l. l ++ flat_map f (take (suc i) ys)) parts.0 ∙ after ys i x parts.1 (omega (arith, less)) is told
+      ap (λ l. l ++ flat_map f (take (suc i) ys)) parts.0 ∙ after ys i x parts.1 (omega (arith, less)) is reported
 
   pub miss : (xs : List A) (i : ℕ) (x : A) → flat_map f (take i xs) ≡ [] → i < length xs → x ≡ get_or xs i x → slice_get (f x) 0 ≡ None
       → flat_map f (take (i + 1) xs) ≡ []
-  miss xs i x none less is told =
+  miss xs i x none less is reported =
       let e : i + 1 ≡ suc i = omega arith in
-      ap (λ n. flat_map f (take n xs)) e ∙ after xs i x none less is (no_first (f x) told)
+      ap (λ n. flat_map f (take n xs)) e ∙ after xs i x none less is (no_first (f x) reported)
 
   pub none_left : (xs : List A) (i : ℕ) → flat_map f (take i xs) ≡ [] → length xs ≤ i → slice_get (flat_map f xs) 0 ≡ None
   none_left [] i none all = refl
@@ -108,12 +108,12 @@ module _ {A B : Type 0} (f : ℕ × A → List B) where
 
   pub hit_row : (xs : List A) (i row : ℕ) (x : A) (e : B) → row ≡ i → flat_map f (take i (enumerate_from 1 xs)) ≡ [] → i < length xs → x ≡ get_or xs i x
       → slice_get (f (row + 1, x)) 0 ≡ Some e → slice_get (flat_map f (enumerate_from 1 xs)) 0 ≡ Some e
-  hit_row xs i row x e same none less is told =
-      hit f (enumerate_from 1 xs) i (row + 1, x) e none (inside xs i less) (row_is xs i row x same less is) told
+  hit_row xs i row x e same none less is reported =
+      hit f (enumerate_from 1 xs) i (row + 1, x) e none (inside xs i less) (row_is xs i row x same less is) reported
 
   pub miss_row : (xs : List A) (i row : ℕ) (x : A) → row ≡ i → flat_map f (take i (enumerate_from 1 xs)) ≡ [] → i < length xs → x ≡ get_or xs i x
       → slice_get (f (row + 1, x)) 0 ≡ None → flat_map f (take (i + 1) (enumerate_from 1 xs)) ≡ []
-  miss_row xs i row x same none less is told = miss f (enumerate_from 1 xs) i (row + 1, x) none (inside xs i less) (row_is xs i row x same less is) told
+  miss_row xs i row x same none less is reported = miss f (enumerate_from 1 xs) i (row + 1, x) none (inside xs i less) (row_is xs i row x same less is) reported
 
   pub none_of_rows : (xs : List A) (i : ℕ) → flat_map f (take i (enumerate_from 1 xs)) ≡ [] → length xs ≤ i
       → slice_get (flat_map f (enumerate_from 1 xs)) 0 ≡ None
@@ -171,9 +171,9 @@ module _ {A : Type 0} (p : A → Bool) where
   any_none xs i none all = sym (ap (list_any p) (take_all xs i all)) ∙ none
 
   -- where none passes, nothing is reported of those that pass
-  pub none_told : {B : Type 0} (f : ℕ × A → List B) → ((x : ℕ × A) → p x.1 ≡ false → f x ≡ []) → (n : ℕ) (xs : List A) → list_any p xs ≡ false
+  pub none_reported : {B : Type 0} (f : ℕ × A → List B) → ((x : ℕ × A) → p x.1 ≡ false → f x ≡ []) → (n : ℕ) (xs : List A) → list_any p xs ≡ false
       → flat_map f (enumerate_from n xs) ≡ []
-  none_told f silent n [] none = refl
-  none_told f silent n (x ∷ xs) none =
+  none_reported f silent n [] none = refl
+  none_reported f silent n (x ∷ xs) none =
       let parts = or_false (p x) (list_any p xs) none in
-      ap (λ l. l ++ flat_map f (enumerate_from (n + 1) xs)) (silent (n, x) parts.0) ∙ none_told f silent (n + 1) xs parts.1
+      ap (λ l. l ++ flat_map f (enumerate_from (n + 1) xs)) (silent (n, x) parts.0) ∙ none_reported f silent (n + 1) xs parts.1

@@ -12,10 +12,10 @@ use Rattle.sequence_points.specs.declared.point.Point.{Point}
 use Rattle.ppdb_values.specs.{Rules.{StandsOn}, declared.custom.CustomBody.{CustomBody}, declared.custom.CustomBody.TheVariants.{Async, Hoisted, TypeDocuments}}
 use Rattle.ppdb_values.specs.declared.{custom.CustomBody.TheVariants.{Unread}, custom.CustomValue.{CustomValue}, file.FileValue.{FileValue}}
 use Rattle.ppdb_values.specs.declared.{file.MethodValue.{MethodValue}, scope.ScopeValue.{ScopeValue}}
-use Rattle.ppdb_values_sound_laws.specs.{Customs.{SoundCustom, IsBodyOfKind}, Methods.{SoundMethod, SoundPoint}}
-use Rattle.ppdb_merge_items.specs.{Each.{Each}, NamedRows.{is_type_documents, live_custom}, Annotated.{annotated_file, annotated_scope}}
-use Rattle.ppdb_merge_items.{specs.SoundParts.{SoundAnnotatedScope}, specs.declared.file.AnnotatedScope.{AnnotatedScope}, proofs.Lists.{Each-weaker, Each-map}}
-use Rattle.ppdb_merge_items.proofs.Lists.{Each-filter, Each-enumerate}
+use Rattle.ppdb_values_sound.specs.{Customs.{SoundCustom, IsBodyOfKind}, Methods.{SoundMethod, SoundPoint}}
+use Rattle.ppdb_merge_annotated.specs.{Each.{Each}, NamedRows.{is_type_documents, live_custom}, Annotated.{annotated_file, annotated_scope}}
+use Rattle.ppdb_merge_annotated.{specs.SoundParts.{SoundAnnotatedScope}, specs.declared.file.AnnotatedScope.{AnnotatedScope}, proofs.Lists.{Each-weaker, Each-map}}
+use Rattle.ppdb_merge_annotated.proofs.Lists.{Each-filter, Each-enumerate}
 use Rattle.ppdb_merge_moved.{specs.Fits.{IsKept, KeepsStep, KeepsAsync, EndsWithin, AreWithin}, proofs.Fitting.{offsets_rise}, proofs.ImageRows.{no_gone_method}}
 use Rattle.ppdb_merge_moved.proofs.SoundItems.{each_all}
 use Rattle.ppdb_merge_fits.specs.Offsets.{offset_in, step_offsets, handler_offsets, async_offsets, if_past, offset_beyond, end_beyond, points_beyond, scope_beyond}

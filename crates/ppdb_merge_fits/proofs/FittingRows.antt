@@ -8,8 +8,8 @@ use Rattle.ppdb_merge_names_laws.specs.Laws.{named_by}
 use Rattle.ppdb_tables.specs.RawTables.{numbered}
 use Rattle.ppdb_values.specs.{RawFile.{RawFile}, declared.file.FileValue.{FileValue}, declared.scope.ScopeValue.{ScopeValue}}
 use Rattle.ppdb_values.specs.declared.{scope.VariableValue.{VariableValue}, annotation.Annotation.{Annotation}}
-use Rattle.ppdb_merge_items.specs.{Each.{Each}, NamedRows.{live_scope}, Annotated.{annotated_file, annotated_scope}, declared.file.AnnotatedScope.{AnnotatedScope}}
-use Rattle.ppdb_merge_items.proofs.Lists.{Each-weaker, Each-map, Each-unmap, Each-enumerate}
+use Rattle.ppdb_merge_annotated.specs.{Each.Each, NamedRows.live_scope, Annotated.{annotated_file, annotated_scope}, declared.file.AnnotatedScope.AnnotatedScope}
+use Rattle.ppdb_merge_annotated.proofs.Lists.{Each-weaker, Each-map, Each-unmap, Each-enumerate}
 use Rattle.ppdb_merge_moved.{specs.Fits.{IsImaged, AreApart, may_share, HasSlot, SlotsAreApart}, specs.Moved.{table_in, row_in}, proofs.Elements.{in_each}}
 use Rattle.ppdb_merge_moved.proofs.Elements.{each_made}
 use Rattle.ppdb_merge_fits.specs.{declared.used.MethodSlot.{MethodSlot}, declared.used.UsedSlot.{UsedSlot}, Rows.{imaged, imaged_to, image_key, image_twice, is_row}}

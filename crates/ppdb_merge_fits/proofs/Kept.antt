@@ -2,7 +2,7 @@
 use Rattle.std.{proofs.Common.{◌≡◌, ℕ, ◌&&◌, Bool, true, false, cond, List, [], ◌∷◌, ◌++◌, refl, ap, ◌∙◌, arith}, specs.Prelude.{All, nat_eq, nat_le, not}}
 use Rattle.std.proofs.lemmas.{Bool.{eqb-true, eq-eqb}, List.Elements.{All-cons, All-filter, All-head, All-tail}, List.Filters.{All-dedup}}
 use Rattle.ppdb_maps.specs.Map.{Map}
-use Rattle.ppdb_merge_items.specs.Sorted.{put, in_order}
+use Rattle.ppdb_merge_annotated.specs.Sorted.{put, in_order}
 use Rattle.ppdb_merge_moved.specs.Fits.{may_share}
 use Rattle.ppdb_merge_names.specs.declared.imaged.Imaged.{Imaged}
 use Rattle.ppdb_merge_fits.specs.{Rows.{Stays, image_key, image_twice, rows_twice, unshared}, Twice.{beside, beside_from, each_once, if_one_image, is_same, twice}}
@@ -20,14 +20,14 @@ module _ {A : Type 0} (P : A → Type 0) where
   all_in_order key [] all = all
   all_in_order key (x ∷ xs) all = all_put key x (in_order key xs) (All-head P x xs all) (all_in_order key xs (All-tail P x xs all))
 
-  module _ {B : Type 0} (told : A → A → List B) (none : (a b : A) → P a → P b → told a b ≡ []) where
-    nothing_from : (x : A) (xs : List A) → All P (x ∷ xs) → beside_from told x xs ≡ []
+  module _ {B : Type 0} (reported : A → A → List B) (none : (a b : A) → P a → P b → reported a b ≡ []) where
+    nothing_from : (x : A) (xs : List A) → All P (x ∷ xs) → beside_from reported x xs ≡ []
     nothing_from x [] all = refl
     nothing_from x (y ∷ ys) all =
         let rest = All-tail P x (y ∷ ys) all in
-        ap (λ l. l ++ beside_from told y ys) (none x y (All-head P x (y ∷ ys) all) (All-head P y ys rest)) ∙ nothing_from y ys rest
+        ap (λ l. l ++ beside_from reported y ys) (none x y (All-head P x (y ∷ ys) all) (All-head P y ys rest)) ∙ nothing_from y ys rest
 
-    pub nothing_beside : (xs : List A) → All P xs → beside told xs ≡ []
+    pub nothing_beside : (xs : List A) → All P xs → beside reported xs ≡ []
     nothing_beside [] all = refl
     nothing_beside (x ∷ xs) all = nothing_from x xs all
 
@@ -36,23 +36,23 @@ never_both true true = refl
 never_both true false = refl
 never_both false b = refl
 
-module _ {A B : Type 0} (group number image : A → ℕ) (told : A → A → B) where
-  none_told : (a b : A) → image a ≡ number a → image b ≡ number b → if_one_image group number image told a b ≡ []
-  none_told a b p q =
-      ap (λ n. cond (nat_eq (group a) (group b) && (nat_eq n (image b) && not (nat_eq (number a) (number b)))) (told a b ∷ []) []) p
-      ∙ ap (λ n. cond (nat_eq (group a) (group b) && (nat_eq (number a) n && not (nat_eq (number a) (number b)))) (told a b ∷ []) []) q
-      ∙ ap (λ t. cond t (told a b ∷ []) []) (never_both (nat_eq (group a) (group b)) (nat_eq (number a) (number b)))
+module _ {A B : Type 0} (group number image : A → ℕ) (reported : A → A → B) where
+  none_reported : (a b : A) → image a ≡ number a → image b ≡ number b → if_one_image group number image reported a b ≡ []
+  none_reported a b p q =
+      ap (λ n. cond (nat_eq (group a) (group b) && (nat_eq n (image b) && not (nat_eq (number a) (number b)))) (reported a b ∷ []) []) p
+      ∙ ap (λ n. cond (nat_eq (group a) (group b) && (nat_eq (number a) n && not (nat_eq (number a) (number b)))) (reported a b ∷ []) []) q
+      ∙ ap (λ t. cond t (reported a b ∷ []) []) (never_both (nat_eq (group a) (group b)) (nat_eq (number a) (number b)))
 
-  none_among : (P : A → Type 0) → ((a b : A) → P a → P b → if_one_image group number image told a b ≡ []) → (items : List A) → All P items
-      → twice group number image told items ≡ []
+  none_among : (P : A → Type 0) → ((a b : A) → P a → P b → if_one_image group number image reported a b ≡ []) → (items : List A) → All P items
+      → twice group number image reported items ≡ []
   none_among P none items all =
-      nothing_beside P (if_one_image group number image told) none (in_order group (in_order image items))
+      nothing_beside P (if_one_image group number image reported) none (in_order group (in_order image items))
       (all_in_order P group (in_order image items) (all_in_order P image items all))
 
-  pub none_twice_once : (items : List A) → All (λ a. image a ≡ number a) items → twice group number image told (each_once group number items) ≡ []
+  pub none_twice_once : (items : List A) → All (λ a. image a ≡ number a) items → twice group number image reported (each_once group number items) ≡ []
   none_twice_once items keep =
       let P = λ (a : A). image a ≡ number a in
-      none_among P none_told (each_once group number items)
+      none_among P none_reported (each_once group number items)
       (All-dedup (is_same group number) P (in_order group (in_order number items)) (all_in_order P group (in_order number items) (all_in_order P number items keep)))
 
 -- two rows whose images are they themselves

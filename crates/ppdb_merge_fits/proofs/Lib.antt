@@ -16,5 +16,5 @@ pub mod OneName
 pub mod Owned
 pub mod Rows
 pub mod ScopeLists
-pub mod Told
+pub mod Reported
 pub mod Parts

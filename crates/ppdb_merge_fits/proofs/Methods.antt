@@ -6,7 +6,7 @@ use Rattle.ppdb_maps.specs.{declared.entries.SignatureImage.{SignatureImage}, Ma
 use Rattle.sequence_points.specs.declared.point.Point.{Point}
 use Rattle.ppdb_values.specs.{declared.file.FileValue.{FileValue}, declared.file.MethodValue.{MethodValue}, Parts.{method_at}}
 use Rattle.ppdb_merge_names.specs.declared.imaged.Imaged.{Imaged}
-use Rattle.ppdb_merge_fits.specs.{Offsets.{if_past, points_beyond}, Signatures.{given, given_signature, given_signatures}, Walks.{points_past, told_of}}
+use Rattle.ppdb_merge_fits.specs.{Offsets.{if_past, points_beyond}, Signatures.{given, given_signature, given_signatures}, Walks.{points_past, reported_of}}
 
 found : (row : ℕ) (methods : List MethodValue) (e : MethodValue) → find (λ (x : MethodValue). nat_eq x.method row) methods ≡ Some e → e.method ≡ row
 found row [] e is = absurd cc
@@ -19,7 +19,7 @@ found row (x ∷ xs) e is = by (nat_eq x.method row) refl is (found row xs e)
 
 module _ (m : Map) (value : FileValue) (row : ℕ) where
   -- without a line no offset is beyond
-  pub unlined : sizes_of (offsets_in m row) ≡ None → slice_get (told_of (points_beyond m) (method_at value row)) 0 ≡ None
+  pub unlined : sizes_of (offsets_in m row) ≡ None → slice_get (reported_of (points_beyond m) (method_at value row)) 0 ≡ None
   unlined none = by (method_at value row) refl
     where
       nothing : (method : ℕ) (points : List Point) (sizes : Option (ℕ × ℕ)) → sizes ≡ None
@@ -28,7 +28,7 @@ module _ (m : Map) (value : FileValue) (row : ℕ) where
       nothing method (p ∷ ps) None is = nothing method ps None is
       nothing method (p ∷ ps) (Some s) is = absurd cc
 
-      by : (o : Option MethodValue) → method_at value row ≡ o → slice_get (told_of (points_beyond m) o) 0 ≡ None
+      by : (o : Option MethodValue) → method_at value row ≡ o → slice_get (reported_of (points_beyond m) o) 0 ≡ None
       by None is = refl
       by (Some e) is =
           let named : e.method ≡ row = found row value.methods e is in
@@ -38,14 +38,14 @@ module _ (m : Map) (value : FileValue) (row : ℕ) where
   -- with one they are compared with its old size
   pub lined_points : (sizes : ℕ × ℕ) (signature : ℕ) (points : List Point) → sizes_of (offsets_in m row) ≡ Some sizes
       → method_at value row ≡ Some (record { method = row; signature = signature; points = points })
-      → slice_get (points_past row sizes.0 points) 0 ≡ slice_get (told_of (points_beyond m) (method_at value row)) 0
+      → slice_get (points_past row sizes.0 points) 0 ≡ slice_get (reported_of (points_beyond m) (method_at value row)) 0
   lined_points sizes signature points is there =
       ap (λ (s : Option (ℕ × ℕ)). slice_get (flat_map (λ (p : Point). if_past (λ size. nat_le size p.offset) row p.offset s) points) 0) (sym is)
-      ∙ ap (λ (o : Option MethodValue). slice_get (told_of (points_beyond m) o) 0) (sym there)
+      ∙ ap (λ (o : Option MethodValue). slice_get (reported_of (points_beyond m) o) 0) (sym there)
 
   -- a method without points has nothing beyond
-  pub pointless : method_at value row ≡ None → slice_get (told_of (points_beyond m) (method_at value row)) 0 ≡ None
-  pointless none = ap (λ (o : Option MethodValue). slice_get (told_of (points_beyond m) o) 0) none
+  pub pointless : method_at value row ≡ None → slice_get (reported_of (points_beyond m) (method_at value row)) 0 ≡ None
+  pointless none = ap (λ (o : Option MethodValue). slice_get (reported_of (points_beyond m) o) 0) none
 
   -- the local signature of a method
   pub unsigned : signature_line m row ≡ None → option_and_then (given_signature m) (method_at value row) ≡ None

@@ -7,9 +7,9 @@ use Rattle.ppdb_maps.specs.Map.{Map, moved_name}
 use Rattle.ppdb_tables.specs.Parents.{CodesAreParents}
 use Rattle.ppdb_values.specs.{Owners.{ListsAreOwned}, RawFile.{RawFile}, Value.{value_of}, declared.annotation.Annotation.{Annotation}}
 use Rattle.ppdb_values.specs.declared.{custom.CustomValue.{CustomValue}, file.DocumentValue.{DocumentValue}, file.FileValue.{FileValue}}
-use Rattle.ppdb_values_sound_laws.proofs.Values.{value_sound}
-use Rattle.ppdb_merge_items.specs.{Each.{Each, Pairs}, NamedRows.{named_rows}, Annotated.{annotated_file}, SoundParts.{SoundParts}}
-use Rattle.ppdb_merge_items.proofs.{Lists.{Pairs-unmap}, Soundness.{parts_sound}, Values.{items_back}}
+use Rattle.ppdb_values_sound.proofs.Values.{value_sound}
+use Rattle.ppdb_merge_annotated.specs.{Each.{Each, Pairs}, NamedRows.{named_rows}, Annotated.{annotated_file}, SoundParts.{SoundParts}}
+use Rattle.ppdb_merge_annotated.proofs.{Lists.{Pairs-unmap}, Soundness.{parts_sound}, Values.{items_back}}
 use Rattle.ppdb_merge_moved.{specs.Fits.{IsImaged, AreApart}, proofs.Elements.{in_each}}
 use Rattle.ppdb_merge_fits.specs.{Clashes.{first_clash, clashes, unknown_kinds, if_unknown, is_unknown, is_at_gone}, Documents.{documents_twice}}
 use Rattle.ppdb_merge_fits.specs.{Laws.{NothingClashes}, Offsets.{beyond, lost, points_beyond, scope_beyond}, Rows.{unmapped, imaged_rows, rows_twice}}

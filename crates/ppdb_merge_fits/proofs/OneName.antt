@@ -6,7 +6,7 @@ use Rattle.ppdb_base.specs.declared.merge_error.MergeError.TheVariants.{Document
 use Rattle.ppdb_maps.{specs.Map.{Map, moved_name}, specs.declared.entries.NameLine.{NameLine}, proofs.Named.{same_bytes, bytes_same}}
 use Rattle.ppdb_tables.specs.RawTables.{numbered}
 use Rattle.ppdb_values.specs.{Ordered.{EachPair}, declared.file.DocumentValue.{DocumentValue}}
-use Rattle.ppdb_merge_items.{specs.Each.{Each, Pairs}, proofs.Lists.{Each-weaker, Pairs-weaker, pairs_row}}
+use Rattle.ppdb_merge_annotated.{specs.Each.{Each, Pairs}, proofs.Lists.{Each-weaker, Pairs-weaker, pairs_row}}
 use Rattle.ppdb_merge_fits.{specs.declared.documents.Names.{Names}, specs.Documents.{if_one_name, documents_twice}, specs.Names.{row_of}, proofs.Apart.{each_both}}
 use Rattle.ppdb_merge_fits.proofs.{First.{row_is, inside, take_next}, Fitting.{flat_none, fails}, Looking.{absent}, Parts.{name_twice}}
 
@@ -49,10 +49,10 @@ module _ (m : Map) where
   abbrev pub Leads : List (ℕ × DocumentValue) → Names → Type 0
   Leads before names = (name : List ℕ) → row_of names name ≡ option_map (λ (d : ℕ × DocumentValue). d.0) (find (gets name) before)
 
-  pub told_by : (documents : List DocumentValue) (names : Names) (i row : ℕ) (x : DocumentValue) (name : List ℕ) (o : Option ℕ) → row ≡ i
+  pub reported_by : (documents : List DocumentValue) (names : Names) (i row : ℕ) (x : DocumentValue) (name : List ℕ) (o : Option ℕ) → row ≡ i
       → Leads (take i (numbered documents)) names → name ≡ moved_name m x.name → o ≡ row_of names name
       → slice_get (name_twice m documents (row + 1, x)) 0 ≡ option_map (λ first. DocumentTwice first (row + 1)) o
-  told_by documents names i row x name o same leads is from =
+  reported_by documents names i row x name o same leads is from =
       first_before i 1 (row + 1) x documents (omega (arith, same))
       ∙ split (find (gets (moved_name m x.name)) (take i (numbered documents)))
       ∙ ap (option_map (λ first. DocumentTwice first (row + 1))) (sym (from ∙ ap (row_of names) is ∙ leads (moved_name m x.name)))

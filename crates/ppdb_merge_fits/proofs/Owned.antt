@@ -5,7 +5,7 @@ use Rattle.ppdb_maps.specs.Map.{Map}
 use Rattle.ppdb_tables.specs.RawTables.{row_at}
 use Rattle.ppdb_values.specs.declared.{file.FileValue.{FileValue}, scope.ConstantValue.{ConstantValue}, scope.ScopeValue.{ScopeValue}}
 use Rattle.ppdb_values.{specs.declared.scope.VariableValue.{VariableValue}, proofs.Mapped.{row_map}}
-use Rattle.ppdb_merge_items.specs.NamedRows.{goes_constant}
+use Rattle.ppdb_merge_annotated.specs.NamedRows.{goes_constant}
 use Rattle.ppdb_merge_fits.specs.{declared.used.MethodSlot.{MethodSlot}, declared.used.OwnedConstant.{OwnedConstant}, Owned.{owned_by, owned_constants}}
 use Rattle.ppdb_merge_fits.{specs.Slots.{variable_slots}, proofs.ScopeLists.{of_row}}
 

@@ -4,7 +4,7 @@ use Rattle.ppdb_base.specs.declared.merge_error.MergeError.TheVariants.{Unmapped
 use Rattle.ppdb_values.specs.{Names.{MergeError, numbered}, declared.file.FileValue.{FileValue}, declared.file.DocumentValue.{DocumentValue}}
 use Rattle.ppdb_values.specs.declared.{scope.ScopeValue.{ScopeValue}, scope.ConstantValue.{ConstantValue}, custom.CustomValue.{CustomValue}}
 use Rattle.ppdb_maps.specs.Map.{Map, moved_name, row_image}
-use Rattle.ppdb_merge_items.specs.NamedRows.{live_custom}
+use Rattle.ppdb_merge_annotated.specs.NamedRows.{live_custom}
 use Rattle.ppdb_merge_names.specs.References.{Reference}
 use Rattle.ppdb_merge_fits.specs.{Documents.{if_one_name}, Offsets.{async_offsets, body_beyond, if_lost}, Rows.{is_row}}
 

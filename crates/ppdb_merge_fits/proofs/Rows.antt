@@ -6,7 +6,7 @@ use Rattle.ppdb_tables.{specs.declared.rows.MethodDebugRow.{MethodDebugRow}, spe
 use Rattle.ppdb_values.specs.{declared.file.MethodValue.{MethodValue}, Documents.{method_of}, Parts.{method_at}, RawFile.{RawFile}, Rows.{ValuesAreRows, method_in}}
 use Rattle.ppdb_values.specs.Value.{value_of}
 use Rattle.ppdb_values_reading.proofs.Rows.{numbered_row}
-use Rattle.ppdb_merge_fits.{specs.Walks.{told_of}, proofs.First.{any_hit, any_miss, filter_next, hit, miss, none_left, take_all}}
+use Rattle.ppdb_merge_fits.{specs.Walks.{reported_of}, proofs.First.{any_hit, any_miss, filter_next, hit, miss, none_left, take_all}}
 
 get_at : {X : Type 0} (xs : List X) (i : ℕ) (x : X) → slice_get xs i ≡ Some x → (i < length xs) × (x ≡ get_or xs i x)
 get_at [] i x there = absurd cc
@@ -22,10 +22,10 @@ item_there xs i less = row_there xs (i + 1) (omega arith) (omega (arith, less))
 
 module _ {A B : Type 0} (f : A → List B) (xs : List A) (i : ℕ) where
   pub row_hit : (x : A) (e : B) → flat_map f (take i xs) ≡ [] → row_at xs (i + 1) ≡ Some x → slice_get (f x) 0 ≡ Some e → slice_get (flat_map f xs) 0 ≡ Some e
-  row_hit x e none there told = let at = item_at xs i x there in hit f xs i x e none at.0 at.1 told
+  row_hit x e none there reported = let at = item_at xs i x there in hit f xs i x e none at.0 at.1 reported
 
   pub row_miss : (x : A) → flat_map f (take i xs) ≡ [] → row_at xs (i + 1) ≡ Some x → slice_get (f x) 0 ≡ None → flat_map f (take (i + 1) xs) ≡ []
-  row_miss x none there told = let at = item_at xs i x there in miss f xs i x none at.0 at.1 told
+  row_miss x none there reported = let at = item_at xs i x there in miss f xs i x none at.0 at.1 reported
 
 -- ---- whether some row passes a test
 
@@ -43,39 +43,40 @@ method_is : (raw : RawFile) (i : ℕ) → ValuesAreRows → (cells : MethodDebug
 method_is raw i values cells there = values.method raw (i + 1) ∙ ap (method_in raw.tables (i + 1)) there
 
 module _ {B : Type 0} (raw : RawFile) (f : MethodValue → List B) where
-  abbrev pub told : ℕ × MethodDebugRow → List B
-  told x = told_of f (method_of raw.tables x)
+  abbrev pub reported : ℕ × MethodDebugRow → List B
+  reported x = reported_of f (method_of raw.tables x)
 
-  made : (xs : List (ℕ × MethodDebugRow)) → flat_map f (filter_map (method_of raw.tables) xs) ≡ flat_map told xs
+  made : (xs : List (ℕ × MethodDebugRow)) → flat_map f (filter_map (method_of raw.tables) xs) ≡ flat_map reported xs
   made [] = refl
   made (x ∷ xs) = one (method_of raw.tables x) (made xs)
     where
-      one : (o : Option MethodValue) → flat_map f (filter_map (method_of raw.tables) xs) ≡ flat_map told xs
-          → flat_map f (cons_option o (filter_map (method_of raw.tables) xs)) ≡ told_of f o ++ flat_map told xs
+      one : (o : Option MethodValue) → flat_map f (filter_map (method_of raw.tables) xs) ≡ flat_map reported xs
+          → flat_map f (cons_option o (filter_map (method_of raw.tables) xs)) ≡ reported_of f o ++ flat_map reported xs
       one None rest = rest
       one (Some y) rest = ap (λ (l : List B). f y ++ l) rest
 
   module _ (i : ℕ) (values : ValuesAreRows) (less : i < length raw.tables.methods) where
-    pub method_hit : (e : B) → flat_map told (take i (numbered raw.tables.methods)) ≡ [] → slice_get (told_of f (method_at (value_of raw) (i + 1))) 0 ≡ Some e
+    pub method_hit : (e : B) → flat_map reported (take i (numbered raw.tables.methods)) ≡ []
+        → slice_get (reported_of f (method_at (value_of raw) (i + 1))) 0 ≡ Some e
         → slice_get (flat_map f (value_of raw).methods) 0 ≡ Some e
     method_hit e none is =
         let x = item_there raw.tables.methods i less in
         ap (λ (l : List B). slice_get l 0) (made (numbered raw.tables.methods))
-        ∙ row_hit told (numbered raw.tables.methods) i (i + 1, x.0) e none (numbered_row raw.tables.methods (i + 1) x.0 x.1)
-        (ap (λ (o : Option MethodValue). slice_get (told_of f o) 0) (sym (method_is raw i values x.0 x.1)) ∙ is)
+        ∙ row_hit reported (numbered raw.tables.methods) i (i + 1, x.0) e none (numbered_row raw.tables.methods (i + 1) x.0 x.1)
+        (ap (λ (o : Option MethodValue). slice_get (reported_of f o) 0) (sym (method_is raw i values x.0 x.1)) ∙ is)
 
-    pub method_miss : flat_map told (take i (numbered raw.tables.methods)) ≡ [] → slice_get (told_of f (method_at (value_of raw) (i + 1))) 0 ≡ None
-        → flat_map told (take (i + 1) (numbered raw.tables.methods)) ≡ []
+    pub method_miss : flat_map reported (take i (numbered raw.tables.methods)) ≡ [] → slice_get (reported_of f (method_at (value_of raw) (i + 1))) 0 ≡ None
+        → flat_map reported (take (i + 1) (numbered raw.tables.methods)) ≡ []
     method_miss none is =
         let x = item_there raw.tables.methods i less in
-        row_miss told (numbered raw.tables.methods) i (i + 1, x.0) none (numbered_row raw.tables.methods (i + 1) x.0 x.1)
-        (ap (λ (o : Option MethodValue). slice_get (told_of f o) 0) (sym (method_is raw i values x.0 x.1)) ∙ is)
+        row_miss reported (numbered raw.tables.methods) i (i + 1, x.0) none (numbered_row raw.tables.methods (i + 1) x.0 x.1)
+        (ap (λ (o : Option MethodValue). slice_get (reported_of f o) 0) (sym (method_is raw i values x.0 x.1)) ∙ is)
 
-  pub no_method : (i : ℕ) → length raw.tables.methods ≤ i → flat_map told (take i (numbered raw.tables.methods)) ≡ []
+  pub no_method : (i : ℕ) → length raw.tables.methods ≤ i → flat_map reported (take i (numbered raw.tables.methods)) ≡ []
       → slice_get (flat_map f (value_of raw).methods) 0 ≡ None
   no_method i all none =
       ap (λ (l : List B). slice_get l 0) (made (numbered raw.tables.methods))
-      ∙ none_left told (numbered raw.tables.methods) i none (omega (arith, all, length-enumerate_from 1 raw.tables.methods))
+      ∙ none_left reported (numbered raw.tables.methods) i none (omega (arith, all, length-enumerate_from 1 raw.tables.methods))
 
 module _ {B : Type 0} (raw : RawFile) (f : MethodValue → Option B) where
   abbrev pub given_by : ℕ × MethodDebugRow → Option B

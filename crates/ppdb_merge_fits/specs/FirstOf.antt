@@ -3,10 +3,10 @@ use Rattle.std.specs.Prelude.{◌≡◌, ◌⊎◌, List, [], Some, Result, Ok, 
 use Rattle.ppdb_base.specs.declared.merge_error.MergeError.{MergeError, TheVariants.Memory}
 
 -- the first that is reported, or that memory is refused
-abbrev pub IsTold : List MergeError → MergeError → Type 0
-IsTold told error = (error ≡ Memory) ⊎ (slice_get told 0 ≡ Some error)
+abbrev pub IsReported : List MergeError → MergeError → Type 0
+IsReported reported error = (error ≡ Memory) ⊎ (slice_get reported 0 ≡ Some error)
 
 -- an answer where nothing is reported, else the first that is
 abbrev pub IsFirstOf : {A : Type 0} → List MergeError → Result A MergeError → Type 0
-IsFirstOf told (Ok answer) = told ≡ []
-IsFirstOf told (Err error) = IsTold told error
+IsFirstOf reported (Ok answer) = reported ≡ []
+IsFirstOf reported (Err error) = IsReported reported error

@@ -1,10 +1,15 @@
--- IL offsets that a map does not know, and offsets of async records that it does not keep (docs/FORMAT.md, "Fitting").
-use Rattle.ppdb_values.specs.Names.{MergeError, OffsetBeyond, AsyncLost, is_kept_between, Point, Range, Slot, Empty, Held, AsyncStep}
-use Rattle.std.specs.Prelude.{ℕ, ◌+◌, Bool, cond, nat_le, nat_lt, List, [], ◌∷◌, ◌++◌, Option, Some, None, map, option_to_list, flat_map}
+-- IL offsets that a map does not know, and offsets of async records that it does not keep
+-- (docs/FORMAT.md, "Fitting").
+use Rattle.ppdb_values.specs.Names.{MergeError, OffsetBeyond, AsyncLost, is_kept_between, Point}
+use Rattle.ppdb_values.specs.Names.{Range, Slot, Empty, Held, AsyncStep}
+use Rattle.std.specs.Prelude.{ℕ, ◌+◌, Bool, cond, nat_le, nat_lt, List, [], ◌∷◌, ◌++◌, Option, Some}
+use Rattle.std.specs.Prelude.{None, map, option_to_list, flat_map}
 use Rattle.ppdb_maps.specs.{Map.{Map, offsets_in}, Says.sizes_of}
-use Rattle.ppdb_values.specs.{declared.file.{FileValue.FileValue, MethodValue.MethodValue}, declared.scope.ScopeValue.ScopeValue, declared.custom.CustomBody.{CustomBody, TheVariants.{Async, Hoisted}}}
+use Rattle.ppdb_values.specs.declared.file.{FileValue.FileValue, MethodValue.MethodValue}
+use Rattle.ppdb_values.specs.declared.{scope.ScopeValue.ScopeValue, custom.CustomBody.CustomBody}
+use Rattle.ppdb_values.specs.declared.custom.CustomBody.TheVariants.{Async, Hoisted}
 use Rattle.ppdb_values.specs.declared.custom.CustomValue.{CustomValue}
-use Rattle.ppdb_merge_items.specs.NamedRows.{live_custom}
+use Rattle.ppdb_merge_annotated.specs.NamedRows.{live_custom}
 
 -- ---- the offsets of async records
 
@@ -25,22 +30,26 @@ handler_offsets method handler = map (offset_in method) (option_to_list handler)
 
 -- in the order of their bytes
 abbrev pub async_offsets : ℕ → CustomBody → List MethodOffset
-async_offsets method (Async handler steps) = handler_offsets method handler ++ flat_map (step_offsets method) steps
+async_offsets method (Async handler steps) =
+    handler_offsets method handler ++ flat_map (step_offsets method) steps
 async_offsets method body = []
 
 -- ---- what lies beyond the old size of a method that has a line
 
 abbrev pub if_past : (ℕ → Bool) → ℕ → ℕ → Option (ℕ × ℕ) → List MergeError
 if_past is_past method offset None = []
-if_past is_past method offset (Some sizes) = cond (is_past sizes.0) (OffsetBeyond method offset sizes.0 ∷ []) []
+if_past is_past method offset (Some sizes) =
+    cond (is_past sizes.0) (OffsetBeyond method offset sizes.0 ∷ []) []
 
 -- M4 of an offset that is not below the old size of its method
 abbrev pub offset_beyond : Map → MethodOffset → List MergeError
-offset_beyond m x = if_past (λ size. nat_le size x.offset) x.method x.offset (sizes_of (offsets_in m x.method))
+offset_beyond m x =
+    if_past (λ size. nat_le size x.offset) x.method x.offset (sizes_of (offsets_in m x.method))
 
 -- M4 of a range that ends above the old size of its method
 abbrev pub end_beyond : Map → ℕ → Range → List MergeError
-end_beyond m method range = if_past (λ size. nat_lt size range.end) method range.end (sizes_of (offsets_in m method))
+end_beyond m method range =
+    if_past (λ size. nat_lt size range.end) method range.end (sizes_of (offsets_in m method))
 
 abbrev pub points_beyond : Map → MethodValue → List MergeError
 points_beyond m e = flat_map (λ (p : Point). offset_beyond m (offset_in e.method p.offset)) e.points
@@ -62,7 +71,8 @@ abbrev pub beyond : Map → FileValue → List MergeError
 beyond m value =
     flat_map (points_beyond m) value.methods
     ++ (flat_map (scope_beyond m) value.scopes
-    ++ flat_map (λ (c : CustomValue). cond (live_custom m c) (body_beyond m c.parent.row c.value) []) value.customs)
+    ++ flat_map (λ (c : CustomValue).
+    cond (live_custom m c) (body_beyond m c.parent.row c.value) []) value.customs)
 
 -- ---- offsets of async records that are not kept
 
@@ -73,4 +83,5 @@ abbrev pub if_lost : Map → MethodOffset → List MergeError
 if_lost m x = cond (is_kept m x.method x.offset) [] (AsyncLost x.method x.offset ∷ [])
 
 abbrev pub lost : Map → FileValue → List MergeError
-lost m value = flat_map (λ (c : CustomValue). cond (live_custom m c) (flat_map (if_lost m) (async_offsets c.parent.row c.value)) []) value.customs
+lost m value = flat_map (λ (c : CustomValue). cond (live_custom m c)
+    (flat_map (if_lost m) (async_offsets c.parent.row c.value)) []) value.customs

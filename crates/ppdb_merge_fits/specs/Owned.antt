@@ -1,8 +1,10 @@
--- The constants of a file by their rows, each with its method and whether a map removes it (docs/FORMAT.md, "What else is removed").
+-- The constants of a file by their rows, each with its method and whether a map removes it
+-- (docs/FORMAT.md, "What else is removed").
 use Rattle.std.specs.Prelude.{ℕ, List, map, flat_map}
 use Rattle.ppdb_maps.specs.Map.{Map}
-use Rattle.ppdb_values.specs.{declared.file.FileValue.FileValue, declared.scope.{ConstantValue.ConstantValue, ScopeValue.ScopeValue}}
-use Rattle.ppdb_merge_items.specs.NamedRows.{goes_constant}
+use Rattle.ppdb_values.specs.declared.{file.FileValue.FileValue, scope.ConstantValue.ConstantValue}
+use Rattle.ppdb_values.specs.declared.scope.ScopeValue.{ScopeValue}
+use Rattle.ppdb_merge_annotated.specs.NamedRows.{goes_constant}
 use Rattle.ppdb_merge_fits.specs.declared.used.OwnedConstant.{OwnedConstant}
 
 -- a constant of a scope of this method

@@ -1,9 +1,13 @@
 -- The rows of the type system that a file names, with their images (docs/FORMAT.md, "Fitting").
-use Rattle.std.specs.Prelude.{◌≡◌, ℕ, ◌+◌, ◌*◌, not, Bool, true, false, cond, List, [], ◌∷◌, Option, Some, None, filter, filter_map, flat_map}
-use Rattle.ppdb_base.specs.declared.merge_error.MergeError.{MergeError, TheVariants.{Unmapped, ImageTwice}}
-use Rattle.ppdb_maps.specs.{Map.{Map, row_image}, declared.image.RowImage.{RowImage, TheVariants.Row}}
+use Rattle.std.specs.Prelude.{◌≡◌, ℕ, ◌+◌, ◌*◌, not, Bool, true, false, cond, List, [], ◌∷◌, Option}
+use Rattle.std.specs.Prelude.{Some, None, filter, filter_map, flat_map}
+use Rattle.ppdb_base.specs.declared.merge_error.MergeError.{MergeError}
+use Rattle.ppdb_base.specs.declared.merge_error.MergeError.TheVariants.{Unmapped, ImageTwice}
+use Rattle.ppdb_maps.specs.{Map.{Map, row_image}, declared.image.RowImage.RowImage}
+use Rattle.ppdb_maps.specs.declared.image.RowImage.TheVariants.{Row}
 use Rattle.ppdb_values.specs.RawFile.{RawFile}
-use Rattle.ppdb_merge_names.specs.{declared.imaged.Imaged.Imaged, References.{Reference, references}}
+use Rattle.ppdb_merge_names.specs.{declared.imaged.Imaged.Imaged, References.Reference}
+use Rattle.ppdb_merge_names.specs.References.{references}
 use Rattle.ppdb_merge_moved.specs.Fits.{may_share}
 use Rattle.ppdb_merge_fits.specs.Twice.{each_once, twice}
 
@@ -17,7 +21,8 @@ imaged m r = imaged_to r (row_image m r.table r.row)
 
 -- the rows that a file names with their images, each once, by table and row
 abbrev pub imaged_rows : Bool → Map → RawFile → List Imaged
-imaged_rows first m raw = each_once (λ (i : Imaged). i.table) (λ i. i.row) (filter_map (imaged m) (references first m raw))
+imaged_rows first m raw = each_once (λ (i : Imaged). i.table) (λ i. i.row)
+    (filter_map (imaged m) (references first m raw))
 
 -- the image is a row
 abbrev pub is_row : RowImage → Bool
@@ -27,7 +32,8 @@ is_row image = false
 -- M1: a reference whose image is missing. What names a row that is gone is no reference.
 abbrev pub unmapped : Bool → Map → RawFile → List MergeError
 unmapped first m raw =
-    flat_map (λ (r : Reference). cond (is_row (row_image m r.table r.row)) [] (Unmapped r.table r.row r.place ∷ [])) (references first m raw)
+    flat_map (λ (r : Reference). cond (is_row (row_image m r.table r.row)) []
+    (Unmapped r.table r.row r.place ∷ [])) (references first m raw)
 
 -- the image is the row itself
 abbrev pub Stays : Imaged → Type 0
@@ -46,4 +52,5 @@ abbrev pub image_twice : Imaged → Imaged → MergeError
 image_twice a b = ImageTwice a.table a.row b.row a.image
 
 abbrev pub rows_twice : Map → List Imaged → List MergeError
-rows_twice m rows = twice (λ (i : Imaged). i.table) (λ i. i.row) image_key image_twice (unshared m rows)
+rows_twice m rows =
+    twice (λ (i : Imaged). i.table) (λ i. i.row) image_key image_twice (unshared m rows)

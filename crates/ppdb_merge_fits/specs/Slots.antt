@@ -1,9 +1,13 @@
--- The slots of variables that have no image by a map, and those of one method that have one image (docs/FORMAT.md, "Fitting").
+-- The slots of variables that have no image by a map, and those of one method that have one image
+-- (docs/FORMAT.md, "Fitting").
 use Rattle.ppdb_values.specs.Names.{MergeError, SlotUnmapped, SlotTwice, numbered}
-use Rattle.std.specs.Prelude.{ℕ, ◌||◌, cond, is_some, List, [], ◌∷◌, Option, None, map, filter_map, flat_map, option_map}
+use Rattle.std.specs.Prelude.{ℕ, ◌||◌, cond, is_some, List, [], ◌∷◌, Option, None, map, filter_map}
+use Rattle.std.specs.Prelude.{flat_map, option_map}
 use Rattle.ppdb_maps.specs.Map.{Map, slot_image, is_dropped}
-use Rattle.ppdb_values.specs.{declared.file.FileValue.FileValue, declared.scope.{ScopeValue.ScopeValue, VariableValue.VariableValue}}
-use Rattle.ppdb_merge_fits.specs.{declared.used.{MethodSlot.MethodSlot, UsedSlot.UsedSlot}, Twice.{each_once, twice}}
+use Rattle.ppdb_values.specs.declared.{file.FileValue.FileValue, scope.ScopeValue.ScopeValue}
+use Rattle.ppdb_values.specs.declared.scope.VariableValue.{VariableValue}
+use Rattle.ppdb_merge_fits.specs.declared.used.{MethodSlot.MethodSlot, UsedSlot.UsedSlot}
+use Rattle.ppdb_merge_fits.specs.Twice.{each_once, twice}
 
 -- the slots of the variables of a scope
 abbrev pub scope_slots : ScopeValue → List MethodSlot
@@ -16,7 +20,8 @@ variable_slots value = flat_map scope_slots value.scopes
 -- a variable that stands at no dropped method has a slot without image
 abbrev pub if_slot_unmapped : Map → ℕ × MethodSlot → List MergeError
 if_slot_unmapped m x =
-    cond (is_dropped m x.1.method || is_some (slot_image m x.1.method x.1.slot)) [] (SlotUnmapped x.0 x.1.slot ∷ [])
+    cond (is_dropped m x.1.method || is_some (slot_image m x.1.method x.1.slot)) []
+    (SlotUnmapped x.0 x.1.slot ∷ [])
 
 abbrev pub slots_unmapped : Map → FileValue → List MergeError
 slots_unmapped m value = flat_map (if_slot_unmapped m) (numbered (variable_slots value))
@@ -25,7 +30,8 @@ slots_unmapped m value = flat_map (if_slot_unmapped m) (numbered (variable_slots
 abbrev pub used : Map → MethodSlot → Option UsedSlot
 used m x =
     cond (is_dropped m x.method) None
-    (option_map (λ image. record { method = x.method; slot = x.slot; image = image }) (slot_image m x.method x.slot))
+    (option_map (λ image. record { method = x.method; slot = x.slot; image = image })
+    (slot_image m x.method x.slot))
 
 -- M11 of two slots with one image
 abbrev pub slot_twice : UsedSlot → UsedSlot → MergeError

@@ -1,5 +1,6 @@
 // Documents of a file that get one name.
-ghost use Rattle.std.specs.Prelude.{◌≡◌, ℕ, List, None, Some, IfOk, OnOk, cond, bytes_eq, slice_get};
+ghost use Rattle.std.specs.Prelude.{◌≡◌, ℕ, List, None, Some, IfOk, OnOk, cond, bytes_eq};
+ghost use Rattle.std.specs.Prelude.{slice_get};
 ghost use Rattle.ppdb_values.specs.Value.{value_of};
 ghost use Rattle.ppdb_verify.specs.Views.{raw_file};
 ghost use Rattle.ppdb_merge_fits.specs.Documents.{documents_twice};
@@ -10,7 +11,7 @@ use ppdb_maps::MapText;
 use ppdb_tables::DOCUMENT;
 use ppdb_values_reading::read_document;
 use ppdb_verify::Verified;
-use ppdb_verify_rows::count;
+use ppdb_verify_readers::count;
 use std::alloc::Global;
 use std::collections::BTreeMap;
 use std::sync::ledger::Ledger;
@@ -42,7 +43,8 @@ impl Names {
 
     /// Adds a document.
     fn add(&mut self, name: &[u8], row: u32) -> Result<(), Memory>
-        ensures { OnOk result ((other : List ℕ) → row_of self.new other ≡ cond (bytes_eq name.now other) (Some row) (row_of self.old other)) }
+        ensures { OnOk result ((other : List ℕ) → row_of self.new other
+            ≡ cond (bytes_eq name.now other) (Some row) (row_of self.old other)) }
     {
         let name = Vec::from_slice(self.alloc, name)?;
         self.rows.insert(name, row)?;
@@ -57,9 +59,10 @@ fn first_name_twice<L: Ledger>(
     map: &MapText,
     steps: &mut Steps<L>,
 ) -> Result<Option<MergeError>, Memory>
-    ensures { IfOk result (λ told. told ≡ slice_get (documents_twice map.now (value_of (raw_file file.now)).documents) 0) }
+    ensures { IfOk result (λ reported. reported
+        ≡ slice_get (documents_twice map.now (value_of (raw_file file.now)).documents) 0) }
 {
-    let _ = file.keeps();
+    let _ = file.facts();
     let count = count(file, DOCUMENT);
     let mut names = Names::new(alloc);
     let mut text = Bytes::new(alloc);
@@ -76,17 +79,18 @@ fn first_name_twice<L: Ledger>(
     Ok(None)
 }
 
-/// What is reported of the first two documents of a file that get one name. Their own names differ, so there are none where the map has
-/// no `document` line.
+/// What is reported of the first two documents of a file that get one name. Their own names differ,
+/// so there are none where the map has no `document` line.
 pub(crate) fn first_document_twice<L: Ledger>(
     alloc: Global,
     file: &Verified<'_>,
     map: &MapText,
     steps: &mut Steps<L>,
 ) -> Result<Option<MergeError>, Memory>
-    ensures { IfOk result (λ told. told ≡ slice_get (documents_twice map.now (value_of (raw_file file.now)).documents) 0) }
+    ensures { IfOk result (λ reported. reported
+        ≡ slice_get (documents_twice map.now (value_of (raw_file file.now)).documents) 0) }
 {
-    let _ = file.keeps();
+    let _ = file.facts();
     if map.document_line(0).is_none() {
         return Ok(None);
     }

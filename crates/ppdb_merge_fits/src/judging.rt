@@ -1,5 +1,6 @@
 // Whether a map fits a file.
-ghost use Rattle.std.specs.Prelude.{◌≡◌, ◌⊎◌, ◌↔◌, ◌++◌, ◌∷◌, [], All, IsTrue, List, None, Some, IfOk, IfErr, OnOk, slice_get};
+ghost use Rattle.std.specs.Prelude.{◌≡◌, ◌⊎◌, ◌↔◌, ◌++◌, ◌∷◌, [], All, IsTrue, List, None, Some};
+ghost use Rattle.std.specs.Prelude.{IfOk, IfErr, OnOk, slice_get};
 ghost use Rattle.std.specs.List.{filter_map};
 ghost use Rattle.ppdb_base.specs.declared.merge_error.MergeError.{MergeError};
 ghost use Rattle.ppdb_base.specs.declared.merge_error.MergeError.TheVariants.{Memory as NoMemory};
@@ -11,7 +12,8 @@ ghost use Rattle.ppdb_merge_fits.specs.Clashes.{unknown_kinds, first_clash};
 ghost use Rattle.ppdb_merge_fits.specs.Documents.{documents_twice};
 ghost use Rattle.ppdb_merge_fits.specs.FirstOf.{IsFirstOf};
 ghost use Rattle.ppdb_merge_fits.specs.Offsets.{beyond, lost};
-ghost use Rattle.ppdb_merge_fits.specs.Rows.{imaged, imaged_rows, unmapped, rows_twice, unshared, Stays};
+ghost use Rattle.ppdb_merge_fits.specs.Rows.{imaged, imaged_rows, unmapped, rows_twice, unshared};
+ghost use Rattle.ppdb_merge_fits.specs.Rows.{Stays};
 ghost use Rattle.ppdb_merge_fits.specs.Signatures.{all_images};
 ghost use Rattle.ppdb_merge_fits.specs.Slots.{slots_unmapped, slots_twice, variable_slots};
 
@@ -31,10 +33,10 @@ use std::alloc::Global;
 use std::sync::ledger::Ledger;
 
 /// Refuses what something is reported of.
-fn refuse(told: Option<MergeError>) -> Result<(), MergeError>
-    ensures { (all : List MergeError) → told ≡ slice_get all 0 → IsFirstOf all result }
+fn refuse(reported: Option<MergeError>) -> Result<(), MergeError>
+    ensures { (all : List MergeError) → reported ≡ slice_get all 0 → IsFirstOf all result }
 {
-    match told {
+    match reported {
         Some(error) => Err(error),
         None => Ok(()),
     }
@@ -48,7 +50,8 @@ fn judge_offsets<L: Ledger>(
     marks: &Marks,
     steps: &mut Steps<L>,
 ) -> Result<(), MergeError>
-    ensures { IsFirstOf (unknown_kinds marks.now map.now (value_of (raw_file file.now)) ++ (beyond map.now (value_of (raw_file file.now))
+    ensures { IsFirstOf (unknown_kinds marks.now map.now (value_of (raw_file file.now))
+        ++ (beyond map.now (value_of (raw_file file.now))
         ++ lost map.now (value_of (raw_file file.now)))) result }
 {
     refuse(first_unknown(alloc, marks, map, file, steps)?)?;
@@ -64,8 +67,9 @@ fn placed_images<L: Ledger>(
     first: bool,
     steps: &mut Steps<L>,
 ) -> Result<Vec<Imaged>, MergeError>
-    ensures rows { IfOk result (λ rows. rows.items ≡ filter_map (imaged map.now) (references first map.now (raw_file file.now))) }
-    ensures told { IsFirstOf (unmapped first map.now (raw_file file.now)) result }
+    ensures rows { IfOk result (λ rows. rows.items
+        ≡ filter_map (imaged map.now) (references first map.now (raw_file file.now))) }
+    ensures reported { IsFirstOf (unmapped first map.now (raw_file file.now)) result }
 {
     match images(alloc, file, map, first, steps) {
         Ok(rows) => Ok(rows.into_vec()),
@@ -120,7 +124,7 @@ fn first_image_twice(
     map: &MapText,
     rows: &[Imaged],
 ) -> Result<Option<MergeError>, Memory>
-    ensures { IfOk result (λ told. told ≡ slice_get (rows_twice map.now rows.now) 0) }
+    ensures { IfOk result (λ reported. reported ≡ slice_get (rows_twice map.now rows.now) 0) }
 {
     if all_stay(rows) {
         return Ok(None);
@@ -129,7 +133,8 @@ fn first_image_twice(
     first_twice(&mut all)
 }
 
-/// Judges the rows that a file names, and gives them with their images, each once, by table and row.
+/// Judges the rows that a file names, and gives them with their images, each once, by table and
+/// row.
 fn judge_rows<L: Ledger>(
     alloc: Global,
     file: &Verified<'_>,
@@ -138,7 +143,8 @@ fn judge_rows<L: Ledger>(
     steps: &mut Steps<L>,
 ) -> Result<List<Imaged>, MergeError>
     ensures rows { IfOk result (λ rows. rows ≡ imaged_rows first map.now (raw_file file.now)) }
-    ensures told { IsFirstOf (unmapped first map.now (raw_file file.now) ++ rows_twice map.now (imaged_rows first map.now (raw_file file.now))) result }
+    ensures reported { IsFirstOf (unmapped first map.now (raw_file file.now)
+        ++ rows_twice map.now (imaged_rows first map.now (raw_file file.now))) result }
 {
     let mut rows = placed_images(alloc, file, map, first, steps)?;
     leave_once(&mut rows)?;
@@ -153,7 +159,8 @@ fn judge_slots<L: Ledger>(
     map: &MapText,
     steps: &mut Steps<L>,
 ) -> Result<(), MergeError>
-    ensures { IsFirstOf (slots_unmapped map.now (value_of (raw_file file.now)) ++ slots_twice map.now (variable_slots (value_of (raw_file file.now)))) result }
+    ensures { IsFirstOf (slots_unmapped map.now (value_of (raw_file file.now))
+        ++ slots_twice map.now (variable_slots (value_of (raw_file file.now)))) result }
 {
     refuse(first_of_slots(alloc, file, map, steps)?)
 }
@@ -170,9 +177,11 @@ fn judge_documents<L: Ledger>(
     refuse(first_document_twice(alloc, file, map, steps)?)
 }
 
-/// Judges whether a map fits a file: the rows of the type system that the file names with their images, each once, and the local
-/// signatures that `signature` lines give, by table, row and image; else what does not fit first, in the order M6, M4, M5, M1, M2, M10,
-/// M11, M12. What is removed (docs/FORMAT.md, "What else is removed") is not judged. The entry point counts in the first of several files.
+/// Judges whether a map fits a file: the rows of the type system that the file names with their
+/// images, each once, and the local signatures that `signature` lines give, by table, row and
+/// image; else what does not fit first, in the order M6, M4, M5, M1, M2, M10, M11, M12. What is
+/// removed (docs/FORMAT.md, "What else is removed") is not judged. The entry point counts in the
+/// first of several files.
 pub fn judge<L: Ledger>(
     alloc: Global,
     file: &Verified<'_>,
@@ -181,9 +190,11 @@ pub fn judge<L: Ledger>(
     first: bool,
     steps: &mut Steps<L>,
 ) -> Result<List<Imaged>, MergeError>
-    ensures fits { IfOk result (λ rows. first_clash marks.now first map.now (raw_file file.now) ≡ None) }
+    ensures fits { IfOk result
+        (λ rows. first_clash marks.now first map.now (raw_file file.now) ≡ None) }
     ensures rows { IfOk result (λ rows. rows ≡ all_images first map.now (raw_file file.now)) }
-    ensures refused { IfErr result (λ error. (error ≡ NoMemory) ⊎ (first_clash marks.now first map.now (raw_file file.now) ≡ Some error)) }
+    ensures refused { IfErr result (λ error. (error ≡ NoMemory)
+        ⊎ (first_clash marks.now first map.now (raw_file file.now) ≡ Some error)) }
 {
     judge_offsets(alloc, file, map, marks, steps)?;
     let rows = judge_rows(alloc, file, map, first, steps)?;

@@ -1,5 +1,6 @@
 // Custom records of unknown kinds.
-ghost use Rattle.std.specs.Prelude.{◌≡◌, ◌++◌, IfOk, OnOk, map, flat_map, option_to_list, slice_get};
+ghost use Rattle.std.specs.Prelude.{◌≡◌, ◌++◌, IfOk, OnOk, map, flat_map, option_to_list};
+ghost use Rattle.std.specs.Prelude.{slice_get};
 ghost use Rattle.std.specs.List.{list_any};
 ghost use Rattle.ppdb_tables.specs.RawTables.{row_at};
 ghost use Rattle.ppdb_values.specs.Value.{value_of};
@@ -7,8 +8,9 @@ ghost use Rattle.ppdb_values.specs.declared.scope.ScopeValue.{ScopeValue};
 ghost use Rattle.ppdb_values_reading.specs.Lent.{custom_shown};
 ghost use Rattle.ppdb_values_reading.specs.Scopes.{HasLists, scope_with};
 ghost use Rattle.ppdb_verify.specs.Views.{raw_file};
-ghost use Rattle.ppdb_merge_items.specs.NamedRows.{goes_constant};
-ghost use Rattle.ppdb_merge_fits.specs.Clashes.{method_at, is_at_dropped, is_at_gone, is_at_gone_constant, is_unknown};
+ghost use Rattle.ppdb_merge_annotated.specs.NamedRows.{goes_constant};
+ghost use Rattle.ppdb_merge_fits.specs.Clashes.{method_at, is_at_dropped, is_at_gone};
+ghost use Rattle.ppdb_merge_fits.specs.Clashes.{is_at_gone_constant, is_unknown};
 ghost use Rattle.ppdb_merge_fits.specs.Clashes.{if_unknown, unknown_kinds};
 ghost use Rattle.ppdb_merge_fits.specs.Owned.{owned_constants, scope_constants};
 ghost use Rattle.ppdb_merge_fits.specs.Walks.{has_unknown};
@@ -24,7 +26,7 @@ use ppdb_values_reading::{
     LentCustom, Scope, ScopeCursor, read_constant, read_custom, scopes_own_their_lists,
 };
 use ppdb_verify::Verified;
-use ppdb_verify_rows::{copy_of, count, custom, guid_of_kind, scope};
+use ppdb_verify_readers::{copy_of, count, custom, guid_of_kind, scope};
 use std::alloc::Global;
 use std::marker::Model;
 use std::sync::ledger::Ledger;
@@ -40,9 +42,10 @@ fn add_constants<L: Ledger>(
     steps: &mut Steps<L>,
 ) -> Result<(), Memory>
     requires { HasLists (raw_file file.now).tables scope.now }
-    ensures { OnOk result (constants.new ≡ constants.old ++ scope_constants map.now (scope_with (raw_file file.now).tables scope.now)) }
+    ensures { OnOk result (constants.new ≡ constants.old
+        ++ scope_constants map.now (scope_with (raw_file file.now).tables scope.now)) }
 {
-    let _ = file.keeps();
+    let _ = file.facts();
     let mut row = scope.constants.first;
     'rows: while row < scope.constants.end {
         let lent = read_constant(file, row, modifiers, steps)?;
@@ -62,9 +65,10 @@ fn all_constants<L: Ledger>(
     map: &MapText,
     steps: &mut Steps<L>,
 ) -> Result<List<OwnedConstant>, Memory>
-    ensures { IfOk result (λ constants. constants ≡ owned_constants map.now (value_of (raw_file file.now))) }
+    ensures { IfOk result
+        (λ constants. constants ≡ owned_constants map.now (value_of (raw_file file.now))) }
 {
-    let _ = file.keeps();
+    let _ = file.facts();
     scopes_own_their_lists();
     let mut modifiers = List::new(alloc);
     let mut constants = List::new(alloc);
@@ -77,9 +81,10 @@ fn all_constants<L: Ledger>(
 
 /// The method of the scope of a row; none past the last.
 fn scope_method<L: Ledger>(file: &Verified<'_>, row: u32, steps: &mut Steps<L>) -> Option<u32>
-    ensures { result ≡ row_at (map (λ (s : ScopeValue). s.method) (value_of (raw_file file.now)).scopes) row }
+    ensures { result
+        ≡ row_at (map (λ (s : ScopeValue). s.method) (value_of (raw_file file.now)).scopes) row }
 {
-    let _ = file.keeps();
+    let _ = file.facts();
     if row == 0 || row > count(file, LOCAL_SCOPE) {
         return None;
     }
@@ -96,8 +101,8 @@ fn entry<T: Copy>(entries: &[T], row: u32) -> Option<T>
     entries.get(row as usize - 1).copied()
 }
 
-/// A map and a file, with the methods of its variables and constants and the constants that are removed, by their rows. It is seen as the map and
-/// the value of the file.
+/// A map and a file, with the methods of its variables and constants and the constants that are
+/// removed, by their rows. It is seen as the map and the value of the file.
 #[derive(Drop)]
 struct Rows<'m, 'a> {
     by: &'m MapText,
@@ -142,7 +147,8 @@ impl<'m, 'a> Rows<'m, 'a> {
 
     /// The method of the variable of a row; none past the last.
     fn variable_method(&self, row: u32) -> Option<u32>
-        ensures { result ≡ row_at (flat_map (λ (s : ScopeValue). map (λ v. s.method) s.variables) self.now.1.scopes) row }
+        ensures { result ≡ row_at
+            (flat_map (λ (s : ScopeValue). map (λ v. s.method) s.variables) self.now.1.scopes) row }
     {
         match entry(self.variables.as_slice(), row) {
             Some(variable) => Some(variable.method),
@@ -152,7 +158,8 @@ impl<'m, 'a> Rows<'m, 'a> {
 
     /// The method of the constant of a row; none past the last.
     fn constant_method(&self, row: u32) -> Option<u32>
-        ensures { result ≡ row_at (flat_map (λ (s : ScopeValue). map (λ c. s.method) s.constants) self.now.1.scopes) row }
+        ensures { result ≡ row_at
+            (flat_map (λ (s : ScopeValue). map (λ c. s.method) s.constants) self.now.1.scopes) row }
     {
         match entry(self.constants.as_slice(), row) {
             Some(constant) => Some(constant.method),
@@ -162,7 +169,8 @@ impl<'m, 'a> Rows<'m, 'a> {
 
     /// Whether the constant of a row is removed.
     fn is_gone_constant(&self, row: u32) -> bool
-        ensures { result ≡ list_any (goes_constant self.now.0) (option_to_list (row_at (flat_map (λ (s : ScopeValue). s.constants) self.now.1.scopes) row)) }
+        ensures { result ≡ list_any (goes_constant self.now.0) (option_to_list
+            (row_at (flat_map (λ (s : ScopeValue). s.constants) self.now.1.scopes) row)) }
     {
         match entry(self.constants.as_slice(), row) {
             Some(constant) => constant.goes,
@@ -221,7 +229,7 @@ fn is_unknown(kind: Kind) -> bool
 fn any_unknown<L: Ledger>(file: &Verified<'_>, marks: &Marks, steps: &mut Steps<L>) -> bool
     ensures { result ≡ has_unknown marks.now (value_of (raw_file file.now)).customs }
 {
-    let _ = file.keeps();
+    let _ = file.facts();
     let count = count(file, CUSTOM);
     let mut row: u32 = 0;
     'rows: while row < count {
@@ -242,7 +250,8 @@ fn kind_unknown<L: Ledger>(
     custom: &LentCustom<'_>,
     steps: &mut Steps<L>,
 ) -> Option<MergeError>
-    ensures { result ≡ slice_get (if_unknown marks.now rows.now.0 rows.now.1 (row, custom_shown custom.now)) 0 }
+    ensures { result
+        ≡ slice_get (if_unknown marks.now rows.now.0 rows.now.1 (row, custom_shown custom.now)) 0 }
 {
     if is_unknown(kind_of(&custom.kind, marks)) && !rows.is_at_gone(custom.parent, steps) {
         return Some(MergeError::KindUnknown {
@@ -264,7 +273,7 @@ fn first_in<L: Ledger>(
     requires { rows.now.1 ≡ value_of (raw_file file.now) }
     ensures { result ≡ slice_get (unknown_kinds marks.now rows.now.0 rows.now.1) 0 }
 {
-    let _ = file.keeps();
+    let _ = file.facts();
     let count = count(file, CUSTOM);
     let mut row: u32 = 0;
     'customs: while row < count {
@@ -277,8 +286,8 @@ fn first_in<L: Ledger>(
     None
 }
 
-/// What is reported of the first record of an unknown kind that is not on what is removed. Only in a file that has a record of an unknown kind
-/// are the methods of rows asked for.
+/// What is reported of the first record of an unknown kind that is not on what is removed. Only in
+/// a file that has a record of an unknown kind are the methods of rows asked for.
 pub fn first_unknown<L: Ledger>(
     alloc: Global,
     marks: &Marks,
@@ -286,7 +295,8 @@ pub fn first_unknown<L: Ledger>(
     file: &Verified<'_>,
     steps: &mut Steps<L>,
 ) -> Result<Option<MergeError>, Memory>
-    ensures { IfOk result (λ told. told ≡ slice_get (unknown_kinds marks.now map.now (value_of (raw_file file.now))) 0) }
+    ensures { IfOk result (λ reported. reported
+        ≡ slice_get (unknown_kinds marks.now map.now (value_of (raw_file file.now))) 0) }
 {
     if !any_unknown(file, marks, steps) {
         return Ok(None);

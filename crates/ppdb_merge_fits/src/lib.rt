@@ -1,4 +1,5 @@
-//! Whether a map fits a debug file: what does not fit first, and where all fits, the images that the file has in the output.
+//! Whether a map fits a debug file: what does not fit first, and where all fits, the images that
+//! the file has in the output.
 #![tactic(auto)]
 
 mod beyond;

@@ -1,4 +1,5 @@
-// What is asked of an IL offset of a method: whether it is below the old size, and whether it is kept.
+// What is asked of an IL offset of a method: whether it is below the old size, and whether it is
+// kept.
 ghost use Rattle.std.specs.Prelude.{◌≡◌, ◌&&◌, not, is_some, slice_get};
 ghost use Rattle.custom_info.specs.declared.slots.Range.{Range};
 ghost use Rattle.ppdb_maps.specs.Map.{is_dropped, offsets_in};
@@ -77,7 +78,8 @@ pub(crate) struct Kept<'m> {
 
 /// Whether all offsets of a method are kept: it has no line, and is not dropped.
 fn keeps_all(map: &MapText, method: u32) -> bool
-    ensures { result ≡ (not (is_some (sizes_of (offsets_in map.now method))) && not (is_dropped map.now method)) }
+    ensures { result ≡ (not (is_some (sizes_of (offsets_in map.now method)))
+        && not (is_dropped map.now method)) }
 {
     map.method(method).sizes().is_none() && !map.dropped(method)
 }
@@ -86,7 +88,7 @@ fn keeps_all(map: &MapText, method: u32) -> bool
 fn is_kept(map: &MapText, method: u32, offset: u32) -> bool
     ensures { result ≡ is_kept map.now method offset }
 {
-    let _ = map.keeps();
+    let _ = map.facts();
     if offset == u32::MAX {
         return keeps_all(map, method);
     }

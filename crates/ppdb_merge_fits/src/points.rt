@@ -8,7 +8,7 @@ ghost use Rattle.ppdb_values.specs.Rules.{HasRow};
 ghost use Rattle.ppdb_values.specs.Value.{range_of, value_of};
 ghost use Rattle.ppdb_verify.specs.Views.{raw_file};
 ghost use Rattle.ppdb_merge_fits.specs.Offsets.{end_beyond, points_beyond, scope_beyond};
-ghost use Rattle.ppdb_merge_fits.specs.Walks.{points_past, told_of};
+ghost use Rattle.ppdb_merge_fits.specs.Walks.{points_past, reported_of};
 
 use crate::offsets::end_beyond;
 use custom_info::Range;
@@ -17,7 +17,7 @@ use ppdb_maps::MapText;
 use ppdb_tables::{LOCAL_SCOPE, METHOD_DEBUG};
 use ppdb_values::values_are_rows;
 use ppdb_verify::Verified;
-use ppdb_verify_rows::{count, method_debug, points_of, scope};
+use ppdb_verify_readers::{count, method_debug, points_of, scope};
 use sequence_points::PointCursor;
 use std::sync::ledger::Ledger;
 
@@ -38,7 +38,8 @@ fn first_past(mut cursor: PointCursor<'_>, method: u32, size: u32) -> Option<Mer
     None
 }
 
-/// What is reported first of the points of a row of MethodDebugInformation. They are read only if the method has a line.
+/// What is reported first of the points of a row of MethodDebugInformation. They are read only if
+/// the method has a line.
 fn first_of_points<L: Ledger>(
     file: &Verified<'_>,
     map: &MapText,
@@ -46,7 +47,8 @@ fn first_of_points<L: Ledger>(
     steps: &mut Steps<L>,
 ) -> Option<MergeError>
     requires there { HasRow (raw_file file.now).tables 0x31 row }
-    ensures { result ≡ slice_get (told_of (points_beyond map.now) (method_at (value_of (raw_file file.now)) row)) 0 }
+    ensures { result ≡ slice_get
+        (reported_of (points_beyond map.now) (method_at (value_of (raw_file file.now)) row)) 0 }
 {
     let (size, _) = map.method(row).sizes()?;
     let cells = method_debug(file, row, steps);
@@ -60,9 +62,10 @@ pub(crate) fn first_point_beyond<L: Ledger>(
     map: &MapText,
     steps: &mut Steps<L>,
 ) -> Option<MergeError>
-    ensures { result ≡ slice_get (flat_map (points_beyond map.now) (value_of (raw_file file.now)).methods) 0 }
+    ensures { result
+        ≡ slice_get (flat_map (points_beyond map.now) (value_of (raw_file file.now)).methods) 0 }
 {
-    let _ = file.keeps();
+    let _ = file.facts();
     values_are_rows();
     let count = count(file, METHOD_DEBUG);
     let mut row: u32 = 0;
@@ -86,7 +89,7 @@ fn range_beyond<L: Ledger>(
     ensures { (cells : ScopeRow) → row_at (raw_file file.now).tables.scopes row ≡ Some cells
         → result ≡ slice_get (end_beyond map.now cells.method (range_of cells)) 0 }
 {
-    let _ = file.keeps();
+    let _ = file.facts();
     let cells = scope(file, row, steps);
     let range = Range {
         start: cells.start,
@@ -101,9 +104,10 @@ pub(crate) fn first_range_beyond<L: Ledger>(
     map: &MapText,
     steps: &mut Steps<L>,
 ) -> Option<MergeError>
-    ensures { result ≡ slice_get (flat_map (scope_beyond map.now) (value_of (raw_file file.now)).scopes) 0 }
+    ensures { result
+        ≡ slice_get (flat_map (scope_beyond map.now) (value_of (raw_file file.now)).scopes) 0 }
 {
-    let _ = file.keeps();
+    let _ = file.facts();
     let count = count(file, LOCAL_SCOPE);
     let mut row: u32 = 0;
     'rows: while row < count {

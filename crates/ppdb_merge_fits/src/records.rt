@@ -8,9 +8,10 @@ ghost use Rattle.ppdb_values.specs.declared.custom.CustomBody.TheVariants.{Async
 ghost use Rattle.ppdb_values.specs.declared.custom.CustomValue.{CustomValue};
 ghost use Rattle.ppdb_values_reading.specs.Lent.{custom_shown};
 ghost use Rattle.ppdb_verify.specs.Views.{raw_file};
-ghost use Rattle.ppdb_merge_items.specs.NamedRows.{leaves_types, live_custom};
-ghost use Rattle.ppdb_merge_fits.specs.Offsets.{step_offsets, handler_offsets, async_offsets, slot_beyond};
-ghost use Rattle.ppdb_merge_fits.specs.Walks.{record_told};
+ghost use Rattle.ppdb_merge_annotated.specs.NamedRows.{leaves_types, live_custom};
+ghost use Rattle.ppdb_merge_fits.specs.Offsets.{step_offsets, handler_offsets, async_offsets};
+ghost use Rattle.ppdb_merge_fits.specs.Offsets.{slot_beyond};
+ghost use Rattle.ppdb_merge_fits.specs.Walks.{record_reported};
 
 use crate::offsets::{AsksOffset, Below, Kept, end_beyond};
 use custom_info::{AsyncCursor, AsyncStep, Slot, SlotCursor};
@@ -20,13 +21,14 @@ use ppdb_merge_moved::{is_gone_row, leaves_table};
 use ppdb_tables::{CUSTOM, METHOD_DEF, Parent};
 use ppdb_values_reading::{LentBody, LentCustom, read_custom};
 use ppdb_verify::Verified;
-use ppdb_verify_rows::count;
+use ppdb_verify_readers::count;
 use std::alloc::Global;
 use std::sync::ledger::Ledger;
 
 /// What is reported first of the offsets of a step.
 fn first_of_step<Q: AsksOffset>(question: &Q, method: u32, step: &AsyncStep) -> Option<MergeError>
-    ensures { result ≡ slice_get (flat_map (Q.tells question.now) (step_offsets method step.now)) 0 }
+    ensures { result
+        ≡ slice_get (flat_map (Q.tells question.now) (step_offsets method step.now)) 0 }
 {
     if let Some(error) = question.ask(method, step.pause) {
         return Some(error);
@@ -41,7 +43,8 @@ fn first_of_steps<Q: AsksOffset>(
     mut cursor: AsyncCursor<'_>,
 ) -> Option<MergeError>
     requires { cursor.left.fault ≡ None }
-    ensures { result ≡ slice_get (flat_map (λ step. flat_map (Q.tells question.now) (step_offsets method step)) cursor.entry.left.items) 0 }
+    ensures { result ≡ slice_get (flat_map (λ step.
+        flat_map (Q.tells question.now) (step_offsets method step)) cursor.entry.left.items) 0 }
 {
     'steps: while let Ok(Some(step)) = cursor.next() {
         if let Some(error) = first_of_step(question, method, &step) {
@@ -57,7 +60,8 @@ fn first_of_handler<Q: AsksOffset>(
     method: u32,
     handler: Option<u32>,
 ) -> Option<MergeError>
-    ensures { result ≡ slice_get (flat_map (Q.tells question.now) (handler_offsets method handler)) 0 }
+    ensures { result
+        ≡ slice_get (flat_map (Q.tells question.now) (handler_offsets method handler)) 0 }
 {
     match handler {
         Some(offset) => question.ask(method, offset),
@@ -72,7 +76,8 @@ fn first_of_async<Q: AsksOffset>(
     cursor: AsyncCursor<'_>,
 ) -> Option<MergeError>
     requires { cursor.left.fault ≡ None }
-    ensures { result ≡ slice_get (flat_map (Q.tells question.now) (async_offsets method (Async cursor.entry.handler cursor.entry.left.items))) 0 }
+    ensures { result ≡ slice_get (flat_map (Q.tells question.now)
+        (async_offsets method (Async cursor.entry.handler cursor.entry.left.items))) 0 }
 {
     if let Some(error) = first_of_handler(question, method, cursor.handler()) {
         return Some(error);
@@ -158,8 +163,8 @@ fn leaves_types(map: &MapText, record: &LentCustom<'_>) -> bool
     }
 }
 
-/// Whether a record is kept: its parent is no dropped method and is not gone, and it tells the documents of no type that becomes a row of
-/// another table.
+/// Whether a record is kept: its parent is no dropped method and is not gone, and it tells the
+/// documents of no type that becomes a row of another table.
 fn record_stays(map: &MapText, record: &LentCustom<'_>) -> bool
     ensures { result ≡ live_custom map.now (custom_shown record.now) }
 {
@@ -180,8 +185,9 @@ fn first_of_record<Q: AsksBody, L: Ledger>(
     steps: &mut Steps<L>,
 ) -> Option<MergeError>
     requires there { HasRow (raw_file file.now).tables 0x37 row }
-    ensures { (custom : CustomValue) → row_at (value_of (raw_file file.now)).customs row ≡ Some custom
-        → result ≡ slice_get (record_told map.now (Q.tells_body question.now) custom) 0 }
+    ensures { (custom : CustomValue)
+        → row_at (value_of (raw_file file.now)).customs row ≡ Some custom
+        → result ≡ slice_get (record_reported map.now (Q.tells_body question.now) custom) 0 }
 {
     let lent = read_custom(alloc, file, row, steps);
     if !record_stays(map, &lent) {
@@ -198,9 +204,10 @@ pub(crate) fn first_of_records<Q: AsksBody, L: Ledger>(
     question: &Q,
     steps: &mut Steps<L>,
 ) -> Option<MergeError>
-    ensures { result ≡ slice_get (flat_map (record_told map.now (Q.tells_body question.now)) (value_of (raw_file file.now)).customs) 0 }
+    ensures { result ≡ slice_get (flat_map (record_reported map.now (Q.tells_body question.now))
+        (value_of (raw_file file.now)).customs) 0 }
 {
-    let _ = file.keeps();
+    let _ = file.facts();
     let count = count(file, CUSTOM);
     let mut row: u32 = 0;
     'rows: while row < count {

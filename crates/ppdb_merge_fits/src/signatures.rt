@@ -13,11 +13,12 @@ use ppdb_merge_names::Imaged;
 use ppdb_tables::{METHOD_DEBUG, STAND_ALONE_SIG};
 use ppdb_values::values_are_rows;
 use ppdb_verify::Verified;
-use ppdb_verify_rows::{count, method_debug, points_of};
+use ppdb_verify_readers::{count, method_debug, points_of};
 use std::alloc::Global;
 use std::sync::ledger::Ledger;
 
-/// The local signature that a map gives the method of a row, if it has points, as the image of the stored one; none where it gives none.
+/// The local signature that a map gives the method of a row, if it has points, as the image of the
+/// stored one; none where it gives none.
 fn given_signature<L: Ledger>(
     file: &Verified<'_>,
     map: &MapText,
@@ -25,7 +26,8 @@ fn given_signature<L: Ledger>(
     steps: &mut Steps<L>,
 ) -> Option<Imaged>
     requires there { HasRow (raw_file file.now).tables 0x31 row }
-    ensures { result ≡ option_and_then (given_signature map.now) (method_at (value_of (raw_file file.now)) row) }
+    ensures { result
+        ≡ option_and_then (given_signature map.now) (method_at (value_of (raw_file file.now)) row) }
 {
     let image = map.signature(row)?;
     if image == 0 {
@@ -51,7 +53,8 @@ fn add_given<L: Ledger>(
 ) -> Result<(), Memory>
     requires there { HasRow (raw_file file.now).tables 0x31 row }
     ensures { OnOk result (all.new.items ≡ all.old.items
-        ++ option_to_list (option_and_then (given_signature map.now) (method_at (value_of (raw_file file.now)) row))) }
+        ++ option_to_list (option_and_then (given_signature map.now)
+        (method_at (value_of (raw_file file.now)) row))) }
 {
     if let Some(given) = given_signature(file, map, row, steps) {
         all.push(given)?;
@@ -66,9 +69,10 @@ fn given_signatures<L: Ledger>(
     map: &MapText,
     steps: &mut Steps<L>,
 ) -> Result<Vec<Imaged>, Memory>
-    ensures { IfOk result (λ all. all.items ≡ given_signatures map.now (value_of (raw_file file.now))) }
+    ensures { IfOk result
+        (λ all. all.items ≡ given_signatures map.now (value_of (raw_file file.now))) }
 {
-    let _ = file.keeps();
+    let _ = file.facts();
     values_are_rows();
     let mut all = Vec::new(alloc);
     if map.signature_line(0).is_none() {
@@ -96,7 +100,8 @@ fn with_further(rows: List<Imaged>, given: Vec<Imaged>) -> Result<List<Imaged>, 
     Ok(List::from_vec(all))
 }
 
-/// The rows that a file names with their images, which are in order, and the local signatures that a map gives its methods.
+/// The rows that a file names with their images, which are in order, and the local signatures that
+/// a map gives its methods.
 pub(crate) fn with_given<L: Ledger>(
     alloc: Global,
     file: &Verified<'_>,
@@ -104,7 +109,8 @@ pub(crate) fn with_given<L: Ledger>(
     rows: List<Imaged>,
     steps: &mut Steps<L>,
 ) -> Result<List<Imaged>, Memory>
-    ensures { IfOk result (λ all. all ≡ with_given rows (given_signatures map.now (value_of (raw_file file.now)))) }
+    ensures { IfOk result
+        (λ all. all ≡ with_given rows (given_signatures map.now (value_of (raw_file file.now)))) }
 {
     let given = given_signatures(alloc, file, map, steps)?;
     with_further(rows, given)

@@ -5,7 +5,8 @@ ghost use Rattle.ppdb_tables.specs.RawTables.{numbered};
 ghost use Rattle.ppdb_values.specs.Value.{value_of};
 ghost use Rattle.ppdb_values_reading.specs.Scopes.{HasLists, scope_with};
 ghost use Rattle.ppdb_verify.specs.Views.{raw_file};
-ghost use Rattle.ppdb_merge_fits.specs.Slots.{scope_slots, variable_slots, if_slot_unmapped, slots_unmapped, used, slots_twice};
+ghost use Rattle.ppdb_merge_fits.specs.Slots.{scope_slots, variable_slots, if_slot_unmapped};
+ghost use Rattle.ppdb_merge_fits.specs.Slots.{slots_unmapped, used, slots_twice};
 
 use crate::twice::{all_keep_numbers, first_twice, leave_once};
 use crate::used::{MethodSlot, UsedSlot};
@@ -13,7 +14,7 @@ use ppdb_base::{List, Memory, MergeError, Steps};
 use ppdb_maps::MapText;
 use ppdb_values_reading::{Scope, ScopeCursor, scopes_own_their_lists};
 use ppdb_verify::Verified;
-use ppdb_verify_rows::variable;
+use ppdb_verify_readers::variable;
 use std::alloc::Global;
 use std::sync::ledger::Ledger;
 
@@ -25,9 +26,10 @@ fn add_slots<L: Ledger>(
     steps: &mut Steps<L>,
 ) -> Result<(), Memory>
     requires { HasLists (raw_file file.now).tables scope.now }
-    ensures { OnOk result (slots.new ≡ slots.old ++ scope_slots (scope_with (raw_file file.now).tables scope.now)) }
+    ensures { OnOk result (slots.new ≡ slots.old
+        ++ scope_slots (scope_with (raw_file file.now).tables scope.now)) }
 {
-    let _ = file.keeps();
+    let _ = file.facts();
     let mut row = scope.variables.first;
     'rows: while row < scope.variables.end {
         let cells = variable(file, row, steps);
@@ -48,7 +50,7 @@ pub(crate) fn variable_slots<L: Ledger>(
 ) -> Result<List<MethodSlot>, Memory>
     ensures { IfOk result (λ slots. slots ≡ variable_slots (value_of (raw_file file.now))) }
 {
-    let _ = file.keeps();
+    let _ = file.facts();
     scopes_own_their_lists();
     let mut slots = List::new(alloc);
     let mut scopes = ScopeCursor::new(file, steps);
@@ -83,7 +85,8 @@ fn first_unmapped(map: &MapText, slots: &[MethodSlot]) -> Option<MergeError>
     None
 }
 
-/// A slot that a variable of a method uses, with its image; none at a dropped method, and where it has no image.
+/// A slot that a variable of a method uses, with its image; none at a dropped method, and where it
+/// has no image.
 fn used(map: &MapText, x: &MethodSlot) -> Option<UsedSlot>
     ensures { result ≡ used map.now x.now }
 {
@@ -127,7 +130,7 @@ fn first_slot_twice(
     map: &MapText,
     slots: &[MethodSlot],
 ) -> Result<Option<MergeError>, Memory>
-    ensures { IfOk result (λ told. told ≡ slice_get (slots_twice map.now slots.now) 0) }
+    ensures { IfOk result (λ reported. reported ≡ slice_get (slots_twice map.now slots.now) 0) }
 {
     let mut all = used_slots(alloc, map, slots)?;
     if all_keep_numbers(all.as_slice()) {
@@ -137,17 +140,19 @@ fn first_slot_twice(
     first_twice(&mut all)
 }
 
-/// What is reported first of the slots of variables. Without a `slots` line each slot is its own image, and nothing is reported.
+/// What is reported first of the slots of variables. Without a `slots` line each slot is its own
+/// image, and nothing is reported.
 pub(crate) fn first_of_slots<L: Ledger>(
     alloc: Global,
     file: &Verified<'_>,
     map: &MapText,
     steps: &mut Steps<L>,
 ) -> Result<Option<MergeError>, Memory>
-    ensures { IfOk result (λ told. told ≡ slice_get (slots_unmapped map.now (value_of (raw_file file.now))
+    ensures { IfOk result
+        (λ reported. reported ≡ slice_get (slots_unmapped map.now (value_of (raw_file file.now))
         ++ slots_twice map.now (variable_slots (value_of (raw_file file.now)))) 0) }
 {
-    let _ = file.keeps();
+    let _ = file.facts();
     if map.slots_line(0).is_none() {
         return Ok(None);
     }

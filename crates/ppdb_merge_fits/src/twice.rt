@@ -1,7 +1,8 @@
 // Items of a group that have one image.
 ghost use Rattle.std.specs.Prelude.{◌≡◌, ◌↔◌, All, IfOk, OnOk, IsTrue, slice_get};
-ghost use Rattle.ppdb_merge_items.specs.Sorted.{in_order};
-ghost use Rattle.ppdb_merge_fits.specs.Twice.{beside, each_once, have_one_image, if_one_image, is_same, twice};
+ghost use Rattle.ppdb_merge_annotated.specs.Sorted.{in_order};
+ghost use Rattle.ppdb_merge_fits.specs.Twice.{beside, each_once, have_one_image, if_one_image};
+ghost use Rattle.ppdb_merge_fits.specs.Twice.{is_same, twice};
 
 use crate::used::UsedSlot;
 use ppdb_base::{Memory, MergeError};
@@ -19,7 +20,7 @@ pub(crate) trait HasImage: Copy + Drop {
     /// The image as a number.
     ghost image_of: { Self → ℕ };
     /// What is reported of two items of a group that have one image.
-    ghost told: { Self → Self → MergeError };
+    ghost reported: { Self → Self → MergeError };
 
     fn group(&self) -> u32
         ensures { result ≡ group_of self.now };
@@ -32,7 +33,7 @@ pub(crate) trait HasImage: Copy + Drop {
 
     /// What is reported of this item and another one.
     fn tell(&self, other: &Self) -> MergeError
-        ensures { result ≡ told self.now other.now };
+        ensures { result ≡ reported self.now other.now };
 }
 
 impl HasImage for Imaged {
@@ -44,7 +45,7 @@ impl HasImage for Imaged {
 
     ghost image_of = { image_key };
 
-    ghost told = { image_twice };
+    ghost reported = { image_twice };
 
     fn group(&self) -> u32 {
         u32::from(self.table)
@@ -77,7 +78,7 @@ impl HasImage for UsedSlot {
 
     ghost image_of = { λ u. u.image };
 
-    ghost told = { slot_twice };
+    ghost reported = { slot_twice };
 
     fn group(&self) -> u32 {
         self.method
@@ -125,9 +126,11 @@ fn by_group<T: HasImage>(items: &mut Vec<T>) -> Result<(), Memory>
     Ok(())
 }
 
-/// Sets items in order by their groups, in a group by their numbers, and of one number by their images.
+/// Sets items in order by their groups, in a group by their numbers, and of one number by their
+/// images.
 pub(crate) fn by_all<T: HasImage>(all: &mut Vec<T>) -> Result<(), Memory>
-    ensures { OnOk result (all.new.items ≡ in_order T.group_of (in_order T.number_of (in_order T.image_of all.old.items))) }
+    ensures { OnOk result (all.new.items
+        ≡ in_order T.group_of (in_order T.number_of (in_order T.image_of all.old.items))) }
 {
     by_image(all)?;
     by_number(all)?;
@@ -151,7 +154,8 @@ fn is_same<T: HasImage>(a: &T, b: &T) -> bool
     a.group() == b.group() && a.number() == b.number()
 }
 
-/// Sets items in order by their groups, and in a group by their numbers, and leaves each once. The memory of those that go is given up.
+/// Sets items in order by their groups, and in a group by their numbers, and leaves each once. The
+/// memory of those that go is given up.
 pub(crate) fn leave_once<T: HasImage>(items: &mut Vec<T>) -> Result<(), Memory>
     ensures { OnOk result (items.new.items ≡ each_once T.group_of T.number_of items.old.items) }
 {
@@ -171,7 +175,8 @@ fn have_one_image<T: HasImage>(a: &T, b: &T) -> bool
 
 /// What is reported of the first two items that stand side by side and have one image.
 fn first_beside<T: HasImage>(items: &[T]) -> Option<MergeError>
-    ensures { result ≡ slice_get (beside (if_one_image T.group_of T.number_of T.image_of T.told) items.now) 0 }
+    ensures { result ≡ slice_get
+        (beside (if_one_image T.group_of T.number_of T.image_of T.reported) items.now) 0 }
 {
     let mut at = 1;
     while at < items.len() {
@@ -185,9 +190,11 @@ fn first_beside<T: HasImage>(items: &[T]) -> Option<MergeError>
     None
 }
 
-/// What is reported of the first two items of a group that have one image; the items stand in another order then.
+/// What is reported of the first two items of a group that have one image; the items stand in
+/// another order then.
 pub(crate) fn first_twice<T: HasImage>(items: &mut Vec<T>) -> Result<Option<MergeError>, Memory>
-    ensures { IfOk result (λ told. told ≡ slice_get (twice T.group_of T.number_of T.image_of T.told items.old.items) 0) }
+    ensures { IfOk result (λ reported. reported
+        ≡ slice_get (twice T.group_of T.number_of T.image_of T.reported items.old.items) 0) }
 {
     by_image(items)?;
     by_group(items)?;

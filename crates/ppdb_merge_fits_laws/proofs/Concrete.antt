@@ -4,10 +4,10 @@ use Rattle.std.specs.{List.{filter, filter_map}, Option.{option_map}}
 use Rattle.ppdb_maps.specs.{Map.{Map, is_dropped, row_image, slot_image}, declared.image.RowImage.{RowImage}, declared.image.RowImage.TheVariants.{Row, Gone}}
 use Rattle.ppdb_maps.specs.declared.image.RowImage.TheVariants.{Missing}
 use Rattle.ppdb_merge_names.specs.{declared.imaged.Imaged.{Imaged}, References.{Reference, references}}
-use Rattle.ppdb_merge_items.proofs.Lists.{each_of}
+use Rattle.ppdb_merge_annotated.proofs.Lists.{each_of}
 use Rattle.ppdb_merge_moved.{specs.Fits.{may_share}, specs.Moved.{table_in, row_in}, proofs.Lists.{Each-filter_map}}
 use Rattle.ppdb_merge_fits.specs.{Rows.{image_key, image_twice, imaged, imaged_to}, Slots.{slot_twice, used, variable_slots}, Twice.{each_once, twice}}
-use Rattle.ppdb_merge_fits_laws.{specs.Least.{LeastRowsAreTold, LeastSlotsAreTold, Made, TellsLeast}, proofs.Least.{tells_least}}
+use Rattle.ppdb_merge_fits_laws.{specs.Least.{LeastRowsAreReported, LeastSlotsAreReported, Made, TellsLeast}, proofs.Least.{tells_least}}
 
 -- ---- rows
 
@@ -30,7 +30,7 @@ one_row m x y own also t r =
     ap (λ z. record { table = z; row = x.row; to = x.to; image = x.image }) t ∙ ap (λ z. record { table = y.table; row = z; to = x.to; image = x.image }) r
     ∙ ap (λ z. record { table = y.table; row = y.row; to = table_in z; image = row_in z }) same
 
-pub least_rows : LeastRowsAreTold
+pub least_rows : LeastRowsAreReported
 least_rows first m raw =
     tells_least (λ (i : Imaged). i.table) (λ i. i.row) image_key image_twice (OwnRow m) (one_row m) (λ i. not (may_share m i.table))
     (filter_map (imaged m) (references first m raw))
@@ -77,14 +77,14 @@ pass_all : {A : Type 0} (xs : List A) → filter (λ x. true) xs ≡ xs
 pass_all [] = refl
 pass_all (x ∷ xs) = ap (λ l. x ∷ l) (pass_all xs)
 
-pub least_slots : LeastSlotsAreTold
+pub least_slots : LeastSlotsAreReported
 least_slots m value =
     let all = filter_map (used m) (variable_slots value) in
     let once = each_once (λ (u : Made (used m)). u.method) (λ u. u.slot) all in
-    let told = twice (λ (u : Made (used m)). u.method) (λ u. u.slot) (λ u. u.image) slot_twice in
+    let reported = twice (λ (u : Made (used m)). u.method) (λ u. u.slot) (λ u. u.image) slot_twice in
     let Tells = TellsLeast (λ (u : Made (used m)). u.method) (λ u. u.slot) (λ u. u.image) slot_twice in
-    subst (λ l. Tells all (told l)) (pass_all once)
-    (subst (λ l. Tells l (told (filter (λ u. true) once))) (pass_all all)
+    subst (λ l. Tells all (reported l)) (pass_all once)
+    (subst (λ l. Tells l (reported (filter (λ u. true) once))) (pass_all all)
     (tells_least (λ (u : Made (used m)). u.method) (λ u. u.slot) (λ u. u.image) slot_twice (OwnSlot m) (one_slot m) (λ u. true) all
     (Each-filter_map (used m) (λ x. Unit {0}) (OwnSlot m) (λ x u is here. own_slot m x u is) (variable_slots value)
     (each_of (λ x. Unit {0}) (λ x. tt) (variable_slots value)))))

@@ -1,7 +1,7 @@
 -- Among items in order, the first two side by side that have one image are the least two.
 use Rattle.std.proofs.Common.{◌≡◌, ℕ, ◌<◌, ◌≤◌, ◌⊎◌, ◌++◌, ◌∙◌, Bool, true, false, cond, List, [], ◌∷◌, Some, slice_get, refl, sym, ap, subst, inl, inr, arith}
 use Rattle.std.{specs.Prelude.{nat_eq, not}, proofs.lemmas.Bool.{cases_lt, eq-eqb, eqb-true, and_parts}}
-use Rattle.ppdb_merge_items.{specs.Each.{Each, Pairs}, proofs.Lists.{Each-weaker}}
+use Rattle.ppdb_merge_annotated.{specs.Each.{Each, Pairs}, proofs.Lists.{Each-weaker}}
 use Rattle.ppdb_merge_fits.{specs.Twice.{beside_from, have_one_image, if_one_image}, proofs.Apart.{each_both}}
 use Rattle.ppdb_merge_fits_laws.specs.Least.{HaveOneImage, IsUpTo, place_of}
 
@@ -75,7 +75,7 @@ module _ {A : Type 0} (group number image : A → ℕ) where
 
   -- ---- the first two side by side
 
-  module _ {B : Type 0} (told : A → A → B) (P : A → Type 0) where
+  module _ {B : Type 0} (reported : A → A → B) (P : A → Type 0) where
     -- these two are not after two others that have one image
     abbrev NotBehind : A → A → A → A → Type 0
     NotBehind a b c d = Two c d → IsUpTo (place a b) (place c d)
@@ -87,10 +87,10 @@ module _ {A : Type 0} (group number image : A → ℕ) where
       pub of_b : P b
       pub two : Two a b
       pub least : Each (λ c. Each (NotBehind a b c) list) list
-      pub tells : told a b ≡ t
+      pub tells : reported a b ≡ t
 
     -- the first two items themselves
-    here : (x y : A) (ys : List A) (t : B) → Each P (x ∷ y ∷ ys) → Pairs InOrder (x ∷ y ∷ ys) → Two x y → told x y ≡ t → Found (x ∷ y ∷ ys) t
+    here : (x y : A) (ys : List A) (t : B) → Each P (x ∷ y ∷ ys) → Pairs InOrder (x ∷ y ∷ ys) → Two x y → reported x y ≡ t → Found (x ∷ y ∷ ys) t
     here x y ys t each pairs two is = record {
       a = x;
       b = y;
@@ -165,14 +165,14 @@ module _ {A : Type 0} (group number image : A → ℕ) where
             (behind (record { groups = h; images = j; numbers = omega (arith, less, n) }))))
 
     pub found : (x : A) (ys : List A) (t : B) → Each P (x ∷ ys) → Pairs InOrder (x ∷ ys)
-        → slice_get (beside_from (if_one_image group number image told) x ys) 0 ≡ Some t → Found (x ∷ ys) t
+        → slice_get (beside_from (if_one_image group number image reported) x ys) 0 ≡ Some t → Found (x ∷ ys) t
     found x [] t each pairs is = absurd cc
     found x (y ∷ ys) t each pairs is = step (have_one_image group number image x y) refl is (λ rest. found y ys t each.1 pairs.1 rest)
       where
         behind : List B
-        behind = beside_from (if_one_image group number image told) y ys
+        behind = beside_from (if_one_image group number image reported) y ys
 
-        step : (b : Bool) → have_one_image group number image x y ≡ b → slice_get (cond b (told x y ∷ []) [] ++ behind) 0 ≡ Some t
+        step : (b : Bool) → have_one_image group number image x y ≡ b → slice_get (cond b (reported x y ∷ []) [] ++ behind) 0 ≡ Some t
             → (slice_get behind 0 ≡ Some t → Found (y ∷ ys) t) → Found (x ∷ y ∷ ys) t
         step true has is on = here x y ys t each pairs (differ x y pairs.0.0 has) (cc)
         step false none is on = later x y ys t pairs (agree x y none) (on is)

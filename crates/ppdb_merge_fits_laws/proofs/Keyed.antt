@@ -1,7 +1,7 @@
 -- Items that are set in order by a key stay among themselves, where their keys are equal, in the order that they had.
 use Rattle.std.{proofs.Common.{◌≡◌, ℕ, ◌<◌, ◌≤◌, ◌⊎◌, Bool, true, false, cond, List, [], ◌∷◌, inl, inr, arith}, specs.List.{dedup, dedup_from}}
 use Rattle.std.proofs.lemmas.Bool.{cases_lt, le-leb, lt-leb}
-use Rattle.ppdb_merge_items.{specs.Each.{Each, Pairs}, specs.Sorted.{put, in_order}, proofs.Orders.{in_order_each, put_each}}
+use Rattle.ppdb_merge_annotated.{specs.Each.{Each, Pairs}, specs.Sorted.{put, in_order}, proofs.Orders.{in_order_each, put_each}}
 use Rattle.ppdb_merge_fits.proofs.Apart.{each_both}
 
 -- the key rises, or is the same and R holds

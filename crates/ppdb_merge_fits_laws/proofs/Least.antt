@@ -1,7 +1,7 @@
 -- Of items whose images go by their groups and numbers, what is reported first is reported of the least two.
 use Rattle.std.{proofs.Common.{◌≡◌, ℕ, ◌≤◌, Bool, true, false, cond, List, [], ◌∷◌, Some, slice_get, refl, sym, ◌∙◌, ap, inl, inr, arith}, specs.Prelude.{nat_eq}}
 use Rattle.std.{specs.Prelude.{Contains}, specs.List.{filter}, proofs.lemmas.Bool.{eqb-true, and_parts}}
-use Rattle.ppdb_merge_items.{specs.Each.{Each, Pairs}, specs.Sorted.{in_order}, proofs.Lists.{Each-filter, Each-weaker, Pairs-weaker}, proofs.Orders.{in_order_each}}
+use Rattle.ppdb_merge_annotated.{specs.Each.{Each, Pairs}, specs.Sorted.in_order, proofs.Lists.{Each-filter, Each-weaker, Pairs-weaker}, proofs.Orders.in_order_each}
 use Rattle.ppdb_merge_moved.proofs.Elements.{each_in, in_each}
 use Rattle.ppdb_merge_fits.{specs.Twice.{beside, each_once, if_one_image, is_same, twice}, proofs.Apart.{apart, OneNumber}}
 use Rattle.ppdb_merge_fits_laws.{specs.Least.{AreLeast, HaveOneImage, IsUpTo, TellsLeast, place_of}, proofs.Found.{Found, InOrder, found}, proofs.Keyed.{By}}
@@ -39,7 +39,7 @@ pairs_passed q R (x ∷ xs) pairs = step (q x) (pairs_passed q R xs pairs.1)
     step false rest = rest
 
 -- The images of items that have one group and one number are one; those are judged that pass a test.
-module _ {A B : Type 0} (group number image : A → ℕ) (told : A → A → B) (Own : A → Type 0)
+module _ {A B : Type 0} (group number image : A → ℕ) (reported : A → A → B) (Own : A → Type 0)
     (equal : (x y : A) → Own x → Own y → group x ≡ group y → number x ≡ number y → x ≡ y) (q : A → Bool) (all : List A) (owns : Each Own all) where
   abbrev items : List A
   items = filter q all
@@ -125,20 +125,20 @@ module _ {A B : Type 0} (group number image : A → ℕ) (told : A → A → B) 
   -- ---- what is reported first
 
   abbrev list : List B
-  list = twice group number image told judged
+  list = twice group number image reported judged
 
   abbrev Least : A → A → Type 0
   Least = AreLeast group number image items
 
-  to_least : (t : B) → slice_get list 0 ≡ Some t → (a : A) × (b : A) × Least a b × (told a b ≡ t)
+  to_least : (t : B) → slice_get list 0 ≡ Some t → (a : A) × (b : A) × Least a b × (reported a b ≡ t)
   to_least t is = of_found (by sorted is (forth (Contains items) (each_in (Contains items) items (λ x in_x. in_x))) in_turn)
     where
-      by : (xs : List A) → slice_get (beside (if_one_image group number image told) xs) 0 ≡ Some t → Each (Contains items) xs → Pairs Order xs
-          → Found group number image told (Contains items) xs t
+      by : (xs : List A) → slice_get (beside (if_one_image group number image reported) xs) 0 ≡ Some t → Each (Contains items) xs → Pairs Order xs
+          → Found group number image reported (Contains items) xs t
       by [] is each pairs = absurd cc
-      by (x ∷ xs) is each pairs = found group number image told (Contains items) x xs t each pairs is
+      by (x ∷ xs) is each pairs = found group number image reported (Contains items) x xs t each pairs is
 
-      of_found : Found group number image told (Contains items) sorted t → (a : A) × (b : A) × Least a b × (told a b ≡ t)
+      of_found : Found group number image reported (Contains items) sorted t → (a : A) × (b : A) × Least a b × (reported a b ≡ t)
       of_found f =
           let NotBehind = λ (c d : A). Two c d → IsUpTo (place_of group number image f.a f.b) (place_of group number image c d) in
           let all = back (λ c. Each (NotBehind c) items)
@@ -157,7 +157,7 @@ module _ {A B : Type 0} (group number image : A → ℕ) (told : A → A → B) 
   none_two : list ≡ [] → (a b : A) → Contains items a → Contains items b → Two a b → ⊥
   none_two none a b in_a in_b two =
       let Passes = λ (x : A). q x ≡ true in
-      let apart_all = apart group number image told Own equal Passes all judged (λ P each. each_passed q P once each) owns none in
+      let apart_all = apart group number image reported Own equal Passes all judged (λ P each. each_passed q P once each) owns none in
       let apart_items = passed q (λ a. Each (OneNumber group number image a) items) all
       (Each-weaker (λ a. Passes a → Each (λ b. Passes b → OneNumber group number image a b) all)
       (λ a. Passes a → Each (OneNumber group number image a) items)
@@ -168,8 +168,8 @@ module _ {A B : Type 0} (group number image : A → ℕ) (told : A → A → B) 
       omega (arith, n, less)
 
   -- two pairs that are least are one
-  same_told : (a b c d : A) → Least a b → Least c d → told a b ≡ told c d
-  same_told a b c d ab cd =
+  same_reported : (a b c d : A) → Least a b → Least c d → reported a b ≡ reported c d
+  same_reported a b c d ab cd =
       let e = one_place (place_of group number image a b) (place_of group number image c d) (ab.least c d cd.first cd.second cd.one_image)
       (cd.least a b ab.first ab.second ab.one_image) in
       let g : group a ≡ group c = cc in
@@ -178,9 +178,9 @@ module _ {A B : Type 0} (group number image : A → ℕ) (told : A → A → B) 
       let own : (x : A) → Contains items x → Own x = λ x in_x. in_each Own items x own_items in_x in
       let first = equal a c (own a ab.first) (own c cd.first) g n in
       let second = equal b d (own b ab.second) (own d cd.second) (sym ab.one_image.groups ∙ g ∙ cd.one_image.groups) m in
-      ap (λ z. told z b) first ∙ ap (told c) second
+      ap (λ z. reported z b) first ∙ ap (reported c) second
 
-  of_least : (t : B) → (a : A) × (b : A) × Least a b × (told a b ≡ t) → slice_get list 0 ≡ Some t
+  of_least : (t : B) → (a : A) × (b : A) × Least a b × (reported a b ≡ t) → slice_get list 0 ≡ Some t
   of_least t is = by list refl
     where
       by : (l : List B) → list ≡ l → slice_get list 0 ≡ Some t
@@ -188,10 +188,10 @@ module _ {A B : Type 0} (group number image : A → ℕ) (told : A → A → B) 
       by (u ∷ l) some =
           let head : slice_get list 0 ≡ Some u = ap (λ l. slice_get l 0) some in
           let other = to_least u head in
-          head ∙ ap Some (sym other.3 ∙ same_told other.0 other.1 is.0 is.1 other.2 is.2 ∙ is.3)
+          head ∙ ap Some (sym other.3 ∙ same_reported other.0 other.1 is.0 is.1 other.2 is.2 ∙ is.3)
 
-  none_told : ((a b : A) → Contains items a → Contains items b → Two a b → ⊥) → list ≡ []
-  none_told none = by list refl
+  none_reported : ((a b : A) → Contains items a → Contains items b → Two a b → ⊥) → list ≡ []
+  none_reported none = by list refl
     where
       by : (l : List B) → list ≡ l → list ≡ []
       by [] is = is
@@ -199,5 +199,5 @@ module _ {A B : Type 0} (group number image : A → ℕ) (told : A → A → B) 
           let other = to_least u (ap (λ l. slice_get l 0) some) in
           absurd (none other.0 other.1 other.2.first other.2.second other.2.one_image)
 
-  pub tells_least : TellsLeast group number image told items list
-  tells_least = record { first = λ t. (to_least t, of_least t); nothing = (none_two, none_told) }
+  pub tells_least : TellsLeast group number image reported items list
+  tells_least = record { first = λ t. (to_least t, of_least t); nothing = (none_two, none_reported) }

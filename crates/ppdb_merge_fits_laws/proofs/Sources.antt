@@ -1,6 +1,6 @@
 -- What holds of each item in order, and of each that is kept once, holds of each item that there was.
 use Rattle.std.{proofs.Common.{◌≡◌, ℕ, Bool, true, false, cond, List, [], ◌∷◌, refl, sym, subst}, specs.Prelude.{nat_le}, specs.List.{dedup, dedup_from}}
-use Rattle.ppdb_merge_items.specs.{Each.{Each}, Sorted.{put, in_order}}
+use Rattle.ppdb_merge_annotated.specs.{Each.{Each}, Sorted.{put, in_order}}
 
 put_of : {A : Type 0} (key : A → ℕ) (P : A → Type 0) (x : A) (ys : List A) → Each P (put key x ys) → Each P (x ∷ ys)
 put_of key P x [] each = each

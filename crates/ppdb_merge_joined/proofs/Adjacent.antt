@@ -1,7 +1,7 @@
 -- A list in which no item's number is below that of the item before it.
 use Rattle.std.{proofs.Common.{◌≡◌, ℕ, suc, ◌+◌, ◌<◌, ◌≤◌, true, List, [], ◌∷◌, length, sym, arith, subst, get_or, nat_cmp}, specs.Ordering.{is_le}}
 use Rattle.std.proofs.lemmas.Bool.Decides.{nat_tests}
-use Rattle.ppdb_merge_items.{specs.Sorted.{in_order}, proofs.Orders.{Rises, in_order_is}}
+use Rattle.ppdb_merge_annotated.{specs.Sorted.{in_order}, proofs.Orders.{Rises, in_order_is}}
 
 le_of : (a b : ℕ) → true ≡ is_le (nat_cmp a b) → a ≤ b
 le_of a b is = grind (arith, nat_tests)

@@ -2,8 +2,8 @@
 use Rattle.std.{proofs.Common.{◌≡◌, ◌≢◌, ℕ, ◌+◌, ◌++◌, List, [], ◌∷◌, length, map, refl, sym, ap, subst}, specs.Prelude.{flat_map}}
 use Rattle.ppdb_tables.specs.declared.rows.MachineRow.{MachineRow}
 use Rattle.ppdb_values.specs.declared.file.{DocumentValue.{DocumentValue}, MethodValue.{MethodValue}}
-use Rattle.ppdb_merge_items.specs.{declared.file.AnnotatedScope.{AnnotatedScope}, declared.file.AnnotatedFile.{AnnotatedFile}, Each.{Each, Pairs}}
-use Rattle.ppdb_merge_items.proofs.Lists.{Each-weaker, Each-unmap, Pairs-weaker}
+use Rattle.ppdb_merge_annotated.specs.{declared.file.AnnotatedScope.{AnnotatedScope}, declared.file.AnnotatedFile.{AnnotatedFile}, Each.{Each, Pairs}}
+use Rattle.ppdb_merge_annotated.proofs.Lists.{Each-weaker, Each-unmap, Pairs-weaker}
 use Rattle.ppdb_merge_joined.specs.{Joinable.{methods_of, AreApart}, Joined.{renumbered, renumbered_all, renumbered_method, renumbered_scope}}
 use Rattle.ppdb_merge_joined.proofs.Each.{Each-split, Each-unflat}
 

@@ -5,7 +5,7 @@ use Rattle.std.proofs.lemmas.{Bool.{cases_lt}, List.{length-append, length-map}}
 use Rattle.ppdb_tables.specs.RawTables.{row_at}
 use Rattle.ppdb_values.specs.declared.{import.ImportScopeValue.{ImportScopeValue}, file.DocumentValue.{DocumentValue}, annotation.Annotation.{Annotation}}
 use Rattle.ppdb_values.{specs.Chains.{NeverEnds, parent_at, ancestor_of}, proofs.Mapped.{get_map}}
-use Rattle.ppdb_merge_items.specs.{declared.file.AnnotatedFile.{AnnotatedFile}, Each.{Each}, Annotated.{with_item}}
+use Rattle.ppdb_merge_annotated.specs.{declared.file.AnnotatedFile.{AnnotatedFile}, Each.{Each}, Annotated.{with_item}}
 use Rattle.ppdb_merge_joined.specs.Joined.{shifted, renumbered_import, renumbered_all}
 
 abbrev parent : Annotation ImportScopeValue → ℕ

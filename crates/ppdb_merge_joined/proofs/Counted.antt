@@ -14,11 +14,11 @@ use Rattle.ppdb_values.specs.declared.scope.{ConstantValue.{ConstantValue}, Cons
 use Rattle.ppdb_values.specs.declared.{scope.ConstantBody.TheVariants.{Object}, custom.CustomBody.{CustomBody}, custom.CustomBody.TheVariants.{Async, Hoisted}}
 use Rattle.ppdb_values.specs.declared.{custom.CustomBody.TheVariants.{TypeDocuments, Unread}, custom.CustomValue.{CustomValue}, annotation.Custom.{Custom}}
 use Rattle.ppdb_values.specs.{declared.annotation.Annotation.{Annotation}, Rules.{StandsOn}}
-use Rattle.ppdb_values_sound_laws.specs.{Named.{HasRow, HasRowOrNone, HasType, count, type_limits}, Customs.{IsBodyOfKind, SoundCustom}, Imports.{SoundImport}}
-use Rattle.ppdb_values_sound_laws.specs.{Imports.{SoundImportScope}, Methods.{SoundMethod, SoundPoint}, Scopes.{SoundConstant, stored_body}, Sound.{SoundMachine}}
-use Rattle.ppdb_merge_items.specs.{declared.file.AnnotatedScope.{AnnotatedScope}, Each.{Each}, NamedRows.{Named, names, names_some, in_token, in_body, in_constant}}
-use Rattle.ppdb_merge_items.specs.{NamedRows.{in_import, in_steps}, Annotated.{items_of}, SoundParts.{SoundNote, SoundAnnotatedScope}}
-use Rattle.ppdb_merge_items.proofs.Lists.{Each-weaker, Each-map, Each-unmap, Pairs-map, each_row, row_each}
+use Rattle.ppdb_values_sound.specs.{Named.{HasRow, HasRowOrNone, HasType, count, type_limits}, Customs.{IsBodyOfKind, SoundCustom}, Imports.{SoundImport}}
+use Rattle.ppdb_values_sound.specs.{Imports.{SoundImportScope}, Methods.{SoundMethod, SoundPoint}, Scopes.{SoundConstant, stored_body}, Sound.{SoundMachine}}
+use Rattle.ppdb_merge_annotated.specs.{declared.file.AnnotatedScope.AnnotatedScope, Each.Each, NamedRows.{Named, names, names_some, in_token, in_body, in_constant}}
+use Rattle.ppdb_merge_annotated.specs.{NamedRows.{in_import, in_steps}, Annotated.{items_of}, SoundParts.{SoundNote, SoundAnnotatedScope}}
+use Rattle.ppdb_merge_annotated.proofs.Lists.{Each-weaker, Each-map, Each-unmap, Pairs-map, each_row, row_each}
 use Rattle.ppdb_merge_joined.specs.Joined.{shifted, with_documents, renumbered_method, renumbered_scope, renumbered_import, renumbered_custom}
 use Rattle.ppdb_merge_joined.proofs.Each.{Each-with, Each-split, Each-unflat, each_all, all_each, pairs_all, all_pairs}
 

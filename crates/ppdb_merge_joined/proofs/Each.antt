@@ -1,6 +1,6 @@
 -- Facts of the items of lists that are put together.
 use Rattle.std.{proofs.Common.{zero, suc, ◌++◌, List, [], ◌∷◌, arith}, specs.Prelude.{All, AllPairs, flat_map}}
-use Rattle.ppdb_merge_items.{specs.Each.{Each, Pairs}, proofs.Lists.{Each-append, each_of}}
+use Rattle.ppdb_merge_annotated.{specs.Each.{Each, Pairs}, proofs.Lists.{Each-append, each_of}}
 
 pub Each-with : {A : Type 0} (P Q R : A → Type 0) → ((x : A) → P x → Q x → R x) → (xs : List A) → Each P xs → Each Q xs → Each R xs
 Each-with P Q R both [] ps qs = tt

@@ -4,7 +4,7 @@ use Rattle.std.{proofs.Common.{append_assoc, ◌+◌, ◌-◌, ◌<◌, get_or, 
 use Rattle.std.{proofs.lemmas.Map.Text.{is_eq-slice_cmp}, specs.Prelude.{◌||◌, Option, Some, None, position, unwrap_or, bytes_eq, filter}, specs.Option.{option_map}}
 use Rattle.std.proofs.lemmas.List.{map-append, length-map}
 use Rattle.ppdb_values.specs.declared.{file.DocumentValue.{DocumentValue}, annotation.Custom.{Custom}, annotation.Annotation.{Annotation}}
-use Rattle.ppdb_merge_items.{specs.Each.{Each, Pairs}, specs.Annotated.{items_of}, proofs.Lists.{Each-weaker}}
+use Rattle.ppdb_merge_annotated.{specs.Each.{Each, Pairs}, specs.Annotated.{items_of}, proofs.Lists.{Each-weaker}}
 use Rattle.ppdb_merge_joined.specs.{declared.documents.Gathered.{Gathered}, declared.documents.Documents.{Documents}, Gathered.{Holds, HasRow, row_for, row_after}}
 use Rattle.ppdb_merge_joined.{specs.Gathered.{notes_named, gathered_of, annotated_at}, specs.Joined.{firsts, row_named}, proofs.Names.{same_bytes, bytes_same}}
 use Rattle.ppdb_merge_joined.proofs.Names.{bytes_apart, or_false, position_cons, found_within, among, is_named, firsts_differ, firsts_has}

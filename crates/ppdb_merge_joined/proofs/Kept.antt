@@ -1,8 +1,8 @@
 -- Setting items in order keeps what holds of each two.
 use Rattle.std.{proofs.Common.{◌≡◌, ℕ, ◌++◌, Bool, true, false, cond, List, [], ◌∷◌, refl, arith}, specs.Prelude.{not, nat_le, filter}, specs.List.{list_any}}
 use Rattle.std.proofs.lemmas.Bool.{leb-false}
-use Rattle.ppdb_merge_items.{specs.Each.{Each, Pairs}, specs.Sorted.{put, in_order}, proofs.Lists.{Each-append, Each-filter}, proofs.Orders.{put_each}}
-use Rattle.ppdb_merge_items.proofs.Orders.{in_order_each}
+use Rattle.ppdb_merge_annotated.{specs.Each.{Each, Pairs}, specs.Sorted.{put, in_order}, proofs.Lists.{Each-append, Each-filter}, proofs.Orders.{put_each}}
+use Rattle.ppdb_merge_annotated.proofs.Orders.{in_order_each}
 use Rattle.ppdb_merge_joined.specs.Same.{fresh}
 
 -- what holds of two whichever comes first

@@ -4,7 +4,7 @@ use Rattle.std.{proofs.Common.{append_assoc}, specs.Prelude.{◌||◌, not, Opti
 use Rattle.std.{specs.List.{list_any, filter_map, cons_option}, specs.Option.{option_map}, proofs.lemmas.List.{map_more, take_more}}
 use Rattle.std.proofs.lemmas.List.{Elements.{filter_map-append}, Folds.{list_any-append}}
 use Rattle.ppdb_values.specs.declared.custom.CustomValue.{CustomValue}
-use Rattle.ppdb_merge_items.specs.Each.{Each}
+use Rattle.ppdb_merge_annotated.specs.Each.{Each}
 use Rattle.ppdb_merge_joined.specs.declared.keys.Key.{Key}
 use Rattle.ppdb_merge_joined.specs.contracts.keys.KeyOrd.TheImpl as key_ord
 use Rattle.ppdb_merge_joined.specs.{Keys.{plain, record_of}, Repeats.{IsSeen, key_among, marks_after, kept_by, unrepeated}, Same.{same_record, fresh}}

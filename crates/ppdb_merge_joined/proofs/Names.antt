@@ -4,7 +4,7 @@ use Rattle.std.specs.{Prelude.{◌||◌, nat_eq, nat_lt, Option, Some, None, pos
 use Rattle.std.proofs.lemmas.Bool.{cases_lt, eqb-true, eq-eqb, and_parts, lt-ltb, le-ltb}
 use Rattle.ppdb_tables.specs.RawTables.{row_at}
 use Rattle.ppdb_values.specs.declared.{file.DocumentValue.{DocumentValue}, annotation.Annotation.{Annotation}}
-use Rattle.ppdb_merge_items.{specs.Each.{Each, Pairs}, specs.Annotated.{items_of}, proofs.Lists.{Each-weaker}}
+use Rattle.ppdb_merge_annotated.{specs.Each.{Each, Pairs}, specs.Annotated.{items_of}, proofs.Lists.{Each-weaker}}
 use Rattle.ppdb_merge_joined.specs.Joined.{firsts}
 
 -- ---- names that are equal

@@ -8,11 +8,11 @@ use Rattle.ppdb_values.specs.declared.file.{DocumentValue.{DocumentValue}, FileV
 use Rattle.ppdb_values.specs.declared.{import.ImportScopeValue.{ImportScopeValue}, custom.CustomBody.{CustomBody}, custom.CustomBody.TheVariants.{Async, Hoisted}}
 use Rattle.ppdb_values.specs.declared.{custom.CustomBody.TheVariants.{TypeDocuments, Unread}, custom.CustomValue.{CustomValue}, annotation.Annotation.{Annotation}}
 use Rattle.ppdb_values.proofs.Mapped.{row_map}
-use Rattle.ppdb_values_sound_laws.{specs.Named.{HasRow}, specs.Customs.{IsBodyOfKind, SoundCustom}, specs.Methods.{SoundMethod, SoundPoint}, proofs.Listed.{row_of}}
+use Rattle.ppdb_values_sound.{specs.Named.{HasRow}, specs.Customs.{IsBodyOfKind, SoundCustom}, specs.Methods.{SoundMethod, SoundPoint}, proofs.Listed.{row_of}}
 use Rattle.ppdb_tables.specs.Parents.{coded_of}
-use Rattle.ppdb_merge_items.specs.{declared.file.AnnotatedScope.{AnnotatedScope}, declared.file.AnnotatedFile.{AnnotatedFile}, Each.{Each, Pairs}}
-use Rattle.ppdb_merge_items.specs.{Annotated.{items_of, with_item}, Sorted.{in_order}, SoundParts.{SoundParts}, Unannotated.{value_of_annotated}}
-use Rattle.ppdb_merge_items.proofs.{Lists.{Each-weaker, each_of, Pairs-map, Pairs-weaker}, Orders.{in_order_is, rises_of}}
+use Rattle.ppdb_merge_annotated.specs.{declared.file.AnnotatedScope.{AnnotatedScope}, declared.file.AnnotatedFile.{AnnotatedFile}, Each.{Each, Pairs}}
+use Rattle.ppdb_merge_annotated.specs.{Annotated.{items_of, with_item}, Sorted.{in_order}, SoundParts.{SoundParts}, Unannotated.{value_of_annotated}}
+use Rattle.ppdb_merge_annotated.proofs.{Lists.{Each-weaker, each_of, Pairs-map, Pairs-weaker}, Orders.{in_order_is, rises_of}}
 use Rattle.ppdb_merge_joined.specs.Joined.{firsts, joined_documents, row_named, joined_rows, row_in, shifted, with_documents, renumbered_method, renumbered_scope}
 use Rattle.ppdb_merge_joined.specs.{Joined.{renumbered_import, renumbered_custom, renumbered, joined_document, joined_parts, joined}, Same.{same_custom}}
 use Rattle.ppdb_merge_joined.{specs.Same.{same_record, fresh}, proofs.Each.{Each-with, each_all}, proofs.Names.{bytes_same, bytes_apart, NamesDiffer, row_found}}

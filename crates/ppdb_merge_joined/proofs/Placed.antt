@@ -2,7 +2,7 @@
 use Rattle.std.{proofs.Common.{◌≡◌, ℕ, ◌+◌, ◌++◌, List, [], ◌∷◌, length, map, refl, sym, ◌∙◌, ap, arith, append-nil, append_assoc}, specs.Prelude.{flat_map, sum_by}}
 use Rattle.std.proofs.lemmas.{List.{map-append, length-map, length-append}, List.Sums.{sum_by-cons, sum_by_push}}
 use Rattle.ppdb_values.specs.declared.{custom.CustomValue.{CustomValue}, annotation.Custom.{Custom}, annotation.Annotation.{Annotation}}
-use Rattle.ppdb_merge_items.specs.Annotated.{placed, on_row, items_of, customs_of}
+use Rattle.ppdb_merge_annotated.specs.Annotated.{placed, on_row, items_of, customs_of}
 
 pub map_more : {A B : Type 0} (f : A → B) (before all new : List B) (xs : List A) (x : A) → all ≡ before ++ map f xs → new ≡ all ++ f x ∷ []
     → new ≡ before ++ map f (xs ++ x ∷ [])

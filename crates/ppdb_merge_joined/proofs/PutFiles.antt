@@ -2,7 +2,7 @@
 use Rattle.std.{proofs.Common.{◌≡◌, ℕ, ◌+◌, ◌++◌, true, false, subst, List, [], ◌∷◌, length, map, refl, sym, ◌∙◌, ap, arith}, specs.Prelude.{bytes_eq, flat_map}}
 use Rattle.std.{specs.Prelude.{sum_by, ◌||◌, Bool}, proofs.lemmas.List.{map-append, length-map, length-append}, proofs.lemmas.List.Sums.{sum_by-cons}}
 use Rattle.ppdb_values.specs.declared.{file.DocumentValue.{DocumentValue}, annotation.Annotation.{Annotation}}
-use Rattle.ppdb_merge_items.{specs.declared.file.AnnotatedFile.{AnnotatedFile}, specs.Each.{Each}, specs.Annotated.{items_of, with_item}, proofs.Lists.{Each-weaker}}
+use Rattle.ppdb_merge_annotated.{specs.declared.file.AnnotatedFile.AnnotatedFile, specs.Each.Each, specs.Annotated.{items_of, with_item}, proofs.Lists.Each-weaker}
 use Rattle.ppdb_merge_joined.specs.{declared.joining.Parts.{Parts}, Gathered.{Holds, row_after}, Joined.{firsts, joined_documents, joined_rows, row_in, row_named}}
 use Rattle.ppdb_merge_joined.specs.{Joined.{renumbered_method, renumbered_custom}, Numbered.{put_scope, put_import, put_file, put_all}, Parts.{ArePut}}
 use Rattle.ppdb_merge_joined.proofs.{Gathering.{AllNamed, all_named, rows_stay}, Names.{bytes_same, is_named}, Placed.{flat_append}}
@@ -130,7 +130,8 @@ pub rows_are : (files : List AnnotatedFile) (f : AnnotatedFile) (rows : List ℕ
     → rows ≡ map (λ (d : Annotation DocumentValue). row_after (docs files ++ f.documents) d.item.name) f.documents
     → rows ≡ joined_rows (joined_documents (files ++ f ∷ [])) f
 rows_are files f rows are =
-    are ∙ ap (λ l. map (λ (d : Annotation DocumentValue). row_after l d.item.name) f.documents) (sym (flat_append (λ (file : AnnotatedFile). file.documents) files f))
+    are ∙ ap (λ l. map (λ (d : Annotation DocumentValue). row_after l d.item.name) f.documents)
+    (sym (flat_append (λ (file : AnnotatedFile). file.documents) files f))
     ∙ rows_as (files ++ f ∷ []) f.documents
 
 module _ (files : List AnnotatedFile) (f : AnnotatedFile) (old new : Parts) (rows : List ℕ) (put : ArePut files old)

@@ -3,8 +3,8 @@ use Rattle.std.proofs.Common.{◌≡◌, ℕ, suc, ◌+◌, ◌*◌, ◌≤◌, 
 use Rattle.std.{specs.Prelude.{nat_le, bytes_eq, flat_map, sum_by}, specs.List.{list_any}, proofs.lemmas.List.{length-map, length-append}}
 use Rattle.std.proofs.lemmas.List.Sums.{sum_by-cons}
 use Rattle.ppdb_values.specs.declared.{file.DocumentValue.{DocumentValue}, annotation.Annotation.{Annotation}}
-use Rattle.ppdb_merge_items.specs.{declared.file.AnnotatedScope.{AnnotatedScope}, declared.file.AnnotatedFile.{AnnotatedFile}, Each.{Each}, Annotated.{items_of}}
-use Rattle.ppdb_merge_items.{specs.Annotated.{with_item}, specs.Sorted.{put, in_order}, proofs.Lists.{Each-weaker}}
+use Rattle.ppdb_merge_annotated.specs.{declared.file.AnnotatedScope.{AnnotatedScope}, declared.file.AnnotatedFile.{AnnotatedFile}, Each.{Each}, Annotated.{items_of}}
+use Rattle.ppdb_merge_annotated.{specs.Annotated.{with_item}, specs.Sorted.{put, in_order}, proofs.Lists.{Each-weaker}}
 use Rattle.ppdb_merge_joined.specs.Joined.{firsts, joined_documents, joined_document, renumbered_scope, renumbered_import, renumbered, renumbered_all, joined}
 use Rattle.ppdb_merge_joined.specs.Small.{IsSmall, HaveRoom, HasFewRows, AreFew}
 

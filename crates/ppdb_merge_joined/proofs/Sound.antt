@@ -6,13 +6,13 @@ use Rattle.ppdb_values.specs.declared.{custom.CustomValue.{CustomValue}, file.Do
 use Rattle.ppdb_values.specs.declared.{file.MethodValue.{MethodValue}, import.ImportScopeValue.{ImportScopeValue}, annotation.Annotation.{Annotation}}
 use Rattle.ppdb_values.{specs.Ranges.{ComesAfter, IsInOrAfter}, proofs.Mapped.{row_map}}
 use Rattle.ppdb_tables.specs.{declared.rows.MachineRow.{MachineRow}, Parents.{coded_of}}
-use Rattle.ppdb_values_sound_laws.specs.{Named.{HasRow, HasRowOrNone}, Customs.{SoundCustom}, Imports.{SoundImportScope}, Methods.{SoundMethod}}
-use Rattle.ppdb_values_sound_laws.{specs.Sound.{SoundMachine}, proofs.Listed.{row_of}}
-use Rattle.ppdb_merge_items.specs.{declared.file.AnnotatedScope.{AnnotatedScope}, declared.file.AnnotatedFile.{AnnotatedFile}, Each.{Each, Pairs}, NamedRows.{Named}}
-use Rattle.ppdb_merge_items.specs.{NamedRows.{names, names_some, in_constant, in_import, in_steps, all_named}, Annotated.{items_of, with_item}}
-use Rattle.ppdb_merge_items.specs.{SoundParts.{SoundNote, SoundAnnotatedScope, SoundIn, SoundMoved, SoundParts}, Unannotated.{value_of_annotated}}
-use Rattle.ppdb_merge_items.proofs.{Lists.{Each-filter, Each-map, Each-unmap, Each-weaker, each_of, Pairs-map, Pairs-weaker}, Orders.{in_order_each, in_order_rises}}
-use Rattle.ppdb_merge_items.proofs.Orders.{pairs_of}
+use Rattle.ppdb_values_sound.specs.{Named.{HasRow, HasRowOrNone}, Customs.{SoundCustom}, Imports.{SoundImportScope}, Methods.{SoundMethod}, Sound.{SoundMachine}}
+use Rattle.ppdb_values_sound.proofs.Listed.{row_of}
+use Rattle.ppdb_merge_annotated.specs.{declared.file.AnnotatedScope.{AnnotatedScope}, declared.file.AnnotatedFile.{AnnotatedFile}, Each.{Each, Pairs}}
+use Rattle.ppdb_merge_annotated.specs.{NamedRows.{Named, names, names_some, in_constant, in_import, in_steps, all_named}, Annotated.{items_of, with_item}}
+use Rattle.ppdb_merge_annotated.specs.{SoundParts.{SoundNote, SoundAnnotatedScope, SoundIn, SoundMoved, SoundParts}, Unannotated.{value_of_annotated}}
+use Rattle.ppdb_merge_annotated.proofs.{Lists.{Each-filter, Each-map, Each-unmap, Each-weaker, each_of, Pairs-map, Pairs-weaker}, Orders.{in_order_each}}
+use Rattle.ppdb_merge_annotated.proofs.Orders.{in_order_rises, pairs_of}
 use Rattle.ppdb_merge_joined.specs.{Joinable.{AreJoinable, CountsRows}, Joined.{joined, joined_documents, joined_document, joined_rows, row_in, row_named}}
 use Rattle.ppdb_merge_joined.specs.Joined.{customs_named, shifted, renumbered, renumbered_all, renumbered_method, renumbered_scope, renumbered_import}
 use Rattle.ppdb_merge_joined.{specs.Joined.{renumbered_custom}, specs.Same.{same_custom, same_record, fresh}, proofs.Apart.{methods_across, scopes_across}}

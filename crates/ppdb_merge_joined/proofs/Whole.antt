@@ -9,10 +9,10 @@ use Rattle.ppdb_values.specs.declared.custom.{CustomBody.{CustomBody}, CustomBod
 use Rattle.ppdb_values.specs.{declared.annotation.Custom.{Custom}, declared.annotation.Annotation.{Annotation}, Rules.{StandsOn}}
 use Rattle.ppdb_values.specs.declared.file.MethodValue.{MethodValue}
 use Rattle.ppdb_tables.specs.{Parents.{coded_of}, declared.rows.MachineRow.{MachineRow}}
-use Rattle.ppdb_values_sound_laws.specs.Customs.{IsBodyOfKind, SoundCustom}
-use Rattle.ppdb_merge_items.specs.{declared.file.AnnotatedScope.{AnnotatedScope}, declared.file.AnnotatedFile.{AnnotatedFile}, Each.{Each, Pairs}}
-use Rattle.ppdb_merge_items.{specs.Annotated.{items_of, with_item}, specs.Sorted.{in_order}, specs.SoundParts.{SoundMoved, SoundNote}, proofs.Lists.{Each-weaker}}
-use Rattle.ppdb_merge_items.proofs.Lists.{Pairs-weaker, Each-map, Each-append, each_of}
+use Rattle.ppdb_values_sound.specs.Customs.{IsBodyOfKind, SoundCustom}
+use Rattle.ppdb_merge_annotated.specs.{declared.file.AnnotatedScope.{AnnotatedScope}, declared.file.AnnotatedFile.{AnnotatedFile}, Each.{Each, Pairs}}
+use Rattle.ppdb_merge_annotated.{specs.Annotated.{items_of, with_item}, specs.Sorted.in_order, specs.SoundParts.{SoundMoved, SoundNote}, proofs.Lists.Each-weaker}
+use Rattle.ppdb_merge_annotated.proofs.Lists.{Pairs-weaker, Each-map, Each-append, each_of}
 use Rattle.ppdb_merge_joined.specs.{declared.joining.Parts.{Parts}, Gathered.{notes_named}, Joinable.{AreJoinable, AreApart, methods_of}, Joined.{joined_documents}}
 use Rattle.ppdb_merge_joined.specs.Joined.{joined_rows, row_in, shifted, with_documents, customs_named, renumbered_scope, renumbered_import, renumbered_custom}
 use Rattle.ppdb_merge_joined.specs.{Joined.{renumbered, renumbered_all, joined_document, joined}, Keys.{plain, plain_as}, Numbered.{shifted_within, put_scope}}
@@ -334,7 +334,8 @@ records_apart a b apart =
     apart_right (point_methods a ++ scope_methods a ++ machine_methods a) (rows_with a.customs) (point_methods b ++ scope_methods b ++ machine_methods b)
     (rows_with b.customs) apart
 
-each_part : (P Q : AnnotatedFile → Type 0) (documents : List DocumentValue) → ((shift : ℕ) (f : AnnotatedFile) → P f → Q (renumbered documents shift f)) → (shift : ℕ)
+each_part : (P Q : AnnotatedFile → Type 0) (documents : List DocumentValue) → ((shift : ℕ) (f : AnnotatedFile) → P f → Q (renumbered documents shift f))
+    → (shift : ℕ)
     (files : List AnnotatedFile) → Each P files → Each Q (renumbered_all documents shift files)
 each_part P Q documents step shift [] each = tt
 each_part P Q documents step shift (f ∷ fs) each = (step shift f each.0, each_part P Q documents step (shift + length f.imports) fs each.1)
@@ -411,7 +412,8 @@ module _ (first : AnnotatedFile) (others : List AnnotatedFile) (parts : Parts) (
 
 -- ---- what the code makes
 
-pub made_is : (first : AnnotatedFile) (parts : Parts) (ds : List (Annotation DocumentValue)) (ms : List MethodValue) (ss : List AnnotatedScope) (rs : List MachineRow)
+pub made_is : (first : AnnotatedFile) (parts : Parts) (ds : List (Annotation DocumentValue)) (ms : List MethodValue) (ss : List AnnotatedScope)
+    (rs : List MachineRow)
     (cs left : List CustomValue)
     → ds ≡ map finished parts.documents.gathered → ms ≡ in_order (λ m. m.method) parts.methods → ss ≡ in_order (λ s. s.method) parts.scopes
     → rs ≡ in_order (λ r. r.move_next) parts.machines → left ≡ unrepeated itself [] parts.customs → cs ≡ in_order (λ c. coded_of c.parent) left

@@ -1,7 +1,10 @@
 -- Custom records by which equal ones are looked up.
 use Rattle.std.specs.Prelude.{Option, Some, None}
-use Rattle.ppdb_values.specs.declared.custom.{CustomBody.{CustomBody, TheVariants.{Async, Hoisted, TypeDocuments, Unread}}, CustomValue.CustomValue}
-use Rattle.ppdb_merge_joined.specs.declared.keys.{Content.{Content, TheVariants.{Documents, Unread as Bytes}}, Key.Key}
+use Rattle.ppdb_values.specs.declared.custom.{CustomBody.CustomBody, CustomBody.TheVariants.Async}
+use Rattle.ppdb_values.specs.declared.custom.CustomBody.TheVariants.{Hoisted, TypeDocuments, Unread}
+use Rattle.ppdb_values.specs.declared.custom.CustomValue.{CustomValue}
+use Rattle.ppdb_merge_joined.specs.declared.keys.{Content.Content, Content.TheVariants.Documents}
+use Rattle.ppdb_merge_joined.specs.declared.keys.{Content.TheVariants.Unread as Bytes, Key.Key}
 
 -- what a key says
 abbrev pub body_of : Content → CustomBody
@@ -10,7 +13,11 @@ body_of (Bytes bytes) = Unread bytes.now
 
 -- the record that a key stands for
 abbrev pub record_of : Key → CustomValue
-record_of key = record { parent = record { table = key.table; row = key.row }; kind = key.kind; value = body_of key.content }
+record_of key = record {
+  parent = record { table = key.table; row = key.row };
+  kind = key.kind;
+  value = body_of key.content;
+}
 
 -- a record that has a key
 abbrev pub plain_as : CustomValue → CustomBody → Option CustomValue

@@ -1,8 +1,12 @@
 -- Rows as they are numbered in four bytes.
 use Rattle.std.specs.Prelude.{ℕ, zero, suc, ◌+◌, min, List, [], ◌∷◌, map, length}
-use Rattle.ppdb_values.specs.{declared.file.DocumentValue.DocumentValue, declared.import.ImportScopeValue.ImportScopeValue}
-use Rattle.ppdb_merge_items.specs.{declared.file.{AnnotatedScope.AnnotatedScope, AnnotatedFile.AnnotatedFile}, Annotated.with_item}
-use Rattle.ppdb_merge_joined.specs.Joined.{joined_rows, row_in, renumbered_method, renumbered_custom}
+use Rattle.ppdb_values.specs.declared.file.DocumentValue.{DocumentValue}
+use Rattle.ppdb_values.specs.declared.import.ImportScopeValue.{ImportScopeValue}
+use Rattle.ppdb_merge_annotated.specs.declared.file.AnnotatedScope.{AnnotatedScope}
+use Rattle.ppdb_merge_annotated.specs.declared.file.AnnotatedFile.{AnnotatedFile}
+use Rattle.ppdb_merge_annotated.specs.Annotated.{with_item}
+use Rattle.ppdb_merge_joined.specs.Joined.{joined_rows, row_in, renumbered_method}
+use Rattle.ppdb_merge_joined.specs.Joined.{renumbered_custom}
 
 -- a row that may be 0 for none, numbered on as far as four bytes go
 abbrev pub shifted_within : ℕ → ℕ → ℕ
@@ -26,4 +30,5 @@ put_file documents shift file = record file {
 
 abbrev pub put_all : List DocumentValue → ℕ → List AnnotatedFile → List AnnotatedFile
 put_all documents shift [] = []
-put_all documents shift (file ∷ files) = put_file documents shift file ∷ put_all documents (shift + length file.imports) files
+put_all documents shift (file ∷ files) =
+    put_file documents shift file ∷ put_all documents (shift + length file.imports) files

@@ -1,6 +1,6 @@
 -- Files whose rows have numbers of four bytes.
 use Rattle.std.specs.Prelude.{◌<◌, ◌≤◌, List, length, sum_by}
-use Rattle.ppdb_merge_items.specs.{declared.file.AnnotatedFile.AnnotatedFile, Each.Each}
+use Rattle.ppdb_merge_annotated.specs.{declared.file.AnnotatedFile.AnnotatedFile, Each.Each}
 
 pub record IsSmall (file : AnnotatedFile) : Type 0 where
   pub documents : length file.documents < 0xffffffff
@@ -13,8 +13,10 @@ pub record IsSmall (file : AnnotatedFile) : Type 0 where
 pub record HaveRoom (files : List AnnotatedFile) : Type 0 where
   pub documents : sum_by (λ file. length file.documents) files < 0xffffffff
   pub scopes : sum_by (λ file. length file.scopes) files < 0xffffffff
-  pub variables : sum_by (λ file. sum_by (λ scope. length scope.variables) file.scopes) files < 0xffffffff
-  pub constants : sum_by (λ file. sum_by (λ scope. length scope.constants) file.scopes) files < 0xffffffff
+  pub variables : sum_by (λ file. sum_by (λ scope. length scope.variables) file.scopes) files
+      < 0xffffffff
+  pub constants : sum_by (λ file. sum_by (λ scope. length scope.constants) file.scopes) files
+      < 0xffffffff
   pub imports : sum_by (λ file. length file.imports) files < 0xffffffff
 
 -- a file whose rows have numbers of three bytes, as those of each Portable PDB file have

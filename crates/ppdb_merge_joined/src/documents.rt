@@ -1,5 +1,6 @@
 // Documents of several files put together by their names.
-ghost use Rattle.std.specs.Prelude.{◌≡◌, ◌<◌, ◌≤◌, ◌+◌, ◌-◌, ◌++◌, ◌∷◌, [], List, length, map, OnOk, IfOk};
+ghost use Rattle.std.specs.Prelude.{◌≡◌, ◌<◌, ◌≤◌, ◌+◌, ◌-◌, ◌++◌, ◌∷◌, [], List, length, map};
+ghost use Rattle.std.specs.Prelude.{OnOk, IfOk};
 ghost use Rattle.ppdb_merge_joined.specs.Gathered.{Holds, HasRow, row_after, row_for, annotated_at};
 
 use crate::renumbering::DocumentRows;
@@ -42,8 +43,10 @@ impl Documents {
     ) -> Result<u32, Memory>
         requires { length self.old.gathered < 0xffffffff }
         ensures row { IfOk result (λ row. row ≡ length self.old.gathered + 1) }
-        ensures gathered { OnOk result (self.new.gathered ≡ self.old.gathered ++ record { item = document.item; notes = document.customs ∷ [] } ∷ []) }
-        ensures rows { OnOk result (HasRow self.old.rows self.new.rows name (length self.old.gathered + 1)) }
+        ensures gathered { OnOk result (self.new.gathered ≡ self.old.gathered
+            ++ record { item = document.item; notes = document.customs ∷ [] } ∷ []) }
+        ensures rows { OnOk result
+            (HasRow self.old.rows self.new.rows name (length self.old.gathered + 1)) }
     {
         let row = self.gathered.len() as u32 + 1;
         let mut notes = List::new(alloc);
@@ -57,9 +60,10 @@ impl Documents {
     }
 
     /// Puts records to the document of a row.
-    fn note(&mut self, row: u32, customs: List<Custom>) -> Result<(), Memory>
+    fn annotate(&mut self, row: u32, customs: List<Custom>) -> Result<(), Memory>
         requires { (1 ≤ row) × (row ≤ length self.old.gathered) }
-        ensures gathered { OnOk result (self.new.gathered ≡ annotated_at self.old.gathered (row - 1) customs) }
+        ensures gathered { OnOk result
+            (self.new.gathered ≡ annotated_at self.old.gathered (row - 1) customs) }
         ensures rows { self.new.rows ≡ self.old.rows }
     {
         self.gathered.as_mut_slice()[row as usize - 1]
@@ -79,9 +83,11 @@ impl Documents {
     fn add(&mut self, alloc: Global, document: Annotation<DocumentValue>) -> Result<u32, Memory>
         requires gathered { (before : List (Annotation DocumentValue)) × Holds before self.old }
         requires room { length self.old.gathered < 0xffffffff }
-        ensures row { IfOk result (λ row. (before : List (Annotation DocumentValue)) → Holds before self.old
+        ensures row { IfOk result (λ row. (before : List (Annotation DocumentValue))
+            → Holds before self.old
             → row ≡ row_after (before ++ document ∷ []) document.item.name) }
-        ensures gathered { OnOk result ((before : List (Annotation DocumentValue)) → Holds before self.old → Holds (before ++ document ∷ []) self.new) }
+        ensures gathered { OnOk result ((before : List (Annotation DocumentValue))
+            → Holds before self.old → Holds (before ++ document ∷ []) self.new) }
         ensures most { OnOk result (length self.new.gathered ≤ length self.old.gathered + 1) }
     {
         let name = Vec::from_slice(alloc, document.item.name.as_slice())?;
@@ -89,7 +95,7 @@ impl Documents {
         if row == 0 {
             return self.push(alloc, name, document);
         }
-        self.note(row, document.customs)?;
+        self.annotate(row, document.customs)?;
         Ok(row)
     }
 
@@ -101,10 +107,14 @@ impl Documents {
     ) -> Result<DocumentRows, Memory>
         requires gathered { (before : List (Annotation DocumentValue)) × Holds before self.old }
         requires room { length self.old.gathered + length documents < 0xffffffff }
-        ensures rows { IfOk result (λ rows. (before : List (Annotation DocumentValue)) → Holds before self.old
-            → rows ≡ map (λ document. row_after (before ++ documents) document.item.name) documents) }
-        ensures gathered { OnOk result ((before : List (Annotation DocumentValue)) → Holds before self.old → Holds (before ++ documents) self.new) }
-        ensures most { OnOk result (length self.new.gathered ≤ length self.old.gathered + length documents) }
+        ensures rows { IfOk result (λ rows. (before : List (Annotation DocumentValue))
+            → Holds before self.old
+            → rows
+            ≡ map (λ document. row_after (before ++ documents) document.item.name) documents) }
+        ensures gathered { OnOk result ((before : List (Annotation DocumentValue))
+            → Holds before self.old → Holds (before ++ documents) self.new) }
+        ensures most { OnOk result
+            (length self.new.gathered ≤ length self.old.gathered + length documents) }
     {
         let mut rows = List::with_capacity(alloc, documents.len())?;
         for document in documents.into_vec() {

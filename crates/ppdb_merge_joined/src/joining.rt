@@ -1,13 +1,15 @@
 // Files joined into one.
-ghost use Rattle.std.specs.Prelude.{◌≡◌, ◌≢◌, ◌<◌, ◌≤◌, ◌+◌, ◌^◌, ◌++◌, [], ◌∷◌, List, length, map, IfOk, OnOk};
+ghost use Rattle.std.specs.Prelude.{◌≡◌, ◌≢◌, ◌<◌, ◌≤◌, ◌+◌, ◌^◌, ◌++◌, [], ◌∷◌, List, length, map};
+ghost use Rattle.std.specs.Prelude.{IfOk, OnOk};
 ghost use Rattle.ppdb_merge_joined.specs.Joinable.{AreJoinable};
-ghost use Rattle.ppdb_merge_items.specs.Annotated.{with_item};
-ghost use Rattle.ppdb_merge_joined.specs.Joined.{joined, renumbered_custom, renumbered_method, row_in};
+ghost use Rattle.ppdb_merge_annotated.specs.Annotated.{with_item};
+ghost use Rattle.ppdb_merge_joined.specs.Joined.{joined, renumbered_custom, renumbered_method};
+ghost use Rattle.ppdb_merge_joined.specs.Joined.{row_in};
 ghost use Rattle.ppdb_merge_joined.specs.Numbered.{put_import, put_scope};
 ghost use Rattle.ppdb_merge_joined.specs.Parts.{ArePut, finished};
 ghost use Rattle.ppdb_merge_joined.specs.Small.{HaveRoom};
-ghost use Rattle.ppdb_merge_items.specs.Sorted.{in_order};
-ghost use Rattle.ppdb_merge_items.specs.Unannotated.{value_of_annotated};
+ghost use Rattle.ppdb_merge_annotated.specs.Sorted.{in_order};
+ghost use Rattle.ppdb_merge_annotated.specs.Unannotated.{value_of_annotated};
 
 use crate::documents::{Documents, Gathered};
 use crate::placing::move_all;
@@ -16,7 +18,7 @@ use crate::repeats::without_repeats;
 use crate::sorting::{Keyed, set_in_order};
 use crate::unannotated::value_of;
 use ppdb_base::{List, Memory};
-use ppdb_merge_items::{AnnotatedFile, AnnotatedScope};
+use ppdb_merge_annotated::{AnnotatedFile, AnnotatedScope};
 use ppdb_tables::MachineRow;
 use ppdb_values::{
     Annotation, CustomValue, DocumentValue, FileValue, ImportScopeValue, MethodValue,
@@ -62,11 +64,15 @@ impl Parts {
     ) -> Result<(), Memory>
         requires { length self.old.imports < 2 ^ 32 }
         ensures documents { self.new.documents ≡ self.old.documents }
-        ensures methods { OnOk result (self.new.methods ≡ self.old.methods ++ map (renumbered_method (row_in rows.now)) methods) }
-        ensures scopes { OnOk result (self.new.scopes ≡ self.old.scopes ++ map (put_scope (length self.old.imports)) scopes) }
-        ensures imports { OnOk result (self.new.imports ≡ self.old.imports ++ map (with_item (put_import (length self.old.imports))) imports) }
+        ensures methods { OnOk result (self.new.methods ≡ self.old.methods
+            ++ map (renumbered_method (row_in rows.now)) methods) }
+        ensures scopes { OnOk result (self.new.scopes ≡ self.old.scopes
+            ++ map (put_scope (length self.old.imports)) scopes) }
+        ensures imports { OnOk result (self.new.imports ≡ self.old.imports
+            ++ map (with_item (put_import (length self.old.imports))) imports) }
         ensures machines { OnOk result (self.new.machines ≡ self.old.machines ++ machines) }
-        ensures customs { OnOk result (self.new.customs ≡ self.old.customs ++ map (renumbered_custom (row_in rows.now)) customs ∷ []) }
+        ensures customs { OnOk result (self.new.customs ≡ self.old.customs
+            ++ map (renumbered_custom (row_in rows.now)) customs ∷ []) }
     {
         let shift = Shift(self.imports.len() as u32);
         renumber_all(methods.as_mut_slice(), rows);
@@ -84,11 +90,15 @@ impl Parts {
     /// Puts the parts of a file after the others.
     fn add(&mut self, alloc: Global, file: AnnotatedFile) -> Result<(), Memory>
         requires put { (before : List AnnotatedFile) × ArePut before self.old }
-        requires documents { length self.old.documents.gathered + length file.documents < 0xffffffff }
+        requires documents { length self.old.documents.gathered + length file.documents
+            < 0xffffffff }
         requires imports { length self.old.imports < 2 ^ 32 }
-        ensures put { OnOk result ((before : List AnnotatedFile) → ArePut before self.old → ArePut (before ++ file ∷ []) self.new) }
-        ensures documents { OnOk result (length self.new.documents.gathered ≤ length self.old.documents.gathered + length file.documents) }
-        ensures imports { OnOk result (length self.new.imports ≡ length self.old.imports + length file.imports) }
+        ensures put { OnOk result ((before : List AnnotatedFile) → ArePut before self.old
+            → ArePut (before ++ file ∷ []) self.new) }
+        ensures documents { OnOk result (length self.new.documents.gathered
+            ≤ length self.old.documents.gathered + length file.documents) }
+        ensures imports { OnOk result
+            (length self.new.imports ≡ length self.old.imports + length file.imports) }
     {
         let AnnotatedFile {
             documents,
@@ -144,8 +154,9 @@ fn documents_of(
     Ok(documents)
 }
 
-/// Joins files into one. The documents of one name are one, import scopes count through all files, and a custom record that equals
-/// one of an earlier file is left out; the identity, the entry point and the row counts are the first file's.
+/// Joins files into one. The documents of one name are one, import scopes count through all files,
+/// and a custom record that equals one of an earlier file is left out; the identity, the entry
+/// point and the row counts are the first file's.
 pub fn join(alloc: Global, files: List<AnnotatedFile>) -> Result<AnnotatedFile, Memory>
     requires some { files ≢ [] }
     requires joinable { AreJoinable files }

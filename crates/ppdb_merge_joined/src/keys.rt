@@ -21,9 +21,11 @@ pub(crate) struct Key<'a> {
     content: Content<'a>,
 }
 
-/// The key of a record. A record of steps or of slots has none: those of two inputs are on methods that differ.
+/// The key of a record. A record of steps or of slots has none: those of two inputs are on methods
+/// that differ.
 fn key_of<'a>(parent: Parent, kind: [u8; 16], value: &'a CustomBody) -> Option<Key<'a>>
-    ensures { option_map record_of result ≡ plain (record { parent = parent; kind = kind; value = value.entry.now }) }
+    ensures { option_map record_of result
+        ≡ plain (record { parent = parent; kind = kind; value = value.entry.now }) }
 {
     let content = match value {
         CustomBody::TypeDocuments(rows) => Content::Documents(rows.as_slice()),
@@ -60,7 +62,11 @@ impl Recorded for CustomValue {
 
 /// A record apart from its parent stands for one on no row.
 impl Recorded for Custom {
-    ghost as_record = { λ custom. record { parent = record { table = 0; row = 0 }; kind = custom.kind; value = custom.value } };
+    ghost as_record = { λ custom. record {
+      parent = record { table = 0; row = 0 };
+      kind = custom.kind;
+      value = custom.value;
+    } };
 
     fn key<'a>(&'a self) -> Option<Key<'a>> {
         let nowhere = Parent { table: 0, row: 0 };

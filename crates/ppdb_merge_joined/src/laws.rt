@@ -8,7 +8,8 @@ pub fn one_file_stays()
     ensures { OneFileStays }
 {}
 
-/// What is joined is sound, where the files can be joined and the first counts all rows of the type system.
+/// What is joined is sound, where the files can be joined and the first counts all rows of the type
+/// system.
 pub fn joined_is_sound()
     ensures { JoinedIsSound }
 {}
@@ -18,7 +19,8 @@ pub fn worked_joins()
     ensures { WorkedJoins }
 {}
 
-/// At most 256 files, whose rows have numbers of three bytes, have room together: rows of four bytes do for the joined file.
+/// At most 256 files, whose rows have numbers of three bytes, have room together: rows of four
+/// bytes do for the joined file.
 pub fn few_files_have_room()
     ensures { FewHaveRoom }
 {}

@@ -1,5 +1,5 @@
-//! Files joined into one, where each custom record stands at its item: what the joined file is, that it is sound, and the value of
-//! such a file, in which rows have numbers again.
+//! Files joined into one, where each custom record stands at its item: what the joined file is,
+//! that it is sound, and the value of such a file, in which rows have numbers again.
 #![tactic(auto)]
 
 mod documents;

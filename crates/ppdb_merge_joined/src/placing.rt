@@ -1,6 +1,6 @@
 // Items and their records taken apart: the records are numbered by the places of the items.
 ghost use Rattle.std.specs.Prelude.{◌≡◌, ◌+◌, ◌<◌, ◌^◌, ◌++◌, length, map, IfOk, OnOk};
-ghost use Rattle.ppdb_merge_items.specs.Annotated.{on_row, placed, items_of, customs_of};
+ghost use Rattle.ppdb_merge_annotated.specs.Annotated.{on_row, placed, items_of, customs_of};
 
 use ppdb_base::{List, Memory};
 use ppdb_tables::Parent;
@@ -13,7 +13,8 @@ pub fn place(
     parent: Parent,
     customs: &mut List<CustomValue>,
 ) -> Result<(), Memory>
-    ensures { OnOk result (customs.new ≡ customs.old ++ map (on_row parent.table parent.row) notes) }
+    ensures { OnOk result (customs.new ≡ customs.old
+        ++ map (on_row parent.table parent.row) notes) }
 {
     for note in notes.into_vec() {
         let kind = note.kind;
@@ -27,7 +28,8 @@ pub fn place(
     Ok(())
 }
 
-/// The items, in order. Their records are put after others, as records on the rows of a table from a row on.
+/// The items, in order. Their records are put after others, as records on the rows of a table from
+/// a row on.
 pub fn take_apart<T: Drop>(
     alloc: Global,
     annotated: List<Annotation<T>>,
@@ -37,7 +39,8 @@ pub fn take_apart<T: Drop>(
 ) -> Result<List<T>, Memory>
     requires { first + length annotated < 2 ^ 32 }
     ensures items { IfOk result (λ items. items ≡ items_of annotated) }
-    ensures customs { OnOk result (customs.new ≡ customs.old ++ placed table first (customs_of annotated)) }
+    ensures customs { OnOk result (customs.new ≡ customs.old
+        ++ placed table first (customs_of annotated)) }
 {
     let mut items = List::with_capacity(alloc, annotated.len())?;
     let mut row = first;

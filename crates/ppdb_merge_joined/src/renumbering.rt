@@ -4,7 +4,7 @@ ghost use Rattle.ppdb_merge_joined.specs.Joined.{row_in};
 ghost use Rattle.ppdb_merge_joined.specs.Numbered.{shifted_within};
 
 use ppdb_base::List;
-use ppdb_merge_items::AnnotatedScope;
+use ppdb_merge_annotated::AnnotatedScope;
 use ppdb_values::{Annotation, CustomBody, CustomValue, ImportScopeValue, MethodValue};
 use sequence_points::Point;
 
@@ -115,7 +115,7 @@ impl Renumbers<Shift> for AnnotatedScope {
 }
 
 impl Renumbers<Shift> for Annotation<ImportScopeValue> {
-    ghost use Rattle.ppdb_merge_items.specs.Annotated.{with_item};
+    ghost use Rattle.ppdb_merge_annotated.specs.Annotated.{with_item};
     ghost use Rattle.ppdb_merge_joined.specs.Numbered.{put_import};
 
     ghost renumbered = { λ by. with_item (put_import by.0) };

@@ -1,9 +1,11 @@
 // Custom records without those of later inputs that equal one of an earlier input.
-ghost use Rattle.std.specs.Prelude.{◌≡◌, ◌++◌, List, [], ◌∷◌, map, flat_map, cond, not, false, slice_index_or, OnOk, IfOk};
+ghost use Rattle.std.specs.Prelude.{◌≡◌, ◌++◌, List, [], ◌∷◌, map, flat_map, cond, not, false};
+ghost use Rattle.std.specs.Prelude.{slice_index_or, OnOk, IfOk};
 ghost use Rattle.std.specs.List.{filter_map};
 ghost use Rattle.ppdb_values.specs.declared.custom.CustomValue.{CustomValue};
 ghost use Rattle.ppdb_merge_joined.specs.Keys.{plain};
-ghost use Rattle.ppdb_merge_joined.specs.Repeats.{IsSeen, key_among, marks_after, kept_by, unrepeated};
+ghost use Rattle.ppdb_merge_joined.specs.Repeats.{IsSeen, key_among, marks_after, kept_by};
+ghost use Rattle.ppdb_merge_joined.specs.Repeats.{unrepeated};
 
 use crate::keys::{Key, Recorded};
 use crate::placing::move_all;
@@ -11,9 +13,10 @@ use ppdb_base::{List, Memory};
 use std::alloc::Global;
 use std::collections::BTreeSet;
 
-/// Whether a record equals one that was noted.
+/// Whether a record equals one that was seen.
 fn repeats<'a, T: Recorded>(item: &'a T, seen: &BTreeSet<Key<'a>>) -> bool
-    ensures { (earlier : List CustomValue) → IsSeen earlier seen.now → result ≡ key_among earlier (plain (T.as_record item.entry.now)) }
+    ensures { (earlier : List CustomValue) → IsSeen earlier seen.now
+        → result ≡ key_among earlier (plain (T.as_record item.entry.now)) }
 {
     match item.key() {
         Some(key) => seen.contains(&key),
@@ -21,10 +24,11 @@ fn repeats<'a, T: Recorded>(item: &'a T, seen: &BTreeSet<Key<'a>>) -> bool
     }
 }
 
-/// Notes a record.
-fn note_one<'a, T: Recorded>(item: &'a T, seen: &mut BTreeSet<Key<'a>>) -> Result<(), Memory>
+/// Counts a record as seen.
+fn see_one<'a, T: Recorded>(item: &'a T, seen: &mut BTreeSet<Key<'a>>) -> Result<(), Memory>
     ensures { OnOk result ((earlier : List CustomValue) → IsSeen earlier seen.old
-        → IsSeen (earlier ++ filter_map (λ item. plain (T.as_record item)) (item.entry.now ∷ [])) seen.new) }
+        → IsSeen (earlier
+        ++ filter_map (λ item. plain (T.as_record item)) (item.entry.now ∷ [])) seen.new) }
 {
     if let Some(key) = item.key() {
         seen.insert(key)?;
@@ -39,7 +43,8 @@ fn mark<'a, T: Recorded>(
     marks: &mut Vec<bool>,
 ) -> Result<(), Memory>
     ensures { OnOk result ((earlier : List CustomValue) → IsSeen earlier seen.now
-        → marks.new.items ≡ marks.old.items ++ map (λ item. not (key_among earlier (plain (T.as_record item)))) input.entry.now) }
+        → marks.new.items ≡ marks.old.items
+        ++ map (λ item. not (key_among earlier (plain (T.as_record item)))) input.entry.now) }
 {
     for item in input {
         marks.push(!repeats(item, seen))?;
@@ -47,13 +52,14 @@ fn mark<'a, T: Recorded>(
     Ok(())
 }
 
-/// Notes the records of an input.
-fn note<'a, T: Recorded>(input: &'a [T], seen: &mut BTreeSet<Key<'a>>) -> Result<(), Memory>
+/// Counts the records as seen of an input.
+fn see<'a, T: Recorded>(input: &'a [T], seen: &mut BTreeSet<Key<'a>>) -> Result<(), Memory>
     ensures { OnOk result ((earlier : List CustomValue) → IsSeen earlier seen.old
-        → IsSeen (earlier ++ filter_map (λ item. plain (T.as_record item)) input.entry.now) seen.new) }
+        → IsSeen (earlier
+        ++ filter_map (λ item. plain (T.as_record item)) input.entry.now) seen.new) }
 {
     for item in input {
-        note_one(item, seen)?;
+        see_one(item, seen)?;
     }
     Ok(())
 }
@@ -66,7 +72,7 @@ fn marks<T: Recorded>(alloc: Global, inputs: &[List<T>]) -> Result<Vec<bool>, Me
     let mut marks = Vec::new(alloc);
     for input in inputs {
         mark(input.as_slice(), &seen, &mut marks)?;
-        note(input.as_slice(), &mut seen)?;
+        see(input.as_slice(), &mut seen)?;
     }
     Ok(marks)
 }

@@ -1,10 +1,10 @@
 // Items set in order by a number of theirs; what is in order already is only looked at.
 ghost use Rattle.std.specs.Prelude.{◌≡◌, OnOk};
-ghost use Rattle.ppdb_merge_items.specs.Sorted.{in_order};
+ghost use Rattle.ppdb_merge_annotated.specs.Sorted.{in_order};
 ghost use Rattle.ppdb_tables.specs.Parents.{coded_of};
 
 use ppdb_base::Memory;
-use ppdb_merge_items::AnnotatedScope;
+use ppdb_merge_annotated::AnnotatedScope;
 use ppdb_tables::{MachineRow, coded};
 use ppdb_values::{CustomValue, MethodValue};
 

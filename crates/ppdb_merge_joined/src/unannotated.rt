@@ -1,13 +1,13 @@
 // The value of a file whose records stand at their items: rows are numbered here, and nowhere else.
 ghost use Rattle.std.specs.Prelude.{◌≡◌, ◌<◌, map, flat_map, length, sum_by, IfOk};
-ghost use Rattle.ppdb_merge_items.specs.Annotated.{placed, scope_of, customs_of};
-ghost use Rattle.ppdb_merge_items.specs.Unannotated.{value_of_annotated};
+ghost use Rattle.ppdb_merge_annotated.specs.Annotated.{placed, scope_of, customs_of};
+ghost use Rattle.ppdb_merge_annotated.specs.Unannotated.{value_of_annotated};
 ghost use Rattle.ppdb_merge_joined.specs.Small.{IsSmall};
 
 use crate::placing::{move_all, place, take_apart};
 use crate::sorting::set_in_order;
 use ppdb_base::{List, Memory};
-use ppdb_merge_items::{AnnotatedFile, AnnotatedScope};
+use ppdb_merge_annotated::{AnnotatedFile, AnnotatedScope};
 use ppdb_tables::{DOCUMENT, IMPORT_SCOPE, LOCAL_CONSTANT, LOCAL_SCOPE, LOCAL_VARIABLE, Parent};
 use ppdb_values::{CustomValue, FileValue, ScopeValue};
 use std::alloc::Global;
@@ -27,9 +27,12 @@ fn take_scopes(alloc: Global, scopes: List<AnnotatedScope>) -> Result<Scopes, Me
     requires variables { sum_by (λ scope. length scope.variables) scopes < 0xffffffff }
     requires constants { sum_by (λ scope. length scope.constants) scopes < 0xffffffff }
     ensures scopes { IfOk result (λ parts. parts.scopes ≡ map scope_of scopes) }
-    ensures on_scopes { IfOk result (λ parts. parts.on_scopes ≡ placed 0x32 1 (map (λ scope. scope.customs) scopes)) }
-    ensures on_variables { IfOk result (λ parts. parts.on_variables ≡ placed 0x33 1 (flat_map (λ scope. customs_of scope.variables) scopes)) }
-    ensures on_constants { IfOk result (λ parts. parts.on_constants ≡ placed 0x34 1 (flat_map (λ scope. customs_of scope.constants) scopes)) }
+    ensures on_scopes { IfOk result
+        (λ parts. parts.on_scopes ≡ placed 0x32 1 (map (λ scope. scope.customs) scopes)) }
+    ensures on_variables { IfOk result (λ parts. parts.on_variables
+        ≡ placed 0x33 1 (flat_map (λ scope. customs_of scope.variables) scopes)) }
+    ensures on_constants { IfOk result (λ parts. parts.on_constants
+        ≡ placed 0x34 1 (flat_map (λ scope. customs_of scope.constants) scopes)) }
 {
     let mut parts = Scopes {
         scopes: List::with_capacity(alloc, scopes.len())?,

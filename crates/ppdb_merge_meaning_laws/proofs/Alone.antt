@@ -3,9 +3,9 @@ use Rattle.std.{proofs.Common.{◌≡◌, ℕ, ◌≤◌, Bool, true, false, con
 use Rattle.std.proofs.lemmas.Bool.{eqb-true}
 use Rattle.ppdb_maps.specs.{declared.image.RowImage.TheVariants.{Row}, Map.{Map, row_image, signature_line, moved_row, is_dropped}}
 use Rattle.ppdb_values.specs.declared.file.MethodValue.{MethodValue}
-use Rattle.ppdb_values_sound_laws.specs.Sound.{IsSound}
-use Rattle.ppdb_merge_items.specs.{declared.file.AnnotatedFile.{AnnotatedFile}, Each.{Each}, Laws.{SoundnessIsAnnotated}, NamedRows.{Named, names, names_some}}
-use Rattle.ppdb_merge_items.{specs.NamedRows.{named_rows}, specs.Annotated.{annotated_file}, proofs.Lists.{Each-weaker}}
+use Rattle.ppdb_values_sound.specs.Sound.{IsSound}
+use Rattle.ppdb_merge_annotated.specs.{declared.file.AnnotatedFile.{AnnotatedFile}, Each.{Each}, Laws.{SoundnessIsAnnotated}, NamedRows.{Named, names, names_some}}
+use Rattle.ppdb_merge_annotated.{specs.NamedRows.{named_rows}, specs.Annotated.{annotated_file}, proofs.Lists.{Each-weaker}}
 use Rattle.ppdb_merge_joined.specs.{Joinable.{CountsRows}, Joined.{joined}, Laws.{JoinedIsSound}}
 use Rattle.ppdb_merge_moved.{specs.Fits.{IsImaged}, specs.Moved.{moved_file, row_in}, proofs.Elements.{each_in, in_each}, proofs.NamedParts.{NamedParts}}
 use Rattle.ppdb_merge_moved.proofs.{NamedParts.{named_parts}, NamedRows.{named_rows_are_rows}, ImageRows.{moved_stays, assembly_stays}, Fitting.{moved_dropped}}

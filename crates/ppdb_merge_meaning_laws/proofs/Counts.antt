@@ -2,7 +2,7 @@
 use Rattle.std.{proofs.Common.{◌≡◌, ℕ, zero, suc, ◌+◌, ◌≤◌, true, List, [], ◌∷◌, Option, Some, None, refl, arith}, specs.Prelude.{nat_eq, IfSome, get_or, unwrap_or}}
 use Rattle.std.{specs.List.{find}, specs.Option.{option_map}, proofs.lemmas.Bool.{eqb-true}}
 use Rattle.ppdb_maps.specs.{Map.{Map, count_of}, Readable.{IsReadable, IsCount}, declared.entries.Count.{Count}}
-use Rattle.ppdb_values_sound_laws.specs.Sound.{SoundRows}
+use Rattle.ppdb_values_sound.specs.Sound.{SoundRows}
 use Rattle.ppdb_merge_moved.{specs.Moved.{moved_counts}, proofs.ImageRows.{found_passes}}
 
 count_small : (m : Map) → IsReadable m → (table n : ℕ) → n ≤ 16777215 → (0x2d ≤ table → n ≡ 0)

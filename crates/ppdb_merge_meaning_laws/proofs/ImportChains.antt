@@ -4,8 +4,8 @@ use Rattle.std.{specs.Option.{option_map, option_map_or}, proofs.lemmas.List.{le
 use Rattle.ppdb_tables.specs.RawTables.{row_at}
 use Rattle.ppdb_values.specs.{Chains.{chain_for, chain_of}, declared.import.ImportScopeValue.{ImportScopeValue}, declared.import.ImportValue.{ImportValue}}
 use Rattle.ppdb_values.specs.declared.annotation.Annotation.{Annotation}
-use Rattle.ppdb_merge_items.specs.{declared.file.AnnotatedFile.{AnnotatedFile}, Each.{Each}, Annotated.{with_item}, AnnotatedMeaning.{chain, imported}}
-use Rattle.ppdb_merge_items.proofs.Mapped.{map_map_both}
+use Rattle.ppdb_merge_annotated.specs.{declared.file.AnnotatedFile.{AnnotatedFile}, Each.{Each}, Annotated.{with_item}, AnnotatedMeaning.{chain, imported}}
+use Rattle.ppdb_merge_annotated.proofs.Mapped.{map_map_both}
 use Rattle.ppdb_merge_joined.{specs.Joined.{shifted, renumbered_import}, proofs.Chains.{shown}, proofs.Names.{each_row_at}}
 
 abbrev parent : Annotation ImportScopeValue → ℕ

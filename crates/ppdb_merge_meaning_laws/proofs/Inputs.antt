@@ -4,9 +4,9 @@ use Rattle.std.proofs.lemmas.Bool.{eqb-true}
 use Rattle.ppdb_maps.specs.Map.{Map}
 use Rattle.ppdb_tables.specs.declared.rows.MachineRow.{MachineRow}
 use Rattle.ppdb_values.specs.declared.{custom.CustomValue.{CustomValue}, file.MethodValue.{MethodValue}}
-use Rattle.ppdb_merge_items.specs.{declared.file.AnnotatedScope.{AnnotatedScope}, declared.file.AnnotatedFile.{AnnotatedFile}, Each.{Each, Pairs}}
-use Rattle.ppdb_merge_items.{specs.Laws.{SoundnessIsAnnotated}, specs.Annotated.{annotated_file}, specs.SoundParts.{SoundMoved}, proofs.Lists.{Each-append}}
-use Rattle.ppdb_merge_items.proofs.Lists.{Each-filter, Each-map, Each-weaker, Pairs-map}
+use Rattle.ppdb_merge_annotated.specs.{declared.file.AnnotatedScope.{AnnotatedScope}, declared.file.AnnotatedFile.{AnnotatedFile}, Each.{Each, Pairs}}
+use Rattle.ppdb_merge_annotated.{specs.Laws.{SoundnessIsAnnotated}, specs.Annotated.{annotated_file}, specs.SoundParts.{SoundMoved}, proofs.Lists.{Each-append}}
+use Rattle.ppdb_merge_annotated.proofs.Lists.{Each-filter, Each-map, Each-weaker, Pairs-map}
 use Rattle.ppdb_merge_joined.{specs.Joinable.{AreJoinable, AgreeOnDocuments, AreApart, methods_of}, proofs.Each.{Each-flat}}
 use Rattle.ppdb_merge_moved.{specs.Laws.{IsImageOfNamed, MovedNames}, specs.Moved.{moved_file}, proofs.SoundMoves.{moved_sound, moved_names}}
 use Rattle.ppdb_merge_meaning_laws.{specs.Kept.{Input, FitsAlone, MethodsApart, moved_input}, proofs.MoreRows.{sound_moved}}

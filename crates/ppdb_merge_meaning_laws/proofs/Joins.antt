@@ -11,12 +11,12 @@ use Rattle.ppdb_values.specs.declared.custom.{CustomBody.{CustomBody}, CustomBod
 use Rattle.ppdb_values.specs.declared.{file.DocumentValue.{DocumentValue}, file.MethodValue.{MethodValue}, annotation.Annotation.{Annotation}}
 use Rattle.ppdb_values.specs.{Meaning.{PointMeaning, without_parent}, Parts.{slots_in}, declared.import.ImportScopeValue.{ImportScopeValue}, Chains.{parent_at}}
 use Rattle.ppdb_values.{proofs.ChainEnds.{chains_end}, specs.Rules.{StandsOn}, proofs.Mapped.{row_map, filter_map_both}}
-use Rattle.ppdb_values_sound_laws.specs.Customs.{SoundCustom, IsBodyOfKind}
-use Rattle.ppdb_merge_items.specs.{declared.file.AnnotatedScope.{AnnotatedScope}, declared.file.AnnotatedFile.{AnnotatedFile}, Each.{Each, Pairs}}
-use Rattle.ppdb_merge_items.specs.{Annotated.{items_of, with_item}, AnnotatedMeaning.{last_of, held, scopes_at, point_at, method_of, point_meaning, document_at}}
-use Rattle.ppdb_merge_items.specs.{AnnotatedMeaning.{on_method, slots_among, annotated_meaning, scope_meaning, chain, imported}, SoundParts.{SoundMoved}}
-use Rattle.ppdb_merge_items.{specs.Sorted.{in_order}, proofs.Lists.{Each-weaker, Each-map, Each-unmap, Each-append, Each-filter}, proofs.Orders.{in_order_keeps}}
-use Rattle.ppdb_merge_items.{proofs.Orders.{in_order_filter}, specs.Unannotated.{value_of_annotated}}
+use Rattle.ppdb_values_sound.specs.Customs.{SoundCustom, IsBodyOfKind}
+use Rattle.ppdb_merge_annotated.specs.{declared.file.AnnotatedScope.{AnnotatedScope}, declared.file.AnnotatedFile.{AnnotatedFile}, Each.{Each, Pairs}}
+use Rattle.ppdb_merge_annotated.specs.{Annotated.{items_of, with_item}, AnnotatedMeaning.{last_of, held, scopes_at, point_at, method_of, point_meaning, document_at}}
+use Rattle.ppdb_merge_annotated.specs.{AnnotatedMeaning.{on_method, slots_among, annotated_meaning, scope_meaning, chain, imported}, SoundParts.{SoundMoved}}
+use Rattle.ppdb_merge_annotated.{specs.Sorted.{in_order}, proofs.Lists.{Each-weaker, Each-map, Each-unmap, Each-append, Each-filter}, proofs.Orders.{in_order_keeps}}
+use Rattle.ppdb_merge_annotated.{proofs.Orders.{in_order_filter}, specs.Unannotated.{value_of_annotated}}
 use Rattle.ppdb_merge_meaning_laws.{proofs.ImportChains.{chain_kept}, specs.Laws.{SaysNothingOf, SaysTheSame, JoinedMeans}, proofs.Only.{imports_in, none_left}}
 use Rattle.ppdb_merge_meaning_laws.proofs.Only.{find_left, find_map, only_one, fresh_only, one_in_order}
 use Rattle.ppdb_merge_joined.specs.{Joinable.{AreJoinable, AgreeOnDocuments}, Joined.{joined, joined_documents, joined_rows, row_in, row_named, renumbered}}
@@ -75,7 +75,8 @@ pub joined_scopes : (files : List AnnotatedFile)
 joined_scopes [] = refl
 joined_scopes (f ∷ fs) = refl
 
-joined_imports : (files : List AnnotatedFile) → (joined files).imports ≡ flat_map (λ (f : AnnotatedFile). f.imports) (renumbered_all (joined_documents files) 0 files)
+joined_imports : (files : List AnnotatedFile)
+    → (joined files).imports ≡ flat_map (λ (f : AnnotatedFile). f.imports) (renumbered_all (joined_documents files) 0 files)
 joined_imports [] = refl
 joined_imports (f ∷ fs) = refl
 
@@ -345,17 +346,17 @@ module _ (before after : List AnnotatedFile) (file : AnnotatedFile) (able : AreJ
 
   point_kept : (e : MethodValue) (x : ℕ) → point_meaning (joined all_files) (renumbered_method (joined_row rows file) e) x ≡ point_meaning file e x
   point_kept e x =
-      ap (option_map told) (ap last_of (filter_map_both renew (λ (p : Point). nat_le p.offset x) e.points)
+      ap (option_map reported) (ap last_of (filter_map_both renew (λ (p : Point). nat_le p.offset x) e.points)
       ∙ last_map renew (filter (λ (p : Point). nat_le p.offset x) e.points))
       ∙ of_point (point_at x e.points)
     where
       renew : Point → Point
       renew p = record p { document = joined_row rows file p.document }
 
-      told : Point → PointMeaning
-      told p = record { offset = p.offset; span = p.span; document = document_at (joined all_files) p.document; signature = e.signature }
+      reported : Point → PointMeaning
+      reported p = record { offset = p.offset; span = p.span; document = document_at (joined all_files) p.document; signature = e.signature }
 
-      of_point : (o : Option Point) → option_map told (option_map renew o)
+      of_point : (o : Option Point) → option_map reported (option_map renew o)
           ≡ option_map (λ (p : Point). record { offset = p.offset; span = p.span; document = document_at file p.document; signature = e.signature }) o
       of_point None = refl
       of_point (Some p) = ap (λ d. Some (record { offset = p.offset; span = p.span; document = d; signature = e.signature }))
@@ -612,11 +613,13 @@ module _ (before after : List AnnotatedFile) (file : AnnotatedFile) (able : AreJ
   pub says_the_same : SaysTheSame (joined all_files) file method
   says_the_same = record {
     meaning = λ x.
-        ap (λ p. record { point = p; scopes = (annotated_meaning (joined all_files) method x).scopes; slots = (annotated_meaning (joined all_files) method x).slots })
+        ap (λ p.
+        record { point = p; scopes = (annotated_meaning (joined all_files) method x).scopes; slots = (annotated_meaning (joined all_files) method x).slots })
         (points_kept x)
         ∙ ap (λ s. record { point = (annotated_meaning file method x).point; scopes = s; slots = (annotated_meaning (joined all_files) method x).slots })
         (ap (map (scope_meaning (joined all_files))) (scopes_found x) ∙ scopes_said x file.scopes imports_there)
-        ∙ ap (λ c. record { point = (annotated_meaning file method x).point; scopes = (annotated_meaning file method x).scopes; slots = slots_among c x }) records_kept;
+        ∙ ap (λ c.
+        record { point = (annotated_meaning file method x).point; scopes = (annotated_meaning file method x).scopes; slots = slots_among c x }) records_kept;
     kickoff = ap (option_map (λ (r : MachineRow). r.kickoff)) moves_kept;
     move_next = ap (option_map (λ (r : MachineRow). r.move_next)) kickoffs_kept;
     customs = ap (λ l. map without_parent (filter (λ (c : CustomValue). is_none (slots_in c.value)) l)) records_kept;

@@ -9,10 +9,10 @@ use Rattle.ppdb_values.specs.{declared.file.FileValue.{FileValue}, declared.file
 use Rattle.ppdb_values.specs.Meaning.{Meaning, PointMeaning, meaning, point_meaning}
 use Rattle.ppdb_maps.specs.Map.{Map, moved_row, row_within, offsets_in, is_dropped}
 use Rattle.ppdb_tables.specs.Parents.{coded_of}
-use Rattle.ppdb_merge_items.specs.{declared.file.AnnotatedFile.{AnnotatedFile}, Each.{Each, Pairs}, Laws.{SoundnessIsAnnotated}, NamedRows.{names, names_some}}
-use Rattle.ppdb_merge_items.specs.{NamedRows.{named_rows, all_named, live_file}, Annotated.{annotated_file}, AnnotatedMeaning.{annotated_meaning, annotated_links}}
-use Rattle.ppdb_merge_items.{specs.SoundParts.{SoundMoved}, specs.Unannotated.{value_of_annotated}, proofs.Files.{file_back}, proofs.Lists.{Each-map, Each-weaker}}
-use Rattle.ppdb_merge_items.proofs.{AnnotatedMeanings.{meaning_is, links_are}, Orders.{in_order_each, in_order_rises, pairs_of}, Parts.{in_entry}}
+use Rattle.ppdb_merge_annotated.specs.{declared.file.AnnotatedFile.{AnnotatedFile}, Each.{Each, Pairs}, Laws.{SoundnessIsAnnotated}, NamedRows.{names, names_some}}
+use Rattle.ppdb_merge_annotated.specs.{NamedRows.{named_rows, all_named, live_file}, Annotated.annotated_file, AnnotatedMeaning.{annotated_meaning, annotated_links}}
+use Rattle.ppdb_merge_annotated.{specs.SoundParts.SoundMoved, specs.Unannotated.value_of_annotated, proofs.Files.file_back, proofs.Lists.{Each-map, Each-weaker}}
+use Rattle.ppdb_merge_annotated.proofs.{AnnotatedMeanings.{meaning_is, links_are}, Orders.{in_order_each, in_order_rises, pairs_of}, Parts.{in_entry}}
 use Rattle.ppdb_merge_joined.specs.{Joinable.{AreJoinable, AgreeOnDocuments, methods_of}, Joined.{joined, joined_documents, joined_rows, row_in, renumbered_all}}
 use Rattle.ppdb_merge_joined.{specs.Joined.{renumbered_custom}, specs.Same.{fresh, same_record}, proofs.Kept.{fresh_each}, proofs.Each.{Each-with}}
 use Rattle.ppdb_merge_moved.specs.{Fits.{IsImaged}, FitsMethod.{FitsFile}, Images.{meaning_image, links_image, partner_image, point_image}, Laws.{IsImageOfNamed}}
@@ -230,15 +230,15 @@ module _ (annotated : SoundnessIsAnnotated) (before after : List Input) (i : Inp
 
   pub point_kept : (x y : ℕ) (p : Point) → Kept (offsets_in m method) x y → Contains (points_of i.1.value method) p → p.offset ≡ x
       → (q : Point) × Contains (points_of value image_row) q × (q.offset ≡ y) × (q.span ≡ p.span)
-  point_kept x y p kept there at = of_point (last_point (points_of value image_row) y) refl told
+  point_kept x y p kept there at = of_point (last_point (points_of value image_row) y) refl reported
     where
       here : last_point (points_of i.1.value method) x ≡ Some p
       here = subst (λ n. last_or None (filter (λ (q : Point). nat_le q.offset n) (points_of i.1.value method)) ≡ Some p) at
           (last_at p (points_of i.1.value method) None (rise_of (find (λ (e : MethodValue). nat_eq e.method method) i.1.value.methods) refl) there)
 
-      told : option_map (point_meaning value image_row) (last_point (points_of value image_row) y)
+      reported : option_map (point_meaning value image_row) (last_point (points_of value image_row) y)
           ≡ option_map (point_image m method) (Some (point_meaning i.1.value method p))
-      told = ap (λ (a : Meaning). a.point) (meaning_kept x y kept)
+      reported = ap (λ (a : Meaning). a.point) (meaning_kept x y kept)
           ∙ ap (λ o. option_map (point_image m method) (option_map (point_meaning i.1.value method) o)) here
 
       moved_is_y : moved (offsets_in m method) p.offset ≡ y

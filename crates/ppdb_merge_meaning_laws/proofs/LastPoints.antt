@@ -3,7 +3,7 @@ use Rattle.std.proofs.Common.{◌≡◌, ℕ, zero, suc, ◌<◌, ◌⊎◌, inl
 use Rattle.std.{specs.Prelude.{nat_le, AllPairs, All, Contains}, specs.List.{filter, find, last_or}, proofs.lemmas.Bool.{le-leb, lt-leb}}
 use Rattle.std.proofs.lemmas.List.Elements.{All-head, All-tail}
 use Rattle.sequence_points.{specs.declared.point.Point.{Point}, proofs.Follows.{pairs-head, pairs-tail}}
-use Rattle.ppdb_merge_items.specs.Each.{Each}
+use Rattle.ppdb_merge_annotated.specs.Each.{Each}
 
 -- what holds of each holds of one that is found
 pub found_each : {A : Type 0} (P : A → Type 0) (p : A → Bool) (xs : List A) (x : A) → Each P xs → find p xs ≡ Some x → P x

@@ -9,11 +9,11 @@ use Rattle.ppdb_values.specs.declared.{file.FileValue.{FileValue}, import.Import
 use Rattle.ppdb_values.specs.declared.import.ImportValue.TheVariants.{Target, Xml, Alias, AssemblyAlias, NamespaceAlias, AssemblyNamespaceAlias, TargetAlias}
 use Rattle.ppdb_values.specs.declared.{annotation.Custom.{Custom}, annotation.Annotation.{Annotation}, scope.ConstantValue.{ConstantValue}}
 use Rattle.ppdb_values.specs.declared.scope.{ConstantBody.{ConstantBody}, ConstantBody.TheVariants.{Primitive, Enumerated, General, Object}}
-use Rattle.ppdb_values_sound_laws.specs.{Customs.{SoundCustom, IsBodyOfKind}, Imports.{SoundImport, SoundImportScope}, Methods.{SoundMethod}, Named.{count, HasRow}}
-use Rattle.ppdb_values_sound_laws.specs.{Named.{HasRowOrNone, HasType, type_limits}, Scopes.{SoundConstant, stored_body}, Sound.{SoundMachine, SoundRows}}
-use Rattle.ppdb_merge_items.specs.{declared.file.AnnotatedScope.{AnnotatedScope}, declared.file.AnnotatedFile.{AnnotatedFile}, Each.{Each}, SoundParts.{SoundIn}}
-use Rattle.ppdb_merge_items.specs.{SoundParts.{SoundMoved, SoundNote, SoundAnnotatedScope, SoundParts}, Unannotated.{value_of_annotated}}
-use Rattle.ppdb_merge_items.proofs.Lists.{Each-weaker}
+use Rattle.ppdb_values_sound.specs.{Customs.{SoundCustom, IsBodyOfKind}, Imports.{SoundImport, SoundImportScope}, Methods.{SoundMethod}, Named.{count, HasRow}}
+use Rattle.ppdb_values_sound.specs.{Named.{HasRowOrNone, HasType, type_limits}, Scopes.{SoundConstant, stored_body}, Sound.{SoundMachine, SoundRows}}
+use Rattle.ppdb_merge_annotated.specs.{declared.file.AnnotatedScope.{AnnotatedScope}, declared.file.AnnotatedFile.{AnnotatedFile}, Each.{Each}, SoundParts.{SoundIn}}
+use Rattle.ppdb_merge_annotated.specs.{SoundParts.{SoundMoved, SoundNote, SoundAnnotatedScope, SoundParts}, Unannotated.{value_of_annotated}}
+use Rattle.ppdb_merge_annotated.proofs.Lists.{Each-weaker}
 use Rattle.ppdb_merge_moved.proofs.RowImages.{count_most}
 
 module _ (v u : FileValue) (more : (table : ℕ) → count v table ≤ count u table) where

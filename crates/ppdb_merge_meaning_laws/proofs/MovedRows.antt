@@ -15,10 +15,10 @@ use Rattle.ppdb_values.specs.declared.import.ImportValue.TheVariants.{Namespace,
 use Rattle.ppdb_values.specs.declared.{import.ImportValue.TheVariants.{AssemblyNamespaceAlias, TargetAlias}, annotation.Annotation.{Annotation}}
 use Rattle.ppdb_values.specs.declared.scope.{ConstantValue.{ConstantValue}, ConstantBody.{ConstantBody}, ConstantBody.TheVariants.{Primitive, Enumerated, General}}
 use Rattle.ppdb_values.specs.{declared.scope.ConstantBody.TheVariants.{Object}, Parts.{is_link}}
-use Rattle.ppdb_merge_items.specs.{declared.file.AnnotatedScope.{AnnotatedScope}, declared.file.AnnotatedFile.{AnnotatedFile}, Each.{Each}, NamedRows.{Named, names}}
-use Rattle.ppdb_merge_items.specs.NamedRows.{names_some, all_named, in_token, in_body, in_constant, in_import, in_steps, live_machine, live_custom, live_signature}
-use Rattle.ppdb_merge_items.{specs.NamedRows.{live_constants, live_import}, proofs.Lists.{Each-append, Each-map}, specs.Annotated.{with_item}}
-use Rattle.ppdb_merge_items.proofs.Parts.{live_imports}
+use Rattle.ppdb_merge_annotated.specs.{declared.file.AnnotatedScope.{AnnotatedScope}, declared.file.AnnotatedFile.{AnnotatedFile}, Each.{Each}, NamedRows.{Named}}
+use Rattle.ppdb_merge_annotated.specs.NamedRows.{names, names_some, all_named, in_token, in_body, in_constant, in_import, in_steps, live_machine, live_custom}
+use Rattle.ppdb_merge_annotated.{specs.NamedRows.{live_signature, live_constants, live_import}, proofs.Lists.{Each-append, Each-map}, specs.Annotated.{with_item}}
+use Rattle.ppdb_merge_annotated.proofs.Parts.{live_imports}
 use Rattle.ppdb_merge_joined.proofs.Each.{Each-flat}
 use Rattle.ppdb_merge_moved.specs.Moved.{moved_range, is_empty, moved_token, moved_modifier, moved_constant, moved_constant_body, moved_import, moved_import_scope}
 use Rattle.ppdb_merge_moved.specs.Moved.{with_points, moved_method, scope_image, moved_scope, moved_machine, moved_step, moved_body, moved_custom, linked}

@@ -2,7 +2,7 @@
 use Rattle.std.proofs.Common.{◌≡◌, ℕ, ◌+◌, ◌++◌, not, Bool, true, false, cond, List, [], ◌∷◌, Some, length, map, flat_map, refl, ◌∙◌, ap, arith, append-nil}
 use Rattle.std.{specs.List.{filter, find, list_any}, specs.Option.{option_map}, proofs.lemmas.Bool.{both_ways}, proofs.lemmas.List.Elements.{filter-append}}
 use Rattle.ppdb_values.specs.declared.file.DocumentValue.{DocumentValue}
-use Rattle.ppdb_merge_items.{specs.declared.file.AnnotatedFile.{AnnotatedFile}, specs.Each.{Each, Pairs}, specs.Sorted.{in_order}, proofs.Lists.{Each-weaker}}
+use Rattle.ppdb_merge_annotated.{specs.declared.file.AnnotatedFile.{AnnotatedFile}, specs.Each.{Each, Pairs}, specs.Sorted.{in_order}, proofs.Lists.{Each-weaker}}
 use Rattle.ppdb_merge_joined.specs.{Joined.{renumbered, renumbered_all}, Same.{fresh}}
 
 -- ---- filters

@@ -7,10 +7,10 @@ use Rattle.ppdb_tables.specs.{RawTables.{row_at}, declared.rows.MachineRow.{Mach
 use Rattle.ppdb_values.specs.declared.{custom.CustomValue.{CustomValue}, file.DocumentValue.{DocumentValue}, file.FileValue.{FileValue}}
 use Rattle.ppdb_values.specs.declared.{file.MethodValue.{MethodValue}, annotation.Custom.{Custom}, annotation.Annotation.{Annotation}}
 use Rattle.ppdb_values.{specs.Meaning.{annotated_on, without_parent}, proofs.Mapped.{row_map, filter_map_both}}
-use Rattle.ppdb_merge_items.specs.{declared.file.AnnotatedScope.{AnnotatedScope}, declared.file.AnnotatedFile.{AnnotatedFile}, Each.{Each, Pairs}}
-use Rattle.ppdb_merge_items.specs.{Laws.{SoundnessIsAnnotated}, Annotated.{items_of, annotated_file, with_item}, Unannotated.{value_of_annotated}}
-use Rattle.ppdb_merge_items.proofs.{Lists.{Each-append, Each-map, Each-weaker, each_of}, Mapped.{map_map_both, row_numbered}, Orders.{in_order_each, in_order_keeps}}
-use Rattle.ppdb_merge_items.proofs.{Rows.{at, one_parent}, Spread.{filter_within}, Values.{items_back}}
+use Rattle.ppdb_merge_annotated.specs.{declared.file.AnnotatedScope.{AnnotatedScope}, declared.file.AnnotatedFile.{AnnotatedFile}, Each.{Each, Pairs}}
+use Rattle.ppdb_merge_annotated.specs.{Laws.{SoundnessIsAnnotated}, Annotated.{items_of, annotated_file, with_item}, Unannotated.{value_of_annotated}}
+use Rattle.ppdb_merge_annotated.proofs.{Lists.{Each-append, Each-map, Each-weaker, each_of}, Mapped.{map_map_both, row_numbered}, Orders.{in_order_each}}
+use Rattle.ppdb_merge_annotated.proofs.{Orders.{in_order_keeps}, Rows.{at, one_parent}, Spread.{filter_within}, Values.{items_back}}
 use Rattle.ppdb_merge_joined.specs.{Joinable.{AreJoinable, AgreeOnDocuments, methods_of}, Joined.{joined, joined_documents, joined_document, joined_rows, row_in}}
 use Rattle.ppdb_merge_joined.specs.{Joined.{renumbered, renumbered_all, renumbered_custom, customs_named, firsts}, Same.{fresh, same_custom, same_record}}
 use Rattle.ppdb_merge_joined.proofs.{Kept.{fresh_each}, One.{map_same}}
@@ -264,7 +264,7 @@ module _ (annotated : SoundnessIsAnnotated) (turns : List Input) (each : Each Fi
 
   pub document_origins : (row : ℕ) (d : DocumentValue) → row_at value.documents row ≡ Some d
       → annotated_on value 0x30 row ≡ fresh same_custom [] (map (λ (input : Input). customs_named d.name (moved_input input)) turns)
-  document_origins row d here = of_row (row_at (joined_documents files) row) told
+  document_origins row d here = of_row (row_at (joined_documents files) row) reported
     where
       all : List AnnotatedFile
       all = renumbered_all (joined_documents files) 0 files
@@ -272,8 +272,8 @@ module _ (annotated : SoundnessIsAnnotated) (turns : List Input) (each : Each Fi
       annotated_row : ℕ × DocumentValue → Annotation DocumentValue
       annotated_row item = record { item = item.1; customs = annotated_on value 0x30 item.0 }
 
-      told : Some (annotated_row (row, d)) ≡ option_map (joined_document all) (row_at (joined_documents files) row)
-      told =
+      reported : Some (annotated_row (row, d)) ≡ option_map (joined_document all) (row_at (joined_documents files) row)
+      reported =
           ap (option_map (λ (d : DocumentValue). annotated_row (row, d))) (sym here) ∙ sym (row_numbered annotated_row value.documents row)
           ∙ ap (λ (f : AnnotatedFile). row_at f.documents row) back ∙ ap (λ l. row_at l row) (documents_are files)
           ∙ row_map (joined_document all) (joined_documents files) row

@@ -1,5 +1,5 @@
-//! Laws: what moved and joined files say of each method is what the file said that names it; and their entry point, methods, documents and
-//! records on rows and documents come from the files.
+//! Laws: what moved and joined files say of each method is what the file said that names it; and
+//! their entry point, methods, documents and records on rows and documents come from the files.
 #![tactic(auto)]
 
 mod laws;

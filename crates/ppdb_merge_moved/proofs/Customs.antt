@@ -5,8 +5,8 @@ use Rattle.ppdb_base.specs.Offsets.{gone}
 use Rattle.ppdb_maps.specs.{declared.image.RowImage.{RowImage}, declared.image.RowImage.TheVariants.{Row, Gone, Missing}, Readable.{IsReadable}, Map.{Map}}
 use Rattle.ppdb_maps.specs.Map.{row_image, moved_row, offsets_in, is_dropped}
 use Rattle.ppdb_values.specs.declared.custom.CustomValue.{CustomValue}
-use Rattle.ppdb_merge_items.{specs.Each.{Each}, specs.declared.file.AnnotatedFile.{AnnotatedFile}, specs.NamedRows.{live_custom}, proofs.Lists.{Each-filter}}
-use Rattle.ppdb_merge_items.proofs.Lists.{Each-weaker}
+use Rattle.ppdb_merge_annotated.{specs.Each.{Each}, specs.declared.file.AnnotatedFile.{AnnotatedFile}, specs.NamedRows.{live_custom}, proofs.Lists.{Each-filter}}
+use Rattle.ppdb_merge_annotated.proofs.Lists.{Each-weaker}
 use Rattle.ppdb_merge_moved.specs.{Moved.{linked, moved_body, moved_custom, moved_file, moved_parent, row_in, table_in}, FitsMethod.{FitsCustom, MovesAsMethod}}
 use Rattle.ppdb_merge_moved.proofs.{ImageRows.{lives_on_method, method_moves, never_method}, Lists.{Alike, filter-filter_map, filter_map-map}}
 
@@ -63,7 +63,8 @@ own_parent m ready method image c fits = by (row_image m c.parent.table c.parent
         same : c.parent.row ≡ method
         same = fits.own from (moves ∙ eqb-true r (moved_row m 0x06 method) row)
 
-    by : (i : RowImage) → row_image m c.parent.table c.parent.row ≡ i → (d : Bool) → on method c ≡ d → on_image (row_image m c.parent.table c.parent.row) ≡ on method c
+    by : (i : RowImage) → row_image m c.parent.table c.parent.row ≡ i → (d : Bool) → on method c ≡ d
+        → on_image (row_image m c.parent.table c.parent.row) ≡ on method c
     by i is true here = ap on_image (of_method here) ∙ eq-eqb (moved_row m 0x06 method) (moved_row m 0x06 method) refl ∙ sym here
     by (Row t r) is false apart = ap on_image is ∙ other t r is apart (nat_eq t 0x06) refl (nat_eq r (moved_row m 0x06 method)) refl ∙ sym apart
     by Gone is false apart = ap on_image is ∙ sym apart
@@ -96,4 +97,5 @@ records_moved m w method ready image live fits = moved_on ∙ stays
 
     stays : filter_map (moved_custom m) (filter (on method) w.customs) ≡ map (image_of m) (filter (on method) w.customs)
     stays = filter_map-map (moved_custom m) (image_of m) (filter (on method) w.customs)
-        (Each-filter (FitsCustom m method) (λ c. moved_custom m c ≡ Some (image_of m c)) (on method) (λ c is f. custom_stays m ready method live c is) w.customs fits)
+        (Each-filter (FitsCustom m method) (λ c. moved_custom m c ≡ Some (image_of m c)) (on method)
+        (λ c is f. custom_stays m ready method live c is) w.customs fits)

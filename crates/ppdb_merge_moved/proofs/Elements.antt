@@ -1,7 +1,7 @@
 -- What holds of each element of a list that is made of others.
 use Rattle.std.{proofs.Common.{◌≡◌, zero, suc, ◌++◌, Bool, true, false, cond, List, [], ◌∷◌, flat_map, refl, subst, arith}, specs.List.{Contains, filter}}
 use Rattle.std.proofs.lemmas.Bool.{both_ways}
-use Rattle.ppdb_merge_items.specs.Each.{Each}
+use Rattle.ppdb_merge_annotated.specs.Each.{Each}
 
 -- what holds of each that a list contains, and back
 pub each_in : {A : Type 0} (P : A → Type 0) (xs : List A) → ((x : A) → Contains xs x → P x) → Each P xs

@@ -3,7 +3,7 @@ use Rattle.std.{proofs.Common.{rules, ◌≡◌, ℕ, ◌+◌, ◌-◌, ◌<◌,
 use Rattle.ppdb_values.specs.declared.{file.FileValue.{FileValue}, file.DocumentValue.{DocumentValue}, import.ImportScopeValue.{ImportScopeValue}}
 use Rattle.ppdb_values.specs.declared.{annotation.Custom.{Custom}, annotation.Annotation.{Annotation}, custom.CustomValue.{CustomValue}}
 use Rattle.ppdb_values.specs.{declared.scope.ScopeValue.{ScopeValue}, Meaning.{annotated_on}}
-use Rattle.ppdb_merge_items.specs.{declared.file.AnnotatedScope.{AnnotatedScope}, declared.file.AnnotatedFile.{AnnotatedFile}, Annotated.{annotated_file}}
+use Rattle.ppdb_merge_annotated.specs.{declared.file.AnnotatedScope.{AnnotatedScope}, declared.file.AnnotatedFile.{AnnotatedFile}, Annotated.{annotated_file}}
 use Rattle.ppdb_merge_moved.specs.{declared.annotating.OnRows.{OnRows}, OnRows.{on_row, in_lists, HasRows, HasAll, annotated_by, annotated_scopes_by}}
 use Rattle.ppdb_merge_moved.proofs.ScopesAtRows.{annotated_same, scopes_are}
 

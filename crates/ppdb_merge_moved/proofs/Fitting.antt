@@ -12,10 +12,10 @@ use Rattle.ppdb_tables.specs.declared.rows.MachineRow.{MachineRow}
 use Rattle.sequence_points.specs.declared.point.Point.{Point}
 use Rattle.ppdb_values.specs.declared.custom.{CustomBody.{CustomBody}, CustomBody.TheVariants.{Async, Hoisted, TypeDocuments, Unread}, CustomValue.{CustomValue}}
 use Rattle.ppdb_values.specs.declared.file.{FileValue.{FileValue}, MethodValue.{MethodValue}}
-use Rattle.ppdb_values_sound_laws.specs.{Customs.{SoundCustom, IsBodyOfKind}, Methods.{SoundMethod}}
-use Rattle.ppdb_merge_items.specs.{declared.file.AnnotatedScope.{AnnotatedScope}, declared.file.AnnotatedFile.{AnnotatedFile}, Each.{Each}, NamedRows.{Named, names}}
-use Rattle.ppdb_merge_items.specs.NamedRows.{names_some, named_rows, live_file, live_machine, live_signature, live_custom, in_steps}
-use Rattle.ppdb_merge_items.{specs.SoundParts.{SoundAnnotatedScope}, specs.Unannotated.{value_of_annotated}, proofs.Lists.{Each-weaker}, proofs.Parts.{in_entry}}
+use Rattle.ppdb_values_sound.specs.{Customs.{SoundCustom, IsBodyOfKind}, Methods.{SoundMethod}}
+use Rattle.ppdb_merge_annotated.specs.{declared.file.AnnotatedScope.AnnotatedScope, declared.file.AnnotatedFile.AnnotatedFile, Each.Each, NamedRows.{Named, names}}
+use Rattle.ppdb_merge_annotated.specs.NamedRows.{names_some, named_rows, live_file, live_machine, live_signature, live_custom, in_steps}
+use Rattle.ppdb_merge_annotated.{specs.SoundParts.{SoundAnnotatedScope}, specs.Unannotated.{value_of_annotated}, proofs.Lists.{Each-weaker}, proofs.Parts.{in_entry}}
 use Rattle.ppdb_merge_moved.specs.{Laws.{FitsAreOfMethods}, Fits.{Fits, IsImaged, AreWithin, EndsWithin}, FitsMethod.{MovesAsMethod, FitsScope, FitsMethod}}
 use Rattle.ppdb_merge_moved.{specs.FitsMethod.{FitsSlot, FitsSlots, FitsCustom, FitsEntry, FitsMachine}, proofs.Elements.{each_in, in_each}}
 use Rattle.ppdb_merge_moved.proofs.{NamedParts.{NamedParts, named_parts}, RisingPoints.{points_are_rising}, ImageRows.{lives_on_method, no_shared_method}}

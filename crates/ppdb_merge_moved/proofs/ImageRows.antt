@@ -4,10 +4,10 @@ use Rattle.std.{proofs.Common.{◌∙◌, ap, subst, arith}, specs.Prelude.{nat_
 use Rattle.std.proofs.lemmas.Bool.{eqb-true, eq-eqb, and_parts, or_cases, both_ways}
 use Rattle.ppdb_maps.specs.declared.{entries.CrossLine.{CrossLine}, entries.GoneLine.{GoneLine}, entries.RowLine.{RowLine}, image.RowImage.{RowImage}}
 use Rattle.ppdb_maps.specs.{declared.image.RowImage.TheVariants.{Row, Missing}, Forms.{Crosses}, Map.{Map, row_image, row_within, row_line, cross_line}}
-use Rattle.ppdb_maps.specs.Map.{has_gone_line, told_image, line_image, count_of, is_dropped, is_gone, moved_row, is_gone_row, is_in_table, leaves_table}
+use Rattle.ppdb_maps.specs.Map.{has_gone_line, said_image, line_image, count_of, is_dropped, is_gone, moved_row, is_gone_row, is_in_table, leaves_table}
 use Rattle.ppdb_maps.specs.Readable.{IsReadable, IsRowOf, IsCrossOf, IsGoneOf}
 use Rattle.ppdb_values.specs.declared.custom.CustomValue.{CustomValue}
-use Rattle.ppdb_merge_items.specs.NamedRows.{names, live_custom}
+use Rattle.ppdb_merge_annotated.specs.NamedRows.{names, live_custom}
 use Rattle.ppdb_merge_moved.{specs.Moved.{linked}, specs.Fits.{IsImaged, may_share}, proofs.RowImages.{IsWithin, within_in, moved_is_image}}
 
 pub found_passes : {A : Type 0} (P : A → Type 0) (p : A → Bool) (xs : List A) → AllByRecursion P xs → IfSome (find p xs) (λ x. P x × (p x ≡ true))
@@ -41,7 +41,7 @@ pub image_cases : (m : Map) → IsReadable m → (table row to image : ℕ) → 
 image_cases m ready table row to image is = by_drop (nat_eq table 0x06 && is_dropped m row) is
   where
     crossed : (o : Option CrossLine) → IfSome o (λ l. IsCrossOf m l × (nat_eq l.table table && nat_eq l.old row ≡ true)) → (g : Bool)
-        → told_image table None o g ≡ Row to image → StaysOrCrosses m table to image None
+        → said_image table None o g ≡ Row to image → StaysOrCrosses m table to image None
     crossed (Some line) holds g e = inr (record {
       line = line;
       from = eqb-true line.table table (and_parts (nat_eq line.table table) (nat_eq line.old row) holds.1).0;
@@ -52,7 +52,7 @@ image_cases m ready table row to image is = by_drop (nat_eq table 0x06 && is_dro
     crossed None holds true e = absurd cc
     crossed None holds false e = absurd cc
 
-    by_row : (r : Option ℕ) → told_image table r (cross_line m table row) (has_gone_line m table row) ≡ Row to image → StaysOrCrosses m table to image r
+    by_row : (r : Option ℕ) → said_image table r (cross_line m table row) (has_gone_line m table row) ≡ Row to image → StaysOrCrosses m table to image r
     by_row (Some new) e = inl (sym (table_of table new to image e), ap Some (row_of table new to image e))
     by_row None e = crossed (cross_line m table row)
         (found_passes (IsCrossOf m) (λ l. nat_eq l.table table && nat_eq l.old row) m.crossed ready.crossed) (has_gone_line m table row) e
@@ -185,22 +185,23 @@ method_moves m ready (suc row) image is = moved_is_image m 0x06 (suc row) image 
 pub no_gone_method : (m : Map) → IsReadable m → (row : ℕ) → is_gone_row m 0x06 row ≡ false
 no_gone_method m ready row = by_drop (is_dropped m row)
   where
-    by_gone : (g : Bool) → has_gone_line m 0x06 row ≡ g → is_gone (told_image 0x06 None None g) ≡ false
+    by_gone : (g : Bool) → has_gone_line m 0x06 row ≡ g → is_gone (said_image 0x06 None None g) ≡ false
     by_gone false is = refl
     by_gone true is = absurd (no_line m.gone ready.gone is)
       where
         no_line : (lines : List GoneLine) → AllByRecursion (IsGoneOf m) lines → list_any (λ (r : GoneLine). nat_eq r.table 0x06 && nat_eq r.old row) lines ≡ true → ⊥
         no_line [] all any = cc
-        no_line (l ∷ ls) all any = elim (or_cases (nat_eq l.table 0x06 && nat_eq l.old row) (list_any (λ (r : GoneLine). nat_eq r.table 0x06 && nat_eq r.old row) ls) any) [
-          | inl here ↦ all.0.1 (eqb-true l.table 0x06 (and_parts (nat_eq l.table 0x06) (nat_eq l.old row) here).0)
-          | inr later ↦ no_line ls all.1 later
-        ]
+        no_line (l ∷ ls) all any =
+            elim (or_cases (nat_eq l.table 0x06 && nat_eq l.old row) (list_any (λ (r : GoneLine). nat_eq r.table 0x06 && nat_eq r.old row) ls) any) [
+              | inl here ↦ all.0.1 (eqb-true l.table 0x06 (and_parts (nat_eq l.table 0x06) (nat_eq l.old row) here).0)
+              | inr later ↦ no_line ls all.1 later
+            ]
 
-    by_cross : (o : Option CrossLine) → is_gone (told_image 0x06 None o (has_gone_line m 0x06 row)) ≡ false
+    by_cross : (o : Option CrossLine) → is_gone (said_image 0x06 None o (has_gone_line m 0x06 row)) ≡ false
     by_cross (Some line) = refl
     by_cross None = by_gone (has_gone_line m 0x06 row) refl
 
-    by_row : (r : Option ℕ) → is_gone (told_image 0x06 r (cross_line m 0x06 row) (has_gone_line m 0x06 row)) ≡ false
+    by_row : (r : Option ℕ) → is_gone (said_image 0x06 r (cross_line m 0x06 row) (has_gone_line m 0x06 row)) ≡ false
     by_row (Some new) = refl
     by_row None = by_cross (cross_line m 0x06 row)
 

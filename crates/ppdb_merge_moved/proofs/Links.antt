@@ -7,7 +7,7 @@ use Rattle.ppdb_maps.specs.Map.{Map, moved_row, offsets_in, is_dropped}
 use Rattle.ppdb_tables.specs.declared.rows.MachineRow.{MachineRow}
 use Rattle.ppdb_values.specs.declared.custom.{CustomBody.{CustomBody}, CustomBody.TheVariants.{Async, Hoisted, TypeDocuments, Unread}, CustomValue.{CustomValue}}
 use Rattle.ppdb_values.specs.{declared.annotation.Custom.{Custom}, Links.{kickoff_of, move_next_of}, Meaning.{without_parent}, Parts.{slots_in}}
-use Rattle.ppdb_merge_items.{specs.Each.{Each, Pairs}, specs.NamedRows.{live_machine}, proofs.Lists.{Each-filter, Each-weaker}}
+use Rattle.ppdb_merge_annotated.{specs.Each.{Each, Pairs}, specs.NamedRows.{live_machine}, proofs.Lists.{Each-filter, Each-weaker}}
 use Rattle.ppdb_merge_moved.specs.{FitsMethod.{FitsMachine, FitsCustom}, Images.{partner_image}, Laws.{LinksMoved}, Moved.{moved_body, moved_machine}}
 use Rattle.ppdb_merge_moved.proofs.Customs.{on, image_of, not_dropped, records_moved}
 
@@ -192,7 +192,8 @@ links_mean m w method ready image live machines moves_differ kickoffs_differ cus
   kickoff = kickoffs_moved m w.machines method live machines moves_differ;
   move_next = moves_moved m w.machines method live machines kickoffs_differ;
   entry = λ own. same_row m w.entry method own;
-  customs = ap (λ l. map without_parent (filter is_plain l)) (records_moved m w method ready image live customs) ∙ notes_moved m method (filter (on method) w.customs) own;
+  customs =
+      ap (λ l. map without_parent (filter is_plain l)) (records_moved m w method ready image live customs) ∙ notes_moved m method (filter (on method) w.customs) own;
 }
   where
     own : Each (λ c. c.parent.row ≡ method) (filter (on method) w.customs)

@@ -1,7 +1,7 @@
 -- Lists that are filtered and mapped.
 use Rattle.std.{proofs.Common.{◌≡◌, Bool, true, false, cond, List, [], ◌∷◌, Option, Some, None, refl, ap, map, length, arith}, specs.List.{filter, filter_map}}
 use Rattle.std.specs.List.{cons_option, refill}
-use Rattle.ppdb_merge_items.{specs.Each.{Each, Pairs}, proofs.Lists.{Each-filter}}
+use Rattle.ppdb_merge_annotated.{specs.Each.{Each, Pairs}, proofs.Lists.{Each-filter}}
 
 -- an item passes as its image does, and goes only where it does not pass
 abbrev pub Alike : {B : Type 0} → (B → Bool) → Option B → Bool → Type 0

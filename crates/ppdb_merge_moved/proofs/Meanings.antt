@@ -4,9 +4,9 @@ use Rattle.std.proofs.lemmas.Bool.{eqb-true, and_parts}
 use Rattle.ppdb_base.specs.Offsets.{gone, Rise, Kept, old_size}
 use Rattle.ppdb_maps.specs.Map.{Map, moved_row, offsets_in}
 use Rattle.ppdb_values.specs.{declared.import.ImportScopeValue.{ImportScopeValue}, declared.annotation.Annotation.{Annotation}, Chains.{chain_of}}
-use Rattle.ppdb_merge_items.specs.{declared.file.AnnotatedScope.{AnnotatedScope}, declared.file.AnnotatedFile.{AnnotatedFile}, Annotated.{with_item}}
-use Rattle.ppdb_merge_items.{specs.AnnotatedMeaning.{chain, imported, scope_meaning, scopes_at, held as holds}, specs.Each.{Each}, proofs.Mapped.{chain_of_map}}
-use Rattle.ppdb_merge_items.proofs.{Mapped.{map_map_both}, Parts.{live_imports}}
+use Rattle.ppdb_merge_annotated.specs.{declared.file.AnnotatedScope.{AnnotatedScope}, declared.file.AnnotatedFile.{AnnotatedFile}, Annotated.{with_item}}
+use Rattle.ppdb_merge_annotated.{specs.AnnotatedMeaning.{chain, imported, scope_meaning, scopes_at, held as holds}, specs.Each.{Each}, proofs.Mapped.{chain_of_map}}
+use Rattle.ppdb_merge_annotated.proofs.{Mapped.{map_map_both}, Parts.{live_imports}}
 use Rattle.ppdb_merge_moved.specs.{Moved.{moved_import, moved_import_scope, scope_image, moved_file}, Images.{scope_image as scope_image_meaning}}
 use Rattle.ppdb_merge_moved.{specs.FitsMethod.{FitsScope}, proofs.Scopes.{scopes_kept}}
 
@@ -25,7 +25,8 @@ imported_moved : (m : Map) (links : List (Annotation ImportScopeValue))
 imported_moved m [] = refl
 imported_moved m (l ∷ ls) = ap (λ r. record { item = map (moved_import m) (live_imports m l.item.imports); customs = l.customs } ∷ r) (imported_moved m ls)
 
-scope_moved : (m : Map) (w : AnnotatedFile) (s : AnnotatedScope) → scope_meaning (moved_file m w) (scope_image m s) ≡ scope_image_meaning m s.method (scope_meaning w s)
+scope_moved : (m : Map) (w : AnnotatedFile) (s : AnnotatedScope)
+    → scope_meaning (moved_file m w) (scope_image m s) ≡ scope_image_meaning m s.method (scope_meaning w s)
 scope_moved m w s = search (rules, chain_moved, imported_moved)
 
 scopes_moved : (m : Map) (w : AnnotatedFile) (method x : ℕ) (ss : List AnnotatedScope)

@@ -3,7 +3,7 @@ use Rattle.std.proofs.Common.{◌≡◌, ◌≢◌, ℕ, ◌≤◌, sym, ap, ◌
 use Rattle.ppdb_base.{specs.Offsets.{Offsets, every, gone, lined, Rise, Kept, old_size}, proofs.Moved.{kept_below}}
 use Rattle.ppdb_maps.specs.Map.{moved_row, offsets_in}
 use Rattle.ppdb_values.specs.declared.file.MethodValue.{MethodValue}
-use Rattle.ppdb_merge_items.{specs.Each.{Pairs}, specs.AnnotatedMeaning.{annotated_meaning}, proofs.Lists.{Pairs-weaker}}
+use Rattle.ppdb_merge_annotated.{specs.Each.{Pairs}, specs.AnnotatedMeaning.{annotated_meaning}, proofs.Lists.{Pairs-weaker}}
 use Rattle.ppdb_merge_moved.{specs.Moved.{moved_file}, specs.Images.{meaning_image}, specs.Laws.{FilesMean}, proofs.Links.{links_mean}}
 use Rattle.ppdb_merge_moved.proofs.{Meanings.{scopes_mean}, PointMeanings.{points_mean}, Slots.{slots_mean}}
 

@@ -4,10 +4,10 @@ use Rattle.ppdb_maps.specs.Map.{Map, is_dropped}
 use Rattle.ppdb_tables.specs.declared.rows.MachineRow.{MachineRow}
 use Rattle.ppdb_values.specs.declared.{custom.CustomValue.{CustomValue}, file.MethodValue.{MethodValue}, import.ImportScopeValue.{ImportScopeValue}}
 use Rattle.ppdb_values.specs.declared.annotation.Annotation.{Annotation}
-use Rattle.ppdb_merge_items.specs.{declared.file.AnnotatedScope.{AnnotatedScope}, declared.file.AnnotatedFile.{AnnotatedFile}, Each.{Each}, NamedRows.{Named, names}}
-use Rattle.ppdb_merge_items.specs.NamedRows.{names_some, named_rows, in_constant, in_import, in_steps, all_named, live_file, live_scope, live_machine, live_custom}
-use Rattle.ppdb_merge_items.{specs.NamedRows.{live_signature, live_constants}, specs.Annotated.{with_item}, proofs.Lists.{Each-weaker, Each-unmap}}
-use Rattle.ppdb_merge_items.proofs.Parts.{live_method, with_live_signature, with_live_constants, with_live_imports, in_entry, live_imports}
+use Rattle.ppdb_merge_annotated.specs.{declared.file.AnnotatedScope.{AnnotatedScope}, declared.file.AnnotatedFile.{AnnotatedFile}, Each.{Each}, NamedRows.{Named}}
+use Rattle.ppdb_merge_annotated.specs.NamedRows.{names, names_some, named_rows, in_constant, in_import, in_steps, all_named, live_file, live_scope, live_machine}
+use Rattle.ppdb_merge_annotated.{specs.NamedRows.{live_custom, live_signature, live_constants}, specs.Annotated.{with_item}, proofs.Lists.{Each-weaker, Each-unmap}}
+use Rattle.ppdb_merge_annotated.proofs.Parts.{live_method, with_live_signature, with_live_constants, with_live_imports, in_entry, live_imports}
 use Rattle.ppdb_merge_moved.proofs.Elements.{each_parts, each_made, each_left}
 
 pub record NamedParts (P : Named → Type 0) (first : Bool) (m : Map) (w : AnnotatedFile) : Type 0 where

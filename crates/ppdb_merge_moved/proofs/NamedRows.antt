@@ -10,12 +10,12 @@ use Rattle.ppdb_values.specs.declared.custom.{CustomBody.{CustomBody}, CustomBod
 use Rattle.ppdb_values.specs.declared.{file.FileValue.{FileValue}, file.MethodValue.{MethodValue}, import.ImportScopeValue.{ImportScopeValue}}
 use Rattle.ppdb_values.specs.declared.{import.ImportValue.{ImportValue}, annotation.Annotation.{Annotation}, scope.ConstantValue.{ConstantValue}}
 use Rattle.ppdb_values.specs.declared.scope.ConstantBody.{ConstantBody}
-use Rattle.ppdb_values_sound_laws.specs.{Customs.{IsBodyOfKind}, Imports.{SoundImport}, Named.{count, HasType, type_limits}, Scopes.{SoundConstant, stored_body}}
-use Rattle.ppdb_merge_items.specs.{declared.file.AnnotatedScope.{AnnotatedScope}, declared.file.AnnotatedFile.{AnnotatedFile}, Each.{Each}, NamedRows.{Named, names}}
-use Rattle.ppdb_merge_items.specs.NamedRows.{names_some, in_token, in_body, in_constant, in_import, in_steps, all_named, live_file, live_scope, live_machine}
-use Rattle.ppdb_merge_items.specs.{NamedRows.{live_custom, live_signature, live_constants, live_import}, Annotated.{items_of, with_item}}
-use Rattle.ppdb_merge_items.{specs.Unannotated.{value_of_annotated}, proofs.Lists.{Each-append, Each-filter, Each-map, Each-weaker, each_row}}
-use Rattle.ppdb_merge_items.proofs.Parts.{live_method, with_live_signature, with_live_constants, with_live_imports, in_entry, live_imports}
+use Rattle.ppdb_values_sound.specs.{Customs.{IsBodyOfKind}, Imports.{SoundImport}, Named.{count, HasType, type_limits}, Scopes.{SoundConstant, stored_body}}
+use Rattle.ppdb_merge_annotated.specs.{declared.file.AnnotatedScope.AnnotatedScope, declared.file.AnnotatedFile.AnnotatedFile, Each.Each, NamedRows.{Named, names}}
+use Rattle.ppdb_merge_annotated.specs.NamedRows.{names_some, in_token, in_body, in_constant, in_import, in_steps, all_named, live_file, live_scope, live_machine}
+use Rattle.ppdb_merge_annotated.specs.{NamedRows.{live_custom, live_signature, live_constants, live_import}, Annotated.{items_of, with_item}}
+use Rattle.ppdb_merge_annotated.{specs.Unannotated.{value_of_annotated}, proofs.Lists.{Each-append, Each-filter, Each-map, Each-weaker, each_row}}
+use Rattle.ppdb_merge_annotated.proofs.Parts.{live_method, with_live_signature, with_live_constants, with_live_imports, in_entry, live_imports}
 use Rattle.ppdb_merge_moved.{specs.Laws.{NamedRowsAreRows}, proofs.RowImages.{count_most}, proofs.SoundItems.{most, each_all, live_sound}}
 
 abbrev IsThere : Named → Type 0
@@ -86,7 +86,8 @@ named_rows_are_rows first m w sound below =
     (Each-map (with_live_constants m) (λ (s : AnnotatedScope). IsThere (names 0x06 s.method)) (filter (live_scope m) w.scopes)
     (Each-filter _ (λ (s : AnnotatedScope). IsThere (names 0x06 s.method)) (live_scope m)
     (λ s is sound_s. (sound_s.itself.method.0, sound_s.itself.method.1)) w.scopes sound.scopes)))
-    (Each-append IsThere _ _ (each_flat (λ (s : AnnotatedScope). flat_map in_constant s.constants) IsThere (map (with_live_constants m) (filter (live_scope m) w.scopes))
+    (Each-append IsThere _ _
+    (each_flat (λ (s : AnnotatedScope). flat_map in_constant s.constants) IsThere (map (with_live_constants m) (filter (live_scope m) w.scopes))
     (Each-map (with_live_constants m) (λ (s : AnnotatedScope). Each IsThere (flat_map in_constant s.constants)) (filter (live_scope m) w.scopes)
     (Each-filter _ (λ (s : AnnotatedScope). Each IsThere (flat_map in_constant (live_constants m s.constants))) (live_scope m)
     (λ s is sound_s. each_flat in_constant IsThere (live_constants m s.constants)

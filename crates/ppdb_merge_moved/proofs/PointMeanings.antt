@@ -7,13 +7,13 @@ use Rattle.sequence_points.specs.{declared.point.Point.{Point}, MovedPoints.{mov
 use Rattle.ppdb_tables.specs.RawTables.{row_at}
 use Rattle.ppdb_values.specs.declared.{annotation.Annotation.{Annotation}, file.DocumentValue.{DocumentValue}, file.MethodValue.{MethodValue}}
 use Rattle.ppdb_values.{specs.Meaning.{PointMeaning}, proofs.Mapped.{row_map}}
-use Rattle.ppdb_merge_items.specs.{Annotated.{with_item}, declared.file.AnnotatedFile.{AnnotatedFile}, AnnotatedMeaning.{document_at, point_at, point_meaning}}
-use Rattle.ppdb_merge_items.specs.Each.{Each, Pairs}
+use Rattle.ppdb_merge_annotated.specs.{Annotated.{with_item}, declared.file.AnnotatedFile.{AnnotatedFile}, AnnotatedMeaning.{document_at, point_at, point_meaning}}
+use Rattle.ppdb_merge_annotated.specs.Each.{Each, Pairs}
 use Rattle.ppdb_merge_moved.specs.{Moved.{moved_document, moved_method, moved_file, with_points}, FitsMethod.{PointsRise, FitsMethod}, Images.{point_image}}
 use Rattle.ppdb_merge_moved.proofs.Points.{points_kept, moved_point}
 
-abbrev told : AnnotatedFile → MethodValue → Point → PointMeaning
-told w e p = record { offset = p.offset; span = p.span; document = document_at w p.document; signature = e.signature }
+abbrev reported : AnnotatedFile → MethodValue → Point → PointMeaning
+reported w e p = record { offset = p.offset; span = p.span; document = document_at w p.document; signature = e.signature }
 
 -- the document of a row of a moved file is that of the file, moved
 pub document_moved : (m : Map) (w : AnnotatedFile) (row : ℕ) → document_at (moved_file m w) row ≡ option_map (moved_document m) (document_at w row)
@@ -27,14 +27,14 @@ document_moved m w row =
     of_item (Some n) = refl
 
 -- what is said of a moved point
-told_moved : (m : Map) (w : AnnotatedFile) (e : MethodValue) (p : Point)
+reported_moved : (m : Map) (w : AnnotatedFile) (e : MethodValue) (p : Point)
     → ◌≡◌ {A = PointMeaning} (record {
       offset = moved (offsets_in m e.method) p.offset;
       span = p.span;
       document = document_at (moved_file m w) p.document;
       signature = moved_signature m e.method e.signature;
-    }) (point_image m e.method (told w e p))
-told_moved m w e p = ap (λ d. record (point_image m e.method (told w e p)) { document = d }) (document_moved m w p.document)
+    }) (point_image m e.method (reported w e p))
+reported_moved m w e p = ap (λ d. record (point_image m e.method (reported w e p)) { document = d }) (document_moved m w p.document)
 
 own_points : (m : Map) (w : AnnotatedFile) (e : MethodValue) → Rise (offsets_in m e.method) → (offsets_in m e.method ≢ gone) → (x y : ℕ)
     → Kept (offsets_in m e.method) x y → x ≤ old_size (offsets_in m e.method) → PointsRise (old_size (offsets_in m e.method)) e.points
@@ -44,11 +44,11 @@ own_points m w e rise live x y kept at fits =
   where
     step : (l : List Point) (o : Option Point) → point_at y l ≡ option_map (moved_point (offsets_in m e.method)) o
         → option_and_then (λ (q : MethodValue). point_meaning (moved_file m w) q y) (with_points m e l)
-        ≡ option_map (point_image m e.method) (option_map (told w e) o)
+        ≡ option_map (point_image m e.method) (option_map (reported w e) o)
     step [] None is = refl
     step [] (Some p) is = absurd (cc)
     step (z ∷ zs) None is = ap (option_map _) is
-    step (z ∷ zs) (Some p) is = ap (option_map _) is ∙ ap Some (told_moved m w e p)
+    step (z ∷ zs) (Some p) is = ap (option_map _) is ∙ ap Some (reported_moved m w e p)
 
 -- a method that is not there has no image there
 none_there : (m : Map) (method : ℕ) (es : List MethodValue) → Each (FitsMethod m method) es → Each (λ (e : MethodValue). e.method ≢ method) es

@@ -5,7 +5,7 @@ use Rattle.ppdb_base.{specs.Offsets.{Offsets, gone, Rise, Kept, moved, is_kept_b
 use Rattle.ppdb_base.proofs.Moved.{keeps_between, kept_below}
 use Rattle.sequence_points.specs.{declared.point.Point.{Point}, MovedPoints.{moved_points, first_offset}}
 use Rattle.ppdb_merge_moved.specs.FitsMethod.{PointsRise}
-use Rattle.ppdb_merge_items.specs.AnnotatedMeaning.{last_of, point_at}
+use Rattle.ppdb_merge_annotated.specs.AnnotatedMeaning.{last_of, point_at}
 
 abbrev pub moved_point : Offsets → Point → Point
 moved_point o p = record p { offset = moved o p.offset }

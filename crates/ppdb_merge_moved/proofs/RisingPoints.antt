@@ -4,7 +4,7 @@ use Rattle.std.{specs.Prelude.{All, AllPairs}, proofs.lemmas.List.Elements.{All-
 use Rattle.sequence_points.{proofs.Follows.{pairs-head, pairs-tail}, specs.declared.point.Point.{Point}, specs.MovedPoints.{moved_points, first_offset}}
 use Rattle.ppdb_base.specs.{Offsets.{Offsets, every, gone, lined, Rise, KeepsBetween, moved, old_size, is_kept_between}, declared.offsets.Run.{Run}}
 use Rattle.ppdb_base.proofs.Moved.{moves_right, moved_is, moved_kept, moved_never_falls, moved_passes, is_kept}
-use Rattle.ppdb_merge_items.specs.Each.{Each, Pairs}
+use Rattle.ppdb_merge_annotated.specs.Each.{Each, Pairs}
 use Rattle.ppdb_merge_moved.specs.FitsMethod.{PointsRise}
 
 -- ---- lists

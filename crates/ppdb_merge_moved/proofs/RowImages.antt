@@ -4,7 +4,7 @@ use Rattle.std.{specs.Prelude.{nat_eq, IfSome, unwrap_or, get_or}, specs.List.{f
 use Rattle.ppdb_maps.specs.{declared.entries.RowLine.{RowLine}, declared.entries.SignatureImage.{SignatureImage}, Map.{Map, moved_row, moved_signature, row_within}}
 use Rattle.ppdb_maps.specs.{Map.{row_line, signature_line, count_of, is_dropped}, Readable.{IsReadable, IsRowOf, IsSignatureOf}}
 use Rattle.ppdb_values.specs.declared.file.FileValue.{FileValue}
-use Rattle.ppdb_values_sound_laws.specs.Named.{count}
+use Rattle.ppdb_values_sound.specs.Named.{count}
 
 -- ---- images
 

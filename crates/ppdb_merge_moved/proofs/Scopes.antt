@@ -5,8 +5,8 @@ use Rattle.std.proofs.lemmas.Bool.{both_ways}
 use Rattle.ppdb_base.{specs.Offsets.{Offsets, gone, Rise, Kept, moved, old_size}, proofs.Moved.{moved_against}}
 use Rattle.ppdb_maps.specs.Map.{Map, moved_row, offsets_in}
 use Rattle.custom_info.specs.declared.slots.Range.{Range}
-use Rattle.ppdb_merge_items.specs.{declared.file.AnnotatedScope.{AnnotatedScope}, AnnotatedMeaning.{held as holds, scopes_at}, Each.{Each}}
-use Rattle.ppdb_merge_items.proofs.Lists.{Each-filter, Each-weaker}
+use Rattle.ppdb_merge_annotated.specs.{declared.file.AnnotatedScope.{AnnotatedScope}, AnnotatedMeaning.{held as holds, scopes_at}, Each.{Each}}
+use Rattle.ppdb_merge_annotated.proofs.Lists.{Each-filter, Each-weaker}
 use Rattle.ppdb_merge_moved.{specs.Moved.{moved_range, is_empty, scope_image, moved_scope}, specs.FitsMethod.{FitsScope}, proofs.Lists.{Alike, filter-filter_map}}
 use Rattle.ppdb_merge_moved.proofs.Lists.{filter_map-map}
 

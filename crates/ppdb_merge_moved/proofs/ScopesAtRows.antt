@@ -4,7 +4,7 @@ use Rattle.std.{specs.List.{sum_by, enumerate_from}, proofs.lemmas.List.{length-
 use Rattle.ppdb_values.specs.declared.{file.FileValue.{FileValue}, annotation.Custom.{Custom}, annotation.Annotation.{Annotation}, scope.ScopeValue.{ScopeValue}}
 use Rattle.ppdb_values.specs.{declared.scope.VariableValue.{VariableValue}, declared.scope.ConstantValue.{ConstantValue}, Meaning.{annotated_on, annotated_from}}
 use Rattle.ppdb_values.specs.Parts.{first_item}
-use Rattle.ppdb_merge_items.specs.{declared.file.AnnotatedScope.{AnnotatedScope}, Annotated.{annotated_scope}}
+use Rattle.ppdb_merge_annotated.specs.{declared.file.AnnotatedScope.{AnnotatedScope}, Annotated.{annotated_scope}}
 use Rattle.ppdb_merge_moved.specs.OnRows.{annotated_by, annotated_scope_by, annotated_scopes_by}
 
 pub scopes_more : (S V C : ℕ → List Custom) (row variable constant : ℕ) (xs : List ScopeValue) (s : ScopeValue)

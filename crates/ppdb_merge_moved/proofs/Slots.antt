@@ -7,8 +7,8 @@ use Rattle.ppdb_maps.specs.{Readable.{IsReadable}, Map.{Map, moved_row, offsets_
 use Rattle.custom_info.specs.declared.slots.{Slot.{Slot}, Slot.TheVariants.{Empty, Held}}
 use Rattle.ppdb_values.specs.declared.custom.{CustomBody.{CustomBody}, CustomBody.TheVariants.{Async, Hoisted, TypeDocuments, Unread}, CustomValue.{CustomValue}}
 use Rattle.ppdb_values.specs.{Meaning.{SlotMeaning, slot_at}, Parts.{holds, slots_in}}
-use Rattle.ppdb_merge_items.specs.{Each.{Each}, declared.file.AnnotatedFile.{AnnotatedFile}, AnnotatedMeaning.{slots_among, slots_at}}
-use Rattle.ppdb_merge_items.proofs.Lists.{Each-filter}
+use Rattle.ppdb_merge_annotated.specs.{Each.{Each}, declared.file.AnnotatedFile.{AnnotatedFile}, AnnotatedMeaning.{slots_among, slots_at}}
+use Rattle.ppdb_merge_annotated.proofs.Lists.{Each-filter}
 use Rattle.ppdb_merge_moved.specs.{Moved.{moved_range, is_empty, moved_slot, moved_body, moved_file}, Images.{slot_meaning_image}, FitsMethod.{MovesAsMethod}}
 use Rattle.ppdb_merge_moved.{specs.FitsMethod.{FitsSlot, FitsSlots, FitsCustom}, proofs.Customs.{on, image_of, records_moved}, proofs.Scopes.{holds_kept}}
 use Rattle.ppdb_merge_moved.proofs.Scopes.{empty_holds}
@@ -102,7 +102,8 @@ lists_fit m method (d ∷ ds) each = step d.value each.0.1 (lists_fit m method d
     step (Unread bytes) fits rest = rest
 
 -- the hoisted part of the meaning
-pub slots_mean : (m : Map) (w : AnnotatedFile) (method : ℕ) → IsReadable m → MovesAsMethod m method → Rise (offsets_in m method) → (offsets_in m method ≢ gone) → (x y : ℕ)
+pub slots_mean : (m : Map) (w : AnnotatedFile) (method : ℕ) → IsReadable m → MovesAsMethod m method → Rise (offsets_in m method) → (offsets_in m method ≢ gone)
+    → (x y : ℕ)
     → Kept (offsets_in m method) x y → x ≤ old_size (offsets_in m method)
     → Each (FitsCustom m method) w.customs
     → slots_at (moved_file m w) (moved_row m 0x06 method) y ≡ map (slot_meaning_image m method) (slots_at w method x)

@@ -17,11 +17,10 @@ use Rattle.ppdb_values.specs.declared.import.ImportValue.TheVariants.{Namespace,
 use Rattle.ppdb_values.specs.declared.{import.ImportValue.TheVariants.{AssemblyNamespaceAlias, TargetAlias}, custom.CustomBody.{CustomBody}}
 use Rattle.ppdb_values.specs.declared.{custom.CustomBody.TheVariants.{Async, Hoisted, TypeDocuments, Unread}, annotation.Annotation.{Annotation}}
 use Rattle.ppdb_values.specs.Ranges.{ComesAfter, IsInOrAfter}
-use Rattle.ppdb_values_sound_laws.specs.{Customs.{IsBodyOfKind}, Imports.{SoundImport}, Named.{count, HasRow, HasType, type_limits}, Scopes.{SoundConstant}}
-use Rattle.ppdb_values_sound_laws.specs.Scopes.{stored_body}
-use Rattle.ppdb_merge_items.specs.{Each.{Each, Pairs}, NamedRows.{names, in_token, in_body, in_constant, in_import, in_steps, is_gone_type, live_body}}
-use Rattle.ppdb_merge_items.{specs.NamedRows.{live_constants, with_live_body}, specs.Annotated.{items_of, with_item}, proofs.Lists.{Each-filter, Each-map}}
-use Rattle.ppdb_merge_items.proofs.{Lists.{Each-unmap, Pairs-map, Pairs-unmap}, Parts.{live_constant}}
+use Rattle.ppdb_values_sound.specs.{Customs.{IsBodyOfKind}, Imports.{SoundImport}, Named.{count, HasRow, HasType, type_limits}, Scopes.{SoundConstant, stored_body}}
+use Rattle.ppdb_merge_annotated.specs.{Each.{Each, Pairs}, NamedRows.{names, in_token, in_body, in_constant, in_import, in_steps, is_gone_type, live_body}}
+use Rattle.ppdb_merge_annotated.{specs.NamedRows.{live_constants, with_live_body}, specs.Annotated.{items_of, with_item}, proofs.Lists.{Each-filter, Each-map}}
+use Rattle.ppdb_merge_annotated.proofs.{Lists.{Each-unmap, Pairs-map, Pairs-unmap}, Parts.{live_constant}}
 use Rattle.ppdb_merge_moved.{proofs.Lists.{Pairs-filter}, specs.Fits.{IsImaged, KeepsStep, KeepsAsync, EndsWithin, AreWithin}, specs.Moved.{moved_range, is_empty}}
 use Rattle.ppdb_merge_moved.specs.Moved.{moved_slot, moved_step, moved_body, moved_token, moved_modifier, moved_constant_body, moved_constant, moved_import, row_in}
 use Rattle.ppdb_merge_moved.proofs.{Elements.{each_parts}, Means.{kept_within}, RisingPoints.{all_each, size_moved, itself_moved}, ImageRows.{StaysOrCrosses}}

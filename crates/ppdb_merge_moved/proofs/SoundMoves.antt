@@ -17,14 +17,14 @@ use Rattle.custom_info.specs.{Kinds.{kind_of, source_link}, declared.kinds.Kind.
 use Rattle.custom_info.specs.declared.kinds.Kind.TheVariants as kinds
 use Rattle.ppdb_values.specs.{Parts.{is_at, is_link}, declared.custom.CustomBody.TheVariants.{Unread}, Rules.{StandsOn}, Ranges.{ComesAfter, IsInOrAfter}}
 use Rattle.ppdb_values.proofs.Mapped.{row_map}
-use Rattle.ppdb_values_sound_laws.specs.{Customs.{SoundCustom, IsBodyOfKind}, Methods.{SoundMethod, SoundPoint}, Named.{count, HasRow}, Sound.{SoundMachine}}
-use Rattle.ppdb_values_sound_laws.specs.{Scopes.{SoundVariable, SoundConstant}, Imports.{SoundImport, SoundImportScope}}
-use Rattle.ppdb_merge_items.specs.{declared.file.AnnotatedScope.{AnnotatedScope}, declared.file.AnnotatedFile.{AnnotatedFile}, Each.{Each, Pairs}, NamedRows.{names}}
-use Rattle.ppdb_merge_items.specs.NamedRows.{names_some, named_rows, live_machine, live_custom, live_scope, live_signature, in_constant, in_import, in_steps}
-use Rattle.ppdb_merge_items.specs.{NamedRows.{is_type_documents, live_constants, live_import, with_live_body}, SoundParts.{SoundMoved, SoundNote}}
-use Rattle.ppdb_merge_items.specs.{SoundParts.{SoundAnnotatedScope}, Unannotated.{value_of_annotated}, Annotated.{items_of, with_item}}
-use Rattle.ppdb_merge_items.proofs.Lists.{Each-filter, Each-map, Each-weaker, Pairs-map, Pairs-weaker, each_row, row_each, pairs_row, row_pairs}
-use Rattle.ppdb_merge_items.proofs.Parts.{live_constant, live_imports}
+use Rattle.ppdb_values_sound.specs.{Customs.{SoundCustom, IsBodyOfKind}, Methods.{SoundMethod, SoundPoint}, Named.{count, HasRow}, Sound.{SoundMachine}}
+use Rattle.ppdb_values_sound.specs.{Scopes.{SoundVariable, SoundConstant}, Imports.{SoundImport, SoundImportScope}}
+use Rattle.ppdb_merge_annotated.specs.{declared.file.AnnotatedScope.AnnotatedScope, declared.file.AnnotatedFile.AnnotatedFile, Each.{Each, Pairs}, NamedRows.names}
+use Rattle.ppdb_merge_annotated.specs.NamedRows.{names_some, named_rows, live_machine, live_custom, live_scope, live_signature, in_constant, in_import, in_steps}
+use Rattle.ppdb_merge_annotated.specs.{NamedRows.{is_type_documents, live_constants, live_import, with_live_body}, SoundParts.{SoundMoved, SoundNote}}
+use Rattle.ppdb_merge_annotated.specs.{SoundParts.{SoundAnnotatedScope}, Unannotated.{value_of_annotated}, Annotated.{items_of, with_item}}
+use Rattle.ppdb_merge_annotated.proofs.Lists.{Each-filter, Each-map, Each-weaker, Pairs-map, Pairs-weaker, each_row, row_each, pairs_row, row_pairs}
+use Rattle.ppdb_merge_annotated.proofs.Parts.{live_constant, live_imports}
 use Rattle.ppdb_merge_moved.specs.{Fits.{Fits, IsImaged, HasSlot, KeepsAsync, AreWithin}, Laws.{IsImageOfNamed, MovedNames}, Moved.{moved_range, is_empty}}
 use Rattle.ppdb_merge_moved.specs.Moved.{moved_variable, moved_constant, moved_import, moved_import_scope, with_points, moved_method, scope_image, moved_scope}
 use Rattle.ppdb_merge_moved.specs.Moved.{moved_machine, moved_body, moved_record, moved_custom, moved_file, linked, moved_document, row_in, table_in}
@@ -217,7 +217,8 @@ module _ (first : Bool) (m : Map) (w : AnnotatedFile) (ready : IsReadable m) (so
   variable_names method [] each = tt
   variable_names method (v ∷ vs) each = (each.0, variable_names method vs each.1)
 
-  items_each : {A : Type 0} (f : A → A) (P : Annotation A → Type 0) (Q R : A → Type 0) → ((x : Annotation A) → P x → Q x.item → R (f x.item)) → (xs : List (Annotation A))
+  items_each : {A : Type 0} (f : A → A) (P : Annotation A → Type 0) (Q R : A → Type 0) → ((x : Annotation A) → P x → Q x.item → R (f x.item))
+      → (xs : List (Annotation A))
       → Each P xs → Each Q (items_of xs)
       → Each R (items_of (map (with_item f) xs))
   items_each f P Q R kept [] each also = tt
@@ -518,7 +519,8 @@ module _ (first : Bool) (m : Map) (w : AnnotatedFile) (ready : IsReadable m) (so
       sound_image live =
           let i = image_in_row live in
           let low = low_kept c.parent.table c.parent.row i.0 i.1 facts.low i.2 in
-          let row = image_in m ready c.parent.table c.parent.row i.0 i.1 facts.sound_c.parent.0 (subst (λ n. c.parent.row ≤ n) most_rows facts.sound_c.parent.1) i.2 in (
+          let row =
+          image_in m ready c.parent.table c.parent.row i.0 i.1 facts.sound_c.parent.0 (subst (λ n. c.parent.row ≤ n) most_rows facts.sound_c.parent.1) i.2 in (
             low,
             record {
               tag = tag_kept c.parent.table c.parent.row i.0 i.1 facts.sound_c.tag i.2;

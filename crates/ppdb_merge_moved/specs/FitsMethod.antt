@@ -1,9 +1,14 @@
 -- What a map that fits a file knows of a method that the file names, part by part of the file.
-use Rattle.ppdb_values.specs.Names.{MachineRow, Offsets, Rise, gone, old_size, Slot, Empty, Held, Point, first_offset}
+use Rattle.ppdb_values.specs.Names.{MachineRow, Offsets, Rise, gone, old_size, Slot, Empty, Held}
+use Rattle.ppdb_values.specs.Names.{Point, first_offset}
 use Rattle.std.specs.Prelude.{◌≡◌, ◌≢◌, ℕ, ◌<◌, ◌≤◌, Bool, true, List, [], ◌∷◌}
-use Rattle.ppdb_merge_items.specs.{NamedRows.live_machine, declared.file.{AnnotatedFile.AnnotatedFile, AnnotatedScope.AnnotatedScope}, Each.Each}
-use Rattle.ppdb_values.specs.{declared.custom.{CustomBody.{CustomBody, TheVariants.Hoisted}, CustomValue.CustomValue}, declared.file.MethodValue.MethodValue}
-use Rattle.ppdb_maps.specs.{Map.{Map, row_image, moved_row, offsets_in}, declared.image.RowImage.TheVariants.Row}
+use Rattle.ppdb_merge_annotated.specs.NamedRows.{live_machine}
+use Rattle.ppdb_merge_annotated.specs.declared.file.AnnotatedFile.{AnnotatedFile}
+use Rattle.ppdb_merge_annotated.specs.{declared.file.AnnotatedScope.AnnotatedScope, Each.Each}
+use Rattle.ppdb_values.specs.declared.custom.{CustomBody.CustomBody, CustomBody.TheVariants.Hoisted}
+use Rattle.ppdb_values.specs.declared.{custom.CustomValue.CustomValue, file.MethodValue.MethodValue}
+use Rattle.ppdb_maps.specs.Map.{Map, row_image, moved_row, offsets_in}
+use Rattle.ppdb_maps.specs.declared.image.RowImage.TheVariants.{Row}
 
 -- the image of the method is a row of MethodDef
 abbrev pub MovesAsMethod : Map → ℕ → Type 0
@@ -36,7 +41,8 @@ FitsSlots offsets body = Unit {0}
 
 -- what a map that fits knows of a custom record that is on a method
 pub record FitsCustom (m : Map) (method : ℕ) (c : CustomValue) : Type 0 where
-  pub own : c.parent.table ≡ 0x06 → moved_row m 0x06 c.parent.row ≡ moved_row m 0x06 method → c.parent.row ≡ method
+  pub own : c.parent.table ≡ 0x06 → moved_row m 0x06 c.parent.row ≡ moved_row m 0x06 method
+      → c.parent.row ≡ method
   pub slots : FitsSlots (offsets_in m c.parent.row) c.value
 
 -- what a map that fits knows of the row of the entry point, or 0
@@ -45,8 +51,10 @@ FitsEntry m method entry = moved_row m 0x06 entry ≡ moved_row m 0x06 method �
 
 -- what a map that fits knows of a state machine; nothing of one of a dropped method
 pub record FitsMachine (m : Map) (method : ℕ) (r : MachineRow) : Type 0 where
-  pub move_next : live_machine m r ≡ true → moved_row m 0x06 r.move_next ≡ moved_row m 0x06 method → r.move_next ≡ method
-  pub kickoff : live_machine m r ≡ true → moved_row m 0x06 r.kickoff ≡ moved_row m 0x06 method → r.kickoff ≡ method
+  pub move_next : live_machine m r ≡ true → moved_row m 0x06 r.move_next ≡ moved_row m 0x06 method
+      → r.move_next ≡ method
+  pub kickoff : live_machine m r ≡ true → moved_row m 0x06 r.kickoff ≡ moved_row m 0x06 method
+      → r.kickoff ≡ method
 
 -- what a map that fits knows of a file that names the method
 pub record FitsFile (first : Bool) (m : Map) (w : AnnotatedFile) (method : ℕ) : Type 0 where

@@ -1,11 +1,13 @@
 // Custom records at the rows that they are on.
-ghost use Rattle.std.specs.Prelude.{◌≡◌, ◌+◌, ◌++◌, ℕ, ◌<◌, ◌≤◌, ◌^◌, cond, nat_eq, [], ◌∷◌, length, get_or, OnOk, IfOk};
+ghost use Rattle.std.specs.Prelude.{◌≡◌, ◌+◌, ◌++◌, ℕ, ◌<◌, ◌≤◌, ◌^◌, cond, nat_eq, [], ◌∷◌};
+ghost use Rattle.std.specs.Prelude.{length, get_or, OnOk, IfOk};
 ghost use Rattle.std.specs.List.{sum_by};
-ghost use Rattle.ppdb_merge_items.specs.Annotated.{annotated_file};
-ghost use Rattle.ppdb_merge_moved.specs.OnRows.{IsPlaced, HasAll, annotated_by, annotated_scopes_by, in_lists};
+ghost use Rattle.ppdb_merge_annotated.specs.Annotated.{annotated_file};
+ghost use Rattle.ppdb_merge_moved.specs.OnRows.{IsPlaced, HasAll, annotated_by};
+ghost use Rattle.ppdb_merge_moved.specs.OnRows.{annotated_scopes_by, in_lists};
 
 use ppdb_base::{List, Memory};
-use ppdb_merge_items::{AnnotatedFile, AnnotatedScope};
+use ppdb_merge_annotated::{AnnotatedFile, AnnotatedScope};
 use ppdb_tables::{
     DOCUMENT, IMPORT_SCOPE, LOCAL_CONSTANT, LOCAL_SCOPE, LOCAL_VARIABLE, TYPE_TABLES,
 };
@@ -39,7 +41,8 @@ fn empty_lists(alloc: Global, rows: usize) -> Result<Vec<List<Custom>>, Memory>
 
 /// Puts a record to the list of its row, where there is such a row.
 fn put_on(lists: &mut [List<Custom>], row: u32, custom: Custom) -> Result<(), Memory>
-    ensures { OnOk result ((k : ℕ) → k < length lists.old → get_or lists.new k [] ≡ get_or lists.old k [] ++ cond (nat_eq row (k + 1)) (custom ∷ []) []) }
+    ensures { OnOk result ((k : ℕ) → k < length lists.old → get_or lists.new k []
+        ≡ get_or lists.old k [] ++ cond (nat_eq row (k + 1)) (custom ∷ []) []) }
 {
     if row == 0 || row as usize > lists.len() {
         return Ok(());
@@ -118,7 +121,8 @@ impl OnRows {
 
     /// Puts all records to their rows.
     fn place_all(&mut self, customs: List<CustomValue>) -> Result<(), Memory>
-        ensures { OnOk result ((documents scopes variables constants imports : ℕ) → HasAll [] documents scopes variables constants imports self.old
+        ensures { OnOk result ((documents scopes variables constants imports : ℕ)
+            → HasAll [] documents scopes variables constants imports self.old
             → HasAll customs documents scopes variables constants imports self.new) }
     {
         for custom in customs.into_vec() {
@@ -148,8 +152,10 @@ fn annotated_items<T: Drop>(
     first: usize,
 ) -> Result<List<Annotation<T>>, Memory>
     requires { first + length items < 2 ^ 64 }
-    ensures annotated { IfOk result (λ annotated. annotated ≡ annotated_by (in_lists lists.old) (first + 1) items) }
-    ensures others { OnOk result ((k : ℕ) → first + length items ≤ k → get_or lists.new k [] ≡ get_or lists.old k []) }
+    ensures annotated { IfOk result
+        (λ annotated. annotated ≡ annotated_by (in_lists lists.old) (first + 1) items) }
+    ensures others { OnOk result ((k : ℕ) → first + length items ≤ k
+        → get_or lists.new k [] ≡ get_or lists.old k []) }
 {
     let mut annotated = List::with_capacity(alloc, items.len())?;
     let mut at = first;
@@ -179,7 +185,8 @@ fn annotated_scopes(
     on_variables: &mut [List<Custom>],
     on_constants: &mut [List<Custom>],
 ) -> Result<List<AnnotatedScope>, Memory>
-    ensures { IfOk result (λ annotated. annotated ≡ annotated_scopes_by (in_lists on_scopes.old) (in_lists on_variables.old) (in_lists on_constants.old) 1 1 1 scopes) }
+    ensures { IfOk result (λ annotated. annotated ≡ annotated_scopes_by (in_lists on_scopes.old)
+        (in_lists on_variables.old) (in_lists on_constants.old) 1 1 1 scopes) }
 {
     let mut annotated = List::with_capacity(alloc, scopes.len())?;
     let mut row = 0;

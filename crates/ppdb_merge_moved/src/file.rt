@@ -6,7 +6,7 @@ use crate::moves::{move_all, moved_all};
 use crate::named::{moved_customs, name_documents};
 use ppdb_base::Memory;
 use ppdb_maps::MapText;
-use ppdb_merge_items::AnnotatedFile;
+use ppdb_merge_annotated::AnnotatedFile;
 use ppdb_tables::METHOD_DEF;
 use std::alloc::Global;
 
@@ -21,7 +21,8 @@ pub fn moved_rows(rows: &[u32; 64], map: &MapText) -> [u32; 64]
     moved
 }
 
-/// A file moved by a map: its items and their records in their order, without those that are removed.
+/// A file moved by a map: its items and their records in their order, without those that are
+/// removed.
 pub fn moved_file(
     alloc: Global,
     mut file: AnnotatedFile,

@@ -1,7 +1,8 @@
 // Imports, moved in their places.
 ghost use Rattle.std.specs.Prelude.{◌≡◌};
 ghost use Rattle.ppdb_merge_moved.specs.Moved.{moved_import};
-ghost use Rattle.ppdb_values.specs.declared.import.ImportValue.TheVariants.{AssemblyNamespace, AssemblyNamespaceAlias};
+ghost use Rattle.ppdb_values.specs.declared.import.ImportValue.TheVariants.{AssemblyNamespace};
+ghost use Rattle.ppdb_values.specs.declared.import.ImportValue.TheVariants.{AssemblyNamespaceAlias};
 
 use crate::images::{is_gone, is_gone_row, is_in_table, moved_type, row_in};
 use crate::moves::{Lives, Moves, keep_live, move_all};
@@ -12,9 +13,10 @@ use ppdb_values::{ImportScopeValue, ImportValue};
 use std::mem;
 use type_blobs::TypeToken;
 
-/// An import is removed whose assembly or type is gone; so is an alias of an assembly that becomes the module's own.
+/// An import is removed whose assembly or type is gone; so is an alias of an assembly that becomes
+/// the module's own.
 impl Lives<MapText> for ImportValue {
-    ghost use Rattle.ppdb_merge_items.specs.NamedRows.{live_import};
+    ghost use Rattle.ppdb_merge_annotated.specs.NamedRows.{live_import};
 
     ghost lives = { live_import };
 

@@ -1,8 +1,11 @@
 // What a moved file says at the images of kept offsets.
-ghost use Rattle.ppdb_merge_moved.specs.Laws.{FilesMean, FitsAreOfMethods, LinksMoved, MovedIsSound};
-ghost use Rattle.ppdb_merge_moved.specs.Laws.{MovedNamesImages, NamedRowsAreRows, PointsMean, ScopesMean, SlotsMean};
+ghost use Rattle.ppdb_merge_moved.specs.Laws.{FilesMean, FitsAreOfMethods, LinksMoved};
+ghost use Rattle.ppdb_merge_moved.specs.Laws.{MovedIsSound};
+ghost use Rattle.ppdb_merge_moved.specs.Laws.{MovedNamesImages, NamedRowsAreRows, PointsMean};
+ghost use Rattle.ppdb_merge_moved.specs.Laws.{ScopesMean, SlotsMean};
 
-/// The last point that is not after the image of a kept offset is the image of the one that was not after the offset.
+/// The last point that is not after the image of a kept offset is the image of the one that was not
+/// after the offset.
 pub fn points_mean()
     ensures { PointsMean }
 {}
@@ -12,7 +15,8 @@ pub fn scopes_mean()
     ensures { ScopesMean }
 {}
 
-/// The hoisted locals that hold the image of a kept offset are the images of those that held the offset.
+/// The hoisted locals that hold the image of a kept offset are the images of those that held the
+/// offset.
 pub fn slots_mean()
     ensures { SlotsMean }
 {}
@@ -27,12 +31,14 @@ pub fn fits_are_of_methods()
     ensures { FitsAreOfMethods }
 {}
 
-/// What a moved file says at the image of a kept offset of a method that the file names is the image of what the file said there.
+/// What a moved file says at the image of a kept offset of a method that the file names is the
+/// image of what the file said there.
 pub fn files_mean()
     ensures { FilesMean }
 {}
 
-/// A sound file that a map fits is sound after it has moved, but for its order, its entry point and its row counts.
+/// A sound file that a map fits is sound after it has moved, but for its order, its entry point and
+/// its row counts.
 pub fn moved_is_sound()
     ensures { MovedIsSound }
 {}

@@ -1,5 +1,5 @@
-//! A debug file moved by a map: what each of its parts becomes, and which parts are removed. What it says at a kept offset of
-//! a method is what the file said there, moved.
+//! A debug file moved by a map: what each of its parts becomes, and which parts are removed. What
+//! it says at a kept offset of a method is what the file said there, moved.
 #![tactic(auto)]
 
 mod annotating;

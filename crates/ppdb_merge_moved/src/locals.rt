@@ -2,7 +2,7 @@
 use crate::moves::{InMethod, Moves, Stays, move_all};
 use crate::types::move_constants;
 use ppdb_maps::MapText;
-use ppdb_merge_items::AnnotatedScope;
+use ppdb_merge_annotated::AnnotatedScope;
 use ppdb_tables::{METHOD_DEF, MachineRow};
 use ppdb_values::VariableValue;
 

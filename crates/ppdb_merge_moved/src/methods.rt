@@ -57,7 +57,7 @@ impl Stays<MapText> for MethodValue {
     ghost stays = { moved_method };
 
     fn stay_by(mut self, map: &MapText) -> Option<MethodValue> {
-        let _ = map.keeps();
+        let _ = map.facts();
         move_points(&mut self.points, &map.method(self.method));
         if self.points.is_empty() {
             return None;

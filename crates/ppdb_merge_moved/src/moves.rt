@@ -7,7 +7,8 @@ use ppdb_maps::MapText;
 use ppdb_values::Annotation;
 use std::alloc::Global;
 
-/// What can be moved in its place, by a map, by a method of a map, or by what a map says of a method's offsets.
+/// What can be moved in its place, by a map, by a method of a map, or by what a map says of a
+/// method's offsets.
 pub trait Moves<C> {
     /// Where a value moves.
     ghost moved: { C → Self → Self };
@@ -69,7 +70,7 @@ pub struct InMethod<'a> {
 
 /// An item moves, and keeps the custom records on it.
 impl<C, T: Moves<C>> Moves<C> for Annotation<T> {
-    ghost use Rattle.ppdb_merge_items.specs.Annotated.{with_item};
+    ghost use Rattle.ppdb_merge_annotated.specs.Annotated.{with_item};
 
     ghost moved = { λ by. with_item (T.moved by) };
 

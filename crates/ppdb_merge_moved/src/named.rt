@@ -1,7 +1,8 @@
-// What the lines `document` and `link` of a map say: the names of documents, and the value of Source Link records on row 1 of Module.
+// What the lines `document` and `link` of a map say: the names of documents, and the value of
+// Source Link records on row 1 of Module.
 ghost use Rattle.std.specs.Prelude.{◌≡◌, map, IfOk, OnOk};
 ghost use Rattle.std.specs.List.{filter_map};
-ghost use Rattle.ppdb_merge_items.specs.Annotated.{with_item};
+ghost use Rattle.ppdb_merge_annotated.specs.Annotated.{with_item};
 ghost use Rattle.ppdb_values.specs.Parts.{is_link};
 ghost use Rattle.ppdb_merge_moved.specs.Moved.{linked, moved_custom, moved_document};
 
@@ -61,7 +62,8 @@ fn link_custom(alloc: Global, custom: &mut CustomValue, by: &MapText) -> Result<
     Ok(())
 }
 
-/// Gives each Source Link record on row 1 of Module the value of the map's `link` line, where there is one.
+/// Gives each Source Link record on row 1 of Module the value of the map's `link` line, where there
+/// is one.
 fn link_customs(alloc: Global, customs: &mut [CustomValue], by: &MapText) -> Result<(), Memory>
     ensures { OnOk result (customs.new ≡ map (linked by.now) customs.old) }
 {

@@ -6,7 +6,8 @@ use crate::moves::Moves;
 use custom_info::{Range, Slot};
 use ppdb_base::OffsetImage;
 
-/// The image of the least offset that is kept or is the old size and is not below this one; 0 where there is none.
+/// The image of the least offset that is kept or is the old size and is not below this one; 0 where
+/// there is none.
 pub fn moved_offset<G: OffsetImage>(image: &G, offset: u32) -> u32
     ensures { result ≡ moved (G.offsets image.now) offset }
 {

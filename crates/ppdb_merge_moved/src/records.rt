@@ -2,7 +2,7 @@
 ghost use Rattle.std.specs.Prelude.{◌≡◌, ◌&&◌, cond, option_map, Some, None};
 ghost use Rattle.ppdb_base.specs.Offsets.{moved};
 ghost use Rattle.ppdb_maps.specs.Map.{offsets_in, row_image, leaves_table};
-ghost use Rattle.ppdb_merge_items.specs.NamedRows.{is_type_documents, live_custom};
+ghost use Rattle.ppdb_merge_annotated.specs.NamedRows.{is_type_documents, live_custom};
 
 use crate::images::{is_gone, leaves_table, row_in, table_in};
 use crate::moves::{InMethod, Moves, Stays, move_all};
@@ -54,9 +54,11 @@ impl Moves<InMethod<'_>> for CustomBody {
     }
 }
 
-/// Whether a record of type definition documents would leave the table of its parent, which has this image.
+/// Whether a record of type definition documents would leave the table of its parent, which has
+/// this image.
 fn leaves_types(custom: &CustomValue, image: RowImage) -> bool
-    ensures { result ≡ (is_type_documents custom.now.value && leaves_table custom.now.parent.table image) }
+    ensures { result
+        ≡ (is_type_documents custom.now.value && leaves_table custom.now.parent.table image) }
 {
     match custom.value {
         CustomBody::TypeDocuments(_) => leaves_table(custom.parent.table, image),
@@ -66,7 +68,8 @@ fn leaves_types(custom: &CustomValue, image: RowImage) -> bool
 
 /// The image of the parent of a record that is kept; none where the record is removed.
 fn parent_image(map: &MapText, custom: &CustomValue) -> Option<RowImage>
-    ensures { result ≡ cond (live_custom map.now custom.now) (Some (row_image map.now custom.now.parent.table custom.now.parent.row)) None }
+    ensures { result ≡ cond (live_custom map.now custom.now)
+        (Some (row_image map.now custom.now.parent.table custom.now.parent.row)) None }
 {
     let Parent { table, row } = custom.parent;
     if table == METHOD_DEF && map.dropped(row) {
@@ -79,8 +82,8 @@ fn parent_image(map: &MapText, custom: &CustomValue) -> Option<RowImage>
     Some(image)
 }
 
-/// Whether a custom record is kept: its parent is no dropped method and is not gone, and it tells the documents of no type that becomes a
-/// row of another table.
+/// Whether a custom record is kept: its parent is no dropped method and is not gone, and it tells
+/// the documents of no type that becomes a row of another table.
 pub fn custom_stays(map: &MapText, custom: &CustomValue) -> bool
     ensures { result ≡ live_custom map.now custom.now }
 {

@@ -4,8 +4,9 @@ ghost use Rattle.std.specs.List.{list_any};
 ghost use Rattle.type_blobs.specs.ConstantReading.{shown};
 ghost use Rattle.type_blobs.specs.declared.types.Modifier.{Modifier};
 ghost use Rattle.ppdb_values.specs.Constants.{body_value};
-ghost use Rattle.ppdb_merge_items.specs.NamedRows.{is_gone_type, live_body, live_constants, names_gone_class};
-ghost use Rattle.ppdb_merge_items.specs.Annotated.{with_item};
+ghost use Rattle.ppdb_merge_annotated.specs.NamedRows.{is_gone_type, live_body, live_constants};
+ghost use Rattle.ppdb_merge_annotated.specs.NamedRows.{names_gone_class};
+ghost use Rattle.ppdb_merge_annotated.specs.Annotated.{with_item};
 ghost use Rattle.ppdb_merge_moved.specs.Moved.{moved_constant, moved_constant_body};
 
 use crate::images::{is_gone_row, moved_type};
@@ -57,7 +58,8 @@ fn names_gone_class(map: &MapText, body: &ConstantBody) -> bool
 
 /// Whether a modifier has no successor.
 fn names_gone_modifier(map: &MapText, modifiers: &[Modifier]) -> bool
-    ensures { result ≡ list_any (λ (modifier : Modifier). is_gone_type map.now modifier.target) modifiers.now }
+    ensures { result
+        ≡ list_any (λ (modifier : Modifier). is_gone_type map.now modifier.target) modifiers.now }
 {
     modifiers
         .iter()
@@ -74,9 +76,12 @@ fn is_of_gone_class(map: &MapText, body: &Constant<'_>) -> bool
     }
 }
 
-/// Whether a constant of a file is removed: one of its modifiers, or the class or value type that it is of, is gone.
+/// Whether a constant of a file is removed: one of its modifiers, or the class or value type that
+/// it is of, is gone.
 pub fn constant_goes(map: &MapText, modifiers: &[Modifier], body: &Constant<'_>) -> bool
-    ensures { result ≡ (list_any (λ (modifier : Modifier). is_gone_type map.now modifier.target) modifiers.now || names_gone_class map.now (body_value
+    ensures { result
+        ≡ (list_any (λ (modifier : Modifier). is_gone_type map.now modifier.target) modifiers.now
+        || names_gone_class map.now (body_value
         (shown body.now))) }
 {
     names_gone_modifier(map, modifiers) || is_of_gone_class(map, body)
@@ -85,7 +90,7 @@ pub fn constant_goes(map: &MapText, modifiers: &[Modifier], body: &Constant<'_>)
 /// A constant is removed with the records on it.
 impl Lives<MapText> for Annotation<ConstantValue> {
     ghost use Rattle.std.specs.Prelude.{not};
-    ghost use Rattle.ppdb_merge_items.specs.NamedRows.{goes_constant};
+    ghost use Rattle.ppdb_merge_annotated.specs.NamedRows.{goes_constant};
 
     ghost lives = { λ m constant. not (goes_constant m constant.item) };
 
@@ -124,7 +129,7 @@ fn moved_body(map: &MapText, body: ConstantBody) -> ConstantBody
 }
 
 impl Moves<MapText> for ConstantValue {
-    ghost use Rattle.ppdb_merge_items.specs.NamedRows.{with_live_body};
+    ghost use Rattle.ppdb_merge_annotated.specs.NamedRows.{with_live_body};
     ghost use Rattle.ppdb_merge_moved.specs.Moved.{moved_constant};
 
     ghost moved = { λ m constant. moved_constant m (with_live_body m constant) };
@@ -138,7 +143,8 @@ impl Moves<MapText> for ConstantValue {
 
 /// Moves the constants that are kept; the others leave the list, with the records on them.
 pub(crate) fn move_constants(constants: &mut List<Annotation<ConstantValue>>, by: &MapText)
-    ensures { constants.new ≡ map (with_item (moved_constant by.now)) (live_constants by.now constants.old) }
+    ensures { constants.new
+        ≡ map (with_item (moved_constant by.now)) (live_constants by.now constants.old) }
 {
     keep_live(constants, by);
     move_all(constants.as_mut_slice(), by);

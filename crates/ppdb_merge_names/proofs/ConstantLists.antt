@@ -142,11 +142,11 @@ module _ (m : Map) (raw : RawTables) (owned : ListsAreOwned) (keeps : KeepsLists
   abbrev rest_from : ℕ → List Reference
   rest_from first = flat_map (of_constant m raw) (drop (first - 1) (numbered raw.constants))
 
-  abbrev told_by : ℕ × ScopeRow → List Reference
-  told_by row = of_scope_constants m raw (scope_in raw row)
+  abbrev reported_by : ℕ × ScopeRow → List Reference
+  reported_by row = of_scope_constants m raw (scope_in raw row)
 
   scopes_from : (k : ℕ) (xs : List ScopeRow) → ((i : ℕ) → slice_get raw.scopes (k + i) ≡ slice_get xs i)
-      → flat_map told_by (enumerate_from (suc k) xs) ≡ rest_from (begin_of (row_at raw.scopes (suc k)))
+      → flat_map reported_by (enumerate_from (suc k) xs) ≡ rest_from (begin_of (row_at raw.scopes (suc k)))
   scopes_from k [] h =
       let here : k + 0 ≡ k = omega arith in
       let none : row_at raw.scopes (suc k) ≡ None = rw here at (h 0) in
@@ -163,8 +163,8 @@ module _ (m : Map) (raw : RawTables) (owned : ListsAreOwned) (keeps : KeepsLists
       (suc k) x there in
       let forward = within.forward in
       let end = (range_of (suc k) x).end in
-      ap (λ (n : ℕ). told_by (suc k, x) ++ flat_map told_by (enumerate_from n xs)) s
-      ∙ ap (λ (rs : List Reference). told_by (suc k, x) ++ rs) others
+      ap (λ (n : ℕ). reported_by (suc k, x) ++ flat_map reported_by (enumerate_from n xs)) s
+      ∙ ap (λ (rs : List Reference). reported_by (suc k, x) ++ rs) others
       ∙ ap (λ (rs : List Reference). rs ++ rest_from end) (sym (by_scope (suc k) x there))
       ∙ sym (flat_map-append (of_constant m raw) (slice_of (suc k) x) (drop (end - 1) (numbered raw.constants)))
       ∙ ap (λ (rows : List (ℕ × ConstantRow)). flat_map (of_constant m raw) rows)

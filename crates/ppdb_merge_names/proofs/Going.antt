@@ -5,7 +5,7 @@ use Rattle.ppdb_base.specs.declared.fault.Place.{Place}
 use Rattle.ppdb_maps.specs.{Map.{Map, is_gone}, declared.image.RowImage.{RowImage}, declared.image.RowImage.TheVariants.{Row, Gone, Missing}}
 use Rattle.ppdb_merge_names.specs.declared.imaged.{Imaged.{Imaged}, ReferenceError.{ReferenceError}, ReferenceError.TheVariants.{Unmapped, Memory}}
 use Rattle.ppdb_merge_names.specs.{References.{Reference, names}, Imaging.{image_of, AreImagesOf, IsFirstUnmapped, IsRefusedBy, Imaging, with_image, and_then}}
-use Rattle.ppdb_merge_names.specs.Imaging.{imaged_on, Goes}
+use Rattle.ppdb_merge_names.specs.Imaging.{imaged_on, GoesThrough}
 
 pub imaged_on-append : (s : Imaging) (xs ys : List Reference) → imaged_on s (xs ++ ys) ≡ and_then (imaged_on s xs) (λ t. imaged_on t ys)
 unfolding imaged_on
@@ -55,20 +55,20 @@ leads-stop start now all few left r e one = e ∙ imaged_on-append now few left 
 
 -- a refusal on the way is the refusal of all
 pub goes-stop : (start now after last : Imaging) (all few left : List Reference) (error : ReferenceError) → Leads start all now (few ++ left)
-    → Goes now few after (Err error) → Goes start all last (Err error)
+    → GoesThrough now few after (Err error) → GoesThrough start all last (Err error)
 goes-stop start now after last all few left (Unmapped table row place) e one = leads-stop start now all few left (names place table row) e one
 goes-stop start now after last all few left Memory e one = tt
 
 -- ---- one list after the other
 
-pub goes-then : (s t u : Imaging) (xs ys : List Reference) (result : Result (Unit {0}) ReferenceError) → imaged_on s xs ≡ Ok t → Goes t ys u result
-    → Goes s (xs ++ ys) u result
+pub goes-then : (s t u : Imaging) (xs ys : List Reference) (result : Result (Unit {0}) ReferenceError) → imaged_on s xs ≡ Ok t → GoesThrough t ys u result
+    → GoesThrough s (xs ++ ys) u result
 goes-then s t u xs ys (Ok done) first second = imaged_on-append s xs ys ∙ ap (λ (o : Result Imaging Reference). and_then o (λ v. imaged_on v ys)) first ∙ second
 goes-then s t u xs ys (Err (Unmapped table row place)) first second =
     imaged_on-append s xs ys ∙ ap (λ (o : Result Imaging Reference). and_then o (λ v. imaged_on v ys)) first ∙ second
 goes-then s t u xs ys (Err Memory) first second = tt
 
-pub goes-cut : (s t u : Imaging) (xs ys : List Reference) (error : ReferenceError) → Goes s xs t (Err error) → Goes s (xs ++ ys) u (Err error)
+pub goes-cut : (s t u : Imaging) (xs ys : List Reference) (error : ReferenceError) → GoesThrough s xs t (Err error) → GoesThrough s (xs ++ ys) u (Err error)
 goes-cut s t u xs ys (Unmapped table row place) first = imaged_on-append s xs ys ∙ ap (λ (o : Result Imaging Reference). and_then o (λ v. imaged_on v ys)) first
 goes-cut s t u xs ys Memory first = tt
 
@@ -137,25 +137,25 @@ map-stays s t (r ∷ rs) e = split (λ u h. map-stays u t rs h) (image_of s.map 
     split again (Row to image) e = again (record { map = s.map; images = s.images ++ record { table = r.table; row = r.row; to = to; image = image } ∷ [] }) e
 
 -- the same of a list that is this one
-pub goes-as : (s t : Imaging) (xs ys : List Reference) (result : Result (Unit {0}) ReferenceError) → xs ≡ ys → Goes s xs t result → Goes s ys t result
-goes-as s t xs ys result e h = subst (λ (rs : List Reference). Goes s rs t result) e h
+pub goes-as : (s t : Imaging) (xs ys : List Reference) (result : Result (Unit {0}) ReferenceError) → xs ≡ ys → GoesThrough s xs t result → GoesThrough s ys t result
+goes-as s t xs ys result e h = subst (λ (rs : List Reference). GoesThrough s rs t result) e h
 
 pub goes-none : (s : Imaging) (xs : List Reference) → xs ≡ [] → imaged_on s xs ≡ Ok s
 goes-none s xs e = ap (imaged_on s) e ∙ none-is s
 
 -- the same at a place that is this one
 pub goes-at : (s t : Imaging) (place other : Place) (table row : ℕ) (result : Result (Unit {0}) ReferenceError) → place ≡ other
-    → Goes s (names place table row ∷ []) t result → Goes s (names other table row ∷ []) t result
-goes-at s t place other table row result e h = subst (λ (p : Place). Goes s (names p table row ∷ []) t result) e h
+    → GoesThrough s (names place table row ∷ []) t result → GoesThrough s (names other table row ∷ []) t result
+goes-at s t place other table row result e h = subst (λ (p : Place). GoesThrough s (names p table row ∷ []) t result) e h
 
 -- one list after the other, where the second goes by the map
 pub goes-more : (s t u : Imaging) (xs : List Reference) (more : Map → List Reference) (result : Result (Unit {0}) ReferenceError) → imaged_on s xs ≡ Ok t
-    → Goes t (more t.map) u result
-    → Goes s (xs ++ more s.map) u result
+    → GoesThrough t (more t.map) u result
+    → GoesThrough s (xs ++ more s.map) u result
 goes-more s t u xs more result first second =
     goes-then s t u xs (more s.map) result first (goes-as t u (more t.map) (more s.map) result (ap more (map-stays s t xs first)) second)
 
 pub refused : (m : Map) (t : Imaging) (rs : List Reference) (error : ReferenceError) → AllByRecursion (IsStill m) rs
-    → Goes (record { map = m; images = [] }) rs t (Err error) → IsRefusedBy m rs error
+    → GoesThrough (record { map = m; images = [] }) rs t (Err error) → IsRefusedBy m rs error
 refused m t rs (Unmapped table row place) still e = first-unmapped (record { map = m; images = [] }) rs (names place table row) still e
 refused m t rs Memory still e = tt

@@ -4,14 +4,14 @@ use Rattle.std.specs.{Prelude.{is_some, nat_eq, nat_lt, ◌≢◌}, List.{AllByR
 use Rattle.ppdb_base.specs.Place.{at_byte, cell}
 use Rattle.custom_info.specs.{declared.kinds.Kind.{Kind}, declared.kinds.Kind.TheVariants.{Async}, Kinds.{kind_of}, AsyncStepping.{async_stepping}}
 use Rattle.blob_grammar.specs.{Places.{placed_of}, Grammar.{Value, number}, Reader.{prefix_of}}
-use Rattle.ppdb_maps.specs.Map.{Map, is_dropped, signature_line, row_image, told_image, has_gone_line, row_line, cross_line, count_of, is_gone, is_gone_row}
+use Rattle.ppdb_maps.specs.Map.{Map, is_dropped, signature_line, row_image, said_image, has_gone_line, row_line, cross_line, count_of, is_gone, is_gone_row}
 use Rattle.ppdb_maps.specs.{Readable.{IsReadable, IsGoneOf}, declared.entries.CrossLine.{CrossLine}, declared.entries.GoneLine.{GoneLine}}
 use Rattle.ppdb_maps.specs.declared.image.{RowImage.{RowImage}, RowImage.TheVariants.{Row, Missing}}
 use Rattle.ppdb_tables.specs.{declared.parent.Parent.{Parent}, RawTables.{RawTables, count, numbered}, declared.rows.MethodDebugRow.{MethodDebugRow}}
 use Rattle.ppdb_tables.specs.declared.rows.{ScopeRow.{ScopeRow}, ConstantRow.{ConstantRow}, ImportRow.{ImportRow}, MachineRow.{MachineRow}, CustomRow.{CustomRow}}
 use Rattle.ppdb_values.specs.{Names.{blob_at}, declared.file.MethodValue.{MethodValue}, Documents.{method_of}, Customs.{parent_of, kind_in}, RawFile.{RawFile, blob}}
 use Rattle.ppdb_values.specs.RawFile.{type_limits}
-use Rattle.type_blobs_rows.specs.{declared.row.PlacedRow.{PlacedRow}, Rows.{constant_types, import_rows, method_behind, resume_method, resume_methods}}
+use Rattle.type_blobs_references.specs.{declared.row.PlacedRow.{PlacedRow}, Rows.{constant_types, import_rows, method_behind, resume_method, resume_methods}}
 use Rattle.ppdb_merge_names.specs.References.{names, names_some, inside, is_live, takes_constant, live_types, of_entry, of_signature, of_method, of_scope}
 use Rattle.ppdb_merge_names.specs.References.{is_dropped_constant, of_constant, of_import, of_machine, methods_in, of_parent, leaves_types, of_custom, of_methods}
 use Rattle.ppdb_merge_names.{specs.References.{of_others, references}, proofs.Going.{IsStill}, proofs.Parts.{of_points}}
@@ -42,10 +42,10 @@ no_gone_line table row (line ∷ lines) other = by (nat_eq line.table table) ref
     by true e others = let same : line.table ≡ table = grind arith in absurd (other.0 same)
     by false e others = rw e others
 
-told_still : (table : ℕ) (o : Option ℕ) (line : Option CrossLine) → is_gone (told_image table o line false) ≡ false
-told_still table (Some new) line = refl
-told_still table None (Some line) = refl
-told_still table None None = refl
+reported_still : (table : ℕ) (o : Option ℕ) (line : Option CrossLine) → is_gone (said_image table o line false) ≡ false
+reported_still table (Some new) line = refl
+reported_still table None (Some line) = refl
+reported_still table None None = refl
 
 weaker : (m : Map) (lines : List GoneLine) → AllByRecursion (IsGoneOf m) lines → AllByRecursion (λ (line : GoneLine). line.table ≢ 0x06) lines
 weaker m [] all = tt
@@ -60,12 +60,12 @@ method_still m readable row = by (is_dropped m row) (count_of m 0x06)
     by : (dropped : Bool) (o : Option ℕ)
         → is_gone (cond dropped Missing (elim o as (λ _. RowImage) [
           | None ↦ Row 0x06 row
-          | Some count ↦ told_image 0x06 (row_line m 0x06 row)
+          | Some count ↦ said_image 0x06 (row_line m 0x06 row)
               (cross_line m 0x06 row) (has_gone_line m 0x06 row)
         ])) ≡ false
     by true o = refl
     by false None = refl
-    by false (Some count) = rw none (told_still 0x06 (row_line m 0x06 row) (cross_line m 0x06 row))
+    by false (Some count) = rw none (reported_still 0x06 (row_line m 0x06 row) (cross_line m 0x06 row))
 
 -- ---- the rows in blobs
 

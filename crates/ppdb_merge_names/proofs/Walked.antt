@@ -1,10 +1,10 @@
 -- A walk over the rows in a blob, a row at a time.
 use Rattle.std.proofs.Common.{◌≡◌, ℕ, ◌&&◌, ◌||◌, Bool, true, false, cond, List, [], ◌∷◌, ◌++◌, Option, Some, None, slice_get, refl, ap, ◌∙◌, filter}
 use Rattle.std.specs.{Prelude.{is_some, not, nat_eq}, List.{list_any}}
-use Rattle.ppdb_maps.specs.Map.{Map, count_of, cross_line, has_gone_line, is_dropped, is_gone, row_line, told_image, is_gone_row}
+use Rattle.ppdb_maps.specs.Map.{Map, count_of, cross_line, has_gone_line, is_dropped, is_gone, row_line, said_image, is_gone_row}
 use Rattle.ppdb_maps.specs.declared.{entries.CrossLine.{CrossLine}, entries.GoneLine.{GoneLine}, image.RowImage.{RowImage}, image.RowImage.TheVariants.{Missing}}
 use Rattle.ppdb_maps.specs.declared.image.RowImage.TheVariants.{Row}
-use Rattle.type_blobs_rows.specs.declared.row.PlacedRow.{PlacedRow}
+use Rattle.type_blobs_references.specs.declared.row.PlacedRow.{PlacedRow}
 use Rattle.blob_grammar.specs.Reader.{tail}
 use Rattle.ppdb_merge_names.specs.References.{Reference, inside, is_enumeration, is_live, takes_constant, live_types}
 
@@ -46,23 +46,23 @@ no_gone_line [] crossed none = refl
 no_gone_line (l ∷ ls) true none = absurd cc
 no_gone_line (l ∷ ls) false none = absurd cc
 
-told_stays : (table : ℕ) (new : Option ℕ) (crossed : Option CrossLine) → is_gone (told_image table new crossed false) ≡ false
-told_stays table (Some n) crossed = refl
-told_stays table None (Some line) = refl
-told_stays table None None = refl
+reported_stays : (table : ℕ) (new : Option ℕ) (crossed : Option CrossLine) → is_gone (said_image table new crossed false) ≡ false
+reported_stays table (Some n) crossed = refl
+reported_stays table None (Some line) = refl
+reported_stays table None None = refl
 
 row_stays : (m : Map) (table row : ℕ) → m.gone ≡ [] → is_gone_row m table row ≡ false
 row_stays m table row none = by (nat_eq table 0x06 && is_dropped m row) (count_of m table)
   where
-    line : is_gone (told_image table (row_line m table row) (cross_line m table row) (has_gone_line m table row)) ≡ false
+    line : is_gone (said_image table (row_line m table row) (cross_line m table row) (has_gone_line m table row)) ≡ false
     line =
-        ap (λ (lines : List GoneLine). is_gone (told_image table (row_line m table row) (cross_line m table row)
+        ap (λ (lines : List GoneLine). is_gone (said_image table (row_line m table row) (cross_line m table row)
         (list_any (λ (r : GoneLine). nat_eq r.table table && nat_eq r.old row) lines))) none
-        ∙ told_stays table (row_line m table row) (cross_line m table row)
+        ∙ reported_stays table (row_line m table row) (cross_line m table row)
 
     by : (dropped : Bool) (count : Option ℕ) → is_gone (cond dropped Missing (elim count as (λ _. RowImage) [
       | None ↦ Row table row
-      | Some n ↦ told_image table (row_line m table row) (cross_line m table row) (has_gone_line m table row)
+      | Some n ↦ said_image table (row_line m table row) (cross_line m table row) (has_gone_line m table row)
     ])) ≡ false
     by true count = refl
     by false None = refl

@@ -1,7 +1,10 @@
 -- The images of the rows that are named, and the first row that has none.
 use Rattle.std.specs.Prelude.{◌≡◌, ℕ, ◌<◌, List, [], ◌∷◌, ◌++◌, Some, Result, Ok, Err, slice_get}
-use Rattle.ppdb_maps.specs.{Map.{Map, row_image}, declared.image.RowImage.{RowImage, TheVariants.{Row, Gone, Missing}}}
-use Rattle.ppdb_merge_names.specs.{declared.imaged.{Imaged.Imaged, ReferenceError.{ReferenceError, TheVariants.{Unmapped, Memory}}}, References.{Reference, names}}
+use Rattle.ppdb_maps.specs.{Map.{Map, row_image}, declared.image.RowImage.RowImage}
+use Rattle.ppdb_maps.specs.declared.image.RowImage.TheVariants.{Row, Gone, Missing}
+use Rattle.ppdb_merge_names.specs.declared.imaged.{Imaged.Imaged, ReferenceError.ReferenceError}
+use Rattle.ppdb_merge_names.specs.declared.imaged.ReferenceError.TheVariants.{Unmapped, Memory}
+use Rattle.ppdb_merge_names.specs.References.{Reference, names}
 
 -- the image of a row that is named
 abbrev pub image_of : Map → Reference → RowImage
@@ -27,9 +30,11 @@ pub record IsFirstUnmapped (m : Map) (references : List Reference) (r : Referenc
   pub before : (k : ℕ) (other : Reference) → k < at → slice_get references k ≡ Some other
       → (to : ℕ) × (image : ℕ) × (image_of m other ≡ Row to image)
 
--- What is reported where not all have images: the first whose image is missing, or that memory is refused.
+-- What is reported where not all have images: the first whose image is missing, or that memory is
+-- refused.
 abbrev pub IsRefusedBy : Map → List Reference → ReferenceError → Type 0
-IsRefusedBy m references (Unmapped table row place) = IsFirstUnmapped m references (names place table row)
+IsRefusedBy m references (Unmapped table row place) =
+    IsFirstUnmapped m references (names place table row)
 IsRefusedBy m references Memory = Unit {0}
 
 -- ---- how they are found, one after the other
@@ -40,11 +45,15 @@ pub record Imaging : Type 0 where
   pub images : List Imaged
 
 abbrev pub with_image : Imaging → Reference → RowImage → Result Imaging Reference
-with_image s r (Row to image) = Ok (record { map = s.map; images = s.images ++ record { table = r.table; row = r.row; to = to; image = image } ∷ [] })
+with_image s r (Row to image) = Ok (record {
+  map = s.map;
+  images = s.images ++ record { table = r.table; row = r.row; to = to; image = image } ∷ [];
+})
 with_image s r Gone = Err r
 with_image s r Missing = Err r
 
-abbrev pub and_then : Result Imaging Reference → (Imaging → Result Imaging Reference) → Result Imaging Reference
+abbrev pub and_then : Result Imaging Reference → (Imaging → Result Imaging Reference)
+    → Result Imaging Reference
 and_then (Ok s) goes_on = goes_on s
 and_then (Err r) goes_on = Err r
 
@@ -54,7 +63,9 @@ imaged_on s [] = Ok s
 imaged_on s (r ∷ rs) = and_then (with_image s r (image_of s.map r)) (λ t. imaged_on t rs)
 
 -- The references were gone through, but where memory is refused.
-abbrev pub Goes : Imaging → List Reference → Imaging → Result (Unit {0}) ReferenceError → Type 0
-Goes s rs after (Ok done) = imaged_on s rs ≡ Ok after
-Goes s rs after (Err (Unmapped table row place)) = imaged_on s rs ≡ Err (record { table = table; row = row; place = place })
-Goes s rs after (Err Memory) = Unit {0}
+abbrev pub GoesThrough : Imaging → List Reference → Imaging → Result (Unit {0}) ReferenceError
+    → Type 0
+GoesThrough s rs after (Ok done) = imaged_on s rs ≡ Ok after
+GoesThrough s rs after (Err (Unmapped table row place)) =
+    imaged_on s rs ≡ Err (record { table = table; row = row; place = place })
+GoesThrough s rs after (Err Memory) = Unit {0}

@@ -6,7 +6,8 @@ use Rattle.ppdb_values_reading.specs.declared.scopes.{ListRange.ListRange, Scope
 use Rattle.ppdb_merge_names.specs.References.{Reference, types_of}
 
 abbrev pub of_list : Map → RawTables → ListRange → List Reference
-of_list m raw list = flat_map (types_of m raw) (slice_range (numbered raw.constants) (list.first - 1) (list.end - 1))
+of_list m raw list =
+    flat_map (types_of m raw) (slice_range (numbered raw.constants) (list.first - 1) (list.end - 1))
 
 -- the references of the constants of a scope, unless its method is dropped
 abbrev pub of_scope_constants : Map → RawTables → Scope → List Reference

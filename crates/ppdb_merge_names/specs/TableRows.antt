@@ -2,8 +2,11 @@
 use Rattle.std.specs.Prelude.{ℕ, List, map, flat_map}
 use Rattle.ppdb_tables.specs.RawTables.{RawTables, numbered}
 use Rattle.ppdb_maps.specs.Map.{Map}
-use Rattle.ppdb_merge_names.specs.References.{Reference, of_method, of_scope, of_import, of_machine, of_custom}
-use Rattle.ppdb_merge_names.specs.declared.rows.Table.TheVariants.{MethodDebug, LocalScope, ImportScope, StateMachine, Custom}
+use Rattle.ppdb_merge_names.specs.References.{Reference, of_method, of_scope, of_import, of_machine}
+use Rattle.ppdb_merge_names.specs.References.{of_custom}
+use Rattle.ppdb_merge_names.specs.declared.rows.Table.TheVariants.{MethodDebug, LocalScope}
+use Rattle.ppdb_merge_names.specs.declared.rows.Table.TheVariants.{ImportScope, StateMachine}
+use Rattle.ppdb_merge_names.specs.declared.rows.Table.TheVariants.{Custom}
 use Rattle.ppdb_merge_names.specs.declared.rows.Table as table
 
 abbrev pub table_number : table.Table → ℕ

@@ -4,10 +4,11 @@ ghost use Rattle.std.specs.List.{flat_map, list_any};
 ghost use Rattle.ppdb_tables.specs.RawTables.{numbered};
 ghost use Rattle.ppdb_verify.specs.Views.{raw_file};
 ghost use Rattle.ppdb_values_reading.specs.Scopes.{HasLists, IsWithin};
-ghost use Rattle.ppdb_merge_names.specs.Imaging.{Goes};
+ghost use Rattle.ppdb_merge_names.specs.Imaging.{GoesThrough};
 ghost use Rattle.ppdb_merge_names.specs.Lists.{of_list, of_scope_constants};
-ghost use Rattle.ppdb_merge_names.specs.References.{inside, live_types, of_constant, takes_constant};
-ghost use Rattle.type_blobs_rows.specs.Rows.{constant_types};
+ghost use Rattle.ppdb_merge_names.specs.References.{inside, live_types, of_constant};
+ghost use Rattle.ppdb_merge_names.specs.References.{takes_constant};
+ghost use Rattle.type_blobs_references.specs.Rows.{constant_types};
 
 use crate::imaged::ReferenceError;
 use crate::imager::Imager;
@@ -17,10 +18,10 @@ use ppdb_tables::LOCAL_CONSTANT;
 use ppdb_values::lists_are_owned;
 use ppdb_values_reading::{ListRange, Scope, ScopeCursor, scopes_own_their_lists};
 use ppdb_verify::Verified;
-use ppdb_verify_rows::{blob, constant, type_limits};
+use ppdb_verify_readers::{blob, constant, type_limits};
 use std::sync::ledger::Ledger;
 use type_blobs::TypeLimits;
-use type_blobs_rows::{ConstantTypes, RowWalk};
+use type_blobs_references::{ConstantTypes, RowWalk};
 
 /// Whether a constant is removed because of one of its types.
 fn goes<W: RowWalk>(types: &mut W, imager: &mut Imager<'_>) -> bool
@@ -38,7 +39,8 @@ fn goes<W: RowWalk>(types: &mut W, imager: &mut Imager<'_>) -> bool
 /// Whether the constant of a signature is removed. None is removed if no row leaves its table.
 fn constant_goes(signature: &[u8], limits: TypeLimits, imager: &mut Imager<'_>) -> bool
     requires { length signature.now < 2 ^ 32 }
-    ensures goes { result ≡ list_any (takes_constant imager.old.map) (constant_types limits signature.now) }
+    ensures goes { result
+        ≡ list_any (takes_constant imager.old.map) (constant_types limits signature.now) }
     ensures same { imager.new ≡ imager.old }
 {
     if !imager.has_leaving() {
@@ -55,7 +57,8 @@ fn add_types(
     imager: &mut Imager<'_>,
 ) -> Result<(), ReferenceError>
     requires { length signature.now < 2 ^ 32 }
-    ensures { Goes imager.old (inside 0x34 row 1 (live_types imager.old.map (constant_types limits signature.now))) imager.new result }
+    ensures { GoesThrough imager.old (inside 0x34 row 1
+        (live_types imager.old.map (constant_types limits signature.now))) imager.new result }
 {
     if constant_goes(signature, limits, imager) {
         return Ok(());
@@ -77,9 +80,10 @@ fn add_list<L: Ledger>(
     steps: &mut Steps<L>,
 ) -> Result<(), ReferenceError>
     requires { IsWithin (length (raw_file file.now).tables.constants) list }
-    ensures { Goes imager.old (of_list imager.old.map (raw_file file.now).tables list) imager.new result }
+    ensures { GoesThrough imager.old
+        (of_list imager.old.map (raw_file file.now).tables list) imager.new result }
 {
-    let _ = file.keeps();
+    let _ = file.facts();
     let limits = type_limits(file);
     let mut row = list.first;
     'rows: while row < list.end {
@@ -98,7 +102,8 @@ fn add_scope_constants<L: Ledger>(
     steps: &mut Steps<L>,
 ) -> Result<(), ReferenceError>
     requires { HasLists (raw_file file.now).tables scope.now }
-    ensures { Goes imager.old (of_scope_constants imager.old.map (raw_file file.now).tables scope.now) imager.new result }
+    ensures { GoesThrough imager.old
+        (of_scope_constants imager.old.map (raw_file file.now).tables scope.now) imager.new result }
 {
     if imager.drops(scope.method) {
         return Ok(());
@@ -112,9 +117,11 @@ pub(crate) fn add_constants<L: Ledger>(
     imager: &mut Imager<'_>,
     steps: &mut Steps<L>,
 ) -> Result<(), ReferenceError>
-    ensures { Goes imager.old (flat_map (of_constant imager.old.map (raw_file file.now).tables) (numbered (raw_file file.now).tables.constants)) imager.new result }
+    ensures { GoesThrough imager.old
+        (flat_map (of_constant imager.old.map (raw_file file.now).tables)
+        (numbered (raw_file file.now).tables.constants)) imager.new result }
 {
-    let _ = file.keeps();
+    let _ = file.facts();
     lists_are_owned();
     scopes_own_their_lists();
     let mut scopes = ScopeCursor::new(file, steps);

@@ -1,7 +1,7 @@
 // The images of all rows that a file names.
 ghost use Rattle.std.specs.Prelude.{IfOk, IfErr};
 ghost use Rattle.ppdb_verify.specs.Views.{raw_file};
-ghost use Rattle.ppdb_merge_names.specs.Imaging.{Goes, AreImagesOf, IsRefusedBy};
+ghost use Rattle.ppdb_merge_names.specs.Imaging.{GoesThrough, AreImagesOf, IsRefusedBy};
 ghost use Rattle.ppdb_merge_names.specs.References.{of_methods, of_others, references};
 ghost use Rattle.ppdb_merge_names.specs.TableRows.{of_table};
 
@@ -12,7 +12,7 @@ use crate::rows::{Table, add_entry, add_row, table_number};
 use ppdb_base::{List, Steps};
 use ppdb_maps::MapText;
 use ppdb_verify::Verified;
-use ppdb_verify_rows::count;
+use ppdb_verify_readers::count;
 use std::alloc::Global;
 use std::sync::ledger::Ledger;
 
@@ -24,9 +24,10 @@ fn add_table<L: Ledger>(
     imager: &mut Imager<'_>,
     steps: &mut Steps<L>,
 ) -> Result<(), ReferenceError>
-    ensures { Goes imager.old (of_table imager.old.map (raw_file file.now).tables table) imager.new result }
+    ensures { GoesThrough imager.old
+        (of_table imager.old.map (raw_file file.now).tables table) imager.new result }
 {
-    let _ = file.keeps();
+    let _ = file.facts();
     let count = count(file, table_number(table));
     let mut row = 1;
     'rows: while row <= count {
@@ -43,7 +44,8 @@ fn add_methods<L: Ledger>(
     imager: &mut Imager<'_>,
     steps: &mut Steps<L>,
 ) -> Result<(), ReferenceError>
-    ensures { Goes imager.old (of_methods imager.old.map (raw_file file.now).tables) imager.new result }
+    ensures { GoesThrough imager.old
+        (of_methods imager.old.map (raw_file file.now).tables) imager.new result }
 {
     add_table(alloc, file, Table::MethodDebug, imager, steps)?;
     add_table(alloc, file, Table::LocalScope, imager, steps)?;
@@ -57,7 +59,8 @@ fn add_others<L: Ledger>(
     imager: &mut Imager<'_>,
     steps: &mut Steps<L>,
 ) -> Result<(), ReferenceError>
-    ensures { Goes imager.old (of_others imager.old.map (raw_file file.now).tables) imager.new result }
+    ensures { GoesThrough imager.old
+        (of_others imager.old.map (raw_file file.now).tables) imager.new result }
 {
     add_table(alloc, file, Table::ImportScope, imager, steps)?;
     add_table(alloc, file, Table::StateMachine, imager, steps)?;
@@ -72,15 +75,17 @@ fn add_file<L: Ledger>(
     imager: &mut Imager<'_>,
     steps: &mut Steps<L>,
 ) -> Result<(), ReferenceError>
-    ensures { Goes imager.old (references first imager.old.map (raw_file file.now)) imager.new result }
+    ensures { GoesThrough imager.old
+        (references first imager.old.map (raw_file file.now)) imager.new result }
 {
     add_entry(file, first, imager)?;
     add_methods(alloc, file, imager, steps)?;
     add_others(alloc, file, imager, steps)
 }
 
-/// The images of the rows of the type system that a file names, in the order of the places at which they are named, without
-/// those that stand in what is removed; or the first whose image is missing. The entry point counts in the first of several files.
+/// The images of the rows of the type system that a file names, in the order of the places at which
+/// they are named, without those that stand in what is removed; or the first whose image is
+/// missing. The entry point counts in the first of several files.
 pub fn images<L: Ledger>(
     alloc: Global,
     file: &Verified<'_>,
@@ -88,10 +93,12 @@ pub fn images<L: Ledger>(
     first: bool,
     steps: &mut Steps<L>,
 ) -> Result<List<Imaged>, ReferenceError>
-    ensures images { IfOk result (AreImagesOf map.now (references first map.now (raw_file file.now))) }
-    ensures unmapped { IfErr result (IsRefusedBy map.now (references first map.now (raw_file file.now))) }
+    ensures images { IfOk result
+        (AreImagesOf map.now (references first map.now (raw_file file.now))) }
+    ensures unmapped { IfErr result
+        (IsRefusedBy map.now (references first map.now (raw_file file.now))) }
 {
-    let _ = map.keeps();
+    let _ = map.facts();
     let mut imager = Imager::new(alloc, map);
     add_file(alloc, file, first, &mut imager, steps)?;
     Ok(imager.into_images())

@@ -1,7 +1,8 @@
 // The images that were found so far.
 ghost use Rattle.std.specs.Prelude.{◌≡◌, ◌||◌, ◌∷◌, [], is_some, slice_get};
-ghost use Rattle.ppdb_maps.specs.Map.{is_dropped, row_image, signature_line, is_gone_row, leaves_table};
-ghost use Rattle.ppdb_merge_names.specs.Imaging.{Goes};
+ghost use Rattle.ppdb_maps.specs.Map.{is_dropped, row_image, signature_line, is_gone_row};
+ghost use Rattle.ppdb_maps.specs.Map.{leaves_table};
+ghost use Rattle.ppdb_merge_names.specs.Imaging.{GoesThrough};
 ghost use Rattle.ppdb_merge_names.specs.References.{is_live, names, names_some, takes_constant};
 
 use crate::imaged::{Imaged, ReferenceError};
@@ -10,7 +11,7 @@ use ppdb_maps::{MapText, RowImage};
 use ppdb_tables::ASSEMBLY;
 use std::alloc::Global;
 use std::marker::Model;
-use type_blobs_rows::{PlacedRow, Role};
+use type_blobs_references::{PlacedRow, Role};
 
 /// A row, and what it becomes.
 #[derive(Clone, Copy)]
@@ -77,7 +78,8 @@ impl<'m> Imager<'m> {
 
     /// Whether rows leave their tables, so that a row may have no successor.
     pub(crate) fn has_leaving(&self) -> bool
-        ensures { result ≡ (is_some (slice_get self.now.map.crossed 0) || is_some (slice_get self.now.map.gone 0)) }
+        ensures { result ≡ (is_some (slice_get self.now.map.crossed 0)
+            || is_some (slice_get self.now.map.gone 0)) }
     {
         self.map.has_leaving()
     }
@@ -140,7 +142,7 @@ impl<'m> Imager<'m> {
 
     /// Adds the image of a row that is named at a place.
     pub(crate) fn add(&mut self, table: u8, row: u32, place: Place) -> Result<(), ReferenceError>
-        ensures { Goes self.old (names place table row ∷ []) self.new result }
+        ensures { GoesThrough self.old (names place table row ∷ []) self.new result }
     {
         let RowImage::Row {
             table: to,
@@ -165,7 +167,7 @@ impl<'m> Imager<'m> {
         row: u32,
         place: Place,
     ) -> Result<(), ReferenceError>
-        ensures { Goes self.old (names_some place table row) self.new result }
+        ensures { GoesThrough self.old (names_some place table row) self.new result }
     {
         if row == 0 {
             return Ok(());

@@ -1,5 +1,5 @@
-//! The rows of the type system that a debug file names, in the order of the places at which it names them, and their images by a
-//! map: that of each, or the first that has none.
+//! The rows of the type system that a debug file names, in the order of the places at which it
+//! names them, and their images by a map: that of each, or the first that has none.
 #![tactic(auto)]
 
 mod constants;

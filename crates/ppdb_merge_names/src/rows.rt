@@ -5,9 +5,12 @@ ghost use Rattle.ppdb_base.specs.Place.{cell};
 ghost use Rattle.ppdb_tables.specs.RawTables.{row_at};
 ghost use Rattle.ppdb_values.specs.Rules.{HasRow};
 ghost use Rattle.ppdb_verify.specs.Views.{raw_file};
-ghost use Rattle.ppdb_merge_names.specs.Imaging.{Goes};
-ghost use Rattle.ppdb_merge_names.specs.References.{Reference, inside, of_entry, of_method, of_scope, of_signature};
-ghost use Rattle.ppdb_merge_names.specs.References.{of_import, of_machine, methods_of, of_parent, is_live, is_live_parent, leaves_types, of_custom};
+ghost use Rattle.ppdb_merge_names.specs.Imaging.{GoesThrough};
+ghost use Rattle.ppdb_merge_names.specs.References.{Reference, inside, of_entry, of_method};
+ghost use Rattle.ppdb_merge_names.specs.References.{of_scope, of_signature};
+ghost use Rattle.ppdb_merge_names.specs.References.{of_import, of_machine, methods_of, of_parent};
+ghost use Rattle.ppdb_merge_names.specs.References.{is_live, is_live_parent, leaves_types};
+ghost use Rattle.ppdb_merge_names.specs.References.{of_custom};
 ghost use Rattle.ppdb_merge_names.specs.TableRows.{table_number, row_references};
 
 use crate::imaged::ReferenceError;
@@ -20,12 +23,12 @@ use ppdb_tables::{
 };
 use ppdb_values::values_are_rows;
 use ppdb_verify::Verified;
-use ppdb_verify_rows::{
+use ppdb_verify_readers::{
     blob, blobs, count, custom, import, kind, machine, method_debug, points_of, scope, type_limits,
 };
 use std::alloc::Global;
 use std::sync::ledger::Ledger;
-use type_blobs_rows::{ImportRows, PlacedRow, ResumeMethods, RowWalk};
+use type_blobs_references::{ImportRows, PlacedRow, ResumeMethods, RowWalk};
 
 /// A table whose rows name rows by themselves.
 #[derive(Clone, Copy)]
@@ -78,7 +81,7 @@ pub(crate) fn add_rows<W: RowWalk>(
     column: u8,
     imager: &mut Imager<'_>,
 ) -> Result<(), ReferenceError>
-    ensures { Goes imager.old (inside table row column (W.left walk.old)) imager.new result }
+    ensures { GoesThrough imager.old (inside table row column (W.left walk.old)) imager.new result }
 {
     'rows: while let Some(found) = walk.next_row() {
         let place = byte_of(table, row, column, found.byte);
@@ -95,7 +98,8 @@ fn add_live_row(
     column: u8,
     imager: &mut Imager<'_>,
 ) -> Result<(), ReferenceError>
-    ensures { Goes imager.old (inside table row column (filter (is_live imager.old.map) (named ∷ []))) imager.new result }
+    ensures { GoesThrough imager.old
+        (inside table row column (filter (is_live imager.old.map) (named ∷ []))) imager.new result }
 {
     if !imager.is_live(named) {
         return Ok(());
@@ -115,7 +119,8 @@ pub(crate) fn add_live_rows<W: RowWalk>(
     column: u8,
     imager: &mut Imager<'_>,
 ) -> Result<(), ReferenceError>
-    ensures { Goes imager.old (inside table row column (filter (is_live imager.old.map) (W.left walk.old))) imager.new result }
+    ensures { GoesThrough imager.old (inside table row column
+        (filter (is_live imager.old.map) (W.left walk.old))) imager.new result }
 {
     'rows: while let Some(found) = walk.next_row() {
         add_live_row(found, table, row, column, imager)?;
@@ -129,7 +134,8 @@ pub(crate) fn add_entry(
     first: bool,
     imager: &mut Imager<'_>,
 ) -> Result<(), ReferenceError>
-    ensures { Goes imager.old (of_entry first imager.old.map (raw_file file.now).entry) imager.new result }
+    ensures { GoesThrough imager.old
+        (of_entry first imager.old.map (raw_file file.now).entry) imager.new result }
 {
     if !first {
         return Ok(());
@@ -150,7 +156,7 @@ pub(crate) fn add_entry(
 
 /// Adds the local signature of a method, unless the map gives it another or its row is gone.
 fn add_signature(row: u32, signature: u32, imager: &mut Imager<'_>) -> Result<(), ReferenceError>
-    ensures { Goes imager.old (of_signature imager.old.map row signature) imager.new result }
+    ensures { GoesThrough imager.old (of_signature imager.old.map row signature) imager.new result }
 {
     if signature == 0 {
         return Ok(());
@@ -172,7 +178,8 @@ fn add_method(
     imager: &mut Imager<'_>,
 ) -> Result<(), ReferenceError>
     requires { row_at (raw_file file.now).tables.methods row ≡ Some cells.now }
-    ensures { Goes imager.old (of_method imager.old.map (raw_file file.now).tables (row, cells.now)) imager.new result }
+    ensures { GoesThrough imager.old
+        (of_method imager.old.map (raw_file file.now).tables (row, cells.now)) imager.new result }
 {
     values_are_rows();
     if imager.drops(row) {
@@ -194,7 +201,8 @@ fn add_steps(
     imager: &mut Imager<'_>,
 ) -> Result<(), ReferenceError>
     requires { row_at (raw_file file.now).tables.customs row ≡ Some cells.now }
-    ensures { Goes imager.old (inside 0x37 row 2 (methods_of (raw_file file.now).tables cells.now)) imager.new result }
+    ensures { GoesThrough imager.old
+        (inside 0x37 row 2 (methods_of (raw_file file.now).tables cells.now)) imager.new result }
 {
     match kind(alloc, file, row, cells) {
         Kind::Async => {
@@ -215,7 +223,8 @@ fn add_parent(
     imager: &mut Imager<'_>,
 ) -> Result<(), ReferenceError>
     requires { row_at (raw_file file.now).tables.customs row ≡ Some cells.now }
-    ensures { Goes imager.old (of_parent (raw_file file.now).tables (row, cells.now) parent) imager.new result }
+    ensures { GoesThrough imager.old
+        (of_parent (raw_file file.now).tables (row, cells.now) parent) imager.new result }
 {
     imager.add(parent.table, parent.row, cell(CUSTOM, row, 0))?;
     add_steps(alloc, file, row, cells, imager)
@@ -243,7 +252,8 @@ fn leaves_types(
     imager: &mut Imager<'_>,
 ) -> bool
     requires { row_at (raw_file file.now).tables.customs row ≡ Some cells.now }
-    ensures leaves { result ≡ leaves_types imager.old.map (raw_file file.now).tables cells.now parent }
+    ensures leaves { result
+        ≡ leaves_types imager.old.map (raw_file file.now).tables cells.now parent }
     ensures same { imager.new ≡ imager.old }
 {
     if !imager.leaves_table(parent.table, parent.row) {
@@ -261,9 +271,10 @@ fn add_custom(
     imager: &mut Imager<'_>,
 ) -> Result<(), ReferenceError>
     requires { row_at (raw_file file.now).tables.customs row ≡ Some cells.now }
-    ensures { Goes imager.old (of_custom imager.old.map (raw_file file.now).tables (row, cells.now)) imager.new result }
+    ensures { GoesThrough imager.old
+        (of_custom imager.old.map (raw_file file.now).tables (row, cells.now)) imager.new result }
 {
-    let _ = file.keeps();
+    let _ = file.facts();
     let Some(parent) = parent_of(cells.parent) else {
         unreachable!()
     };
@@ -278,7 +289,7 @@ fn add_custom(
 
 /// Adds the method of a scope.
 fn add_scope(row: u32, cells: &ScopeRow, imager: &mut Imager<'_>) -> Result<(), ReferenceError>
-    ensures { Goes imager.old (of_scope imager.old.map (row, cells.now)) imager.new result }
+    ensures { GoesThrough imager.old (of_scope imager.old.map (row, cells.now)) imager.new result }
 {
     if imager.drops(cells.method) {
         return Ok(());
@@ -293,7 +304,8 @@ fn add_import(
     cells: &ImportRow,
     imager: &mut Imager<'_>,
 ) -> Result<(), ReferenceError>
-    ensures { Goes imager.old (of_import imager.old.map (raw_file file.now).tables (row, cells.now)) imager.new result }
+    ensures { GoesThrough imager.old
+        (of_import imager.old.map (raw_file file.now).tables (row, cells.now)) imager.new result }
 {
     let content = blob(file, cells.imports);
     let mut rows = ImportRows::new(content, blobs(file), type_limits(file));
@@ -302,14 +314,16 @@ fn add_import(
 
 /// Whether a method of a state machine is dropped.
 fn drops_machine(imager: &Imager<'_>, cells: &MachineRow) -> bool
-    ensures { result ≡ (is_dropped imager.now.map cells.now.move_next || is_dropped imager.now.map cells.now.kickoff) }
+    ensures { result ≡ (is_dropped imager.now.map cells.now.move_next
+        || is_dropped imager.now.map cells.now.kickoff) }
 {
     imager.drops(cells.move_next) || imager.drops(cells.kickoff)
 }
 
 /// Adds the methods of a state machine.
 fn add_machine(row: u32, cells: &MachineRow, imager: &mut Imager<'_>) -> Result<(), ReferenceError>
-    ensures { Goes imager.old (of_machine imager.old.map (row, cells.now)) imager.new result }
+    ensures { GoesThrough imager.old
+        (of_machine imager.old.map (row, cells.now)) imager.new result }
 {
     if drops_machine(imager, cells) {
         return Ok(());
@@ -328,7 +342,9 @@ pub(crate) fn add_row<L: Ledger>(
     steps: &mut Steps<L>,
 ) -> Result<(), ReferenceError>
     requires { HasRow (raw_file file.now).tables (table_number table) row }
-    ensures { (names : List Reference) → row_at (row_references imager.old.map (raw_file file.now).tables table) row ≡ Some names → Goes imager.old names imager.new result }
+    ensures { (names : List Reference)
+        → row_at (row_references imager.old.map (raw_file file.now).tables table) row ≡ Some names
+        → GoesThrough imager.old names imager.new result }
 {
     match table {
         Table::MethodDebug => {

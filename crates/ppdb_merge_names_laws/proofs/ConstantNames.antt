@@ -5,8 +5,8 @@ use Rattle.blob_grammar.specs.{Grammar.{Value, number, integer, octets, Cut, wit
 use Rattle.type_blobs.specs.{declared.types.TypeLimits.{TypeLimits}, declared.types.Modifier.{Modifier}, Types.{token_of}, Constants.{constants, modifier_of}}
 use Rattle.type_blobs.specs.Constants.{body_of, is_modifier, is_object, is_string, ConstantBody as StoredBody, primitive, enumerated, general, object}
 use Rattle.ppdb_values.specs.{declared.scope.ConstantBody.TheVariants.{Object}, Constants.{body_value}, RawFile.{records_of, begun_of}}
-use Rattle.type_blobs_rows.specs.{declared.row.Role.TheVariants.{Modifier as ModifierRole, Class}, Rows.{type_role, constant_type, constant_types}}
-use Rattle.ppdb_merge_items.specs.NamedRows.{Named, in_token}
+use Rattle.type_blobs_references.specs.{declared.row.Role.TheVariants.{Modifier as ModifierRole, Class}, Rows.{type_role, constant_type, constant_types}}
+use Rattle.ppdb_merge_annotated.specs.NamedRows.{Named, in_token}
 use Rattle.ppdb_merge_names_laws.proofs.{FieldWalks.{Tells, prefix-names, prefix-good, records-prefix, begun-prefix}, Live.{Said, said, targets_said, body_said}}
 
 -- a number is a type, after these values
@@ -50,18 +50,18 @@ module _ (limits : TypeLimits) where
   abbrev after : List Modifier → List Value → Value → Cut Modifier
   after whole begun value = with_value (constants limits) (record { whole = whole; begun = begun }) value
 
-  abbrev told : List Value → ℕ → Value → List Said
-  told begun at value = map said (constant_type (record { byte = at; before = begun; value = value }))
+  abbrev reported : List Value → ℕ → Value → List Said
+  reported begun at value = map said (constant_type (record { byte = at; before = begun; value = value }))
 
-  told_is : (code : Value) (values : List Value) (at : ℕ) (value : Value) → told (code ∷ values) at value ≡ type_in (code ∷ values) value
-  told_is code values at (number n) = refl
-  told_is code values at (integer z) = refl
-  told_is code values at (octets xs) = refl
+  reported_is : (code : Value) (values : List Value) (at : ℕ) (value : Value) → reported (code ∷ values) at value ≡ type_in (code ∷ values) value
+  reported_is code values at (number n) = refl
+  reported_is code values at (integer z) = refl
+  reported_is code values at (octets xs) = refl
 
-  no_told : (at : ℕ) (value : Value) → told [] at value ≡ []
-  no_told at (number n) = refl
-  no_told at (integer z) = refl
-  no_told at (octets xs) = refl
+  no_reported : (at : ℕ) (value : Value) → reported [] at value ≡ []
+  no_reported at (number n) = refl
+  no_reported at (integer z) = refl
+  no_reported at (octets xs) = refl
 
   first_open : (value : Value) → modifier_of (value ∷ []) ≡ None
   first_open (number n) = refl
@@ -77,7 +77,7 @@ module _ (limits : TypeLimits) where
 
   abbrev Steps : List Modifier → List Value → ℕ → Value → Type 0
   Steps whole begun at value = Good (after whole begun value)
-      × (named (after whole begun value) ≡ named (record { whole = whole; begun = begun }) ++ told begun at value)
+      × (named (after whole begun value) ≡ named (record { whole = whole; begun = begun }) ++ reported begun at value)
 
   -- a record that stays open
   stays : (whole : List Modifier) (code : Value) (values : List Value) (at : ℕ) (value : Value) → modifier_of (code ∷ (values ++ value ∷ [])) ≡ None
@@ -87,7 +87,7 @@ module _ (limits : TypeLimits) where
         good,
         ap (λ (l : List Said). targets_said whole ++ l) (after-more (code ∷ []) values value)
             ∙ sym (append_assoc (targets_said whole) (types_after (code ∷ []) values) (type_in (code ∷ values) value))
-            ∙ ap (λ (l : List Said). (targets_said whole ++ types_after (code ∷ []) values) ++ l) (sym (told_is code values at value)),
+            ∙ ap (λ (l : List Said). (targets_said whole ++ types_after (code ∷ []) values) ++ l) (sym (reported_is code values at value)),
       )
 
   -- the second value may close a modifier
@@ -111,7 +111,7 @@ module _ (limits : TypeLimits) where
 
   steps : (whole : List Modifier) (begun : List Value) (at : ℕ) (value : Value) → HasBody begun → Steps whole begun at value
   steps whole [] at value good = rw (first_open value)
-      (tt, sym (append-nil (targets_said whole ++ [])) ∙ ap (λ (l : List Said). (targets_said whole ++ []) ++ l) (sym (no_told at value)))
+      (tt, sym (append-nil (targets_said whole ++ [])) ∙ ap (λ (l : List Said). (targets_said whole ++ []) ++ l) (sym (no_reported at value)))
   steps whole (code ∷ []) at value good = second whole code at value
   steps whole (code ∷ b ∷ []) at value good = stays whole code (b ∷ []) at value (many_open code b value []) good
   steps whole (code ∷ b ∷ c ∷ values) at value good = stays whole code (b ∷ c ∷ values) at value (many_open code b c (values ++ value ∷ [])) good

@@ -4,8 +4,8 @@ use Rattle.std.proofs.lemmas.List.{map-append}
 use Rattle.blob_grammar.specs.{Grammar.{Value, Field, Grammar, Cut, cut, with_value, EachFollows}, Places.{PlacedField, placed_from, placed_of}, Reader.{prefix_of}}
 use Rattle.blob_grammar.proofs.{PrefixFields.{prefix_of-longest}, Prefixes.{cut-push}}
 use Rattle.ppdb_values.specs.RawFile.{records_of, begun_of}
-use Rattle.type_blobs_rows.specs.declared.row.PlacedRow.{PlacedRow}
-use Rattle.ppdb_merge_items.specs.NamedRows.{Named, names}
+use Rattle.type_blobs_references.specs.declared.row.PlacedRow.{PlacedRow}
+use Rattle.ppdb_merge_annotated.specs.NamedRows.{Named, names}
 
 -- a row that a blob names, without its byte
 abbrev pub row_named : PlacedRow → Named
@@ -25,15 +25,15 @@ module _ {R X : Type 0} (g : Grammar R) (say : PlacedRow → X) (tell : PlacedFi
       let place = cut g before in
       let step = tells place at f.value good each.0.allowed in
       let next : cut g (before ++ f ∷ []) ≡ with_value g place f.value = cut-push g before f in
-      let told = tell (record { byte = at; before = place.begun; value = f.value }) in
+      let reported = tell (record { byte = at; before = place.begun; value = f.value }) in
       let rest = flat_map tell (placed_from g (with_value g place f.value) (at + length f.bytes) fs) in
       let more = walk tells (before ++ f ∷ []) fs after (at + length f.bytes) (subst Good (sym next) step.0) each.1 in
       ap (λ (l : List Field). named (cut g l)) (sym (append_assoc before (f ∷ []) fs))
       ∙ more
       ∙ ap (λ (c : Cut R). named c ++ map say (flat_map tell (placed_from g c (at + length f.bytes) fs))) next
       ∙ ap (λ (l : List X). l ++ map say rest) step.1
-      ∙ append_assoc (named place) (map say told) (map say rest)
-      ∙ ap (λ (l : List X). named place ++ l) (sym (map-append say told rest))
+      ∙ append_assoc (named place) (map say reported) (map say rest)
+      ∙ ap (λ (l : List X). named place ++ l) (sym (map-append say reported rest))
 
   -- What the longest valid prefix names is what its fields report.
   pub prefix-names : Tells → (blob : List ℕ) → Good (record { whole = []; begun = [] }) → named (record { whole = []; begun = [] }) ≡ []

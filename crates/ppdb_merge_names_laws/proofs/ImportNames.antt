@@ -6,8 +6,8 @@ use Rattle.type_blobs.specs.{declared.import_part.ImportPart.TheVariants.{Kind, 
 use Rattle.type_blobs.specs.Imports.{import_of, item_of, parts_of, numbers_of, next_part, next_allows}
 use Rattle.blob_grammar.specs.{Grammar.{Value, number, integer, octets, Cut, closed, with_value, cut}, Reader.{prefix_of}}
 use Rattle.ppdb_values.specs.{Imports.{import_value}, RawFile.{records_of}}
-use Rattle.type_blobs_rows.specs.{declared.row.Role.TheVariants.{ImportedType}, Rows.{assembly_role, row_of, row_behind, import_row, import_rows}}
-use Rattle.ppdb_merge_items.specs.NamedRows.{names, in_token}
+use Rattle.type_blobs_references.specs.{declared.row.Role.TheVariants.{ImportedType}, Rows.{assembly_role, row_of, row_behind, import_row, import_rows}}
+use Rattle.ppdb_merge_annotated.specs.NamedRows.{names, in_token}
 use Rattle.ppdb_merge_names_laws.proofs.{FieldWalks.{Tells, prefix-names, records-prefix}, Live.{Said, said, import_said}}
 
 -- what a part names by its number
@@ -166,12 +166,12 @@ module _ (heap : ℕ → Option (List ℕ)) where
     abbrev after : List ImportItem → List Value → Value → Cut ImportItem
     after whole begun value = with_value (imports limits heap) (record { whole = whole; begun = begun }) value
 
-    abbrev told : List Value → ℕ → Value → List Said
-    told begun at value = map said (import_row (record { byte = at; before = begun; value = value }))
+    abbrev reported : List Value → ℕ → Value → List Said
+    reported begun at value = map said (import_row (record { byte = at; before = begun; value = value }))
 
     abbrev Steps : List ImportItem → List Value → ℕ → Value → Type 0
     Steps whole begun at value = Good (after whole begun value)
-        × (named (after whole begun value) ≡ named (record { whole = whole; begun = begun }) ++ told begun at value)
+        × (named (after whole begun value) ≡ named (record { whole = whole; begun = begun }) ++ reported begun at value)
 
     -- the import that has begun closes where it has all its numbers
     closes : (whole : List ImportItem) (kind : ℕ) (values : List Value) (at n : ℕ) (part : ImportPart) (o : Option ImportItem) → Numbers values
@@ -226,9 +226,9 @@ module _ (heap : ℕ → Option (List ℕ)) where
           ∙ sym (append-nil (flat_map item_rows whole ++ [])),
     )
 
-    told_number : (kind : ℕ) (values : List Value) (at n : ℕ) (part : ImportPart) → slice_get (parts_of kind) (length values) ≡ Some part
-        → told (number kind ∷ values) at (number n) ≡ part_row kind part n
-    told_number kind values at n part e =
+    reported_number : (kind : ℕ) (values : List Value) (at n : ℕ) (part : ImportPart) → slice_get (parts_of kind) (length values) ≡ Some part
+        → reported (number kind ∷ values) at (number n) ≡ part_row kind part n
+    reported_number kind values at n part e =
         ap (λ (o : Option ImportPart). map said (row_behind (number kind ∷ values) o at (number n))) e ∙ part_is kind part at n
 
     steps : (whole : List ImportItem) (begun : List Value) (at : ℕ) (value : Value) → Numbers begun → next_allows limits heap (next_part begun) value ≡ true
@@ -246,7 +246,7 @@ module _ (heap : ℕ → Option (List ℕ)) where
             (λ item is. record_rows kind (values ++ number n ∷ []) item is) in (
               c.0,
               c.1 ∙ ap (λ (l : List Said). (flat_map item_rows whole ++ parts_rows kind (parts_of kind) (numbers_of values)) ++ l)
-                  (sym (told_number kind values at n part e)),
+                  (sym (reported_number kind values at n part e)),
             )
     steps whole (number kind ∷ values) at (integer z) good allowed = absurd (no_integer (slice_get (parts_of kind) (length values)) allowed)
       where

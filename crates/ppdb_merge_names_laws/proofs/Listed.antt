@@ -3,7 +3,7 @@ use Rattle.std.proofs.Common.{◌≡◌, ℕ, suc, ◌+◌, Bool, true, false, �
 use Rattle.std.{specs.List.{flat_map, filter, filter_map, enumerate_from}, proofs.lemmas.List.{map-append}}
 use Rattle.ppdb_values.specs.{declared.file.FileValue.{FileValue}, declared.annotation.Annotation.{Annotation}, Meaning.{annotated_from}}
 use Rattle.ppdb_merge_names.specs.References.{Reference}
-use Rattle.ppdb_merge_items.specs.NamedRows.{Named}
+use Rattle.ppdb_merge_annotated.specs.NamedRows.{Named}
 use Rattle.ppdb_merge_names_laws.specs.Laws.{named_by}
 
 abbrev pub unplaced : List Reference → List Named

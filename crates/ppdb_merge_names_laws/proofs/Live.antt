@@ -3,12 +3,12 @@ use Rattle.std.{proofs.Common.{◌≡◌, Bool, true, false, ◌&&◌, ◌||◌,
 use Rattle.std.proofs.lemmas.{List.{map-append}, List.Elements.{filter-append}}
 use Rattle.ppdb_maps.specs.Map.{Map, row_image, is_gone_row, is_in_table}
 use Rattle.type_blobs.specs.declared.types.Modifier.{Modifier}
-use Rattle.type_blobs_rows.specs.declared.row.{PlacedRow.{PlacedRow}, Role.{Role}, Role.TheVariants.{Modifier as ModifierRole, Enumeration, Class, ImportedAssembly}}
-use Rattle.type_blobs_rows.specs.declared.row.Role.TheVariants.{AliasedAssembly, ImportedType}
+use Rattle.type_blobs_references.specs.declared.row.{PlacedRow.{PlacedRow}, Role.{Role}, Role.TheVariants.{Modifier as ModifierRole, Enumeration, Class}}
+use Rattle.type_blobs_references.specs.declared.row.Role.TheVariants.{ImportedAssembly, AliasedAssembly, ImportedType}
 use Rattle.ppdb_values.specs.declared.{scope.ConstantBody.{ConstantBody}, scope.ConstantBody.TheVariants.{Enumerated, General}, import.ImportValue.{ImportValue}}
 use Rattle.ppdb_values.specs.declared.import.ImportValue.TheVariants.{AssemblyNamespace, Target, AssemblyAlias, AssemblyNamespaceAlias, TargetAlias}
 use Rattle.ppdb_merge_names.specs.References.{is_enumeration, is_aliased, is_live, takes_constant, live_types}
-use Rattle.ppdb_merge_items.specs.NamedRows.{Named, names, in_token, in_body, in_import, is_gone_type, names_gone_class, live_body, live_import}
+use Rattle.ppdb_merge_annotated.specs.NamedRows.{Named, names, in_token, in_body, in_import, is_gone_type, names_gone_class, live_body, live_import}
 use Rattle.ppdb_merge_names_laws.proofs.FieldWalks.{row_named}
 
 -- a row, and as what it is named

@@ -6,7 +6,7 @@ use Rattle.blob_grammar.{specs.Grammar.{Value, cut}, specs.Reader.{prefix_of}, s
 use Rattle.custom_info.specs.{declared.kinds.Kind.{Kind}, declared.kinds.Kind.TheVariants.{Async, Hoisted, TypeDocuments, Free, Unknown}, Kinds.{kind_of}}
 use Rattle.custom_info.specs.AsyncStepping.{async_stepping, Entry, catch_handler, await_step}
 use Rattle.type_blobs.specs.{Imports.{imports as import_grammar}, Constants.{constants, body_of}}
-use Rattle.type_blobs_rows.specs.Rows.{constant_types, import_rows}
+use Rattle.type_blobs_references.specs.Rows.{constant_types, import_rows}
 use Rattle.ppdb_maps.specs.Map.{Map, is_dropped, row_image, is_gone_row, leaves_table}
 use Rattle.ppdb_tables.specs.declared.rows.{ScopeRow.{ScopeRow}, ConstantRow.{ConstantRow}, ImportRow.{ImportRow}, MachineRow.{MachineRow}, CustomRow.{CustomRow}}
 use Rattle.ppdb_tables.specs.{declared.parent.Parent.{Parent}, RawTables.{RawTables, count, numbered, row_at}}
@@ -18,9 +18,9 @@ use Rattle.ppdb_values.specs.{RawFile.{type_limits}, Rules.{KeepsRules}, Value.{
 use Rattle.ppdb_merge_names.specs.References.{names as names_at, types_of, of_constant, of_import, of_machine, methods_in, methods_of, of_parent, is_type_documents}
 use Rattle.ppdb_merge_names.{specs.References.{is_live_parent, of_custom}, specs.Lists.{of_list, of_scope_constants}, proofs.ConstantLists.{all-scopes}}
 use Rattle.ppdb_merge_names.proofs.{ConstantLists.{get_numbered, get_take, get_drop, scope_in}, Parts.{is_live_record}}
-use Rattle.ppdb_merge_items.specs.{declared.file.AnnotatedScope.{AnnotatedScope}, Annotated.{annotated_file, with_item}, NamedRows.{Named, names, in_constant}}
-use Rattle.ppdb_merge_items.specs.NamedRows.{in_import, in_steps, live_scope, live_machine, live_custom, is_type_documents as is_documents_body, with_live_body}
-use Rattle.ppdb_merge_items.{specs.NamedRows.{live_constants}, proofs.Parts.{live_constant, with_live_constants, with_live_imports, live_imports}}
+use Rattle.ppdb_merge_annotated.specs.{declared.file.AnnotatedScope.{AnnotatedScope}, Annotated.{annotated_file, with_item}, NamedRows.{Named, names, in_constant}}
+use Rattle.ppdb_merge_annotated.specs.NamedRows.{in_import, in_steps, live_scope, live_machine, live_custom, is_type_documents as is_documents_body, with_live_body}
+use Rattle.ppdb_merge_annotated.{specs.NamedRows.{live_constants}, proofs.Parts.{live_constant, with_live_constants, with_live_imports, live_imports}}
 use Rattle.ppdb_merge_names_laws.proofs.{FieldWalks.{row_named}, ConstantNames.{constant-names}, ImportNames.{import-names}, Live.{import_said, constant_live}}
 use Rattle.ppdb_merge_names_laws.proofs.{Live.{imports_live}, StepNames.{step-names}, Listed.{unplaced, flat_map-made, flat_map-same, unplaced-flat, named-mapped}}
 use Rattle.ppdb_merge_names_laws.proofs.{Listed.{unnumbered, numbered-out, numbered-value, annotated-items, filter-both}, Parts.{inside-named, annotated_row}}

@@ -6,11 +6,12 @@ use Rattle.ppdb_maps.specs.Map.{Map, is_dropped, signature_line, is_gone_row}
 use Rattle.ppdb_tables.specs.{declared.rows.MethodDebugRow.{MethodDebugRow}, declared.rows.ScopeRow.{ScopeRow}, RawTables.{RawTables, numbered}}
 use Rattle.ppdb_values.specs.{declared.file.MethodValue.{MethodValue}, Documents.{method_of, method_with, signature_in, points_in}, RawFile.{RawFile, blob}}
 use Rattle.ppdb_values.specs.Value.{value_of, scope_of}
-use Rattle.type_blobs_rows.specs.declared.row.PlacedRow.{PlacedRow}
+use Rattle.type_blobs_references.specs.declared.row.PlacedRow.{PlacedRow}
 use Rattle.ppdb_merge_names.specs.References.{names as names_at, names_some as some_at, inside, of_entry, of_signature, of_method, of_scope}
 use Rattle.ppdb_merge_names.proofs.Parts.{of_points}
-use Rattle.ppdb_merge_items.specs.{declared.file.AnnotatedScope.{AnnotatedScope}, Annotated.{annotated_file, annotated_scope}, NamedRows.{Named, names, names_some}}
-use Rattle.ppdb_merge_items.{specs.NamedRows.{live_file, live_scope, live_signature}, proofs.Parts.{live_method, with_live_signature, with_live_constants, in_entry}}
+use Rattle.ppdb_merge_annotated.specs.{declared.file.AnnotatedScope.{AnnotatedScope}, Annotated.{annotated_file, annotated_scope}, NamedRows.{Named, names}}
+use Rattle.ppdb_merge_annotated.{specs.NamedRows.{names_some, live_file, live_scope, live_signature}, proofs.Parts.{live_method, with_live_signature}}
+use Rattle.ppdb_merge_annotated.proofs.Parts.{with_live_constants, in_entry}
 use Rattle.ppdb_merge_names_laws.proofs.{FieldWalks.{row_named}, Listed.{unplaced, unplaced-flat, flat_map-made, named-mapped, named-filtered, numbered-made}}
 use Rattle.ppdb_merge_names_laws.proofs.Listed.{map-twice}
 

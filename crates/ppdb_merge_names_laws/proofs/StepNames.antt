@@ -4,8 +4,8 @@ use Rattle.std.proofs.lemmas.Grind.{flat_map-append}
 use Rattle.blob_grammar.specs.{Grammar.{Value, number, integer, octets, Cut, with_value, cut}, Reader.{prefix_of}}
 use Rattle.custom_info.specs.{declared.stepping.AsyncStep.{AsyncStep}, AsyncStepping.{async_stepping, Entry, catch_handler, await_step}}
 use Rattle.ppdb_values.specs.{Customs.{step_of, async_body}, RawFile.{records_of}}
-use Rattle.type_blobs_rows.specs.Rows.{resume_method, resume_methods}
-use Rattle.ppdb_merge_items.specs.NamedRows.{Named, names, in_steps}
+use Rattle.type_blobs_references.specs.Rows.{resume_method, resume_methods}
+use Rattle.ppdb_merge_annotated.specs.NamedRows.{Named, names, in_steps}
 use Rattle.ppdb_merge_names_laws.proofs.FieldWalks.{row_named, Tells, prefix-names, prefix-good, records-prefix}
 
 abbrev entry_rows : Entry → List Named
@@ -36,12 +36,12 @@ module _ (methods : ℕ) where
   abbrev after : List Entry → List Value → Value → Cut Entry
   after whole begun value = with_value (async_stepping methods) (record { whole = whole; begun = begun }) value
 
-  abbrev told : List Value → ℕ → Value → List Named
-  told begun at value = map row_named (resume_method (record { byte = at; before = begun; value = value }))
+  abbrev reported : List Value → ℕ → Value → List Named
+  reported begun at value = map row_named (resume_method (record { byte = at; before = begun; value = value }))
 
   abbrev Steps : List Entry → List Value → ℕ → Value → Type 0
   Steps whole begun at value = Good (after whole begun value)
-      × (named (after whole begun value) ≡ named (record { whole = whole; begun = begun }) ++ told begun at value)
+      × (named (after whole begun value) ≡ named (record { whole = whole; begun = begun }) ++ reported begun at value)
 
   abbrev same : List Entry → Type 0
   same whole = flat_map entry_rows whole ≡ flat_map entry_rows whole ++ []

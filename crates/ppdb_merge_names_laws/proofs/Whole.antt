@@ -4,8 +4,8 @@ use Rattle.ppdb_maps.specs.Map.{Map}
 use Rattle.ppdb_tables.specs.RawTables.{numbered}
 use Rattle.ppdb_values.specs.{declared.import.ImportScopeValue.{ImportScopeValue}, declared.annotation.Annotation.{Annotation}, Owners.{ListsAreOwned}}
 use Rattle.ppdb_values.specs.{RawFile.{RawFile}, Rules.{KeepsRules}, Value.{value_of}}
-use Rattle.ppdb_merge_items.specs.{declared.file.AnnotatedScope.{AnnotatedScope}, Annotated.{annotated_file}, NamedRows.{Named, names, in_constant, in_import}}
-use Rattle.ppdb_merge_items.{specs.NamedRows.{live_file, named_rows}, proofs.Parts.{in_entry}}
+use Rattle.ppdb_merge_annotated.specs.{declared.file.AnnotatedScope.{AnnotatedScope}, Annotated.{annotated_file}, NamedRows.{Named, names, in_constant, in_import}}
+use Rattle.ppdb_merge_annotated.{specs.NamedRows.{live_file, named_rows}, proofs.Parts.{in_entry}}
 use Rattle.ppdb_merge_names.specs.References.{Reference, of_entry, of_method, of_scope, of_constant, of_import, of_machine, of_custom, of_methods, of_others}
 use Rattle.ppdb_merge_names.specs.References.{references}
 use Rattle.ppdb_merge_names_laws.{specs.Laws.{named_by}, proofs.Listed.{unplaced}, proofs.Parts.{method_rows, entry-named, methods-named, scopes-named}}

@@ -2,7 +2,8 @@
 use Rattle.std.specs.Prelude.{◌≡◌, Bool, map}
 use Rattle.ppdb_maps.specs.Map.{Map}
 use Rattle.ppdb_values.specs.{RawFile.RawFile, Rules.KeepsRules, Value.value_of}
-use Rattle.ppdb_merge_items.specs.{Annotated.annotated_file, NamedRows.{Named, names, named_rows}}
+use Rattle.ppdb_merge_annotated.specs.{Annotated.annotated_file, NamedRows.{Named, names}}
+use Rattle.ppdb_merge_annotated.specs.NamedRows.{named_rows}
 use Rattle.ppdb_merge_names.specs.References.{Reference, references}
 
 -- a reference without its place

@@ -1,4 +1,5 @@
-//! The rows of the type system that a debug file names, as they stand in its blobs and tables, are those that its value names.
+//! The rows of the type system that a debug file names, as they stand in its blobs and tables, are
+//! those that its value names.
 #![tactic(auto)]
 
 mod laws;

@@ -1,1 +1,1 @@
-mod Noted
+mod Set

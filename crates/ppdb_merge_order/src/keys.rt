@@ -1,6 +1,6 @@
 // Rows of several inputs, set in order.
 ghost use Rattle.std.specs.Prelude.{◌≡◌, OnOk, OnErr};
-ghost use Rattle.ppdb_merge_items.specs.Sorted.{in_order};
+ghost use Rattle.ppdb_merge_annotated.specs.Sorted.{in_order};
 
 use ppdb_base::Memory;
 
@@ -15,7 +15,8 @@ pub struct Key {
     pub row: u32,
 }
 
-/// Sets keys in order by their images; those of one image stay as they stood. After a refusal the keys are as they were.
+/// Sets keys in order by their images; those of one image stay as they stood. After a refusal the
+/// keys are as they were.
 pub fn set_in_order(keys: &mut Vec<Key>) -> Result<(), Memory>
     ensures ok { OnOk result (keys.new.items ≡ in_order (λ (key : Key). key.image) keys.old.items) }
     ensures err { OnErr result (keys.new.items ≡ keys.old.items) }

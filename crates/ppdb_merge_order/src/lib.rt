@@ -1,4 +1,5 @@
-//! Rows of several inputs, set in the order in which the file has them that the inputs are joined into, and the new row of each.
+//! Rows of several inputs, set in the order in which the file has them that the inputs are joined
+//! into, and the new row of each.
 #![tactic(auto)]
 
 mod keys;

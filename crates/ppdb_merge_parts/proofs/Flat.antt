@@ -8,9 +8,9 @@ use Rattle.ppdb_tables.specs.declared.rows.MachineRow.{MachineRow}
 use Rattle.ppdb_values.specs.declared.file.{DocumentValue.{DocumentValue}, FileValue.{FileValue}, MethodValue.{MethodValue}}
 use Rattle.ppdb_values.specs.declared.{annotation.Annotation.{Annotation}, scope.ConstantValue.{ConstantValue}, scope.ScopeValue.{ScopeValue}}
 use Rattle.ppdb_values.specs.Meaning.{annotated_from, annotated_on}
-use Rattle.ppdb_merge_items.specs.{declared.file.AnnotatedScope.{AnnotatedScope}, declared.file.AnnotatedFile.{AnnotatedFile}, Annotated.{annotated_file}}
-use Rattle.ppdb_merge_items.specs.{Annotated.{annotated_scope, items_of, scope_of, with_item}, NamedRows.{goes_constant, live_constants, with_live_body}}
-use Rattle.ppdb_merge_items.{specs.Sorted.{in_order}, specs.Unannotated.{value_of_annotated}, proofs.Mapped.{map_map_both}, proofs.Parts.{live_constant}}
+use Rattle.ppdb_merge_annotated.specs.{declared.file.AnnotatedScope.{AnnotatedScope}, declared.file.AnnotatedFile.{AnnotatedFile}, Annotated.{annotated_file}}
+use Rattle.ppdb_merge_annotated.specs.{Annotated.{annotated_scope, items_of, scope_of, with_item}, NamedRows.{goes_constant, live_constants, with_live_body}}
+use Rattle.ppdb_merge_annotated.{specs.Sorted.{in_order}, specs.Unannotated.{value_of_annotated}, proofs.Mapped.{map_map_both}, proofs.Parts.{live_constant}}
 use Rattle.ppdb_merge_joined.specs.Joined.{joined, joined_documents, joined_document, joined_parts, joined_rows, row_in, row_named, renumbered, renumbered_all}
 use Rattle.ppdb_merge_joined.specs.Joined.{firsts, renumbered_method, renumbered_scope, renumbered_import}
 use Rattle.ppdb_merge_moved.specs.Moved.{moved_file, moved_method, moved_scope, moved_import_scope, moved_range, is_empty, moved_variable, moved_constant}
@@ -230,7 +230,8 @@ module _ (first : MovedBy) (others : List MovedBy) where
       ∙ sym (in_order_made scope_image (λ (row : Counted × ScopeValue). moved_row row.0.1.map 0x06 row.1.method)
       (λ (s : ScopeValue). s.method) scope_key (rows_of (λ (v : FileValue). v.scopes) inputs))
     where
-      sort_map : (xs : List AnnotatedScope) → map scope_of (in_order (λ (s : AnnotatedScope). s.method) xs) ≡ in_order (λ (s : ScopeValue). s.method) (map scope_of xs)
+      sort_map : (xs : List AnnotatedScope)
+          → map scope_of (in_order (λ (s : AnnotatedScope). s.method) xs) ≡ in_order (λ (s : ScopeValue). s.method) (map scope_of xs)
       sort_map xs = in_order_map scope_of (λ (s : AnnotatedScope). s.method) (λ (s : ScopeValue). s.method) (λ s. refl) xs
 
   imports_are : flat.imports ≡ map import_image (rows_of (λ (v : FileValue). v.imports) inputs)

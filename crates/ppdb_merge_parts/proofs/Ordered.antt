@@ -1,7 +1,7 @@
 -- Items that are set in order before some are left out and the others changed.
 use Rattle.std.{proofs.Common.{◌≡◌, ℕ, ◌≤◌, Bool, true, false, cond, List, [], ◌∷◌, Option, Some, None, map, refl, sym, ap, ◌∙◌, arith}, specs.Prelude.{nat_eq}}
 use Rattle.std.specs.List.{filter_map, cons_option}
-use Rattle.ppdb_merge_items.{specs.Sorted.{in_order}, proofs.Orders.{Rises, in_order_rises, of_key, key_kept, one_order}}
+use Rattle.ppdb_merge_annotated.{specs.Sorted.{in_order}, proofs.Orders.{Rises, in_order_rises, of_key, key_kept, one_order}}
 
 module _ {A B : Type 0} (f : A → Option B) (key : A → ℕ) (made : B → ℕ) (same : (x : A) (y : B) → f x ≡ Some y → made y ≡ key x) where
   lower_made : (a b : ℕ) (ys : List B) → a ≤ b → Rises made b ys → Rises made a ys

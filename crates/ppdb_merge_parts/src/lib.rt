@@ -1,5 +1,5 @@
-//! A law: which rows the file has that inputs are joined into, each as what becomes of one row of one input, in the order in which the
-//! rows stand.
+//! A law: which rows the file has that inputs are joined into, each as what becomes of one row of
+//! one input, in the order in which the rows stand.
 #![tactic(auto)]
 
 mod laws;

@@ -5,7 +5,7 @@ use Rattle.ppdb_base.specs.declared.merge_error.{MergeError.{MergeError}, MergeE
 use Rattle.ppdb_maps.specs.Map.{Map, is_dropped, slot_image}
 use Rattle.ppdb_tables.specs.RawTables.{row_at}
 use Rattle.ppdb_values.specs.declared.{custom.CustomValue.{CustomValue}, file.FileValue.{FileValue}}
-use Rattle.ppdb_merge_items.specs.Each.{Each}
+use Rattle.ppdb_merge_annotated.specs.Each.{Each}
 use Rattle.ppdb_merge_moved.proofs.Elements.{each_in}
 use Rattle.ppdb_merge_fits.specs.{Clashes.{has_unknown_kind, if_unknown}, Slots.{used, variable_slots, if_slot_unmapped}}
 use Rattle.ppdb_merge_places_laws.specs.{Places.{ReportsFirst}, Rows.{Asked, IsUnknown, FirstUnknownKindsAreReported, IsSlotUnmapped, FirstUnmappedSlotsAreReported}}
@@ -13,22 +13,22 @@ use Rattle.ppdb_merge_places_laws.{specs.Rows.IsUnknown.{custom}, specs.Rows.IsS
 use Rattle.ppdb_merge_places_laws.proofs.{Reported.{IsWitness, Placed, numbers, reports_first}, Rows.{row_made}, Tagged.{One, flat_same, numbered_found, tag}}
 use Rattle.ppdb_merge_places_laws.proofs.Tagged.{tag_each, tag_rise, tag_same}
 
-module _ {X : Type 0} (xs : List X) (told : ℕ × X → List MergeError) (one : (row : ℕ) (x : X) → One (told (row, x))) where
+module _ {X : Type 0} (xs : List X) (reported : ℕ × X → List MergeError) (one : (row : ℕ) (x : X) → One (reported (row, x))) where
   abbrev placed : ℕ × X → List Placed
-  placed x = tag (x.0 ∷ []) (told x)
+  placed x = tag (x.0 ∷ []) (reported x)
 
-  abbrev all_told : List Placed
-  all_told = flat_map placed (enumerate_from 1 xs)
+  abbrev all_reported : List Placed
+  all_reported = flat_map placed (enumerate_from 1 xs)
 
   -- of each row
   abbrev EachRow : (Placed → Type 0) → Type 0
   EachRow P = (row : ℕ) (x : X) → row_at xs row ≡ Some x → Each P (placed (row, x))
 
-  rises : Rise numbers all_told
-  rises = (numbered_rise numbers [] placed (λ n x. tag_rise (n ∷ []) (told (n, x)) (one n x))
-      (λ n x. tag_each (At numbers [] n) (n ∷ []) (told (n, x)) (λ e. ([], refl))) 1 xs).rise
+  rises : Rise numbers all_reported
+  rises = (numbered_rise numbers [] placed (λ n x. tag_rise (n ∷ []) (reported (n, x)) (one n x))
+      (λ n x. tag_each (At numbers [] n) (n ∷ []) (reported (n, x)) (λ e. ([], refl))) 1 xs).rise
 
-  each_row : (P : Placed → Type 0) → EachRow P → Each P all_told
+  each_row : (P : Placed → Type 0) → EachRow P → Each P all_reported
   each_row P holds = numbered_found P placed 1 xs of_row
     where
       of_row : (i : ℕ) (x : X) (row : ℕ) → slice_get xs i ≡ Some x → row ≡ 1 + i → Each P (placed (row, x))
@@ -36,15 +36,15 @@ module _ {X : Type 0} (xs : List X) (told : ℕ × X → List MergeError) (one :
 
   pub first_by_row : (Witness : List ℕ → MergeError → Type 0) → EachRow (IsWitness Witness)
       → ((P : Placed → Type 0) → EachRow P → (at : List ℕ) (error : MergeError) → Witness at error → P (at, error))
-      → ReportsFirst Witness (flat_map told (enumerate_from 1 xs))
+      → ReportsFirst Witness (flat_map reported (enumerate_from 1 xs))
   first_by_row Witness sound complete =
-      reports_first Witness all_told (flat_map told (enumerate_from 1 xs))
+      reports_first Witness all_reported (flat_map reported (enumerate_from 1 xs))
       (record {
         rise = rises;
         sound = each_row (IsWitness Witness) sound;
-        complete = complete (Contains all_told)
-            (λ row x there. row_made (Contains all_told) placed xs (each_in (Contains all_told) all_told (λ y is. is)) row x there);
-      }) (flat_same placed told (λ x. tag_same (x.0 ∷ []) (told x)) (enumerate_from 1 xs))
+        complete = complete (Contains all_reported)
+            (λ row x there. row_made (Contains all_reported) placed xs (each_in (Contains all_reported) all_reported (λ y is. is)) row x there);
+      }) (flat_same placed reported (λ x. tag_same (x.0 ∷ []) (reported x)) (enumerate_from 1 xs))
 
 -- ---- records of unknown kinds
 
@@ -65,10 +65,10 @@ module _ (marks : List (List ℕ)) (m : Map) (value : FileValue) where
       step true is = (custom row c there is, tt)
       step false is = tt
 
-  kind_told : (P : Placed → Type 0)
+  kind_reported : (P : Placed → Type 0)
       → ((row : ℕ) (c : CustomValue) → row_at value.customs row ≡ Some c → Each P (tag (row ∷ []) (if_unknown marks m value (row, c))))
       → (at : List ℕ) (error : MergeError) → IsUnknown marks m value at error → P (at, error)
-  kind_told P each _ _ (custom row c there unknown) = step (has_unknown_kind marks m value c) unknown (each row c there)
+  kind_reported P each _ _ (custom row c there unknown) = step (has_unknown_kind marks m value c) unknown (each row c there)
     where
       step : (b : Bool) → b ≡ true → Each P (tag (row ∷ []) (cond b (KindUnknown row c.kind ∷ []) [])) → P (row ∷ [], KindUnknown row c.kind)
       step true is made = made.0
@@ -76,7 +76,7 @@ module _ (marks : List (List ℕ)) (m : Map) (value : FileValue) where
 
 pub first_unknown_kinds : FirstUnknownKindsAreReported
 first_unknown_kinds marks m value =
-    first_by_row value.customs (if_unknown marks m value) (kind_one marks m value) (IsUnknown marks m value) (kind_sound marks m value) (kind_told marks m value)
+    first_by_row value.customs (if_unknown marks m value) (kind_one marks m value) (IsUnknown marks m value) (kind_sound marks m value) (kind_reported marks m value)
 
 -- ---- slots without image
 
@@ -85,13 +85,13 @@ module _ (m : Map) (value : FileValue) where
   abbrev MethodSlot : Type 0
   MethodSlot = Asked (used m)
 
-  abbrev slot_told_if : (dropped : Bool) → Option ℕ → ℕ → MethodSlot → List MergeError
-  slot_told_if dropped image row x = cond (dropped || is_some image) [] (SlotUnmapped row x.slot ∷ [])
+  abbrev slot_reported_if : (dropped : Bool) → Option ℕ → ℕ → MethodSlot → List MergeError
+  slot_reported_if dropped image row x = cond (dropped || is_some image) [] (SlotUnmapped row x.slot ∷ [])
 
   slot_one : (row : ℕ) (x : MethodSlot) → One (if_slot_unmapped m (row, x))
   slot_one row x = step (is_dropped m x.method) (slot_image m x.method x.slot)
     where
-      step : (dropped : Bool) (image : Option ℕ) → One (slot_told_if dropped image row x)
+      step : (dropped : Bool) (image : Option ℕ) → One (slot_reported_if dropped image row x)
       step true image = tt
       step false None = (tt, tt)
       step false (Some new) = tt
@@ -101,18 +101,18 @@ module _ (m : Map) (value : FileValue) where
   slot_sound row x there = step (is_dropped m x.method) (slot_image m x.method x.slot) refl refl
     where
       step : (dropped : Bool) (image : Option ℕ) → is_dropped m x.method ≡ dropped → slot_image m x.method x.slot ≡ image
-          → Each (IsWitness (IsSlotUnmapped m value)) (tag (row ∷ []) (slot_told_if dropped image row x))
+          → Each (IsWitness (IsSlotUnmapped m value)) (tag (row ∷ []) (slot_reported_if dropped image row x))
       step true image live is = tt
       step false None live is = (variable row x there live is, tt)
       step false (Some new) live is = tt
 
-  slot_told : (P : Placed → Type 0)
+  slot_reported : (P : Placed → Type 0)
       → ((row : ℕ) (x : MethodSlot) → row_at (variable_slots value) row ≡ Some x → Each P (tag (row ∷ []) (if_slot_unmapped m (row, x))))
       → (at : List ℕ) (error : MergeError) → IsSlotUnmapped m value at error → P (at, error)
-  slot_told P each _ _ (variable row x there live none) =
+  slot_reported P each _ _ (variable row x there live none) =
       step (is_dropped m x.method) (slot_image m x.method x.slot) live none (each row x there)
     where
-      step : (dropped : Bool) (image : Option ℕ) → dropped ≡ false → image ≡ None → Each P (tag (row ∷ []) (slot_told_if dropped image row x))
+      step : (dropped : Bool) (image : Option ℕ) → dropped ≡ false → image ≡ None → Each P (tag (row ∷ []) (slot_reported_if dropped image row x))
           → P (row ∷ [], SlotUnmapped row x.slot)
       step true image live is made = absurd cc
       step false None live is made = made.0
@@ -120,4 +120,4 @@ module _ (m : Map) (value : FileValue) where
 
 pub first_unmapped_slots : FirstUnmappedSlotsAreReported
 first_unmapped_slots m value =
-    first_by_row (variable_slots value) (if_slot_unmapped m) (slot_one m value) (IsSlotUnmapped m value) (slot_sound m value) (slot_told m value)
+    first_by_row (variable_slots value) (if_slot_unmapped m) (slot_one m value) (IsSlotUnmapped m value) (slot_sound m value) (slot_reported m value)

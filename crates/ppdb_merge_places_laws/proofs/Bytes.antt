@@ -3,8 +3,8 @@ use Rattle.std.proofs.Common.{◌≡◌, ℕ, ◌+◌, ◌<◌, ◌≤◌, ◌++
 use Rattle.ppdb_base.specs.declared.Code.{Code}
 use Rattle.blob_grammar.specs.{Grammar.{Value, Form, Spells, Field, Grammar, Cut, with_value, EachFollows}, Places.{PlacedField, placed_from, placed_of}}
 use Rattle.blob_grammar.{specs.Reader.{field_at, prefix_of}, proofs.Fields.{FieldFound, field-is, field-all}, proofs.PrefixFields.{prefix_of-longest}}
-use Rattle.type_blobs_rows.specs.declared.row.PlacedRow.{PlacedRow}
-use Rattle.ppdb_merge_items.{specs.Each.{Each, Pairs}, proofs.Lists.{Each-weaker, Each-append, Pairs-weaker}}
+use Rattle.type_blobs_references.specs.declared.row.PlacedRow.{PlacedRow}
+use Rattle.ppdb_merge_annotated.{specs.Each.{Each, Pairs}, proofs.Lists.{Each-weaker, Each-append, Pairs-weaker}}
 use Rattle.ppdb_merge_joined.proofs.Each.{Pairs-append}
 
 -- ---- each field has a byte

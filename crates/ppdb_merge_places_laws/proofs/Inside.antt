@@ -6,9 +6,9 @@ use Rattle.blob_grammar.specs.Grammar.{Value, number, integer, octets}
 use Rattle.custom_info.specs.AsyncStepping.{async_stepping}
 use Rattle.type_blobs.specs.declared.import_part.{ImportPart.{ImportPart}, ImportPart.TheVariants.{Kind as KindPart, Alias, Assembly, Namespace, Target}}
 use Rattle.type_blobs.specs.{declared.types.TypeLimits.{TypeLimits}, Constants.{constants}, Imports.{imports, next_part}}
-use Rattle.type_blobs_rows.specs.{declared.row.PlacedRow.{PlacedRow}, Rows.{type_behind, constant_type, constant_types, row_of, row_behind, import_row, import_rows}}
-use Rattle.type_blobs_rows.specs.Rows.{method_behind, resume_method, resume_methods}
-use Rattle.ppdb_merge_items.{specs.Each.{Each, Pairs}, proofs.Lists.{Each-filter, Each-map, each_of, Pairs-map, Pairs-weaker}}
+use Rattle.type_blobs_references.specs.{declared.row.PlacedRow.{PlacedRow}, Rows.{type_behind, constant_type, constant_types, row_of, row_behind, import_row}}
+use Rattle.type_blobs_references.specs.Rows.{import_rows, method_behind, resume_method, resume_methods}
+use Rattle.ppdb_merge_annotated.{specs.Each.{Each, Pairs}, proofs.Lists.{Each-filter, Each-map, each_of, Pairs-map, Pairs-weaker}}
 use Rattle.ppdb_merge_names.specs.References.{Reference, names, inside, is_live, takes_constant, live_types}
 use Rattle.ppdb_merge_places_laws.{specs.References.{reference_numbers}, proofs.Bytes.{Above, NamesOne, bytes_rise}, proofs.Ordered.{At, Rise}}
 

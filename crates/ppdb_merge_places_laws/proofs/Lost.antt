@@ -5,7 +5,7 @@ use Rattle.ppdb_base.specs.declared.merge_error.{MergeError.{MergeError}, MergeE
 use Rattle.ppdb_tables.specs.RawTables.{row_at}
 use Rattle.ppdb_maps.specs.Map.{Map}
 use Rattle.ppdb_values.specs.{Value.{value_of}, declared.file.FileValue.{FileValue}, declared.custom.CustomValue.{CustomValue}}
-use Rattle.ppdb_merge_items.specs.{Each.{Each}, NamedRows.{live_custom}}
+use Rattle.ppdb_merge_annotated.specs.{Each.{Each}, NamedRows.{live_custom}}
 use Rattle.ppdb_merge_moved.proofs.Elements.{each_in, each_made}
 use Rattle.ppdb_merge_fits.{specs.Offsets.{MethodOffset, async_offsets, is_kept, if_lost, lost}, proofs.Parts.{custom_lost}}
 use Rattle.ppdb_merge_places_laws.{specs.Offsets.{IsLiveRecord, IsLost, FirstLostOffsetsAreReported}, specs.Offsets.IsLost.{async}, proofs.Ordered.{Rise}}
@@ -13,17 +13,17 @@ use Rattle.ppdb_merge_places_laws.proofs.{Ordered.{numbered_rise}, Reported.{IsW
 use Rattle.ppdb_merge_places_laws.proofs.{Rows.{row_made}, Tagged.{One, numbered_found, numbered_pick, numbered_same, tag, tag_same}}
 
 module _ (m : Map) where
-  abbrev offset_told : ℕ → ℕ × MethodOffset → List Placed
-  offset_told row x = tag (0x37 ∷ row ∷ x.0 ∷ []) (if_lost m x.1)
+  abbrev offset_reported : ℕ → ℕ × MethodOffset → List Placed
+  offset_reported row x = tag (0x37 ∷ row ∷ x.0 ∷ []) (if_lost m x.1)
 
   abbrev offsets_of : CustomValue → List MethodOffset
   offsets_of c = async_offsets c.parent.row c.value
 
-  abbrev record_told : ℕ → CustomValue → List Placed
-  record_told row c = flat_map (offset_told row) (enumerate_from 0 (offsets_of c))
+  abbrev record_reported : ℕ → CustomValue → List Placed
+  record_reported row c = flat_map (offset_reported row) (enumerate_from 0 (offsets_of c))
 
-  abbrev custom_told : ℕ × CustomValue → List Placed
-  custom_told x = cond (live_custom m x.1) (record_told x.0 x.1) []
+  abbrev custom_reported : ℕ × CustomValue → List Placed
+  custom_reported x = cond (live_custom m x.1) (record_reported x.0 x.1) []
 
   lost_one : (x : MethodOffset) → One (if_lost m x)
   lost_one x = step (is_kept m x.method x.offset)
@@ -32,34 +32,34 @@ module _ (m : Map) where
       step true = tt
       step false = (tt, tt)
 
-  custom_row : (row : ℕ) (c : CustomValue) → OfRow 0x37 row (custom_told (row, c))
+  custom_row : (row : ℕ) (c : CustomValue) → OfRow 0x37 row (custom_reported (row, c))
   custom_row row c = step (live_custom m c)
     where
-      step : (b : Bool) → OfRow 0x37 row (cond b (record_told row c) [])
+      step : (b : Bool) → OfRow 0x37 row (cond b (record_reported row c) [])
       step true = numbered_row 0x37 row (if_lost m) lost_one (offsets_of c)
       step false = record { rise = tt; each = tt }
 
-  custom_same : (row : ℕ) (c : CustomValue) → map error_of (custom_told (row, c)) ≡ custom_lost m c
+  custom_same : (row : ℕ) (c : CustomValue) → map error_of (custom_reported (row, c)) ≡ custom_lost m c
   custom_same row c = step (live_custom m c)
     where
-      step : (b : Bool) → map error_of (cond b (record_told row c) []) ≡ cond b (flat_map (if_lost m) (offsets_of c)) []
-      step true = numbered_same (offset_told row) (if_lost m) (λ n x. tag_same (0x37 ∷ row ∷ n ∷ []) (if_lost m x)) 0 (offsets_of c)
+      step : (b : Bool) → map error_of (cond b (record_reported row c) []) ≡ cond b (flat_map (if_lost m) (offsets_of c)) []
+      step true = numbered_same (offset_reported row) (if_lost m) (λ n x. tag_same (0x37 ∷ row ∷ n ∷ []) (if_lost m x)) 0 (offsets_of c)
       step false = refl
 
   module _ (value : FileValue) where
-    abbrev all_told : List Placed
-    all_told = flat_map custom_told (enumerate_from 1 value.customs)
+    abbrev all_reported : List Placed
+    all_reported = flat_map custom_reported (enumerate_from 1 value.customs)
 
     abbrev Witness : Placed → Type 0
     Witness = IsWitness (IsLost m value)
 
-    all_rise : Rise numbers all_told
-    all_rise = (numbered_rise numbers (0x37 ∷ []) custom_told (λ row c. (custom_row row c).rise) (λ row c. (custom_row row c).each) 1 value.customs).rise
+    all_rise : Rise numbers all_reported
+    all_rise = (numbered_rise numbers (0x37 ∷ []) custom_reported (λ row c. (custom_row row c).rise) (λ row c. (custom_row row c).each) 1 value.customs).rise
 
-    record_sound : (row : ℕ) (c : CustomValue) → IsLiveRecord m value row c → Each Witness (record_told row c)
-    record_sound row c live = numbered_found Witness (offset_told row) 0 (offsets_of c) of_offset
+    record_sound : (row : ℕ) (c : CustomValue) → IsLiveRecord m value row c → Each Witness (record_reported row c)
+    record_sound row c live = numbered_found Witness (offset_reported row) 0 (offsets_of c) of_offset
       where
-        of_offset : (i : ℕ) (x : MethodOffset) (at : ℕ) → slice_get (offsets_of c) i ≡ Some x → at ≡ 0 + i → Each Witness (offset_told row (at, x))
+        of_offset : (i : ℕ) (x : MethodOffset) (at : ℕ) → slice_get (offsets_of c) i ≡ Some x → at ≡ 0 + i → Each Witness (offset_reported row (at, x))
         of_offset i x at there same = step (is_kept m x.method x.offset) refl
           where
             here : slice_get (offsets_of c) at ≡ Some x
@@ -70,27 +70,27 @@ module _ (m : Map) where
             step true kept = tt
             step false kept = (async row c at x live here kept, tt)
 
-    all_sound : Each Witness all_told
-    all_sound = numbered_found Witness custom_told 1 value.customs of_custom
+    all_sound : Each Witness all_reported
+    all_sound = numbered_found Witness custom_reported 1 value.customs of_custom
       where
-        of_custom : (i : ℕ) (c : CustomValue) (row : ℕ) → slice_get value.customs i ≡ Some c → row ≡ 1 + i → Each Witness (custom_told (row, c))
+        of_custom : (i : ℕ) (c : CustomValue) (row : ℕ) → slice_get value.customs i ≡ Some c → row ≡ 1 + i → Each Witness (custom_reported (row, c))
         of_custom i c row there same = step (live_custom m c) refl
           where
             here : row_at value.customs row ≡ Some c
             here = let k : row ≡ suc i = omega (arith, same) in rw k there
 
-            step : (b : Bool) → live_custom m c ≡ b → Each Witness (cond b (record_told row c) [])
+            step : (b : Bool) → live_custom m c ≡ b → Each Witness (cond b (record_reported row c) [])
             step true live = record_sound row c (record { there = here; live = live })
             step false live = tt
 
-    holds : (P : Placed → Type 0) → Each P all_told → (at : List ℕ) (error : MergeError) → IsLost m value at error → P (at, error)
+    holds : (P : Placed → Type 0) → Each P all_reported → (at : List ℕ) (error : MergeError) → IsLost m value at error → P (at, error)
     holds P each _ _ (async row c number x live there gone) =
         lost_is (is_kept m x.method x.offset) gone
-        (numbered_pick (λ x. Each P (offset_told row x)) 0 (offsets_of c)
-        (each_made (offset_told row) P (enumerate_from 0 (offsets_of c))
-        (live_is (live_custom m c) live.live (row_made P custom_told value.customs each row c live.there))) number x there number (omega arith))
+        (numbered_pick (λ x. Each P (offset_reported row x)) 0 (offsets_of c)
+        (each_made (offset_reported row) P (enumerate_from 0 (offsets_of c))
+        (live_is (live_custom m c) live.live (row_made P custom_reported value.customs each row c live.there))) number x there number (omega arith))
       where
-        live_is : (b : Bool) → b ≡ true → Each P (cond b (record_told row c) []) → Each P (record_told row c)
+        live_is : (b : Bool) → b ≡ true → Each P (cond b (record_reported row c) []) → Each P (record_reported row c)
         live_is true is made = made
         live_is false is made = absurd cc
 
@@ -102,9 +102,9 @@ module _ (m : Map) where
 pub first_lost : FirstLostOffsetsAreReported
 first_lost m raw =
     let value = value_of raw in
-    reports_first (IsLost m value) (all_told m value) (lost m value)
+    reports_first (IsLost m value) (all_reported m value) (lost m value)
     (record {
       rise = all_rise m value;
       sound = all_sound m value;
-      complete = holds m value (Contains (all_told m value)) (each_in (Contains (all_told m value)) (all_told m value) (λ x is. is));
-    }) (numbered_same (custom_told m) (custom_lost m) (custom_same m) 1 value.customs)
+      complete = holds m value (Contains (all_reported m value)) (each_in (Contains (all_reported m value)) (all_reported m value) (λ x is. is));
+    }) (numbered_same (custom_reported m) (custom_lost m) (custom_same m) 1 value.customs)

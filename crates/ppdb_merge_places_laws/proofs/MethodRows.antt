@@ -3,7 +3,7 @@ use Rattle.std.{proofs.Common.{◌≡◌, ℕ, ◌+◌, ◌<◌, ◌≤◌, List
 use Rattle.std.specs.Option.{option_map}
 use Rattle.ppdb_tables.specs.{RawTables.{RawTables}, declared.rows.MethodDebugRow.{MethodDebugRow}}
 use Rattle.ppdb_values.specs.{declared.file.MethodValue.{MethodValue}, RawFile.{blob}, Documents.{method_of, method_with, points_in, signature_in}}
-use Rattle.ppdb_merge_items.{specs.Each.{Each, Pairs}, proofs.Lists.{Each-weaker}}
+use Rattle.ppdb_merge_annotated.{specs.Each.{Each, Pairs}, proofs.Lists.{Each-weaker}}
 
 module _ (raw : RawTables) where
   with_row : (method column : ℕ) (content : List ℕ) (e : MethodValue) → method_with raw method column content ≡ Some e → e.method ≡ method

@@ -1,7 +1,7 @@
 -- Items in the order of numbers that are compared one after the other.
 use Rattle.std.{proofs.Common.{◌≡◌, ℕ, ◌+◌, ◌<◌, ◌≤◌, ◌++◌, List, [], ◌∷◌, inl, inr, refl, arith, flat_map}, specs.List.{enumerate_from}}
 use Rattle.ppdb_base.specs.Place.{ComesBefore}
-use Rattle.ppdb_merge_items.{specs.Each.{Each, Pairs}, proofs.Lists.{Each-append, Each-weaker}}
+use Rattle.ppdb_merge_annotated.{specs.Each.{Each, Pairs}, proofs.Lists.{Each-append, Each-weaker}}
 use Rattle.ppdb_merge_joined.proofs.Each.{Pairs-append}
 
 pub not_before_itself : (ns : List ℕ) → ComesBefore ns ns → ⊥

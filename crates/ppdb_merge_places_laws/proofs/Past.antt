@@ -1,7 +1,7 @@
 -- What is reported of an offset past an old size.
 use Rattle.std.{proofs.Common.{◌≡◌, ℕ, Bool, true, false, cond, List, [], ◌∷◌, Option, Some, None, refl, ap, subst, ◌∙◌}, specs.Option.{option_map}}
 use Rattle.ppdb_base.specs.declared.merge_error.MergeError.TheVariants.{OffsetBeyond}
-use Rattle.ppdb_merge_items.specs.Each.{Each}
+use Rattle.ppdb_merge_annotated.specs.Each.{Each}
 use Rattle.ppdb_merge_fits.specs.Offsets.{if_past}
 use Rattle.ppdb_merge_places_laws.proofs.{Reported.{Placed}, Tagged.{One, tag}}
 

@@ -3,13 +3,13 @@ use Rattle.std.proofs.Common.{ℕ, ◌<◌, ◌++◌, Bool, true, false, cond, L
 use Rattle.std.specs.{Prelude.{nat_eq, is_some, ◌||◌}, List.{enumerate_from, filter}}
 use Rattle.ppdb_base.specs.Place.{ComesBefore, at_byte, cell}
 use Rattle.custom_info.specs.{Kinds.{kind_of}, declared.kinds.Kind.{Kind}, declared.kinds.Kind.TheVariants.{Async}}
-use Rattle.type_blobs_rows.specs.Rows.{constant_types, import_rows}
+use Rattle.type_blobs_references.specs.Rows.{constant_types, import_rows}
 use Rattle.ppdb_maps.specs.Map.{Map, is_dropped, signature_line, is_gone_row}
 use Rattle.ppdb_tables.specs.declared.rows.{MethodDebugRow.{MethodDebugRow}, ScopeRow.{ScopeRow}, ConstantRow.{ConstantRow}, ImportRow.{ImportRow}}
 use Rattle.ppdb_tables.specs.{declared.rows.MachineRow.{MachineRow}, declared.rows.CustomRow.{CustomRow}, RawTables.{RawTables, count}}
 use Rattle.ppdb_values.specs.{Names.{blob_at}, declared.file.MethodValue.{MethodValue}, RawFile.{blob, type_limits}, Documents.{method_of}, Customs.{parent_of}}
 use Rattle.ppdb_values.specs.Customs.{kind_in}
-use Rattle.ppdb_merge_items.{specs.Each.{Each, Pairs}, proofs.Lists.{Each-weaker}}
+use Rattle.ppdb_merge_annotated.{specs.Each.{Each, Pairs}, proofs.Lists.{Each-weaker}}
 use Rattle.ppdb_merge_names.specs.References.{Reference, names, of_entry, of_method, of_scope, types_of, of_constant, is_dropped_constant, of_import, of_machine}
 use Rattle.ppdb_merge_names.specs.References.{methods_in, methods_of, of_parent, of_custom, is_live, live_types, of_methods, of_others, references}
 use Rattle.ppdb_merge_names.proofs.Parts.{of_points, is_live_record}

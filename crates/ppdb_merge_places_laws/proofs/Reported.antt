@@ -1,7 +1,7 @@
 -- The first of witnesses that rise is the first of all.
 use Rattle.std.{proofs.Common.{◌≡◌, ℕ, ◌⊎◌, inl, inr, List, [], ◌∷◌, Some, slice_get, refl, ap, subst, map}, specs.Prelude.{Contains}}
 use Rattle.ppdb_base.{specs.Place.{ComesBefore}, specs.declared.merge_error.MergeError.{MergeError}, proofs.Judging.{comes_before_trans}}
-use Rattle.ppdb_merge_items.{specs.Each.{Each}, proofs.Lists.{Each-weaker}}
+use Rattle.ppdb_merge_annotated.{specs.Each.{Each}, proofs.Lists.{Each-weaker}}
 use Rattle.ppdb_merge_moved.proofs.Elements.{in_each}
 use Rattle.ppdb_merge_places_laws.{specs.Places.{IsFirst, ReportsFirst}, proofs.Ordered.{not_before_itself, Rise}}
 

@@ -2,7 +2,7 @@
 use Rattle.std.{proofs.Common.{◌≡◌, ℕ, zero, suc, List, [], ◌∷◌, Some, refl, arith, flat_map}, specs.List.{enumerate_from}}
 use Rattle.ppdb_base.specs.declared.merge_error.MergeError.{MergeError}
 use Rattle.ppdb_tables.specs.RawTables.{row_at}
-use Rattle.ppdb_merge_items.{specs.Each.{Each}, proofs.Lists.{Each-weaker}}
+use Rattle.ppdb_merge_annotated.{specs.Each.{Each}, proofs.Lists.{Each-weaker}}
 use Rattle.ppdb_merge_moved.proofs.Elements.{each_made}
 use Rattle.ppdb_merge_places_laws.proofs.{Ordered.{At, Rise, numbered_each, numbered_rise}, Reported.{Placed, numbers}, Tagged.{One, numbered_pick, tag, tag_each}}
 use Rattle.ppdb_merge_places_laws.proofs.Tagged.{tag_rise}
@@ -22,16 +22,16 @@ pub record OfRow (table row : ℕ) (xs : List Placed) : Type 0 where
   pub each : Each (InRow table row) xs
 
 -- what numbered items of a row give
-pub numbered_row : {X : Type 0} (table row : ℕ) (told : X → List MergeError) → ((x : X) → One (told x)) → (xs : List X)
-    → OfRow table row (flat_map (λ (x : ℕ × X). tag (table ∷ row ∷ x.0 ∷ []) (told x.1)) (enumerate_from 0 xs))
-numbered_row {X} table row told one xs = record {
-  rise = (numbered_rise numbers (table ∷ row ∷ []) f (λ n x. tag_rise (table ∷ row ∷ n ∷ []) (told x) (one x))
-      (λ n x. tag_each (At numbers (table ∷ row ∷ []) n) (table ∷ row ∷ n ∷ []) (told x) (λ e. ([], refl))) 0 xs).rise;
-  each = numbered_each (InRow table row) f (λ n x. tag_each (InRow table row) (table ∷ row ∷ n ∷ []) (told x) (λ e. (n ∷ [], refl))) 0 xs;
+pub numbered_row : {X : Type 0} (table row : ℕ) (reported : X → List MergeError) → ((x : X) → One (reported x)) → (xs : List X)
+    → OfRow table row (flat_map (λ (x : ℕ × X). tag (table ∷ row ∷ x.0 ∷ []) (reported x.1)) (enumerate_from 0 xs))
+numbered_row {X} table row reported one xs = record {
+  rise = (numbered_rise numbers (table ∷ row ∷ []) f (λ n x. tag_rise (table ∷ row ∷ n ∷ []) (reported x) (one x))
+      (λ n x. tag_each (At numbers (table ∷ row ∷ []) n) (table ∷ row ∷ n ∷ []) (reported x) (λ e. ([], refl))) 0 xs).rise;
+  each = numbered_each (InRow table row) f (λ n x. tag_each (InRow table row) (table ∷ row ∷ n ∷ []) (reported x) (λ e. (n ∷ [], refl))) 0 xs;
 }
   where
     f : ℕ × X → List Placed
-    f x = tag (table ∷ row ∷ x.0 ∷ []) (told x.1)
+    f x = tag (table ∷ row ∷ x.0 ∷ []) (reported x.1)
 
 module _ {X : Type 0} (table : ℕ) (f : ℕ × X → List Placed) (of_row : (row : ℕ) (x : X) → OfRow table row (f (row, x))) (xs : List X) where
   pub table_each : Each (InTable table) (flat_map f (enumerate_from 1 xs))

@@ -2,7 +2,7 @@
 use Rattle.std.proofs.Common.{◌≡◌, ℕ, zero, suc, ◌+◌, ◌<◌, ◌++◌, List, [], ◌∷◌, Some, slice_get, refl, ap, subst, ◌∙◌, arith, map, flat_map}
 use Rattle.std.{specs.List.{enumerate_from}, proofs.lemmas.List.{map-append}}
 use Rattle.ppdb_base.specs.{declared.merge_error.MergeError.{MergeError}, Place.{ComesBefore}}
-use Rattle.ppdb_merge_items.{specs.Each.{Each, Pairs}, proofs.Lists.{Each-append, Each-map, each_of, Pairs-map, Pairs-weaker}}
+use Rattle.ppdb_merge_annotated.{specs.Each.{Each, Pairs}, proofs.Lists.{Each-append, Each-map, each_of, Pairs-map, Pairs-weaker}}
 use Rattle.ppdb_merge_joined.proofs.Each.{Pairs-flat}
 use Rattle.ppdb_merge_places_laws.proofs.{Ordered.{At, Rise, across, at_one}, Reported.{Placed, error_of, numbers}}
 

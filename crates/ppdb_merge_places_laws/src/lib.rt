@@ -1,4 +1,5 @@
-//! Laws: what is reported of a file that a map does not fit is what is first by the order of places.
+//! Laws: what is reported of a file that a map does not fit is what is first by the order of
+//! places.
 #![tactic(auto)]
 
 mod laws;

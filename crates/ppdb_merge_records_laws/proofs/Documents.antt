@@ -7,10 +7,10 @@ use Rattle.ppdb_maps.{specs.Map.{Map}, proofs.Named.{bytes_turned}}
 use Rattle.ppdb_tables.specs.{Parents.{CodesAreParents, coded_of}, RawTables.{row_at}}
 use Rattle.ppdb_values.specs.declared.{annotation.Annotation.{Annotation}, custom.CustomValue.{CustomValue}, file.DocumentValue.{DocumentValue}}
 use Rattle.ppdb_values.{specs.declared.file.FileValue.{FileValue}, specs.Meaning.{annotated_on, annotated_from, without_parent}, proofs.Mapped.{row_map}}
-use Rattle.ppdb_values_sound_laws.specs.{Customs.{SoundCustom, SoundCustoms}, Named.{HasRow}}
-use Rattle.ppdb_merge_items.{specs.Annotated.{with_item}, specs.Each.{Each, Pairs}, proofs.Lists.{Each-filter, Each-weaker, Pairs-weaker, each_of, each_row}}
-use Rattle.ppdb_merge_items.proofs.{Orders.{Rises, one_order, rises_filter, rises_of}, Parents.{HasTag, codes_same}, Rows.{at}, Spread.{spread, spread_apart}}
-use Rattle.ppdb_merge_items.proofs.{Spread.{spread_each, spread_there, filter_apart, filter_within}, Values.{by_parent}}
+use Rattle.ppdb_values_sound.specs.{Customs.{SoundCustom, SoundCustoms}, Named.{HasRow}}
+use Rattle.ppdb_merge_annotated.{specs.Annotated.{with_item}, specs.Each.{Each, Pairs}, proofs.Lists.{Each-filter, Each-weaker, Pairs-weaker, each_of, each_row}}
+use Rattle.ppdb_merge_annotated.proofs.{Orders.{Rises, one_order, rises_filter, rises_of}, Parents.{HasTag, codes_same}, Rows.{at}, Spread.{spread, spread_apart}}
+use Rattle.ppdb_merge_annotated.proofs.{Spread.{spread_each, spread_there, filter_apart, filter_within}, Values.{by_parent}}
 use Rattle.ppdb_merge_joined.{specs.Joined.{row_named}, proofs.Each.{Each-unflat}, proofs.Names.{bytes_same, same_bytes, bytes_apart, found_within, is_named}}
 use Rattle.ppdb_merge_joined.proofs.Names.{firsts_differ, firsts_has, each_row_at}
 use Rattle.ppdb_merge_moved.specs.Moved.{moved_document}

@@ -2,7 +2,7 @@
 use Rattle.std.{proofs.Common.{◌≡◌, ℕ, ◌+◌, ◌<◌, ◌++◌, ◌||◌, not, Bool, true, false, cond, List, [], ◌∷◌, map, refl, sym, ap, ◌∙◌, arith}, specs.Prelude.{nat_eq}}
 use Rattle.std.{specs.Prelude.{filter, flat_map}, specs.List.{list_any, enumerate_from}, proofs.lemmas.Bool.{eqb-true, ne_eqb}}
 use Rattle.std.proofs.lemmas.List.Elements.{filter-append}
-use Rattle.ppdb_merge_items.specs.Each.{Each}
+use Rattle.ppdb_merge_annotated.specs.Each.{Each}
 use Rattle.ppdb_merge_joined.specs.Same.{fresh}
 
 -- ---- what passes a test that is one of equal items

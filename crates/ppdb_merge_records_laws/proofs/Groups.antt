@@ -7,9 +7,9 @@ use Rattle.ppdb_tables.specs.RawTables.{numbered}
 use Rattle.ppdb_values.specs.declared.{annotation.Annotation.{Annotation}, annotation.Custom.{Custom}, file.DocumentValue.{DocumentValue}}
 use Rattle.ppdb_values.specs.declared.{file.FileValue.{FileValue}, import.ImportScopeValue.{ImportScopeValue}, scope.ConstantValue.{ConstantValue}}
 use Rattle.ppdb_values.specs.{declared.scope.ScopeValue.{ScopeValue}, Meaning.{annotated_on, annotated_from}, Parts.{first_item}}
-use Rattle.ppdb_merge_items.specs.{declared.file.AnnotatedFile.{AnnotatedFile}, declared.file.AnnotatedScope.{AnnotatedScope}, Annotated.{annotated_scope}}
-use Rattle.ppdb_merge_items.specs.{Annotated.{customs_of, with_item}, Each.{Each}, NamedRows.{goes_constant, live_constants, with_live_body}, Sorted.{in_order}}
-use Rattle.ppdb_merge_items.proofs.{Lists.{Each-filter, Each-map, Each-weaker, each_of}, Mapped.{map_map_both}, Orders.{in_order_each}, Parts.{live_constant}}
+use Rattle.ppdb_merge_annotated.specs.{declared.file.AnnotatedFile.{AnnotatedFile}, declared.file.AnnotatedScope.{AnnotatedScope}, Annotated.{annotated_scope}}
+use Rattle.ppdb_merge_annotated.specs.{Annotated.{customs_of, with_item}, Each.{Each}, NamedRows.{goes_constant, live_constants, with_live_body}, Sorted.{in_order}}
+use Rattle.ppdb_merge_annotated.proofs.{Lists.{Each-filter, Each-map, Each-weaker, each_of}, Mapped.{map_map_both}, Orders.{in_order_each}, Parts.{live_constant}}
 use Rattle.ppdb_merge_joined.specs.{Joined.{joined_document, customs_named, renumbered, renumbered_all, renumbered_scope, renumbered_import}, Same.{fresh}}
 use Rattle.ppdb_merge_joined.{specs.Same.{same_custom}, proofs.Each.{Each-flat}}
 use Rattle.ppdb_merge_moved.specs.Moved.{moved_scope, moved_import_scope, moved_range, moved_variable, moved_constant, is_empty, scope_image as annotated_image}

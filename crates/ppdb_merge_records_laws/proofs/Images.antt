@@ -9,9 +9,9 @@ use Rattle.ppdb_maps.specs.{Forms.{Crosses}, Map.{Map, row_image, row_within}, R
 use Rattle.ppdb_tables.specs.Parents.{coded_in}
 use Rattle.ppdb_values.specs.declared.custom.{CustomBody.{CustomBody}, CustomBody.TheVariants.{Async, Hoisted, TypeDocuments, Unread}, CustomValue.{CustomValue}}
 use Rattle.ppdb_values.specs.{declared.file.FileValue.{FileValue}, Meaning.{without_parent}, Rules.{StandsOn}}
-use Rattle.ppdb_values_sound_laws.specs.Customs.{SoundCustom, IsBodyOfKind}
-use Rattle.ppdb_merge_items.{specs.Annotated.{on_row}, specs.Each.{Each}, specs.NamedRows.{live_custom}, proofs.Lists.{Each-filter}, proofs.Mapped.{map_map_both}}
-use Rattle.ppdb_merge_items.proofs.{Parents.{HasTag}, Rows.{at}}
+use Rattle.ppdb_values_sound.specs.Customs.{SoundCustom, IsBodyOfKind}
+use Rattle.ppdb_merge_annotated.{specs.Annotated.on_row, specs.Each.Each, specs.NamedRows.live_custom, proofs.Lists.Each-filter, proofs.Mapped.map_map_both}
+use Rattle.ppdb_merge_annotated.proofs.{Parents.{HasTag}, Rows.{at}}
 use Rattle.ppdb_merge_joined.specs.Joined.{row_in, with_documents, renumbered_custom}
 use Rattle.ppdb_merge_moved.{specs.Moved.{linked, moved_body, moved_custom, moved_parent, table_in, row_in as image_row}, proofs.ImageRows.{StaysOrCrosses}}
 use Rattle.ppdb_merge_moved.proofs.ImageRows.{image_cases}
@@ -142,7 +142,8 @@ module _ (inputs : List MovedBy) (input : Numbered) (ready : IsReadable input.1.
           not_here live (ne_eqb (table_in (row_image input.1.map c.parent.table c.parent.row)) table (λ e. omega (arith, e, stays, high)))
           ∙ rest
           ∙ ap (λ a. map (λ c. moved_to c row)
-          (cond (a && comes_at (parent_row inputs input c.parent) row) (c ∷ filter (comes_on inputs input table row) cs) (filter (comes_on inputs input table row) cs)))
+          (cond (a && comes_at (parent_row inputs input c.parent) row) (c ∷ filter (comes_on inputs input table row) cs)
+          (filter (comes_on inputs input table row) cs)))
           (sym (ne_eqb c.parent.table table (λ e. omega (arith, e, less, high))))
         where
           not_here : (b : Bool) → nat_eq (table_in (row_image input.1.map c.parent.table c.parent.row)) table ≡ false

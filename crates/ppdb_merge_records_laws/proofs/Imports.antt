@@ -3,7 +3,7 @@ use Rattle.std.proofs.Common.{◌≡◌, ℕ, zero, suc, ◌+◌, ◌<◌, ◌++
 use Rattle.std.{specs.Prelude.{nat_eq, flat_map, position, sum_by}, specs.List.{enumerate_from}, specs.Option.{option_map}, proofs.lemmas.Bool.{eq-eqb, ne_eqb}}
 use Rattle.std.proofs.lemmas.{List.{length-map, map-append}, List.FromFn.{length-enumerate_from}, List.Sums.{sum_by-cons}}
 use Rattle.ppdb_values.specs.declared.import.ImportScopeValue.{ImportScopeValue}
-use Rattle.ppdb_merge_items.specs.Each.{Each}
+use Rattle.ppdb_merge_annotated.specs.Each.{Each}
 use Rattle.ppdb_merge_joined.proofs.Names.{position_cons}
 use Rattle.ppdb_merge_parts.specs.Flat.{MovedBy}
 use Rattle.ppdb_merge_records_laws.specs.Records.{ImportScopesFollow, Numbered, Origin, origin_of}

@@ -3,7 +3,7 @@ use Rattle.std.proofs.Common.{◌≡◌, ◌≢◌, ℕ, zero, suc, ◌+◌, ◌
 use Rattle.std.{proofs.Common.{arith, slice_get}, specs.Prelude.{nat_eq, filter, flat_map, position}, specs.List.{enumerate_from}, specs.Option.{option_map}}
 use Rattle.std.proofs.lemmas.Bool.{eq-eqb, eqb-true, ne_eqb}
 use Rattle.ppdb_tables.specs.RawTables.{row_at}
-use Rattle.ppdb_merge_items.{specs.Each.{Each, Pairs}, proofs.Lists.{Each-weaker, each_of}}
+use Rattle.ppdb_merge_annotated.{specs.Each.{Each, Pairs}, proofs.Lists.{Each-weaker, each_of}}
 use Rattle.ppdb_merge_joined.proofs.{Each.{Pairs-flat}, Names.{position_cons}}
 use Rattle.ppdb_merge_records_laws.specs.Records.{rows_left}
 

@@ -4,8 +4,8 @@ use Rattle.std.{proofs.Common.{arith, append_assoc}, specs.Prelude.{nat_eq, sum_
 use Rattle.std.proofs.lemmas.List.Sums.{sum_by_push}
 use Rattle.ppdb_maps.specs.Map.{Map, moved_row, offsets_in}
 use Rattle.ppdb_values.specs.{declared.file.FileValue.{FileValue}, declared.scope.ScopeValue.{ScopeValue}, Parts.{first_item}}
-use Rattle.ppdb_merge_items.{specs.Each.{Each, Pairs}, specs.NamedRows.{goes_constant}, proofs.Files.{take_prefix}, proofs.Lists.{Each-weaker, each_of, Pairs-map}}
-use Rattle.ppdb_merge_items.proofs.Lists.{Pairs-weaker}
+use Rattle.ppdb_merge_annotated.{specs.Each.{Each, Pairs}, specs.NamedRows.goes_constant, proofs.Files.take_prefix, proofs.Lists.{Each-weaker, each_of, Pairs-map}}
+use Rattle.ppdb_merge_annotated.proofs.Lists.{Pairs-weaker}
 use Rattle.ppdb_merge_joined.proofs.{Each.{Pairs-flat}, Kept.{in_order_pairs}}
 use Rattle.ppdb_merge_moved.{specs.Moved.{moved_range, is_empty}, proofs.Lists.{Pairs-filter}}
 use Rattle.ppdb_merge_parts.specs.Flat.{MovedBy}

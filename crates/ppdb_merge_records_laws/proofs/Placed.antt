@@ -3,7 +3,7 @@ use Rattle.std.proofs.Common.{◌≡◌, ℕ, zero, suc, ◌+◌, ◌<◌, ◌++
 use Rattle.std.{specs.Prelude.{filter, unwrap_or}, proofs.lemmas.Bool.{eq-eqb, ne_eqb}, proofs.lemmas.List.Elements.{filter-append}}
 use Rattle.ppdb_tables.specs.RawTables.{row_at}
 use Rattle.ppdb_values.specs.declared.annotation.Custom.{Custom}
-use Rattle.ppdb_merge_items.{specs.Annotated.{placed, on_row}, specs.Each.{Each}, proofs.Rows.{at}}
+use Rattle.ppdb_merge_annotated.{specs.Annotated.{placed, on_row}, specs.Each.{Each}, proofs.Rows.{at}}
 
 -- ---- tests
 

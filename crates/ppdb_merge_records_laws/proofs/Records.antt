@@ -6,12 +6,13 @@ use Rattle.ppdb_maps.specs.Readable.{IsReadable}
 use Rattle.ppdb_tables.specs.{Parents.{CodesAreParents, coded_in, coded_of}, RawTables.{row_at}}
 use Rattle.ppdb_values.specs.declared.{annotation.Annotation.{Annotation}, annotation.Custom.{Custom}, custom.CustomValue.{CustomValue}}
 use Rattle.ppdb_values.{specs.declared.file.DocumentValue.{DocumentValue}, specs.Meaning.{annotated_on, without_parent}, proofs.Mapped.{row_map}}
-use Rattle.ppdb_values_sound_laws.specs.Customs.{SoundCustom, SoundCustoms}
-use Rattle.ppdb_merge_items.specs.{declared.file.AnnotatedFile.{AnnotatedFile}, Annotated.{all_customs, annotated_file, on_row, placed}, Each.{Each, Pairs}}
-use Rattle.ppdb_merge_items.{specs.Sorted.{in_order}, specs.Unannotated.{value_of_annotated}, proofs.Files.{parts_filter, only_first, only_second, only_third}}
-use Rattle.ppdb_merge_items.proofs.{Files.{only_fourth, only_fifth, only_sixth}, Lists.{Each-append, Each-enumerate, Each-filter, Each-map, Each-weaker}}
-use Rattle.ppdb_merge_items.proofs.{Lists.{Pairs-weaker, each_of, each_row}, Mapped.{map_map_both}, Orders.{in_order_each, in_order_keeps, in_order_rises, key_kept}}
-use Rattle.ppdb_merge_items.proofs.{Orders.{one_order}, Parents.{HasTag, codes_same}, Rows.{at, none_placed, one_parent}, Spread.{filter_apart, filter_within}}
+use Rattle.ppdb_values_sound.specs.Customs.{SoundCustom, SoundCustoms}
+use Rattle.ppdb_merge_annotated.specs.{declared.file.AnnotatedFile.{AnnotatedFile}, Annotated.{all_customs, annotated_file, on_row, placed}, Each.{Each, Pairs}}
+use Rattle.ppdb_merge_annotated.{specs.Sorted.{in_order}, specs.Unannotated.{value_of_annotated}, proofs.Files.{parts_filter, only_first, only_second, only_third}}
+use Rattle.ppdb_merge_annotated.proofs.{Files.{only_fourth, only_fifth, only_sixth}, Lists.{Each-append, Each-enumerate, Each-filter, Each-map, Each-weaker}}
+use Rattle.ppdb_merge_annotated.proofs.{Lists.{Pairs-weaker, each_of, each_row}, Mapped.map_map_both, Orders.{in_order_each, in_order_keeps, in_order_rises}}
+use Rattle.ppdb_merge_annotated.proofs.Orders.{key_kept}
+use Rattle.ppdb_merge_annotated.proofs.{Orders.{one_order}, Parents.{HasTag, codes_same}, Rows.{at, none_placed, one_parent}, Spread.{filter_apart, filter_within}}
 use Rattle.ppdb_merge_joined.specs.{Joined.{joined_parts, renumbered_all, renumbered_custom, row_in, row_named, customs_named}, Same.{fresh, same_custom}}
 use Rattle.ppdb_merge_joined.{specs.Same.{same_record}, proofs.Each.{Each-with}, proofs.Kept.{fresh_each}}
 use Rattle.ppdb_merge_moved.specs.Moved.{moved_custom, moved_document}
@@ -371,7 +372,8 @@ module _ (inputs : List MovedBy) where
     on_low : (table row : ℕ) → table < 0x2d → filter (at table row) by_table ≡ filter (at table row) records
     on_low table row less =
         shown table row
-        ∙ only_first _ _ _ _ _ _ (elsewhere table row 0x30 of_documents (λ e. omega (arith, e, less))) (elsewhere table row 0x32 of_scopes (λ e. omega (arith, e, less)))
+        ∙ only_first _ _ _ _ _ _ (elsewhere table row 0x30 of_documents (λ e. omega (arith, e, less)))
+        (elsewhere table row 0x32 of_scopes (λ e. omega (arith, e, less)))
         (elsewhere table row 0x33 of_variables (λ e. omega (arith, e, less))) (elsewhere table row 0x34 of_constants (λ e. omega (arith, e, less)))
         (elsewhere table row 0x35 of_imports (λ e. omega (arith, e, less)))
         ∙ as_before table row

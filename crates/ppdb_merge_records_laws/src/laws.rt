@@ -3,7 +3,8 @@ ghost use Rattle.ppdb_merge_records_laws.specs.Records.{ImportScopesFollow, Join
 
 use ppdb_tables::codes_are_parents;
 
-/// The custom records of the file that inputs are joined into are what becomes of the records of the inputs, where these are sound.
+/// The custom records of the file that inputs are joined into are what becomes of the records of
+/// the inputs, where these are sound.
 pub fn joined_records_are_flat()
     ensures { JoinedRecordsAreFlat }
 {

@@ -1,5 +1,5 @@
-//! A law: which custom records the file has that inputs are joined into, each as what becomes of one record of one input, on the row
-//! that its parent becomes.
+//! A law: which custom records the file has that inputs are joined into, each as what becomes of
+//! one record of one input, on the row that its parent becomes.
 #![tactic(auto)]
 
 mod laws;

@@ -8,10 +8,10 @@ use Rattle.sequence_points.specs.declared.point.Point.{Point}
 use Rattle.ppdb_maps.specs.{declared.image.RowImage.TheVariants.{Row}, Readable.{IsReadable}, Map.{no_lines}}
 use Rattle.ppdb_values.specs.declared.custom.{CustomBody.{CustomBody}, CustomBody.TheVariants.{Async, Hoisted, TypeDocuments, Unread}}
 use Rattle.ppdb_values.specs.declared.file.FileValue.{FileValue}
-use Rattle.ppdb_values_sound_laws.specs.{Customs.{SoundCustom}, Methods.{SoundMethod}}
-use Rattle.ppdb_merge_items.specs.{declared.file.AnnotatedFile.{AnnotatedFile}, Each.{Each}, Laws.{SoundnessIsAnnotated, ValuesComeBack}, NamedRows.{named_rows}}
-use Rattle.ppdb_merge_items.specs.{NamedRows.{live_custom, live_scope}, Annotated.{annotated_file}, SoundParts.{SoundIn, SoundAnnotatedScope}}
-use Rattle.ppdb_merge_items.{specs.Unannotated.{value_of_annotated}, proofs.Lists.{Each-weaker, each_of}}
+use Rattle.ppdb_values_sound.specs.{Customs.{SoundCustom}, Methods.{SoundMethod}}
+use Rattle.ppdb_merge_annotated.specs.{declared.file.AnnotatedFile.{AnnotatedFile}, Each.{Each}, Laws.{SoundnessIsAnnotated, ValuesComeBack}, NamedRows.{named_rows}}
+use Rattle.ppdb_merge_annotated.specs.{NamedRows.{live_custom, live_scope}, Annotated.{annotated_file}, SoundParts.{SoundIn, SoundAnnotatedScope}}
+use Rattle.ppdb_merge_annotated.{specs.Unannotated.{value_of_annotated}, proofs.Lists.{Each-weaker, each_of}}
 use Rattle.ppdb_merge_joined.specs.{Joined.{joined}, Laws.{OneFileStays}}
 use Rattle.ppdb_merge_moved.specs.Fits.{AreWithin, EndsWithin, Fits, HasSlot, IsImaged, IsKept, KeepsAsync, KeepsStep}
 use Rattle.ppdb_merge_unmoved_laws.{specs.NoLines.{SoundFilesStay}, proofs.Staying.{image_row, IsSmallBody, small_body, small_points, file_same}}

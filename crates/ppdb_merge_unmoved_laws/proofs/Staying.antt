@@ -17,11 +17,11 @@ use Rattle.ppdb_values.specs.declared.import.ImportValue.TheVariants as imports
 use Rattle.ppdb_values.specs.declared.{annotation.Annotation.{Annotation}, scope.ConstantBody.{ConstantBody}}
 use Rattle.ppdb_values.specs.declared.scope.ConstantBody.TheVariants as constants
 use Rattle.ppdb_values.specs.{declared.scope.ConstantValue.{ConstantValue}, Parts.{is_link}}
-use Rattle.ppdb_values_sound_laws.specs.{Customs.{IsBodyOfKind, SoundCustom}, Methods.{SoundMethod, SoundPoint}, Named.{count}}
-use Rattle.ppdb_merge_items.specs.{declared.file.AnnotatedScope.{AnnotatedScope}, declared.file.AnnotatedFile.{AnnotatedFile}, Each.{Each, Pairs}}
-use Rattle.ppdb_merge_items.specs.NamedRows.{goes_constant, is_gone_type, is_type_documents, leaves_types, live_body, live_constants, live_custom, live_import}
-use Rattle.ppdb_merge_items.{specs.NamedRows.{names_gone_class, with_live_body}, specs.SoundParts.{SoundIn, SoundAnnotatedScope}, proofs.Lists.{Each-weaker}}
-use Rattle.ppdb_merge_items.{proofs.Lists.{each_of}, specs.Annotated.{with_item}}
+use Rattle.ppdb_values_sound.specs.{Customs.{IsBodyOfKind, SoundCustom}, Methods.{SoundMethod, SoundPoint}, Named.{count}}
+use Rattle.ppdb_merge_annotated.specs.{declared.file.AnnotatedScope.{AnnotatedScope}, declared.file.AnnotatedFile.{AnnotatedFile}, Each.{Each, Pairs}}
+use Rattle.ppdb_merge_annotated.specs.NamedRows.{goes_constant, is_gone_type, is_type_documents, leaves_types, live_body, live_constants, live_custom, live_import}
+use Rattle.ppdb_merge_annotated.{specs.NamedRows.{names_gone_class, with_live_body}, specs.SoundParts.{SoundIn, SoundAnnotatedScope}, proofs.Lists.{Each-weaker}}
+use Rattle.ppdb_merge_annotated.{proofs.Lists.{each_of}, specs.Annotated.{with_item}}
 use Rattle.ppdb_merge_joined.proofs.{Each.{each_all, pairs_all}, One.{map_same}}
 use Rattle.ppdb_merge_moved.specs.Moved.{moved_body, moved_constant, moved_constant_body, moved_counts, moved_custom, moved_file, moved_import, moved_import_scope}
 use Rattle.ppdb_merge_moved.specs.Moved.{moved_machine, moved_method, moved_modifier, moved_range, moved_scope, moved_slot, moved_step, moved_token, moved_variable}

@@ -2,7 +2,7 @@
 use Rattle.std.specs.Prelude.{◌≡◌, [], ◌∷◌}
 use Rattle.ppdb_maps.specs.Map.{no_lines}
 use Rattle.ppdb_values.specs.declared.file.FileValue.{FileValue}
-use Rattle.ppdb_values_sound_laws.specs.Sound.{IsSound}
+use Rattle.ppdb_values_sound.specs.Sound.{IsSound}
 use Rattle.ppdb_merge_meaning_laws.specs.Kept.{MovedBy, InputsFit, joined_inputs}
 
 abbrev pub left_alone : FileValue → MovedBy

@@ -1,4 +1,5 @@
-//! A law: the map without lines fits every sound file, which is unchanged when it is moved by that map and joined alone.
+//! A law: the map without lines fits every sound file, which is unchanged when it is moved by that
+//! map and joined alone.
 #![tactic(auto)]
 
 mod laws;

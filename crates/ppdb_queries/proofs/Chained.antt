@@ -5,7 +5,7 @@ use Rattle.ppdb_tables.specs.{declared.rows.ImportRow.{ImportRow}, RawTables.{Ra
 use Rattle.ppdb_values.specs.{Rules.{KeepsImports}, Chains.{chain_for, chain_of}}
 use Rattle.blob_grammar.specs.Reader.{tail, Left}
 use Rattle.type_blobs.specs.Imports.{ImportItem}
-use Rattle.ppdb_verify_rows.specs.Imports.{imports_in}
+use Rattle.ppdb_verify_readers.specs.Imports.{imports_in}
 use Rattle.ppdb_queries.specs.{declared.imports.ImportLink.{ImportLink}, Chains.{link_of, links_from}}
 use Rattle.sequence_points.specs.Written.{first_of}
 

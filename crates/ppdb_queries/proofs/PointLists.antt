@@ -1,12 +1,11 @@
 -- The last point of a method that is not after an offset.
-use Rattle.std.proofs.Common.{◌≡◌, ℕ, suc, List, [], ◌∷◌, sym, ap, subst, ◌∙◌, arith, Bool, true, false, cond}
-use Rattle.std.{specs.Prelude.{Option, Some, None, All, nat_le, nat_eq, IfSome}, specs.List.{filter, find, last_or}, specs.Option.{option_map_or}}
-use Rattle.std.proofs.lemmas.List.Elements.{All-filter, All-head, All-tail}
+use Rattle.std.{proofs.Common.{◌≡◌, ℕ, suc, List, [], ◌∷◌, sym, ap, subst, ◌∙◌, arith, Bool, true, false, cond}, specs.Prelude.{Option, Some, None, All, nat_le}}
+use Rattle.std.{specs.Prelude.{nat_eq, IfSome}, specs.List.{filter, find, last_or}, specs.Option.{option_map_or}, proofs.lemmas.List.Elements.{All-filter, All-head}}
+use Rattle.std.proofs.lemmas.List.Elements.{All-tail}
 use Rattle.sequence_points.specs.{declared.point.Point.{Point}, MovedPoints.{PointsRise}, Places.{Shown}}
 use Rattle.ppdb_tables.specs.RawTables.{RawTables}
-use Rattle.ppdb_values.specs.{declared.file.MethodValue.{MethodValue}, Parts.{last_point, points_of}, RawFile.{RawFile}, Rules.{HasRow}}
-use Rattle.ppdb_values.specs.Value.{value_of}
-use Rattle.ppdb_verify_rows.specs.Points.{PointsAre}
+use Rattle.ppdb_values.specs.{declared.file.MethodValue.{MethodValue}, Parts.{last_point, points_of}, RawFile.{RawFile}, Rules.{HasRow}, Value.{value_of}}
+use Rattle.ppdb_verify_readers.specs.Points.{PointsAre}
 
 -- what a cursor has are the points of the value
 pub points_held : (raw : RawFile) (m : ℕ) (shown : Shown) → PointsAre raw m (Some shown) → shown.left.items ≡ points_of (value_of raw) m

@@ -2,7 +2,7 @@
 use Rattle.std.specs.Prelude.{map, ℕ, List}
 use Rattle.ppdb_tables.specs.{declared.rows.ImportRow.ImportRow, RawTables.RawTables}
 use Rattle.ppdb_values.specs.Chains.{chain_of}
-use Rattle.ppdb_verify_rows.specs.Imports.{imports_in}
+use Rattle.ppdb_verify_readers.specs.Imports.{imports_in}
 use Rattle.ppdb_queries.specs.declared.imports.ImportLink.{ImportLink}
 
 abbrev pub link_of : RawTables → ℕ × ImportRow → ImportLink

@@ -1,7 +1,9 @@
--- Hoisted locals that hold an offset, as rows (Portable PDB v1.0, "CustomDebugInformation Table", "State Machine Hoisted Local
--- Scopes").
-use Rattle.ppdb_values.specs.Names.{enumerate_from, Range, Slot, Empty, Held, CustomRow, RawTables, numbered}
-use Rattle.std.specs.Prelude.{ℕ, ◌-◌, List, [], ◌++◌, slice_range, if◌then◌else◌, Option, Some, None, filter_map, flat_map, option_map, unwrap_or}
+-- Hoisted locals that hold an offset, as rows (Portable PDB v1.0, "CustomDebugInformation Table",
+-- "State Machine Hoisted Local Scopes").
+use Rattle.ppdb_values.specs.Names.{enumerate_from, Range, Slot, Empty, Held, CustomRow, RawTables}
+use Rattle.ppdb_values.specs.Names.{numbered}
+use Rattle.std.specs.Prelude.{ℕ, ◌-◌, List, [], ◌++◌, slice_range, if◌then◌else◌, Option, Some}
+use Rattle.std.specs.Prelude.{None, filter_map, flat_map, option_map, unwrap_or}
 use Rattle.ppdb_values.specs.{Customs.custom_of, Parts.{slots_in, holds}}
 use Rattle.ppdb_queries.specs.{Cursors.Walk, Runs.customs_at, declared.hoisted.Hoisted.Hoisted}
 
@@ -12,7 +14,8 @@ range_at x Empty = None
 
 -- a slot of a record, where it holds an offset
 abbrev pub hoisted_at_slot : ℕ → ℕ → ℕ × Slot → Option Hoisted
-hoisted_at_slot x row slot = option_map (λ range. record { row = row; slot = slot.0; range = range }) (range_at x slot.1)
+hoisted_at_slot x row slot =
+    option_map (λ range. record { row = row; slot = slot.0; range = range }) (range_at x slot.1)
 
 -- slots of a record that hold an offset, the first of them having this number
 abbrev pub slots_from : ℕ → ℕ → ℕ → List Slot → List Hoisted
@@ -31,7 +34,12 @@ hoisted_at raw m x = hoisted_in raw x (customs_at raw 0x06 m)
 
 -- ---- a walk over some records
 
--- what a cursor has left: the rest of the record that it is in, and the records from a row up to another
+-- what a cursor has left: the rest of the record that it is in, and the records from a row up to
+-- another
 abbrev pub hoisted_left : RawTables → ℕ → List Hoisted → ℕ → ℕ → Walk Hoisted
 hoisted_left raw x current first end =
-    record { items = current ++ hoisted_in raw x (slice_range (numbered raw.customs) (first - 1) (end - 1)); rows = end - first }
+    record {
+      items =
+          current ++ hoisted_in raw x (slice_range (numbered raw.customs) (first - 1) (end - 1));
+      rows = end - first;
+    }

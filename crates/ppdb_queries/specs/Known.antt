@@ -8,6 +8,7 @@ use Rattle.ppdb_queries.specs.declared.known.{KnownPoints.KnownPoints, Listing.T
 abbrev pub ListsNoOthers : List Point → KnownPoints → Type 0
 ListsNoOthers points known = known.listing ≡ Listed → known.points ≡ points
 
--- what is known of a file is so: where points are listed, they are those of the method that was asked last
+-- what is known of a file is so: where points are listed, they are those of the method that was
+-- asked last
 abbrev pub IsKnown : RawFile → KnownPoints → Type 0
 IsKnown raw known = ListsNoOthers (points_of (value_of raw) known.method) known

@@ -2,7 +2,10 @@
 use Rattle.std.specs.Prelude.{map, ℕ, List, Option, Some, None, ◌==◌, if◌then◌else◌}
 use Rattle.ppdb_tables.specs.declared.rows.MachineRow.{MachineRow}
 use Rattle.ppdb_values.specs.Ordered.{Rises}
-use Rattle.ppdb_queries.specs.declared.machines.{Column.{Column, TheVariants.{MoveNext, Kickoff}}, KickoffOrder.{KickoffOrder, TheVariants.{Unread, Rising, Mixed}}}
+use Rattle.ppdb_queries.specs.declared.machines.{Column.Column, Column.TheVariants.MoveNext}
+use Rattle.ppdb_queries.specs.declared.machines.Column.TheVariants.{Kickoff}
+use Rattle.ppdb_queries.specs.declared.machines.KickoffOrder.{KickoffOrder}
+use Rattle.ppdb_queries.specs.declared.machines.KickoffOrder.TheVariants.{Unread, Rising, Mixed}
 
 abbrev pub cell_of : Column → MachineRow → ℕ
 cell_of MoveNext machine = machine.move_next

@@ -1,5 +1,6 @@
 // The hoisted locals of a method that hold an offset.
-ghost use Rattle.std.specs.Prelude.{◌≡◌, ◌+◌, ◌*◌, ◌<◌, ◌≤◌, ◌^◌, [], length, Some, None, IfOk, OnOk, OnErr};
+ghost use Rattle.std.specs.Prelude.{◌≡◌, ◌+◌, ◌*◌, ◌<◌, ◌≤◌, ◌^◌, [], length, Some, None, IfOk};
+ghost use Rattle.std.specs.Prelude.{OnOk, OnErr};
 ghost use Rattle.blob_grammar.specs.Reader.{tail};
 ghost use Rattle.ppdb_tables.specs.RawOf.{raw_of};
 ghost use Rattle.ppdb_tables.specs.RawTables.{row_at};
@@ -8,7 +9,8 @@ ghost use Rattle.ppdb_values.specs.Rules.{HasRow};
 ghost use Rattle.ppdb_verify.specs.Views.{tables_of};
 ghost use Rattle.sequence_points.specs.Written.{first_of};
 ghost use Rattle.ppdb_queries.specs.Digits.{digits};
-ghost use Rattle.ppdb_queries.specs.Hoisted.{hoisted_at as hoisted_of, range_at as range_of, slots_from, slots_of};
+ghost use Rattle.ppdb_queries.specs.Hoisted.{hoisted_at as hoisted_of, range_at as range_of};
+ghost use Rattle.ppdb_queries.specs.Hoisted.{slots_from, slots_of};
 ghost use Rattle.ppdb_queries.specs.Runs.{IsNoMethod, customs_at};
 
 use crate::method::{NoMethod, judge_method};
@@ -18,7 +20,7 @@ use custom_info::{HOISTED_SCOPES, Range, Slot, SlotCursor};
 use ppdb_base::Steps;
 use ppdb_tables::{CustomRow, METHOD_DEF, Parent};
 use ppdb_verify::Verified;
-use ppdb_verify_rows::{copy_of, custom, guid_of_kind};
+use ppdb_verify_readers::{copy_of, custom, guid_of_kind};
 use std::marker::Model;
 use std::sync::ledger::Ledger;
 
@@ -100,11 +102,12 @@ impl<'a> RecordSlots<'a> {
 /// The slots of a record, from the first; none where the record is of another kind.
 fn slots_at<'a>(file: &Verified<'a>, row: u32, cells: &CustomRow) -> SlotCursor<'a>
     requires { row_at (raw_of (tables_of file.now)).customs row ≡ Some cells.now }
-    ensures slots { result ≡ record { items = slots_of (raw_of (tables_of file.now)) cells.now; fault = None } }
+    ensures slots { result
+        ≡ record { items = slots_of (raw_of (tables_of file.now)) cells.now; fault = None } }
     ensures few { length result.items < 2 ^ 32 }
 {
     if guid_of_kind(file, row, cells) == HOISTED_SCOPES {
-        ppdb_verify_rows::slots_of(file, row, cells)
+        ppdb_verify_readers::slots_of(file, row, cells)
     } else {
         SlotCursor::new(&[])
     }
@@ -118,7 +121,8 @@ fn record_slots<'a, L: Ledger>(
     steps: &mut Steps<L>,
 ) -> RecordSlots<'a>
     requires { HasRow (raw_of (tables_of file.now)) 0x37 row }
-    ensures slots { (cells : CustomRow) → row_at (raw_of (tables_of file.now)).customs row ≡ Some cells
+    ensures slots { (cells : CustomRow)
+        → row_at (raw_of (tables_of file.now)).customs row ≡ Some cells
         → result ≡ slots_from offset row 0 (slots_of (raw_of (tables_of file.now)) cells) }
     ensures step { steps.new ≡ steps.old + 1 }
 {
@@ -153,7 +157,8 @@ impl<'a> Model for HoistedCursor<'a> {
 
     ghost view = { λ s. hoisted_left (raw_of (tables_of s.file)) s.offset s.current s.first s.end };
 
-    ghost invariant = { λ s. (1 ≤ s.first) × (s.first ≤ s.end) × (s.end ≤ length (raw_of (tables_of s.file)).customs + 1) };
+    ghost invariant = { λ s. (1 ≤ s.first) × (s.first ≤ s.end)
+        × (s.end ≤ length (raw_of (tables_of s.file)).customs + 1) };
 }
 
 impl<'a> HoistedCursor<'a> {
@@ -170,15 +175,15 @@ impl<'a> HoistedCursor<'a> {
             if self.first == self.end {
                 return None;
             }
-            let _ = self.file.keeps();
+            let _ = self.file.facts();
             self.current = record_slots(&self.file, self.first, self.offset, steps);
             self.first += 1;
         }
     }
 }
 
-/// The hoisted locals of a method that hold an offset, by record and slot. A walk to the end reads in all at most as many
-/// records as the method has.
+/// The hoisted locals of a method that hold an offset, by record and slot. A walk to the end reads
+/// in all at most as many records as the method has.
 ///
 /// # Errors
 ///
@@ -191,10 +196,13 @@ pub fn hoisted_at<'a, L: Ledger>(
 ) -> Result<HoistedCursor<'a>, NoMethod>
     ensures none { OnErr result (IsNoMethod (raw_of (tables_of file.now)) method) }
     ensures there { OnOk result (HasRow (raw_of (tables_of file.now)) 0x06 method) }
-    ensures hoisted { IfOk result (λ hoisted. hoisted.items ≡ hoisted_of (raw_of (tables_of file.now)) method offset) }
-    ensures rows { IfOk result (λ hoisted. hoisted.rows ≡ length (customs_at (raw_of (tables_of file.now)) 0x06 method)) }
+    ensures hoisted { IfOk result
+        (λ hoisted. hoisted.items ≡ hoisted_of (raw_of (tables_of file.now)) method offset) }
+    ensures rows { IfOk result
+        (λ hoisted. hoisted.rows ≡ length (customs_at (raw_of (tables_of file.now)) 0x06 method)) }
     ensures later { steps.old ≤ steps.new }
-    ensures cost { steps.new ≤ steps.old + 2 * digits (length (raw_of (tables_of file.now)).customs) }
+    ensures cost { steps.new ≤ steps.old + 2
+        * digits (length (raw_of (tables_of file.now)).customs) }
 {
     judge_method(file, method)?;
     let parent = Parent {

@@ -9,7 +9,7 @@ ghost use Rattle.sequence_points.specs.Written.{first_of};
 
 use ppdb_base::Steps;
 use ppdb_verify::Verified;
-use ppdb_verify_rows::{copy_of, import};
+use ppdb_verify_readers::{copy_of, import};
 use std::marker::Model;
 use std::sync::ledger::Ledger;
 use type_blobs::ImportCursor;
@@ -56,12 +56,12 @@ impl<'a> ImportChain<'a> {
             return None;
         }
         let row = self.row;
-        let _ = self.file.keeps();
+        let _ = self.file.facts();
         let scope = import(&self.file, row, steps);
         self.row = scope.parent;
         Some(ImportLink {
             row,
-            imports: ppdb_verify_rows::imports_of(&self.file, row, &scope),
+            imports: ppdb_verify_readers::imports_of(&self.file, row, &scope),
         })
     }
 }

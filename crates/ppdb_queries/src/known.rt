@@ -10,7 +10,8 @@ use ppdb_base::List;
 use sequence_points::{Point, PointCursor};
 use std::alloc::Global;
 
-/// How many points are listed at most, so that a list takes little memory: a point takes 28 bytes here, and 3 or more in a file.
+/// How many points are listed at most, so that a list takes little memory: a point takes 28 bytes
+/// here, and 3 or more in a file.
 const MAX_LISTED: usize = 0x20_0000;
 
 /// What is done with the points of the method that was asked last.
@@ -24,7 +25,8 @@ pub(crate) enum Listing {
     NoRoom,
 }
 
-/// The method that was asked last. When it is asked again its points are listed, and each further question of it halves the list.
+/// The method that was asked last. When it is asked again its points are listed, and each further
+/// question of it halves the list.
 #[derive(Drop)]
 pub struct KnownPoints {
     /// The row of MethodDef, or 0.
@@ -40,7 +42,8 @@ fn takes(list: &mut List<Point>, point: Point) -> bool
     list.len() < MAX_LISTED && list.push(point).is_ok()
 }
 
-/// Lists points while there is room. It answers the last that is not after the offset, and whether all are listed.
+/// Lists points while there is room. It answers the last that is not after the offset, and whether
+/// all are listed.
 fn list_all(
     mut cursor: PointCursor<'_>,
     offset: u32,
@@ -88,7 +91,8 @@ impl KnownPoints {
         }
     }
 
-    /// The last point of a method that is not after the offset. The list is that of the method, if it was the last that was asked.
+    /// The last point of a method that is not after the offset. The list is that of the method, if
+    /// it was the last that was asked.
     pub(crate) fn last_not_after(
         &mut self,
         method: u32,

@@ -1,6 +1,7 @@
-//! What a debugger asks of a verified file: which point, scopes, variables, imports and state machine belong to an offset of a
-//! method, and which custom records to a row. Each answer is the filter over all rows of a table, found by halving where the
-//! table is sorted. Each call counts the rows that it reads. None takes memory but `point_by`, which lists the points of a method
+//! What a debugger asks of a verified file: which point, scopes, variables, imports and state
+//! machine belong to an offset of a method, and which custom records to a row. Each answer is the
+//! filter over all rows of a table, found by halving where the table is sorted. Each call counts
+//! the rows that it reads. None takes memory but `point_by`, which lists the points of a method
 //! that is asked again.
 #![tactic(auto)]
 

@@ -1,5 +1,6 @@
 // State machines: the methods that start them, and those that run them.
-ghost use Rattle.std.specs.Prelude.{◌≡◌, ◌+◌, ◌-◌, ◌<◌, ◌≤◌, ◌==◌, length, map, true, IfOk, OnOk, OnErr};
+ghost use Rattle.std.specs.Prelude.{◌≡◌, ◌+◌, ◌-◌, ◌<◌, ◌≤◌, ◌==◌, length, map, true, IfOk, OnOk};
+ghost use Rattle.std.specs.Prelude.{OnErr};
 ghost use Rattle.std.specs.Bool.{OnTrue};
 ghost use Rattle.std.specs.List.{find};
 ghost use Rattle.ppdb_tables.specs.RawOf.{raw_of};
@@ -16,7 +17,7 @@ use crate::method::{NoMethod, judge_method};
 use ppdb_base::Steps;
 use ppdb_tables::{MachineRow, STATE_MACHINE};
 use ppdb_verify::Verified;
-use ppdb_verify_rows::{count, machine};
+use ppdb_verify_readers::{count, machine};
 use std::sync::ledger::Ledger;
 
 /// What is known of the kickoff methods of a file's state machines.
@@ -56,11 +57,12 @@ fn machine_with<L: Ledger>(
     steps: &mut Steps<L>,
 ) -> Option<MachineRow>
     requires { Rises (map (cell_of column) (raw_of (tables_of file.now)).machines) }
-    ensures found { result ≡ find (λ machine. cell_of column machine == method) (raw_of (tables_of file.now)).machines }
+    ensures found { result ≡ find (λ machine. cell_of column machine == method)
+        (raw_of (tables_of file.now)).machines }
     ensures later { steps.old ≤ steps.new }
     ensures cost { steps.new ≤ steps.old + digits (length (raw_of (tables_of file.now)).machines) }
 {
-    let _ = file.keeps();
+    let _ = file.facts();
     let mut first = 1;
     let mut end = count(file, STATE_MACHINE) + 1;
     'halves: while first < end {
@@ -79,7 +81,8 @@ fn machine_with<L: Ledger>(
     None
 }
 
-/// The kickoff method of the state machine whose MoveNext is the method; None exactly where there is no such machine.
+/// The kickoff method of the state machine whose MoveNext is the method; None exactly where there
+/// is no such machine.
 ///
 /// # Errors
 ///
@@ -91,19 +94,21 @@ pub fn kickoff_of<L: Ledger>(
 ) -> Result<Option<u32>, NoMethod>
     ensures none { OnErr result (IsNoMethod (raw_of (tables_of file.now)) method) }
     ensures there { OnOk result (HasRow (raw_of (tables_of file.now)) 0x06 method) }
-    ensures found { IfOk result (λ kickoff. kickoff ≡ kickoff_in (value_of (raw_file file.now)).machines method) }
+    ensures found { IfOk result
+        (λ kickoff. kickoff ≡ kickoff_in (value_of (raw_file file.now)).machines method) }
     ensures later { steps.old ≤ steps.new }
     ensures cost { steps.new ≤ steps.old + digits (length (raw_of (tables_of file.now)).machines) }
 {
     judge_method(file, method)?;
-    let _ = file.keeps();
+    let _ = file.facts();
     match machine_with(file, Column::MoveNext, method, steps) {
         Some(machine) => Ok(Some(machine.kickoff)),
         None => Ok(None),
     }
 }
 
-/// The MoveNext method of the state machine whose kickoff is the method; None exactly where there is no such machine.
+/// The MoveNext method of the state machine whose kickoff is the method; None exactly where there
+/// is no such machine.
 ///
 /// # Errors
 ///
@@ -115,12 +120,13 @@ pub fn move_next_of<L: Ledger>(
 ) -> Result<Option<u32>, NoMethod>
     ensures none { OnErr result (IsNoMethod (raw_of (tables_of file.now)) method) }
     ensures there { OnOk result (HasRow (raw_of (tables_of file.now)) 0x06 method) }
-    ensures found { IfOk result (λ move_next. move_next ≡ move_next_in (value_of (raw_file file.now)).machines method) }
+    ensures found { IfOk result
+        (λ move_next. move_next ≡ move_next_in (value_of (raw_file file.now)).machines method) }
     ensures later { steps.old ≤ steps.new }
     ensures cost { steps.new ≤ steps.old + length (raw_of (tables_of file.now)).machines }
 {
     judge_method(file, method)?;
-    let _ = file.keeps();
+    let _ = file.facts();
     for row in 1..count(file, STATE_MACHINE) + 1 {
         let machine = machine(file, row, steps);
         if machine.kickoff == method {
@@ -148,8 +154,8 @@ fn rises_to(rises: bool, last: u32, next: u32) -> bool
     rises && last < next
 }
 
-/// The MoveNext method of the state machine whose kickoff is the method, and whether the kickoffs rise. In all at most
-/// as many rows are read as there are machines.
+/// The MoveNext method of the state machine whose kickoff is the method, and whether the kickoffs
+/// rise. In all at most as many rows are read as there are machines.
 fn read_order<L: Ledger>(
     file: &Verified<'_>,
     method: u32,
@@ -160,7 +166,7 @@ fn read_order<L: Ledger>(
     ensures later { steps.old ≤ steps.new }
     ensures cost { steps.new ≤ steps.old + length (raw_of (tables_of file.now)).machines }
 {
-    let _ = file.keeps();
+    let _ = file.facts();
     let mut found = None;
     let mut rises = true;
     let mut last = 0;
@@ -178,8 +184,9 @@ fn read_order<L: Ledger>(
     }
 }
 
-/// The answer of `move_next_of`, by what is known of the kickoffs of this file: the first call reads the machines and finds whether
-/// the kickoffs rise, and if they do the later calls find it by halving. A call reads in all at most as many rows as there are machines.
+/// The answer of `move_next_of`, by what is known of the kickoffs of this file: the first call
+/// reads the machines and finds whether the kickoffs rise, and if they do the later calls find it
+/// by halving. A call reads in all at most as many rows as there are machines.
 ///
 /// # Errors
 ///
@@ -194,7 +201,8 @@ pub fn move_next_by<L: Ledger>(
     ensures known { IsOrderOf (raw_of (tables_of file.now)).machines order.new }
     ensures none { OnErr result (IsNoMethod (raw_of (tables_of file.now)) method) }
     ensures there { OnOk result (HasRow (raw_of (tables_of file.now)) 0x06 method) }
-    ensures found { IfOk result (λ move_next. move_next ≡ move_next_in (value_of (raw_file file.now)).machines method) }
+    ensures found { IfOk result
+        (λ move_next. move_next ≡ move_next_in (value_of (raw_file file.now)).machines method) }
     ensures later { steps.old ≤ steps.new }
     ensures cost { steps.new ≤ steps.old + length (raw_of (tables_of file.now)).machines }
 {

@@ -7,7 +7,7 @@ ghost use Rattle.ppdb_queries.specs.Runs.{IsNoMethod};
 
 use ppdb_tables::METHOD_DEF;
 use ppdb_verify::Verified;
-use ppdb_verify_rows::count;
+use ppdb_verify_readers::count;
 
 /// The method is 0 or above the rows of MethodDef.
 #[derive(Clone, Copy, Debug, PartialEq, Eq)]

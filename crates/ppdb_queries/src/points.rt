@@ -7,8 +7,8 @@ ghost use Rattle.ppdb_tables.specs.declared.rows.DocumentRow.{DocumentRow};
 ghost use Rattle.ppdb_values.specs.Parts.{last_point};
 ghost use Rattle.ppdb_values.specs.Rules.{HasRow};
 ghost use Rattle.ppdb_verify.specs.Views.{tables_of, raw_file};
-ghost use Rattle.ppdb_verify_rows.specs.Names.{IsNameOf};
-ghost use Rattle.ppdb_verify_rows.specs.Points.{PointsAre};
+ghost use Rattle.ppdb_verify_readers.specs.Names.{IsNameOf};
+ghost use Rattle.ppdb_verify_readers.specs.Points.{PointsAre};
 ghost use Rattle.ppdb_queries.specs.Known.{IsKnown};
 ghost use Rattle.ppdb_queries.specs.Points.{PointIs};
 ghost use Rattle.ppdb_queries.specs.Runs.{IsNoMethod};
@@ -19,7 +19,7 @@ use ppdb_base::Steps;
 use ppdb_heaps::NameCursor;
 use ppdb_tables::METHOD_DEBUG;
 use ppdb_verify::Verified;
-use ppdb_verify_rows::{count, document, method_debug, name, points_of};
+use ppdb_verify_readers::{count, document, method_debug, name, points_of};
 use sequence_points::{Point, PointCursor};
 use std::sync::ledger::Ledger;
 
@@ -34,7 +34,8 @@ pub struct PointAt<'a> {
     pub name: NameCursor<'a>,
 }
 
-/// The last point that is not after the offset. Offsets rise, so none is read after the first that is after it.
+/// The last point that is not after the offset. Offsets rise, so none is read after the first that
+/// is after it.
 pub(crate) fn last_not_after(mut cursor: PointCursor<'_>, offset: u32) -> Option<Point>
     requires whole { cursor.left.fault ≡ None }
     requires rise { PointsRise cursor.left.items }
@@ -50,7 +51,8 @@ pub(crate) fn last_not_after(mut cursor: PointCursor<'_>, offset: u32) -> Option
     last
 }
 
-/// The points of a method, from the first; None where it has none. Their offsets rise. It reads at most one row.
+/// The points of a method, from the first; None where it has none. Their offsets rise. It reads at
+/// most one row.
 fn method_points<'a, L: Ledger>(
     file: &Verified<'a>,
     method: u32,
@@ -64,7 +66,7 @@ fn method_points<'a, L: Ledger>(
     ensures cost { steps.new ≤ steps.old + 1 }
 {
     judge_method(file, method)?;
-    let _ = file.keeps();
+    let _ = file.facts();
     if count(file, METHOD_DEBUG) < method {
         return Ok(None);
     }
@@ -72,7 +74,8 @@ fn method_points<'a, L: Ledger>(
     Ok(points_of(file, method, &row))
 }
 
-/// A point with the local signature of its method, and the name of its document, which is there. It reads one row.
+/// A point with the local signature of its method, and the name of its document, which is there. It
+/// reads one row.
 fn with_name<'a, L: Ledger>(
     file: &Verified<'a>,
     point: Point,
@@ -82,7 +85,8 @@ fn with_name<'a, L: Ledger>(
     requires there { HasRow (raw_file file.now).tables 0x30 point.document }
     ensures point { result.point ≡ point }
     ensures signature { result.signature ≡ signature }
-    ensures name { (row : DocumentRow) × (row_at (raw_file file.now).tables.documents point.document ≡ Some row)
+    ensures name { (row : DocumentRow)
+        × (row_at (raw_file file.now).tables.documents point.document ≡ Some row)
         × IsNameOf (raw_file file.now).tables row result.name }
     ensures cost { steps.new ≡ steps.old + 1 }
 {
@@ -95,8 +99,8 @@ fn with_name<'a, L: Ledger>(
     }
 }
 
-/// The last sequence point of a method that is not after an offset; None exactly where there is no such point. It reads at most
-/// two rows.
+/// The last sequence point of a method that is not after an offset; None exactly where there is no
+/// such point. It reads at most two rows.
 ///
 /// # Errors
 ///
@@ -123,8 +127,9 @@ pub fn point_at<'a, L: Ledger>(
     Ok(Some(with_name(file, point, signature, steps)))
 }
 
-/// The last sequence point of a method that is not after an offset, as `point_at` answers it. Where the method was the last that
-/// was asked of the file, its points are listed once, and then the list is halved. It reads at most two rows.
+/// The last sequence point of a method that is not after an offset, as `point_at` answers it. Where
+/// the method was the last that was asked of the file, its points are listed once, and then the
+/// list is halved. It reads at most two rows.
 ///
 /// # Errors
 ///

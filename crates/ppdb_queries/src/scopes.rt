@@ -9,7 +9,8 @@ ghost use Rattle.ppdb_verify.specs.Views.{tables_of};
 ghost use Rattle.sequence_points.specs.Written.{first_of};
 ghost use Rattle.ppdb_queries.specs.Digits.{digits};
 ghost use Rattle.ppdb_queries.specs.Runs.{IsNoMethod};
-ghost use Rattle.ppdb_queries.specs.Scopes.{scope_view, scopes_at as scopes_in, scope_count, NextScope, rows_passed};
+ghost use Rattle.ppdb_queries.specs.Scopes.{scope_view, scopes_at as scopes_in, scope_count};
+ghost use Rattle.ppdb_queries.specs.Scopes.{NextScope, rows_passed};
 
 use crate::method::NoMethod;
 use crate::run::{Run, scope_run};
@@ -17,7 +18,7 @@ use custom_info::Range;
 use ppdb_base::Steps;
 use ppdb_tables::ScopeRow;
 use ppdb_verify::Verified;
-use ppdb_verify_rows::{copy_of, list_ends, scope};
+use ppdb_verify_readers::{copy_of, list_ends, scope};
 use std::marker::Model;
 use std::sync::ledger::Ledger;
 
@@ -98,7 +99,7 @@ fn next_scope<L: Ledger>(
     ensures later { steps.old ≤ steps.new }
     ensures cost { steps.new ≤ steps.old + 2 * rows_passed first end result }
 {
-    let _ = file.keeps();
+    let _ = file.facts();
     let mut row = first;
     'rows: while row < end {
         let scope = scope(file, row, steps);
@@ -131,11 +132,13 @@ impl<'a> Model for ScopeCursor<'a> {
 
     ghost view = { λ s. scopes_left (raw_of (tables_of s.file)) s.offset s.first s.end };
 
-    ghost invariant = { λ s. (1 ≤ s.first) × (s.first ≤ s.end) × (s.end ≤ length (raw_of (tables_of s.file)).scopes + 1) };
+    ghost invariant = { λ s. (1 ≤ s.first) × (s.first ≤ s.end)
+        × (s.end ≤ length (raw_of (tables_of s.file)).scopes + 1) };
 }
 
 impl<'a> ScopeCursor<'a> {
-    /// The next scope by row; None exactly at the end. It reads at most twice as many rows as it passes.
+    /// The next scope by row; None exactly at the end. It reads at most twice as many rows as it
+    /// passes.
     pub fn next<L: Ledger>(&mut self, steps: &mut Steps<L>) -> Option<ScopeView>
         ensures answer { result ≡ first_of self.old.items }
         ensures left { self.new.items ≡ tail self.old.items }
@@ -155,8 +158,8 @@ impl<'a> ScopeCursor<'a> {
     }
 }
 
-/// The scopes of a method that hold an offset, by row. A walk to the end takes in all at most two reads for each row of the
-/// method.
+/// The scopes of a method that hold an offset, by row. A walk to the end takes in all at most two
+/// reads for each row of the method.
 ///
 /// # Errors
 ///
@@ -169,10 +172,13 @@ pub fn scopes_at<'a, L: Ledger>(
 ) -> Result<ScopeCursor<'a>, NoMethod>
     ensures none { OnErr result (IsNoMethod (raw_of (tables_of file.now)) method) }
     ensures there { OnOk result (HasRow (raw_of (tables_of file.now)) 0x06 method) }
-    ensures scopes { IfOk result (λ scopes. scopes.items ≡ scopes_in (raw_of (tables_of file.now)) method offset) }
-    ensures rows { IfOk result (λ scopes. scopes.rows ≡ scope_count (raw_of (tables_of file.now)) method) }
+    ensures scopes { IfOk result
+        (λ scopes. scopes.items ≡ scopes_in (raw_of (tables_of file.now)) method offset) }
+    ensures rows { IfOk result
+        (λ scopes. scopes.rows ≡ scope_count (raw_of (tables_of file.now)) method) }
     ensures later { steps.old ≤ steps.new }
-    ensures cost { steps.new ≤ steps.old + 2 * digits (length (raw_of (tables_of file.now)).scopes) }
+    ensures cost { steps.new ≤ steps.old + 2
+        * digits (length (raw_of (tables_of file.now)).scopes) }
 {
     let run = scope_run(file, method, steps)?;
     Ok(ScopeCursor {

@@ -1,5 +1,6 @@
 // The rows with a key, found by halving.
-ghost use Rattle.std.specs.Prelude.{◌≡◌, ◌+◌, ◌-◌, ◌*◌, ◌<◌, ◌≤◌, ◌^◌, ℕ, List, length, slice_index};
+ghost use Rattle.std.specs.Prelude.{◌≡◌, ◌+◌, ◌-◌, ◌*◌, ◌<◌, ◌≤◌, ◌^◌, ℕ, List, length};
+ghost use Rattle.std.specs.Prelude.{slice_index};
 ghost use Rattle.ppdb_values.specs.Ordered.{IsSorted};
 ghost use Rattle.ppdb_queries.specs.Runs.{IsBetween, IsFirstNotBelow};
 ghost use Rattle.ppdb_queries.specs.Digits.{digits};
@@ -26,8 +27,9 @@ pub(crate) trait KeyedRows {
         ensures step { steps.new ≡ steps.old + 1 };
 }
 
-/// The first row whose key is not below the key, or the number after the last row. It is searched from `first` to `end`: the keys
-/// before `first` are below the key, and those from `end` on are not.
+/// The first row whose key is not below the key, or the number after the last row. It is searched
+/// from `first` to `end`: the keys before `first` are below the key, and those from `end` on are
+/// not.
 pub(crate) fn first_not_below<R: KeyedRows, L: Ledger>(
     rows: &R,
     key: u32,
@@ -54,8 +56,9 @@ pub(crate) fn first_not_below<R: KeyedRows, L: Ledger>(
     first
 }
 
-/// The rows with a key: from the first row whose key is not below it to the first whose key is above it. The search for the first
-/// notes a row whose key is above; the second search ends there, and there is nothing left to search where no row has the key.
+/// The rows with a key: from the first row whose key is not below it to the first whose key is
+/// above it. The search for the first notes a row whose key is above; the second search ends there,
+/// and there is nothing left to search where no row has the key.
 pub(crate) fn rows_with<R: KeyedRows, L: Ledger>(rows: &R, key: u32, steps: &mut Steps<L>) -> Run
     requires sorted { IsSorted (R.keys rows.now) }
     requires small { key + 1 < 2 ^ 32 }

@@ -5,17 +5,17 @@ use Rattle.ppdb_maps.specs.Cuts.{IsCut, IsUncut, parts_at}
 use Rattle.ppdb_queries_list.specs.{Lists.{IsMethod, IsOffset}, Said.{AreWords}, declared.line.MethodOffset.{MethodOffset}}
 
 -- each line has a part
-some_part : (mark : ℕ) (xs : List ℕ) → parts_at mark xs ≡ [] → ⊥
-some_part mark [] e = absurd cc
-some_part mark (x ∷ xs) e = of (x == mark) refl e
+some_part : (separator : ℕ) (xs : List ℕ) → parts_at separator xs ≡ [] → ⊥
+some_part separator [] e = absurd cc
+some_part separator (x ∷ xs) e = of (x == separator) refl e
   where
     onto : (parts : List (List ℕ)) → onto_first x parts ≡ [] → ⊥
     onto [] none = absurd cc
     onto (p ∷ ps) none = absurd cc
 
-    of : (b : Bool) → (x == mark) ≡ b → parts_at mark (x ∷ xs) ≡ [] → ⊥
-    of true is none = let cut : [] ∷ parts_at mark xs ≡ [] = sym (rw is refl) ∙ none in absurd cc
-    of false is none = let cut : onto_first x (parts_at mark xs) ≡ [] = sym (rw is refl) ∙ none in onto (parts_at mark xs) cut
+    of : (b : Bool) → (x == separator) ≡ b → parts_at separator (x ∷ xs) ≡ [] → ⊥
+    of true is none = let cut : [] ∷ parts_at separator xs ≡ [] = sym (rw is refl) ∙ none in absurd cc
+    of false is none = let cut : onto_first x (parts_at separator xs) ≡ [] = sym (rw is refl) ∙ none in onto (parts_at separator xs) cut
 
 rest_of : (a : List ℕ) (bs : List (List ℕ)) (c d : List ℕ) → a ∷ bs ≡ c ∷ d ∷ [] → bs ≡ d ∷ []
 rest_of a bs c d e = cc e

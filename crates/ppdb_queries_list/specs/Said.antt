@@ -1,7 +1,8 @@
 -- What the readers of a line answer.
 use Rattle.std.specs.Prelude.{◌≡◌, ℕ, List, [], ◌∷◌}
 use Rattle.ppdb_maps.specs.Words.{IsSilent, line_words}
-use Rattle.ppdb_queries_list.specs.{Lists.{Asks, IsMethod, IsOffset}, declared.line.{MethodOffset.MethodOffset, Said.Said}}
+use Rattle.ppdb_queries_list.specs.Lists.{Asks, IsMethod, IsOffset}
+use Rattle.ppdb_queries_list.specs.declared.line.{MethodOffset.MethodOffset, Said.Said}
 use Rattle.ppdb_queries_list.specs.declared.line.Said.TheVariants as answers
 
 -- the words of the line, whether or not it is silent

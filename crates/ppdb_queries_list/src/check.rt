@@ -8,7 +8,8 @@ use crate::line::read_line;
 use ppdb_base::MAX_FILE_BYTES;
 use ppdb_maps::first_line;
 
-/// Whether a text is a list; else its first line that a list cannot have, counted from 1. It keeps nothing of the lines.
+/// Whether a text is a list; else its first line that a list cannot have, counted from 1. It keeps
+/// nothing of the lines.
 pub fn check_list(list: &[u8]) -> Result<(), u32>
     requires { length list.now ≤ MAX_FILE_BYTES }
     ensures listed { OnOk result ((asked : List MethodOffset) × Lists (lines list.now) asked) }

@@ -21,7 +21,8 @@ fn decimal(word: &[u8], most: u32) -> Option<u32>
 /// What hexadecimal digits of either case say, below 2^32.
 fn hexadecimal(digits: &[u8]) -> Option<u32>
     ensures some { IfSome result (λ n. IsNumeral 16 digits.now × (n ≡ digits_value 16 digits.now)) }
-    ensures none { IfNone result (IsNumeral 16 digits.now → digits_value 16 digits.now < 2 ^ 32 → ⊥) }
+    ensures none { IfNone result (IsNumeral 16 digits.now → digits_value 16 digits.now < 2 ^ 32
+        → ⊥) }
 {
     if let [b'+', ..] = digits {
         return None;

@@ -10,14 +10,14 @@ use Rattle.ppdb_merge_names.specs.{declared.imaged.Imaged.{Imaged}, References.{
 use Rattle.ppdb_tables.specs.RawTables.{numbered}
 use Rattle.ppdb_values.specs.{RawFile.{RawFile}, Rules.{KeepsRules}, Value.{value_of}, declared.custom.CustomValue.{CustomValue}}
 use Rattle.ppdb_values.specs.{declared.file.FileValue.{FileValue}, Parts.{is_link}}
-use Rattle.ppdb_merge_items.specs.{Each.{Each}, NamedRows.{Named, named_rows}, Annotated.{annotated_file}, Sorted.{in_order}}
-use Rattle.ppdb_merge_items.proofs.Lists.{Each-weaker, Each-unmap, each_of}
+use Rattle.ppdb_merge_annotated.specs.{Each.{Each}, NamedRows.{Named, named_rows}, Annotated.{annotated_file}, Sorted.{in_order}}
+use Rattle.ppdb_merge_annotated.proofs.Lists.{Each-weaker, Each-unmap, each_of}
 use Rattle.ppdb_merge_moved.{specs.Fits.{Fits}, specs.Moved.{moved_file}, proofs.Lists.{Each-filter_map}}
 use Rattle.ppdb_merge_fits.specs.{Clashes.{first_clash, is_at_gone}, Laws.{NoClash}, Rows.{imaged, imaged_rows}, Signatures.{given_signature, given_signatures}}
 use Rattle.ppdb_merge_fits.specs.Signatures.{with_given, all_images}
-use Rattle.ppdb_merge.specs.{declared.trace.Trace.{Trace}, Merged.{Merged, trace_of, unless}, Refusals.{added, refusal_of, taken, moved_conflict, clashes_before}}
-use Rattle.ppdb_merge.specs.{Refusals.{claims, methods_in, documents_differ, link_differs, links_differ}, Together.{above, count_in, differs, images_above}}
-use Rattle.ppdb_merge.specs.Together.{misfit_of, rows_differ}
+use Rattle.ppdb_merge.specs.{declared.summary.Summary.{Summary}, Merged.{Merged, summary_of, unless}, Refusals.{added, refusal_of, taken, moved_conflict}}
+use Rattle.ppdb_merge.specs.{Refusals.{clashes_before, claims, methods_in, documents_differ, link_differs, links_differ}, Together.{above, count_in, differs}}
+use Rattle.ppdb_merge.specs.Together.{images_above, misfit_of, rows_differ}
 use Rattle.ppdb_merge_meaning_laws.specs.Kept.{moved_input}
 use Rattle.ppdb_build_sample.specs.{Laws.{SampleFits, sample_input}, Sample.{sample}}
 use Rattle.ppdb_run.{specs.Holding.{HoldsSample}, specs.SampleLaws.{FittingMapsDoNotClash}, proofs.Silent.{flat_nil}, proofs.SilentRows.{made, each_once_each}}
@@ -26,15 +26,15 @@ filter_nil : {A B : Type 0} (f : A → Option B) (xs : List A) → Each (λ x. f
 filter_nil f [] each = refl
 filter_nil f (x ∷ xs) each = ap (λ o. cons_option o (filter_map f xs)) each.0 ∙ filter_nil f xs each.1
 
-not_above : (told : Option MergeError) (b : Bool) → b ≡ false → cond b told None ≡ None
-not_above told b is = ap (λ c. cond c told None) is
+not_above : (reported : Option MergeError) (b : Bool) → b ≡ false → cond b reported None ≡ None
+not_above reported b is = ap (λ c. cond c reported None) is
 
 -- ---- the first input
 
-no_link : (told : Option MergeError) (b stays : Bool) → cond (b && (stays && false)) told None ≡ None
-no_link told true true = refl
-no_link told true false = refl
-no_link told false stays = refl
+no_link : (reported : Option MergeError) (b stays : Bool) → cond (b && (stays && false)) reported None ≡ None
+no_link reported true true = refl
+no_link reported true false = refl
+no_link reported false stays = refl
 
 no_links : (m : Map) (customs : List CustomValue) → links_differ [] m customs ≡ []
 no_links m customs =
@@ -79,26 +79,26 @@ module _ (n : ℕ) (raw : RawFile) (fits : SampleFits n) (says : value_of raw �
 
   -- ---- the rows that it names
 
-  abbrev trace : Trace
-  trace = trace_of true m raw
+  abbrev summary : Summary
+  summary = summary_of true m raw
 
-  moved_is : trace.moved ≡ moved_input (true, sample_input n)
+  moved_is : summary.moved ≡ moved_input (true, sample_input n)
   moved_is = ap (λ v. moved_file m (annotated_file v)) says
 
   abbrev IsCounted : Named → Type 0
   IsCounted a = (table image : ℕ) → row_image m a.table a.row ≡ Row table image → image ≤ slice_index (sample n).rows table
 
   abbrev IsBelow : Imaged → Type 0
-  IsBelow i = i.image ≤ count_in trace i.to
+  IsBelow i = i.image ≤ count_in summary i.to
 
-  counts : (table : ℕ) → slice_index (sample n).rows table ≡ count_in trace table
+  counts : (table : ℕ) → slice_index (sample n).rows table ≡ count_in summary table
   counts table = ap (λ rows. slice_index rows table) (sym fits.counts) ∙ ap (λ file. slice_index file.rows table) (sym moved_is)
 
   -- the sample's map gives no local signature
   none_given : given_signatures m (value_of raw) ≡ []
   none_given = filter_nil (given_signature m) (value_of raw).methods (each_of (λ e. given_signature m e ≡ None) (λ e. refl) (value_of raw).methods)
 
-  below : ReferencesAreNamed → Each IsBelow trace.rows
+  below : ReferencesAreNamed → Each IsBelow summary.rows
   below named =
       subst (Each IsBelow) (sym (ap (with_given (imaged_rows true m raw)) none_given)) (named_below named)
     where
@@ -116,42 +116,44 @@ module _ (n : ℕ) (raw : RawFile) (fits : SampleFits n) (says : value_of raw �
 
   -- ---- alone
 
-  none_differ : rows_differ (trace ∷ []) ≡ []
+  none_differ : rows_differ (summary ∷ []) ≡ []
   none_differ =
-      flat_nil (λ table. filter_map (differs trace table) (enumerate_from 2 [])) (range_with_len 0 0x2d)
-      (each_of (λ table. filter_map (differs trace table) (enumerate_from 2 []) ≡ []) (λ table. refl) (range_with_len 0 0x2d))
+      flat_nil (λ table. filter_map (differs summary table) (enumerate_from 2 [])) (range_with_len 0 0x2d)
+      (each_of (λ table. filter_map (differs summary table) (enumerate_from 2 []) ≡ []) (λ table. refl) (range_with_len 0 0x2d))
 
-  none_above : ReferencesAreNamed → images_above (trace ∷ []) ≡ []
+  none_above : ReferencesAreNamed → images_above (summary ∷ []) ≡ []
   none_above named =
-      ap (λ l. l ++ []) (filter_nil (above (1, trace)) trace.rows
-      (Each-weaker IsBelow (λ i. above (1, trace) i ≡ None)
-      (λ i le. not_above _ (nat_lt (count_in trace i.to) i.image) (le-ltb (count_in trace i.to) i.image le)) trace.rows (below named)))
+      ap (λ l. l ++ []) (filter_nil (above (1, summary)) summary.rows
+      (Each-weaker IsBelow (λ i. above (1, summary) i ≡ None)
+      (λ i le. not_above _ (nat_lt (count_in summary i.to) i.image) (le-ltb (count_in summary i.to) i.image le)) summary.rows (below named)))
 
-  no_misfit : ReferencesAreNamed → misfit_of (trace ∷ []) ≡ None
-  no_misfit named = ap (λ l. slice_get l 0) (ap (λ l. l ++ images_above (trace ∷ [])) none_differ ∙ none_above named)
+  no_misfit : ReferencesAreNamed → misfit_of (summary ∷ []) ≡ None
+  no_misfit named = ap (λ l. slice_get l 0) (ap (λ l. l ++ images_above (summary ∷ [])) none_differ ∙ none_above named)
 
-  pub holds_sample : (marks : List (List ℕ)) (traces : List Trace) → FittingMapsDoNotClash → IsReadable m → ReferencesAreNamed
-      → added marks [] m raw ≡ Ok traces → HoldsSample n traces
-  holds_sample marks traces silent ready named is =
-      let e : added marks [] m raw ≡ Ok (trace ∷ []) = ap (λ (o : Option MergeError). unless o (Ok ([] ++ trace ∷ []))) (sample_not_refused marks silent ready) in
-      let same : traces ≡ trace ∷ [] = cc in
+  pub holds_sample : (marks : List (List ℕ)) (summaries : List Summary) → FittingMapsDoNotClash → IsReadable m → ReferencesAreNamed
+      → added marks [] m raw ≡ Ok summaries → HoldsSample n summaries
+  holds_sample marks summaries silent ready named is =
+      let e : added marks [] m raw ≡ Ok (summary ∷ []) =
+      ap (λ (o : Option MergeError). unless o (Ok ([] ++ summary ∷ []))) (sample_not_refused marks silent ready) in
+      let same : summaries ≡ summary ∷ [] = cc in
       rw same (record { moved = ap (λ file. file ∷ []) moved_is; fits = no_misfit named })
 
   -- the same of a merger that has no input yet, and of the sample's map
   module _ (marks : List (List ℕ)) (before : Merged) (map : Map) (silent : FittingMapsDoNotClash) (ready : IsReadable map)
-      (none : before ≡ record { marks = marks; traces = [] }) (is : map ≡ sample_map_of n) where
+      (none : before ≡ record { marks = marks; summaries = [] }) (is : map ≡ sample_map_of n) where
     readable : IsReadable m
     readable = subst IsReadable is ready
 
-    pub holds_after : (traces : List Trace) → ReferencesAreNamed → added before.marks before.traces map raw ≡ Ok traces → HoldsSample n traces
-    holds_after traces named after =
-        holds_sample marks traces silent readable named
-        (subst (λ (b : Merged). added b.marks b.traces m raw ≡ Ok traces) none
-        (subst (λ k. added before.marks before.traces k raw ≡ Ok traces) is after))
+    pub holds_after : (summaries : List Summary) → ReferencesAreNamed → added before.marks before.summaries map raw ≡ Ok summaries → HoldsSample n summaries
+    holds_after summaries named after =
+        holds_sample marks summaries silent readable named
+        (subst (λ (b : Merged). added b.marks b.summaries m raw ≡ Ok summaries) none
+        (subst (λ k. added before.marks before.summaries k raw ≡ Ok summaries) is after))
 
-    pub for_memory : (e : MergeError) → (e ≡ Memory) ⊎ (refusal_of before.marks before.traces map raw ≡ Some e) → e ≡ Memory
+    pub for_memory : (e : MergeError) → (e ≡ Memory) ⊎ (refusal_of before.marks before.summaries map raw ≡ Some e) → e ≡ Memory
     for_memory e (inl memory) = memory
-    for_memory e (inr told) =
+    for_memory e (inr reported) =
         let here : refusal_of marks [] m raw ≡ Some e =
-        subst (λ (b : Merged). refusal_of b.marks b.traces m raw ≡ Some e) none (subst (λ k. refusal_of before.marks before.traces k raw ≡ Some e) is told) in
+        subst (λ (b : Merged). refusal_of b.marks b.summaries m raw ≡ Some e) none
+        (subst (λ k. refusal_of before.marks before.summaries k raw ≡ Some e) is reported) in
         absurd (none-some e (sym (sample_not_refused marks silent readable) ∙ here))

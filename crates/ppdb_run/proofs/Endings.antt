@@ -5,9 +5,9 @@ use Rattle.ppdb_run_stops.specs.declared.status.Status.{Status}
 use Rattle.ppdb_run_stops.specs.declared.status.Status.TheVariants as statuses
 use Rattle.ppdb_run_stops.specs.{declared.stop.Stop.{Stop}, Lines.{read_fault_line, write_fault_line}, Refusals.{Outcome}, Status.{UnlessFault}, Causes.{Cause}}
 use Rattle.ppdb_run_stops.specs.Causes.{Refusal, Unread, Unwritten, Unput, OutOfMemory, cause_of, line_of, status_of, refusal_of, ComesFrom, IsNoInput, OnKept}
-use Rattle.ppdb_run_stops.{specs.Causes.{OnUntold}, proofs.Causes.{IsRefusal, Refuses, refuses, at_refusal}}
+use Rattle.ppdb_run_stops.{specs.Causes.{OnUnreported}, proofs.Causes.{IsRefusal, Refuses, refuses, at_refusal}}
 use Rattle.ppdb_run.specs.{Ends.{OnOutcome, HasOutcome, IsUnread, IsUnwritten, LeavesFiles, TellsUnread, TellsUnwritten}, Outcome.{IsOutcome}, Stops.{FindsOutcome}}
-use Rattle.ppdb_run.specs.{Stops.{LeavesAt, Tells, Told, Failed, NoMemory}, Writes.{WritesPrefix}}
+use Rattle.ppdb_run.specs.{Stops.{LeavesAt, Tells, Reported, Failed, NoMemory}, Writes.{WritesPrefix}}
 
 -- a count that rose has risen later
 rose_on : (a b c : ℕ) → a ≤ b → Rose a b → b ≤ c → Rose a c
@@ -33,7 +33,7 @@ module _ (cause : Cause) (status : Status) (faults faults' : ℕ) (mid new : Opt
   -- what a stop comes to holds of the status of the run
   by_status : (P : Type 0) → (status ≡ status_of cause → new ≡ appended mid (line_of cause) → UnlessFault (status_of cause) P) → UnlessFault status P
   by_status P h = elim tells [
-    | Told s w l ↦ subst (λ x. UnlessFault x P) (sym s) (h s w)
+    | Reported s w l ↦ subst (λ x. UnlessFault x P) (sym s) (h s w)
     | Failed s r w ↦ subst (λ x. UnlessFault x P) (sym s) tt
     | NoMemory s w l ↦ subst (λ x. UnlessFault x P) (sym s) tt
   ]
@@ -62,7 +62,7 @@ module _ (cause : Cause) (status : Status) (faults faults' : ℕ) (mid new : Opt
 
   -- its line is the text of the outcome
   due_text : (cause : Cause) → Refuses cause → (due : Outcome) (old : Option (List ℕ)) → IfSome (refusal_of cause) (λ refusal. due ≡ refusal)
-      → OnUntold cause (mid ≡ old) → new ≡ appended mid (line_of cause) → UnlessFault (status_of cause) (new ≡ appended old due.text)
+      → OnUnreported cause (mid ≡ old) → new ≡ appended mid (line_of cause) → UnlessFault (status_of cause) (new ≡ appended old due.text)
   due_text (Refusal outcome) is due old e silent w =
       let same : new ≡ appended old due.text =
       w ∙ (ap (λ m. appended m outcome.text) silent ∙ ap (λ (o : Outcome). appended old o.text) (sym e)) in
@@ -83,7 +83,7 @@ module _ (cause : Cause) (status : Status) (faults faults' : ℕ) (mid new : Opt
 
   all_files : (due : Outcome) (before after : Option Files) → LeavesAt cause due.writes before after → LeavesFiles status due before after
   all_files due before after h = elim tells [
-    | Told s w l ↦ subst (λ x. LeavesFiles x due before after) (sym s) (due_files cause is due before after h)
+    | Reported s w l ↦ subst (λ x. LeavesFiles x due before after) (sym s) (due_files cause is due before after h)
     | Failed s r w ↦ subst (λ x. LeavesFiles x due before after) (sym s) (prefix_at cause due.writes before after h)
     | NoMemory s w l ↦ subst (λ x. LeavesFiles x due before after) (sym s) (prefix_at cause due.writes before after h)
   ]
@@ -101,7 +101,7 @@ module _ (cause : Cause) (status : Status) (faults faults' : ℕ) (mid new : Opt
 
   pub stopped_kept : (P : Type 0) → OnKept cause P → IsKept status P
   stopped_kept P h = elim tells [
-    | Told s w l ↦ subst (λ x. IsKept x P) (sym s) (as_before cause P h)
+    | Reported s w l ↦ subst (λ x. IsKept x P) (sym s) (as_before cause P h)
     | Failed s r w ↦ inr (inl s)
     | NoMemory s w l ↦ inr (inr (inl s))
   ]
@@ -116,7 +116,7 @@ module _ (cause : Cause) (status : Status) (faults faults' : ℕ) (mid new : Opt
 
   pub stopped_not_done : status ≡ statuses.Done → ⊥
   stopped_not_done e = elim tells [
-    | Told s w l ↦ not_done cause is (sym e ∙ s)
+    | Reported s w l ↦ not_done cause is (sym e ∙ s)
     | Failed s r w ↦ absurd (let x : statuses.Done ≡ statuses.WriteFault = sym e ∙ s in cc)
     | NoMemory s w l ↦ absurd (let x : statuses.Done ≡ statuses.Memory = sym e ∙ s in cc)
   ]
@@ -136,7 +136,7 @@ module _ (cause : Cause) (status : Status) (faults faults' : ℕ) (mid new : Opt
     complete : (due : Outcome) → IfSome (refusal_of cause) (λ refusal. due ≡ refusal)
         → (status ≡ due.status) ⊎ (status ≡ statuses.Memory) ⊎ Rose reads reads' ⊎ Rose writes writes' ⊎ Rose before faults'
     complete due e = elim tells [
-      | Told s w l ↦ ended cause comes due e s l
+      | Reported s w l ↦ ended cause comes due e s l
       | Failed s r w ↦ inr (inr (inr (inr (rose_before before faults faults' from r))))
       | NoMemory s w l ↦ inr (inl s)
     ]
@@ -151,16 +151,16 @@ module _ (cause : Cause) (status : Status) (faults faults' : ℕ) (mid new : Opt
 
   refused : IsRefusal status → (outcome : Outcome) × (cause ≡ Refusal outcome) × (status ≡ outcome.status)
   refused is = elim tells [
-    | Told s w l ↦
-        let told = refusal_in cause (subst (λ x. IsRefusal x) s is) in
-        (told.0, told.1, s ∙ ap status_of told.1)
+    | Reported s w l ↦
+        let reported = refusal_in cause (subst (λ x. IsRefusal x) s is) in
+        (reported.0, reported.1, s ∙ ap status_of reported.1)
     | Failed s r w ↦ absurd (subst (λ x. IsRefusal x) s is)
     | NoMemory s w l ↦ absurd (subst (λ x. IsRefusal x) s is)
   ]
 
   module _ (M : Type 0) (R W : List ℕ → Type 0) (files : Option Files) (A B C : Type 0) where
     -- the file that was not read, whose line is the text
-    unread_of : (S : Type 0) (cause : Cause) → Refuses cause → ComesFrom cause M R W files A B C → OnUntold cause S → statuses.ReadFault ≡ status_of cause
+    unread_of : (S : Type 0) (cause : Cause) → Refuses cause → ComesFrom cause M R W files A B C → OnUnreported cause S → statuses.ReadFault ≡ status_of cause
         → new ≡ appended mid (line_of cause) → (name : List ℕ) × R name × A × S × (new ≡ appended mid (read_fault_line name))
     unread_of S (Refusal outcome) is comes silent s w = absurd (subst (λ x. IsRefusal x) (sym s) is)
     unread_of S (Unread name) is comes silent s w = (name, comes.0, comes.1, silent, w)
@@ -168,19 +168,19 @@ module _ (cause : Cause) (status : Status) (faults faults' : ℕ) (mid new : Opt
     unread_of S Unput is comes silent s w = absurd cc
     unread_of S OutOfMemory is comes silent s w = absurd cc
 
-    unread_at : (S : Type 0) → ComesFrom cause M R W files A B C → OnUntold cause S → status ≡ statuses.ReadFault
+    unread_at : (S : Type 0) → ComesFrom cause M R W files A B C → OnUnreported cause S → status ≡ statuses.ReadFault
         → (name : List ℕ) × R name × A × S × (new ≡ appended mid (read_fault_line name))
     unread_at S comes silent e = elim tells [
-      | Told s w l ↦ unread_of S cause is comes silent (sym e ∙ s) w
+      | Reported s w l ↦ unread_of S cause is comes silent (sym e ∙ s) w
       | Failed s r w ↦ absurd (let x : statuses.ReadFault ≡ statuses.WriteFault = sym e ∙ s in cc)
       | NoMemory s w l ↦ absurd (let x : statuses.ReadFault ≡ statuses.Memory = sym e ∙ s in cc)
     ]
 
-    pub stopped_read_fault : (S : Type 0) → ComesFrom cause M R W files A B C → OnUntold cause S → status ≡ statuses.ReadFault → A
+    pub stopped_read_fault : (S : Type 0) → ComesFrom cause M R W files A B C → OnUnreported cause S → status ≡ statuses.ReadFault → A
     stopped_read_fault S comes silent e = (unread_at S comes silent e).2
 
     -- the file that was not written, whose line is the text
-    unwritten_of : (S : Type 0) (cause : Cause) → Refuses cause → ComesFrom cause M R W files A B C → OnUntold cause S → statuses.WriteFault ≡ status_of cause
+    unwritten_of : (S : Type 0) (cause : Cause) → Refuses cause → ComesFrom cause M R W files A B C → OnUnreported cause S → statuses.WriteFault ≡ status_of cause
         → new ≡ appended mid (line_of cause) → C ⊎ ((name : List ℕ) × W name × B × S × (new ≡ appended mid (write_fault_line name)))
     unwritten_of S (Refusal outcome) is comes silent s w = absurd (subst (λ x. IsRefusal x) (sym s) is)
     unwritten_of S (Unread name) is comes silent s w = absurd cc
@@ -191,35 +191,35 @@ module _ (cause : Cause) (status : Status) (faults faults' : ℕ) (mid new : Opt
     -- what a refusal comes from
     pub stopped_usage : ComesFrom cause M R W files A B C → status ≡ statuses.Usage → M
     stopped_usage comes e =
-        let told = refused (subst (λ s. IsRefusal s) (sym e) tt) in
-        (subst (λ c. ComesFrom c M R W files A B C) told.1 comes).0 (sym told.2 ∙ e)
+        let reported = refused (subst (λ s. IsRefusal s) (sym e) tt) in
+        (subst (λ c. ComesFrom c M R W files A B C) reported.1 comes).0 (sym reported.2 ∙ e)
 
-    pub stopped_untold : ComesFrom cause M R W files A B C → files ≡ None → IsNoInput status → A
-    stopped_untold comes untold was =
-        let told = refused (no_input status was) in
-        (subst (λ c. ComesFrom c M R W files A B C) told.1 comes).1 untold (subst (λ s. IsNoInput s) told.2 was)
+    pub stopped_unreported : ComesFrom cause M R W files A B C → files ≡ None → IsNoInput status → A
+    stopped_unreported comes unreported was =
+        let reported = refused (no_input status was) in
+        (subst (λ c. ComesFrom c M R W files A B C) reported.1 comes).1 unreported (subst (λ s. IsNoInput s) reported.2 was)
       where
         no_input : (s : Status) → IsNoInput s → IsRefusal s
         no_input s (inl e) = subst (λ s. IsRefusal s) (sym e) tt
         no_input s (inr e) = subst (λ s. IsRefusal s) (sym e) tt
 
   -- what the line says of a file that was not read
-  pub stopped_unread : (M A B C : Type 0) (W : List ℕ → Type 0) (words : List (List ℕ)) (told files : Option Files) (reads reads' : ℕ) (old : Option (List ℕ))
-      → ComesFrom cause M (IsUnread words told reads reads') W files A B C → OnUntold cause (mid ≡ old) → status ≡ statuses.ReadFault
-      → (text : List ℕ) × TellsUnread words told reads reads' text × (new ≡ appended old text)
-  stopped_unread M A B C W words told files reads reads' old comes silent e =
-      let at = unread_at M (IsUnread words told reads reads') W files A B C (mid ≡ old) comes silent e in
+  pub stopped_unread : (M A B C : Type 0) (W : List ℕ → Type 0) (words : List (List ℕ)) (reported files : Option Files) (reads reads' : ℕ) (old : Option (List ℕ))
+      → ComesFrom cause M (IsUnread words reported reads reads') W files A B C → OnUnreported cause (mid ≡ old) → status ≡ statuses.ReadFault
+      → (text : List ℕ) × TellsUnread words reported reads reads' text × (new ≡ appended old text)
+  stopped_unread M A B C W words reported files reads reads' old comes silent e =
+      let at = unread_at M (IsUnread words reported reads reads') W files A B C (mid ≡ old) comes silent e in
       (read_fault_line at.0, (at.0, at.1, refl), at.4 ∙ ap (λ m. appended m (read_fault_line at.0)) at.3)
 
   -- or of one that was not written, unless the sink failed
   module _ (M A B : Type 0) (R : List ℕ → Type 0) (words : List (List ℕ)) (files : Option Files) (old : Option (List ℕ)) (before : ℕ) (from : before ≤ faults)
-      (comes : ComesFrom cause M R (IsUnwritten words) files A B (Rose before faults)) (silent : OnUntold cause (mid ≡ old)) where
+      (comes : ComesFrom cause M R (IsUnwritten words) files A B (Rose before faults)) (silent : OnUnreported cause (mid ≡ old)) where
     abbrev LinePut : Type 0
     LinePut = (text : List ℕ) × TellsUnwritten words text × (new ≡ appended old text)
 
     unwritten_at : status ≡ statuses.WriteFault → Rose before faults' ⊎ (B × LinePut)
     unwritten_at e = elim tells [
-      | Told s w l ↦ elim (unwritten_of M R (IsUnwritten words) files A B (Rose before faults) (mid ≡ old) cause is comes silent (sym e ∙ s) w) [
+      | Reported s w l ↦ elim (unwritten_of M R (IsUnwritten words) files A B (Rose before faults) (mid ≡ old) cause is comes silent (sym e ∙ s) w) [
         | inl put ↦ inl (rose_on before faults faults' from put l)
         | inr at ↦ inr (at.2, (write_fault_line at.0, (at.0, at.1, refl), at.4 ∙ ap (λ m. appended m (write_fault_line at.0)) at.3))
       ]
@@ -239,15 +239,15 @@ module _ (cause : Cause) (status : Status) (faults faults' : ℕ) (mid new : Opt
     stopped_status asked asks all seen due h =
         by_status _ (λ s w. due_status cause is due (settles asked asks all seen due h) s)
 
-    pub stopped_text : (old : Option (List ℕ)) → OnUntold cause (mid ≡ old) → OnOutcome words files (λ due. UnlessFault status (new ≡ appended old due.text))
+    pub stopped_text : (old : Option (List ℕ)) → OnUnreported cause (mid ≡ old) → OnOutcome words files (λ due. UnlessFault status (new ≡ appended old due.text))
     stopped_text old silent asked asks all seen due h =
         by_status _ (λ s w. due_text cause is due old (settles asked asks all seen due h) silent w)
 
-    pub stopped_complete : (M : Type 0) (R W : List ℕ → Type 0) (told : Option Files) (reads reads' writes writes' before : ℕ) → before ≤ faults
-        → ComesFrom cause M R W told (Rose reads reads') (Rose writes writes') (Rose before faults)
+    pub stopped_complete : (M : Type 0) (R W : List ℕ → Type 0) (reported : Option Files) (reads reads' writes writes' before : ℕ) → before ≤ faults
+        → ComesFrom cause M R W reported (Rose reads reads') (Rose writes writes') (Rose before faults)
         → OnOutcome words files (λ due. (status ≡ due.status) ⊎ (status ≡ statuses.Memory) ⊎ Rose reads reads' ⊎ Rose writes writes' ⊎ Rose before faults')
-    stopped_complete M R W told reads reads' writes writes' before from comes asked asks all seen due h =
-        complete M R W told reads reads' writes writes' before from comes due (settles asked asks all seen due h)
+    stopped_complete M R W reported reads reads' writes writes' before from comes asked asks all seen due h =
+        complete M R W reported reads reads' writes writes' before from comes due (settles asked asks all seen due h)
 
   pub stopped_files : (words : List (List ℕ)) (files before after : Option Files)
       → OnOutcome words files (λ due. LeavesAt cause due.writes before after) → OnOutcome words files (λ due. LeavesFiles status due before after)

@@ -3,7 +3,7 @@ use Rattle.std.proofs.Common.{◌≡◌, ℕ, ◌+◌, ◌*◌, ◌<◌, ◌⊎�
 use Rattle.std.{specs.Prelude.{nat_eq, IfSome}, specs.List.{find, AllByRecursion}, specs.Option.{option_map}, proofs.lemmas.Bool.{and_parts, eqb-true, ne_eqb}}
 use Rattle.ppdb_maps.specs.declared.{entries.Count.{Count}, entries.CrossLine.{CrossLine}, image.RowImage.{RowImage}, image.RowImage.TheVariants.{Row, Missing}}
 use Rattle.ppdb_maps.specs.{Forms.{Crosses, IsTypeTable}, Map.{Map, count_of, cross_line, has_gone_line, is_dropped, is_gone, line_image, row_image, row_line}}
-use Rattle.ppdb_maps.specs.{Map.{told_image, is_gone_row}, Readable.{IsReadable, IsCount, IsCrossOf}}
+use Rattle.ppdb_maps.specs.{Map.{said_image, is_gone_row}, Readable.{IsReadable, IsCount, IsCrossOf}}
 
 -- ---- tables that no map counts
 
@@ -60,13 +60,13 @@ table_of a b c d e = cc
 image_in : (m : Map) → IsReadable m → (table row to image : ℕ) → row_image m table row ≡ Row to image → InOrSmall table to
 image_in m ready table row to image is = by_drop (nat_eq table 0x06 && is_dropped m row) is
   where
-    crossed : (o : Option CrossLine) → IfSome o (λ l. (table < 0x100) × (l.to < 0x100)) → (g : Bool) → told_image table None o g ≡ Row to image
+    crossed : (o : Option CrossLine) → IfSome o (λ l. (table < 0x100) × (l.to < 0x100)) → (g : Bool) → said_image table None o g ≡ Row to image
         → InOrSmall table to
     crossed (Some line) holds g e = let same = table_of line.to line.new to image e in let low = holds.1 in inr (holds.0, omega (arith, same, low))
     crossed None holds true e = absurd cc
     crossed None holds false e = absurd cc
 
-    by_row : (r : Option ℕ) → told_image table r (cross_line m table row) (has_gone_line m table row) ≡ Row to image → InOrSmall table to
+    by_row : (r : Option ℕ) → said_image table r (cross_line m table row) (has_gone_line m table row) ≡ Row to image → InOrSmall table to
     by_row (Some new) e = inl (sym (table_of table new to image e))
     by_row None e = crossed (cross_line m table row) (found_cross m table row m.crossed ready.crossed) (has_gone_line m table row) e
 

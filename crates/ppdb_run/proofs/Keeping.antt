@@ -2,30 +2,31 @@
 use Rattle.std.{proofs.Common.{◌≡◌, ◌≢◌, ℕ, ◌≤◌, List, [], ◌∷◌, Option, Some, None, map, length, refl, sym, ◌∙◌, ap, subst, arith}, specs.Prelude.{Ok}}
 use Rattle.ppdb_base.specs.declared.merge_error.MergeError.{MergeError}
 use Rattle.ppdb_values.specs.{declared.file.FileValue.{FileValue}, RawFile.{RawFile}, Rules.{KeepsRules}, Value.{value_of}}
-use Rattle.ppdb_values_sound_laws.specs.Sound.{IsSound}
+use Rattle.ppdb_values_sound.specs.Sound.{IsSound}
 use Rattle.ppdb_build_canon.specs.Canon.{canon, chosen_id, with_id}
 use Rattle.ppdb_maps.specs.Readable.{MapsAreReadable}
 use Rattle.ppdb_verify_valid_laws.proofs.ValidFiles.{valid_keeps}
 use Rattle.ppdb_build_written_laws.specs.Written.{WrittenFilesAreCanonical, WrittenFilesAreValid}
-use Rattle.ppdb_merge_items.{specs.Each.{Each}, specs.Laws.{SoundnessIsAnnotated}, specs.Unannotated.{value_of_annotated}, proofs.Lists.{Each-map, Each-weaker}}
+use Rattle.ppdb_merge_annotated.{specs.Each.{Each}, specs.Laws.{SoundnessIsAnnotated}, specs.Unannotated.{value_of_annotated}, proofs.Lists.{Each-map, Each-weaker}}
 use Rattle.ppdb_merge_names_laws.specs.Laws.{ReferencesAreNamed}
 use Rattle.ppdb_merge_joined.specs.{Joined.{joined}, Laws.{JoinedIsSound}}
 use Rattle.ppdb_merge_meaning_laws.specs.{Kept.{in_turn, MovedBy, KeepsMeaning, InputsKeepMeaning, joined_inputs}, Origins.{KeepsOrigins, InputsKeepOrigins}}
 use Rattle.ppdb_merge_unmoved_laws.specs.NoLines.{SoundFilesStay, left_alone}
 use Rattle.ppdb_merge_fits.specs.Laws.{NothingClashes}
-use Rattle.ppdb_merge.specs.{declared.trace.Trace.{Trace}, Inputs.{IsFitting, ReadInput, moved_by, trace_by, traces_of}, Laws.{AddedInputsFit}, Merged.{moved_files}}
-use Rattle.ppdb_merge.{specs.Merged.{unless}, specs.Together.{joined_of, misfit_of}, proofs.Adding.{joined_sound}, proofs.Turns.{all_fit}}
+use Rattle.ppdb_merge.specs.{declared.summary.Summary.{Summary}, Inputs.{IsFitting, ReadInput, moved_by, summary_by, summaries_of}, Laws.{AddedInputsFit}}
+use Rattle.ppdb_merge.{specs.Merged.{moved_files, unless}, specs.Together.{joined_of, misfit_of}, proofs.Adding.{joined_sound}, proofs.Turns.{all_fit}}
 use Rattle.ppdb_run.specs.MeaningLaws.{AreJoinedTo, HasKnownKinds, InputsAreWritten, JoinedFilesKeepInputs, JoinedKindsAreKnown, KeepsInputs, ReadInputsAreValid}
 use Rattle.ppdb_run.{specs.MeaningLaws.{RebuiltFilesKeepThemselves, SaysButForId}, proofs.KnownKinds.{KnownFile, joined_known, value_known}}
 use Rattle.ppdb_run.proofs.MovedKinds.{moved_known}
 
 -- what is joined is the value of the joined files
-pub value_is : (traces : List Trace) (value : FileValue) → joined_of traces ≡ Ok value → value_of_annotated (joined (moved_files traces)) ≡ value
-value_is traces value e = by (misfit_of traces) e
+pub value_is : (summaries : List Summary) (value : FileValue) → joined_of summaries ≡ Ok value → value_of_annotated (joined (moved_files summaries)) ≡ value
+value_is summaries value e = by (misfit_of summaries) e
   where
-    by : (o : Option MergeError) → unless o (Ok (value_of_annotated (joined (moved_files traces)))) ≡ Ok value → value_of_annotated (joined (moved_files traces)) ≡ value
+    by : (o : Option MergeError) → unless o (Ok (value_of_annotated (joined (moved_files summaries)))) ≡ Ok value
+        → value_of_annotated (joined (moved_files summaries)) ≡ value
     by None e = cc
-    by (Some told) e = absurd cc
+    by (Some reported) e = absurd cc
 
 -- ---- the identity is no part of what is said
 
@@ -53,8 +54,8 @@ keeps_inputs inputs value file meaning origins says = record {
 
 pub joined_keep : AddedInputsFit → InputsKeepMeaning → InputsKeepOrigins → JoinedFilesKeepInputs
 joined_keep law meaning origins marks inputs value file are says =
-    let fit = law marks inputs are.traces are.few are.valid are.added in
-    let same : joined_inputs (map moved_by inputs) ≡ value = sym (ap (λ files. value_of_annotated (joined files)) fit.moved) ∙ value_is are.traces value
+    let fit = law marks inputs are.summaries are.few are.valid are.added in
+    let same : joined_inputs (map moved_by inputs) ≡ value = sym (ap (λ files. value_of_annotated (joined files)) fit.moved) ∙ value_is are.summaries value
     are.joined in
     keeps_inputs (map moved_by inputs) value file
     (subst (KeepsMeaning (map moved_by inputs)) same (meaning (map moved_by inputs) fit.fit))
@@ -70,35 +71,35 @@ rebuilt_keep sounds stay meaning origins raw file rules says =
 
 pub kinds_known : ((raw : RawFile) → KeepsRules raw → IsSound (value_of raw)) → SoundnessIsAnnotated → ReferencesAreNamed → NothingClashes → JoinedKindsAreKnown
 kinds_known sounds annotated named clashes marks inputs value are =
-    let fit = all_fit sounds annotated named clashes marks inputs are.traces are.few are.valid are.added in
-    let files : Each (KnownFile marks) (moved_files (traces_of inputs)) =
-    Each-map (λ (t : Trace). t.moved) (KnownFile marks) (traces_of inputs)
-    (Each-map trace_by (λ (t : Trace). KnownFile marks t.moved) (in_turn inputs)
-    (Each-weaker (IsFitting marks) (λ x. KnownFile marks (trace_by x).moved)
+    let fit = all_fit sounds annotated named clashes marks inputs are.summaries are.few are.valid are.added in
+    let files : Each (KnownFile marks) (moved_files (summaries_of inputs)) =
+    Each-map (λ (t : Summary). t.moved) (KnownFile marks) (summaries_of inputs)
+    (Each-map summary_by (λ (t : Summary). KnownFile marks t.moved) (in_turn inputs)
+    (Each-weaker (IsFitting marks) (λ x. KnownFile marks (summary_by x).moved)
     (λ x fits. moved_known marks x.1.map fits.valid.ready (value_of x.1.raw) fits.clash.known) (in_turn inputs) fit.1.each)) in
-    subst (HasKnownKinds marks) (ap (λ l. value_of_annotated (joined (moved_files l))) (sym fit.0) ∙ value_is are.traces value are.joined)
-    (value_known marks (joined (moved_files (traces_of inputs))) (joined_known marks (moved_files (traces_of inputs)) files))
+    subst (HasKnownKinds marks) (ap (λ l. value_of_annotated (joined (moved_files l))) (sym fit.0) ∙ value_is are.summaries value are.joined)
+    (value_known marks (joined (moved_files (summaries_of inputs))) (joined_known marks (moved_files (summaries_of inputs)) files))
 
 -- ---- a file that is written
 
-fits_together : (traces : List Trace) (value : FileValue) → joined_of traces ≡ Ok value → misfit_of traces ≡ None
-fits_together traces value e = by (misfit_of traces) e
+fits_together : (summaries : List Summary) (value : FileValue) → joined_of summaries ≡ Ok value → misfit_of summaries ≡ None
+fits_together summaries value e = by (misfit_of summaries) e
   where
-    by : (o : Option MergeError) → unless o (Ok (value_of_annotated (joined (moved_files traces)))) ≡ Ok value → o ≡ None
+    by : (o : Option MergeError) → unless o (Ok (value_of_annotated (joined (moved_files summaries)))) ≡ Ok value → o ≡ None
     by None e = refl
-    by (Some told) e = absurd cc
+    by (Some reported) e = absurd cc
 
-some_traces : (inputs : List ReadInput) → 1 ≤ length inputs → traces_of inputs ≢ []
-some_traces [] some none = absurd (omega (arith, some))
-some_traces (input ∷ inputs) some none = cc
+some_summaries : (inputs : List ReadInput) → 1 ≤ length inputs → summaries_of inputs ≢ []
+some_summaries [] some none = absurd (omega (arith, some))
+some_summaries (input ∷ inputs) some none = cc
 
 joined_value_sound : ((raw : RawFile) → KeepsRules raw → IsSound (value_of raw)) → SoundnessIsAnnotated → ReferencesAreNamed → NothingClashes → JoinedIsSound
     → (marks : List (List ℕ)) (inputs : List ReadInput) (value : FileValue) → AreJoinedTo marks inputs value → 1 ≤ length inputs → IsSound value
 joined_value_sound sounds annotated named clashes law marks inputs value are some =
-    let fit = all_fit sounds annotated named clashes marks inputs are.traces are.few are.valid are.added in
-    let joins : joined_of (traces_of inputs) ≡ Ok value = ap joined_of (sym fit.0) ∙ are.joined in
-    subst IsSound (value_is (traces_of inputs) value joins)
-    (joined_sound annotated law (traces_of inputs) (some_traces inputs some) fit.1.sound (fits_together (traces_of inputs) value joins))
+    let fit = all_fit sounds annotated named clashes marks inputs are.summaries are.few are.valid are.added in
+    let joins : joined_of (summaries_of inputs) ≡ Ok value = ap joined_of (sym fit.0) ∙ are.joined in
+    subst IsSound (value_is (summaries_of inputs) value joins)
+    (joined_sound annotated law (summaries_of inputs) (some_summaries inputs some) fit.1.sound (fits_together (summaries_of inputs) value joins))
 
 pub written_of : ((raw : RawFile) → KeepsRules raw → IsSound (value_of raw)) → SoundnessIsAnnotated → ReferencesAreNamed → NothingClashes → JoinedIsSound
     → WrittenFilesAreValid → WrittenFilesAreCanonical → JoinedKindsAreKnown → JoinedFilesKeepInputs → InputsAreWritten

@@ -100,9 +100,9 @@ leaves_all question file (Some all) result old new e =
 
 -- ---- its file is the one that is read
 
-on_told : {P : Files → Type 0} (files : Option Files) → ((all : Files) → P all) → IfSome files P
-on_told None h = tt
-on_told (Some all) h = h all
+on_reported : {P : Files → Type 0} (files : Option Files) → ((all : Files) → P all) → IfSome files P
+on_reported None h = tt
+on_reported (Some all) h = h all
 
 -- the file that was to be read first
 pub first_unread : (task : Task) (file : List ℕ) (files : Option Files) (before after : ℕ) (name : List ℕ) → slice_get (read_files task) 0 ≡ Some file
@@ -111,7 +111,7 @@ first_unread task file files before after name first comes e same = record {
   read = 0;
   named = first ∙ ap Some (sym e);
   next = λ below. omega (arith, same);
-  comes = on_told files comes;
+  comes = on_reported files comes;
 }
 
 pub is_unread : (words : List (List ℕ)) (question : Question) (file : List ℕ) (files : Option Files) (before after : ℕ) (name : List ℕ)

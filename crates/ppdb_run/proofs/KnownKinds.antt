@@ -5,9 +5,9 @@ use Rattle.ppdb_values.specs.declared.{custom.CustomValue.{CustomValue}, file.Do
 use Rattle.ppdb_values.specs.declared.{annotation.Custom.{Custom}, annotation.Annotation.{Annotation}, scope.ConstantValue.{ConstantValue}}
 use Rattle.ppdb_values.specs.declared.scope.VariableValue.{VariableValue}
 use Rattle.ppdb_tables.specs.Parents.{coded_of}
-use Rattle.ppdb_merge_items.specs.{declared.file.AnnotatedFile.{AnnotatedFile}, declared.file.AnnotatedScope.{AnnotatedScope}, Each.{Each}, Annotated.{all_customs}}
-use Rattle.ppdb_merge_items.{specs.Annotated.{customs_of, on_row, placed, with_item}, specs.Unannotated.{value_of_annotated}, proofs.Lists.{Each-append}}
-use Rattle.ppdb_merge_items.proofs.{Lists.{Each-filter, Each-map, Each-weaker, each_of}, Orders.{in_order_each}}
+use Rattle.ppdb_merge_annotated.specs.{declared.file.AnnotatedFile.AnnotatedFile, declared.file.AnnotatedScope.AnnotatedScope, Each.Each, Annotated.all_customs}
+use Rattle.ppdb_merge_annotated.{specs.Annotated.{customs_of, on_row, placed, with_item}, specs.Unannotated.{value_of_annotated}, proofs.Lists.{Each-append}}
+use Rattle.ppdb_merge_annotated.proofs.{Lists.{Each-filter, Each-map, Each-weaker, each_of}, Orders.{in_order_each}}
 use Rattle.ppdb_merge_joined.specs.Joined.{customs_named, joined, joined_document, joined_documents, joined_parts, joined_rows, renumbered, renumbered_all}
 use Rattle.ppdb_merge_joined.specs.{Joined.{renumbered_custom, renumbered_import, renumbered_scope, row_in}, Same.{same_custom, same_record}}
 use Rattle.ppdb_merge_joined.proofs.{Each.{Each-flat}, Kept.{fresh_each}}
@@ -16,21 +16,21 @@ module _ (marks : List (List ℕ)) where
   abbrev pub Known : List ℕ → Type 0
   Known kind = kind_of marks kind ≢ Unknown
 
-  abbrev pub Notes : List Custom → Type 0
-  Notes customs = Each (λ (c : Custom). Known c.kind) customs
+  abbrev pub Cache : List Custom → Type 0
+  Cache customs = Each (λ (c : Custom). Known c.kind) customs
 
   abbrev pub Records : List CustomValue → Type 0
   Records customs = Each (λ (c : CustomValue). Known c.kind) customs
 
   pub record KnownScope (s : AnnotatedScope) : Type 0 where
-    pub customs : Notes s.customs
-    pub variables : Each (λ (v : Annotation VariableValue). Notes v.customs) s.variables
-    pub constants : Each (λ (c : Annotation ConstantValue). Notes c.customs) s.constants
+    pub customs : Cache s.customs
+    pub variables : Each (λ (v : Annotation VariableValue). Cache v.customs) s.variables
+    pub constants : Each (λ (c : Annotation ConstantValue). Cache c.customs) s.constants
 
   pub record KnownFile (file : AnnotatedFile) : Type 0 where
-    pub documents : Each (λ (d : Annotation DocumentValue). Notes d.customs) file.documents
+    pub documents : Each (λ (d : Annotation DocumentValue). Cache d.customs) file.documents
     pub scopes : Each KnownScope file.scopes
-    pub imports : Each (λ (i : Annotation ImportScopeValue). Notes i.customs) file.imports
+    pub imports : Each (λ (i : Annotation ImportScopeValue). Cache i.customs) file.imports
     pub customs : Records file.customs
 
   abbrev K : CustomValue → Type 0
@@ -38,32 +38,33 @@ module _ (marks : List (List ℕ)) where
 
   -- ---- the value of a file
 
-  placed_known : (table row : ℕ) (lists : List (List Custom)) → Each Notes lists → Records (placed table row lists)
+  placed_known : (table row : ℕ) (lists : List (List Custom)) → Each Cache lists → Records (placed table row lists)
   placed_known table row [] each = tt
   placed_known table row (here ∷ others) each =
       Each-append (λ (c : CustomValue). Known c.kind) (map (on_row table row) here) (placed table (row + 1) others)
       (Each-map (on_row table row) (λ (c : CustomValue). Known c.kind) here each.0) (placed_known table (row + 1) others each.1)
 
-  of_items : {A : Type 0} (ns : List (Annotation A)) → Each (λ (n : Annotation A). Notes n.customs) ns → Each Notes (customs_of ns)
-  of_items {A} ns each = Each-map (λ (n : Annotation A). n.customs) Notes ns each
+  of_items : {A : Type 0} (ns : List (Annotation A)) → Each (λ (n : Annotation A). Cache n.customs) ns → Each Cache (customs_of ns)
+  of_items {A} ns each = Each-map (λ (n : Annotation A). n.customs) Cache ns each
 
-  owned : {A : Type 0} (items : AnnotatedScope → List (Annotation A)) (ss : List AnnotatedScope) → Each (λ s. Each (λ (n : Annotation A). Notes n.customs) (items s)) ss
-      → Each Notes (flat_map (λ s. customs_of (items s)) ss)
+  owned : {A : Type 0} (items : AnnotatedScope → List (Annotation A)) (ss : List AnnotatedScope)
+      → Each (λ s. Each (λ (n : Annotation A). Cache n.customs) (items s)) ss
+      → Each Cache (flat_map (λ s. customs_of (items s)) ss)
   owned {A} items ss each =
-      Each-flat (λ s. customs_of (items s)) Notes ss (Each-weaker (λ s. Each (λ (n : Annotation A). Notes n.customs) (items s))
-      (λ s. Each Notes (customs_of (items s))) (λ s here. of_items (items s) here) ss each)
+      Each-flat (λ s. customs_of (items s)) Cache ss (Each-weaker (λ s. Each (λ (n : Annotation A). Cache n.customs) (items s))
+      (λ s. Each Cache (customs_of (items s))) (λ s here. of_items (items s) here) ss each)
 
   all_known : (file : AnnotatedFile) → KnownFile file → Records (all_customs file)
   all_known file known =
       Each-append K _ _ (Each-append K _ _ (Each-append K _ _ (Each-append K _ _ (Each-append K file.customs _ known.customs
       (placed_known 0x30 1 (customs_of file.documents) (of_items file.documents known.documents)))
-      (placed_known 0x32 1 (map (λ (s : AnnotatedScope). s.customs) file.scopes) (Each-map (λ (s : AnnotatedScope). s.customs) Notes file.scopes
-      (Each-weaker KnownScope (λ (s : AnnotatedScope). Notes s.customs) (λ s here. here.customs) file.scopes known.scopes))))
+      (placed_known 0x32 1 (map (λ (s : AnnotatedScope). s.customs) file.scopes) (Each-map (λ (s : AnnotatedScope). s.customs) Cache file.scopes
+      (Each-weaker KnownScope (λ (s : AnnotatedScope). Cache s.customs) (λ s here. here.customs) file.scopes known.scopes))))
       (placed_known 0x33 1 (flat_map (λ (s : AnnotatedScope). customs_of s.variables) file.scopes) (owned (λ (s : AnnotatedScope). s.variables) file.scopes
-      (Each-weaker KnownScope (λ (s : AnnotatedScope). Each (λ (v : Annotation VariableValue). Notes v.customs) s.variables) (λ s here. here.variables)
+      (Each-weaker KnownScope (λ (s : AnnotatedScope). Each (λ (v : Annotation VariableValue). Cache v.customs) s.variables) (λ s here. here.variables)
       file.scopes known.scopes))))
       (placed_known 0x34 1 (flat_map (λ (s : AnnotatedScope). customs_of s.constants) file.scopes) (owned (λ (s : AnnotatedScope). s.constants) file.scopes
-      (Each-weaker KnownScope (λ (s : AnnotatedScope). Each (λ (c : Annotation ConstantValue). Notes c.customs) s.constants) (λ s here. here.constants)
+      (Each-weaker KnownScope (λ (s : AnnotatedScope). Each (λ (c : Annotation ConstantValue). Cache c.customs) s.constants) (λ s here. here.constants)
       file.scopes known.scopes))))
       (placed_known 0x35 1 (customs_of file.imports) (of_items file.imports known.imports))
 
@@ -79,7 +80,7 @@ module _ (marks : List (List ℕ)) where
     scopes = Each-map (renumbered_scope shift) KnownScope file.scopes
         (Each-weaker KnownScope (λ s. KnownScope (renumbered_scope shift s))
         (λ s here. record { customs = here.customs; variables = here.variables; constants = here.constants }) file.scopes known.scopes);
-    imports = Each-map (with_item (renumbered_import shift)) (λ (i : Annotation ImportScopeValue). Notes i.customs) file.imports known.imports;
+    imports = Each-map (with_item (renumbered_import shift)) (λ (i : Annotation ImportScopeValue). Cache i.customs) file.imports known.imports;
     customs = Each-map (renumbered_custom (row_in (joined_rows documents file))) (λ (c : CustomValue). Known c.kind) file.customs known.customs;
   }
 
@@ -89,26 +90,26 @@ module _ (marks : List (List ℕ)) where
   all_numbered documents shift (file ∷ files) each =
       (numbered_known documents shift file each.0, all_numbered documents (shift + length file.imports) files each.1)
 
-  named_known : (name : List ℕ) (file : AnnotatedFile) → KnownFile file → Notes (customs_named name file)
+  named_known : (name : List ℕ) (file : AnnotatedFile) → KnownFile file → Cache (customs_named name file)
   named_known name file known =
       Each-flat (λ (d : Annotation DocumentValue). d.customs) (λ (c : Custom). Known c.kind)
       (filter (λ (d : Annotation DocumentValue). bytes_eq d.item.name name) file.documents)
-      (Each-filter (λ (d : Annotation DocumentValue). Notes d.customs) (λ (d : Annotation DocumentValue). Notes d.customs)
+      (Each-filter (λ (d : Annotation DocumentValue). Cache d.customs) (λ (d : Annotation DocumentValue). Cache d.customs)
       (λ (d : Annotation DocumentValue). bytes_eq d.item.name name) (λ d is here. here) file.documents known.documents)
 
   parts_known : (first : AnnotatedFile) (documents : List DocumentValue) (files : List AnnotatedFile) → Each KnownFile files
       → KnownFile (joined_parts first documents files)
   parts_known first documents files each = record {
-    documents = Each-map (joined_document files) (λ (d : Annotation DocumentValue). Notes d.customs) documents (each_of
-        (λ (d : DocumentValue). Notes (joined_document files d).customs)
+    documents = Each-map (joined_document files) (λ (d : Annotation DocumentValue). Cache d.customs) documents (each_of
+        (λ (d : DocumentValue). Cache (joined_document files d).customs)
         (λ d. fresh_each same_custom (λ (c : Custom). Known c.kind) [] (map (customs_named d.name) files)
-        (Each-map (customs_named d.name) Notes files (Each-weaker KnownFile (λ file. Notes (customs_named d.name file)) (named_known d.name) files each)))
+        (Each-map (customs_named d.name) Cache files (Each-weaker KnownFile (λ file. Cache (customs_named d.name file)) (named_known d.name) files each)))
         documents);
     scopes = in_order_each (λ (s : AnnotatedScope). s.method) KnownScope (flat_map (λ (file : AnnotatedFile). file.scopes) files)
         (Each-flat (λ (file : AnnotatedFile). file.scopes) KnownScope files
         (Each-weaker KnownFile (λ (file : AnnotatedFile). Each KnownScope file.scopes) (λ file here. here.scopes) files each));
-    imports = Each-flat (λ (file : AnnotatedFile). file.imports) (λ (i : Annotation ImportScopeValue). Notes i.customs) files
-        (Each-weaker KnownFile (λ (file : AnnotatedFile). Each (λ (i : Annotation ImportScopeValue). Notes i.customs) file.imports) (λ file here. here.imports)
+    imports = Each-flat (λ (file : AnnotatedFile). file.imports) (λ (i : Annotation ImportScopeValue). Cache i.customs) files
+        (Each-weaker KnownFile (λ (file : AnnotatedFile). Each (λ (i : Annotation ImportScopeValue). Cache i.customs) file.imports) (λ file here. here.imports)
         files each);
     customs = in_order_each (λ (c : CustomValue). coded_of c.parent) (λ (c : CustomValue). Known c.kind) _
         (fresh_each same_record (λ (c : CustomValue). Known c.kind) [] (map (λ (file : AnnotatedFile). file.customs) files)

@@ -14,8 +14,8 @@ use Rattle.ppdb_run.specs.{Ends.{ComesToRead, IsUnreadOf, IsWithinRows, OnLookup
 use Rattle.ppdb_run.specs.Outcome.{judged, listed, looked_up, steps_of}
 use Rattle.ppdb_run_stops.specs.declared.status.Status.TheVariants as statuses
 use Rattle.ppdb_run_stops.specs.Causes.{cause_of, refusal_of, stop_of, OnCut}
-use Rattle.ppdb_run.{specs.Stops.{Delivers, Finds, Gives, IsEnd, Leaves, Settles}, proofs.Kept.{first_unread, leaves, one_more}, proofs.Merges.{on_told, stop_over}}
-use Rattle.ppdb_run.proofs.{Merges.{next_over}, Outcomes.{on_due, one_verified}, Steps.{gives_stop}}
+use Rattle.ppdb_run.{specs.Stops.{Delivers, Finds, Gives, IsEnd, Leaves, Settles}, proofs.Kept.{first_unread, leaves, one_more}, proofs.Merges.{on_reported}}
+use Rattle.ppdb_run.proofs.{Merges.{stop_over, next_over}, Outcomes.{on_due, one_verified}, Steps.{gives_stop}}
 use Rattle.ppdb_run_words.specs.Words.{Lookup}
 
 -- ---- the answer to a list
@@ -26,8 +26,8 @@ pub not_listed : (T : Type 0) (form : Form) (raw : RawFile) (text : List ℕ) (s
     → Settles {T = T} (Err stop) (unlisted name n)
     → IfErr {T = T} (Err stop) (λ s. OnCut (cause_of s) (AppendsPrefix old old (unlisted name n).text))
     → Delivers {T = T} (looked_up form name raw text) (Err stop) old old
-not_listed T form raw text stop name n old is other told cut =
-    record { due = unlisted name n; is = inr (inr (unlisted name n, (n, other, refl), refl)); told = told; text = tt; cut = cut }
+not_listed T form raw text stop name n old is other reported cut =
+    record { due = unlisted name n; is = inr (inr (unlisted name n, (n, other, refl), refl)); reported = reported; text = tt; cut = cut }
 
 abbrev answer : Form → RawFile → List MethodOffset → Outcome
 answer form raw asked = prints statuses.Done (lookup_text_of form raw asked)
@@ -36,7 +36,7 @@ answer form raw asked = prints statuses.Done (lookup_text_of form raw asked)
 put_whole : {T : Type 0} (x : T) (form : Form) (name : List ℕ) (raw : RawFile) (text : List ℕ) (asked : List MethodOffset) (old new : Option (List ℕ))
     → Lists (lines text) asked → new ≡ appended old (lookup_text_of form raw asked) → Delivers (looked_up form name raw text) (Ok x) old new
 put_whole x form name raw text asked old new list put =
-    record { due = answer form raw asked; is = inl (inl (asked, list, refl)); told = refl; text = put; cut = tt }
+    record { due = answer form raw asked; is = inl (inl (asked, list, refl)); reported = refl; text = put; cut = tt }
 
 -- the sink failed, or there was no memory left
 put_part : (T : Type 0) (e : WriteError) (stop : Stop) (form : Form) (name : List ℕ) (raw : RawFile) (text : List ℕ) (asked : List MethodOffset)
@@ -47,8 +47,8 @@ put_part T e stop form name raw text asked old new is list put =
     subst (λ s. Delivers {T = T} (looked_up form name raw text) (Err s) old new) (sym is) (by_error e)
   where
     by_error : (e : WriteError) → Delivers {T = T} (looked_up form name raw text) (Err (stop_of e)) old new
-    by_error write_errors.Failed = record { due = answer form raw asked; is = inl (inl (asked, list, refl)); told = tt; text = tt; cut = put }
-    by_error write_errors.Memory = record { due = answer form raw asked; is = inl (inl (asked, list, refl)); told = tt; text = tt; cut = put }
+    by_error write_errors.Failed = record { due = answer form raw asked; is = inl (inl (asked, list, refl)); reported = tt; text = tt; cut = put }
+    by_error write_errors.Memory = record { due = answer form raw asked; is = inl (inl (asked, list, refl)); reported = tt; text = tt; cut = put }
 
 pub put_cut : {T U : Type 0} (r : Result T Stop) (e : WriteError) (form given : Form) (name : List ℕ) (raw : RawFile) (text : List ℕ)
     (asked : List MethodOffset) (old new : Option (List ℕ)) (before after : ℕ)
@@ -98,7 +98,7 @@ module _ (file list : List ℕ) (json : Bool) where
       fault_stops stop h =
           next_over (λ (o : Outcome). o) (Err stop) files (λ all. file_at all file) of_file bytes read
           (next_over (λ (o : Outcome). o) (Err stop) files (λ all. file_at all list) (λ all. of_texts bytes) text list_read
-          (on_told files (λ all. gives_stop (λ (raw : RawFile). raw) (λ (o : Outcome). o) stop (judged_file file bytes)
+          (on_reported files (λ all. gives_stop (λ (raw : RawFile). raw) (λ (o : Outcome). o) stop (judged_file file bytes)
           (λ raw. looked_up (form_of json) list raw text) h)))
 
       -- the file keeps all rules
@@ -114,8 +114,8 @@ module _ (file list : List ℕ) (json : Bool) where
           where
             by_result : (all : Files) → file_at all file (Ok bytes) → file_at all list (Ok text) → (r : Result T Stop) → Settles r h.due
                 → Finds r (IsOutcome (Some (Lookup file list json)) all)
-            by_result all f l (Ok x) told = (h.due, is_due all f l h.due h.is)
-            by_result all f l (Err stop) told = at_refusal (refusal_of (cause_of stop)) told
+            by_result all f l (Ok x) reported = (h.due, is_due all f l h.due h.is)
+            by_result all f l (Err stop) reported = at_refusal (refusal_of (cause_of stop)) reported
               where
                 at_refusal : (o : Option Outcome) → IfSome o (λ refusal. h.due ≡ refusal) → IfSome o (IsOutcome (Some (Lookup file list json)) all)
                 at_refusal None e = tt
@@ -124,7 +124,7 @@ module _ (file list : List ℕ) (json : Bool) where
             over : (files : Option Files) → IfSome files (λ all. file_at all file (Ok bytes)) → IfSome files (λ all. file_at all list (Ok text))
                 → IfSome files (λ all. Finds result (IsOutcome (Some (Lookup file list json)) all))
             over None f l = tt
-            over (Some all) f l = by_result all f l result h.told
+            over (Some all) f l = by_result all f l result h.reported
 
         -- what holds of the outcome that was delivered holds of the outcome
         pub on_delivered : (P : Outcome → Type 0) (due : Outcome) → IsEnd (looked_up (form_of json) list raw text) due → P due

@@ -9,9 +9,9 @@ use Rattle.ppdb_base.specs.declared.{limits.TheConstants.{MAX_FILE_BYTES}, merge
 use Rattle.ppdb_base.specs.{Files.{Files, Longer, Contents, within_max}, First.{IsAccepted}}
 use Rattle.ppdb_merge_meaning_laws.specs.Kept.{MovedBy}
 use Rattle.ppdb_maps.specs.{Map.{Map}, Text.{IsMapOf}}
-use Rattle.ppdb_merge.specs.{declared.trace.Trace.{Trace}, Inputs.{AreAdded, IsValidInput, ReadInput, moved_by}, Refusals.{added}, Together.{joined_of}}
+use Rattle.ppdb_merge.specs.{declared.summary.Summary.{Summary}, Inputs.{AreAdded, IsValidInput, ReadInput, moved_by}, Refusals.{added}, Together.{joined_of}}
 use Rattle.ppdb_merge_fits.specs.Clashes.{is_unknown}
-use Rattle.ppdb_merge_items.specs.Each.{Each}
+use Rattle.ppdb_merge_annotated.specs.Each.{Each}
 use Rattle.ppdb_values.specs.{declared.custom.CustomValue.{CustomValue}, declared.file.FileValue.{FileValue}, RawFile.{RawFile}, Rules.{KeepsRules}}
 use Rattle.ppdb_values.specs.Value.{value_of}
 use Rattle.ppdb_verify.specs.Files.{FileFaults, IsRawOf}
@@ -122,17 +122,18 @@ module _ (files : Files) where
 
   -- ---- inputs that were added
 
-  fits : (name : List ℕ) (more : List Trace) (result : Result (List Trace) MergeError) → Ok more ≡ result_map_both (λ traces. traces) (unfit name) result → result ≡ Ok more
-  fits name more (Ok traces) e = sym cc
+  fits : (name : List ℕ) (more : List Summary) (result : Result (List Summary) MergeError) → Ok more ≡ result_map_both (λ summaries. summaries) (unfit name) result
+      → result ≡ Ok more
+  fits name more (Ok summaries) e = sym cc
   fits name more (Err error) e = absurd cc
 
-  record Added (marks : List (List ℕ)) (there : List Trace) (input : Input) (more : List Trace) : Type 0 where
+  record Added (marks : List (List ℕ)) (there : List Summary) (input : Input) (more : List Summary) : Type 0 where
     read : ReadInput
     file : verified files input.file (Ok read.raw)
     map_file : map_at files input.map_file (Ok read.map)
     is : added marks there read.map read.raw ≡ Ok more
 
-  one_added : (marks : List (List ℕ)) (there : List Trace) (input : Input) (more : List Trace) → with_input files marks there input (Ok more)
+  one_added : (marks : List (List ℕ)) (there : List Summary) (input : Input) (more : List Summary) → with_input files marks there input (Ok more)
       → Added marks there input more
   one_added marks there input more (inl (bytes, at, inl (text, at_map, inl (raw, judged, inl (m, is_map, e))))) = record {
     read = record { raw = raw; map = m };
@@ -145,14 +146,14 @@ module _ (files : Files) where
   one_added marks there input more (inl (bytes, at, inr (refusal, h, e))) = absurd cc
   one_added marks there input more (inr (refusal, h, e)) = absurd cc
 
-  all_added : (marks : List (List ℕ)) (there : List Trace) (inputs : List Input) (traces : List Trace) → with_inputs files marks there inputs (Ok traces)
-      → (read : List ReadInput) × AllZip (IsReadAs files) inputs read × AreAdded marks there read traces
-  all_added marks there [] traces e = ([], tt, cc)
-  all_added marks there (input ∷ inputs) traces (inl (more, h, k)) =
+  all_added : (marks : List (List ℕ)) (there : List Summary) (inputs : List Input) (summaries : List Summary) → with_inputs files marks there inputs (Ok summaries)
+      → (read : List ReadInput) × AllZip (IsReadAs files) inputs read × AreAdded marks there read summaries
+  all_added marks there [] summaries e = ([], tt, cc)
+  all_added marks there (input ∷ inputs) summaries (inl (more, h, k)) =
       let one = one_added marks there input more h in
-      let rest = all_added marks more inputs traces k in
+      let rest = all_added marks more inputs summaries k in
       (one.read ∷ rest.0, ((one.file, one.map_file), rest.1), (more, one.is, rest.2))
-  all_added marks there (input ∷ inputs) traces (inr (refusal, h, e)) = absurd cc
+  all_added marks there (input ∷ inputs) summaries (inr (refusal, h, e)) = absurd cc
 
 -- ---- a file that is rebuilt
 
@@ -175,12 +176,12 @@ module _ (files : Files) (input output : List ℕ) (options : Options) (raw : Ra
 
 -- ---- inputs that are joined
 
-module _ (files : Files) (inputs : List Input) (output : List ℕ) (options : Options) (traces : List Trace) (value : FileValue) (bytes : List ℕ)
-    (few : length inputs ≤ 256) (merged : with_inputs files options.marks [] inputs (Ok traces)) (joins : joined_of traces ≡ Ok value)
+module _ (files : Files) (inputs : List Input) (output : List ℕ) (options : Options) (summaries : List Summary) (value : FileValue) (bytes : List ℕ)
+    (few : length inputs ≤ 256) (merged : with_inputs files options.marks [] inputs (Ok summaries)) (joins : joined_of summaries ≡ Ok value)
     (valid : ReadInputsAreValid) where
-  joined_to : (read : List ReadInput) → AllZip (IsReadAs files) inputs read → AreAdded options.marks [] read traces → AreJoinedTo options.marks read value
+  joined_to : (read : List ReadInput) → AllZip (IsReadAs files) inputs read → AreAdded options.marks [] read summaries → AreJoinedTo options.marks read value
   joined_to read are all = record {
-    traces = traces;
+    summaries = summaries;
     few = let many = as_many files inputs read are in omega (arith, few, many);
     valid = inputs_valid files valid inputs read are;
     added = all;
@@ -190,7 +191,7 @@ module _ (files : Files) (inputs : List Input) (output : List ℕ) (options : Op
   pub merged_means : JoinedFilesKeepInputs → JoinedKindsAreKnown → SaysButForId bytes value → IsAccepted (FileFaults bytes)
       → RebuildsWhereKnown options (output, bytes) → ExactlyMeans (Merge inputs output options) options files bytes
   merged_means law kinds says accepted again =
-      let all = all_added files options.marks [] inputs traces merged in
+      let all = all_added files options.marks [] inputs summaries merged in
       let joined = joined_to all.0 all.1 all.2 in
       let keeps = law options.marks all.0 value bytes joined says in
       record {
@@ -244,12 +245,12 @@ rebuilt_all None input output options raw h law (Ok bytes) says accepted again =
 rebuilt_all (Some all) input output options raw h law (Ok bytes) says accepted again =
     rebuilt_means all input output options raw h bytes law says accepted again
 
-pub joined_all : (files : Option Files) (inputs : List Input) (output : List ℕ) (options : Options) (traces : List Trace)
-    → length inputs ≤ 256 → IfSome files (λ all. with_inputs all options.marks [] inputs (Ok traces))
+pub joined_all : (files : Option Files) (inputs : List Input) (output : List ℕ) (options : Options) (summaries : List Summary)
+    → length inputs ≤ 256 → IfSome files (λ all. with_inputs all options.marks [] inputs (Ok summaries))
     → ReadInputsAreValid → JoinedFilesKeepInputs → JoinedKindsAreKnown → (result : Result (List ℕ) Stop)
-    → IfOk result (IsJoinedFile options.keep_id traces) → IfOk result (λ bytes. IsAccepted (FileFaults bytes))
+    → IfOk result (IsJoinedFile options.keep_id summaries) → IfOk result (λ bytes. IsAccepted (FileFaults bytes))
     → IfOk result (λ bytes. IfSome files (λ all. ExactlyMeans (Merge inputs output options) options all bytes))
-joined_all files inputs output options traces few h valid law kinds (Err stop) is accepted = tt
-joined_all None inputs output options traces few h valid law kinds (Ok bytes) is accepted = tt
-joined_all (Some all) inputs output options traces few h valid law kinds (Ok bytes) is accepted =
-    merged_means all inputs output options traces is.value bytes few h is.joined valid law kinds is.says accepted (is.again output options.marks)
+joined_all files inputs output options summaries few h valid law kinds (Err stop) is accepted = tt
+joined_all None inputs output options summaries few h valid law kinds (Ok bytes) is accepted = tt
+joined_all (Some all) inputs output options summaries few h valid law kinds (Ok bytes) is accepted =
+    merged_means all inputs output options summaries is.value bytes few h is.joined valid law kinds is.says accepted (is.again output options.marks)

@@ -9,14 +9,14 @@ use Rattle.ppdb_values.specs.declared.{custom.CustomValue.{CustomValue}, file.Do
 use Rattle.ppdb_values.specs.declared.{import.ImportScopeValue.{ImportScopeValue}, annotation.Custom.{Custom}, annotation.Annotation.{Annotation}}
 use Rattle.ppdb_values.specs.declared.scope.{ConstantValue.{ConstantValue}, ScopeValue.{ScopeValue}, VariableValue.{VariableValue}}
 use Rattle.ppdb_values.specs.{Meaning.{annotated_on, annotated_from, without_parent}, Parts.{is_at}}
-use Rattle.ppdb_merge_items.specs.{declared.file.AnnotatedScope.{AnnotatedScope}, Each.{Each}, Annotated.{annotated_file, with_item}, NamedRows.{goes_constant}}
-use Rattle.ppdb_merge_items.{specs.NamedRows.{leaves_types, live_constants, live_custom, with_live_body}, proofs.Lists.{Each-filter, Each-map}}
-use Rattle.ppdb_merge_items.proofs.Parts.{live_constant}
+use Rattle.ppdb_merge_annotated.specs.{declared.file.AnnotatedScope.{AnnotatedScope}, Each.{Each}, Annotated.{annotated_file, with_item}, NamedRows.{goes_constant}}
+use Rattle.ppdb_merge_annotated.{specs.NamedRows.{leaves_types, live_constants, live_custom, with_live_body}, proofs.Lists.{Each-filter, Each-map}}
+use Rattle.ppdb_merge_annotated.proofs.Parts.{live_constant}
 use Rattle.ppdb_merge_moved.specs.Moved.{is_empty, moved_constant, moved_custom, moved_file, moved_import_scope, moved_range, moved_scope, moved_variable, linked}
 use Rattle.ppdb_merge_moved.specs.{Moved.{moved_body, moved_document, moved_parent, scope_image}, OnRows.{annotated_by, annotated_scopes_by}}
 use Rattle.ppdb_merge_moved.proofs.{Lists.{Each-filter_map}, ScopesAtRows.{scopes_are}}
 use Rattle.ppdb_merge_fits.{specs.Clashes.{is_at_dropped, is_at_gone, method_at}, proofs.Parts.{scope_methods, variable_methods, constant_methods, all_constants}}
-use Rattle.ppdb_run.proofs.{Images.{high_row}, KnownKinds.{Known, KnownFile, KnownScope, Notes}}
+use Rattle.ppdb_run.proofs.{Images.{high_row}, KnownKinds.{Known, KnownFile, KnownScope, Cache}}
 
 -- ---- rows that follow each other
 
@@ -53,14 +53,14 @@ or_none b is = ap (λ c. c || false) is
 
 -- a scope whose records are of known kinds, and those on its constants that stay
 record KnownLive (marks : List (List ℕ)) (m : Map) (s : AnnotatedScope) : Type 0 where
-  customs : Notes marks s.customs
-  variables : Each (λ (v : Annotation VariableValue). Notes marks v.customs) s.variables
-  constants : Each (λ (c : Annotation ConstantValue). live_constant m c ≡ true → Notes marks c.customs) s.constants
+  customs : Cache marks s.customs
+  variables : Each (λ (v : Annotation VariableValue). Cache marks v.customs) s.variables
+  constants : Each (λ (c : Annotation ConstantValue). live_constant m c ≡ true → Cache marks c.customs) s.constants
 
 module _ (marks : List (List ℕ)) (m : Map) (ready : IsReadable m) (value : FileValue)
     (known : Each (λ c. is_at_gone m value c.parent ≡ false → Known marks c.kind) value.customs) where
   -- records on a row that stays
-  on_live : (table row : ℕ) → is_at_gone m value (record { table = table; row = row }) ≡ false → Notes marks (annotated_on value table row)
+  on_live : (table row : ℕ) → is_at_gone m value (record { table = table; row = row }) ≡ false → Cache marks (annotated_on value table row)
   on_live table row live =
       Each-map without_parent (λ (c : Custom). Known marks c.kind) (filter (λ (c : CustomValue). is_at table row c.parent) value.customs)
       (Each-filter (λ (c : CustomValue). is_at_gone m value c.parent ≡ false → Known marks c.kind) (λ (c : CustomValue). Known marks c.kind)
@@ -105,7 +105,7 @@ module _ (marks : List (List ℕ)) (m : Map) (ready : IsReadable m) (value : Fil
 
   owned_known : {A : Type 0} (table : ℕ) → 0x2c < table → (table ≡ 0x34 → ⊥) → (method first : ℕ) (items : List A)
       → Stand (λ row. method_at value (record { table = table; row = row })) first (map (λ item. method) items) → is_dropped m method ≡ false
-      → Each (λ (n : Annotation A). Notes marks n.customs) (annotated_by (annotated_on value table) first items)
+      → Each (λ (n : Annotation A). Cache marks n.customs) (annotated_by (annotated_on value table) first items)
   owned_known table high other method first [] stand live = tt
   owned_known table high other method first (item ∷ items) stand live = (
     on_live table first (at_row table first method high other stand.0 live),
@@ -113,7 +113,7 @@ module _ (marks : List (List ℕ)) (m : Map) (ready : IsReadable m) (value : Fil
   )
 
   abbrev stays_known : Annotation ConstantValue → Type 0
-  stays_known n = live_constant m n ≡ true → Notes marks n.customs
+  stays_known n = live_constant m n ≡ true → Cache marks n.customs
 
   constants_known : (method first : ℕ) (items : List ConstantValue) → Stand C first (map (λ (c : ConstantValue). method) items)
       → Stand (row_at (all_constants value)) first items → is_dropped m method ≡ false
@@ -179,10 +179,10 @@ module _ (marks : List (List ℕ)) (m : Map) (ready : IsReadable m) (value : Fil
   image_known : (s : AnnotatedScope) → KnownLive marks m s → KnownScope marks (scope_image m s)
   image_known s here = record {
     customs = here.customs;
-    variables = Each-map (with_item (moved_variable m s.method)) (λ (v : Annotation VariableValue). Notes marks v.customs) s.variables here.variables;
-    constants = Each-map (with_item (moved_constant m)) (λ (c : Annotation ConstantValue). Notes marks c.customs) (live_constants m s.constants)
-        (Each-map (with_item (with_live_body m)) (λ (c : Annotation ConstantValue). Notes marks c.customs) (filter (live_constant m) s.constants)
-        (Each-filter stays_known (λ (c : Annotation ConstantValue). Notes marks c.customs) (live_constant m) (λ c stays holds. holds stays) s.constants
+    variables = Each-map (with_item (moved_variable m s.method)) (λ (v : Annotation VariableValue). Cache marks v.customs) s.variables here.variables;
+    constants = Each-map (with_item (moved_constant m)) (λ (c : Annotation ConstantValue). Cache marks c.customs) (live_constants m s.constants)
+        (Each-map (with_item (with_live_body m)) (λ (c : Annotation ConstantValue). Cache marks c.customs) (filter (live_constant m) s.constants)
+        (Each-filter stays_known (λ (c : Annotation ConstantValue). Cache marks c.customs) (live_constant m) (λ c stays holds. holds stays) s.constants
         here.constants));
   }
 
@@ -245,17 +245,17 @@ module _ (marks : List (List ℕ)) (m : Map) (ready : IsReadable m) (value : Fil
       (ap (λ b. b && list_any (goes_constant m) (option_to_list (row_at (all_constants value) row))) other))
 
   items_known : {A : Type 0} (table first : ℕ) (items : List A) → ((row : ℕ) → is_at_gone m value (record { table = table; row = row }) ≡ false)
-      → Each (λ (n : Annotation A). Notes marks n.customs) (annotated_from value table first items)
+      → Each (λ (n : Annotation A). Cache marks n.customs) (annotated_from value table first items)
   items_known table first [] live = tt
   items_known table first (item ∷ items) live = (on_live table first (live first), items_known table (first + 1) items live)
 
   pub moved_known : KnownFile marks (moved_file m (annotated_file value))
   moved_known = record {
-    documents = Each-map (with_item (moved_document m)) (λ (d : Annotation DocumentValue). Notes marks d.customs) (annotated_file value).documents
+    documents = Each-map (with_item (moved_document m)) (λ (d : Annotation DocumentValue). Cache marks d.customs) (annotated_file value).documents
         (items_known 0x30 1 value.documents (λ row. at_part 0x30 row (omega arith) refl refl));
     scopes = Each-filter_map (moved_scope m) (λ s. is_dropped m s.method ≡ false → KnownLive marks m s) (KnownScope marks)
         (λ s t e holds. let is = stays s t e in subst (KnownScope marks) is.1 (image_known s (holds is.0))) (annotated_file value).scopes annotated_known;
-    imports = Each-map (with_item (moved_import_scope m)) (λ (i : Annotation ImportScopeValue). Notes marks i.customs) (annotated_file value).imports
+    imports = Each-map (with_item (moved_import_scope m)) (λ (i : Annotation ImportScopeValue). Cache marks i.customs) (annotated_file value).imports
         (items_known 0x35 1 value.imports (λ row. at_part 0x35 row (omega arith) refl refl));
     customs = Each-filter_map (moved_custom m) (λ c. (c.parent.table < 0x2d) × (is_at_gone m value c.parent ≡ false → Known marks c.kind))
         (λ (c : CustomValue). Known marks c.kind) custom_known (annotated_file value).customs

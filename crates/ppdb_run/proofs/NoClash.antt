@@ -4,11 +4,11 @@ use Rattle.ppdb_merge_names_laws.{proofs.Whole.{all-named}, specs.Laws.{named_by
 use Rattle.ppdb_maps.specs.{Map.{Map}, Readable.{IsReadable}}
 use Rattle.ppdb_tables.specs.Parents.{CodesAreParents}
 use Rattle.ppdb_values.specs.{Owners.{ListsAreOwned}, RawFile.{RawFile}, Rules.{KeepsRules}, Value.{value_of}}
-use Rattle.ppdb_values_sound_laws.{specs.Customs.{SoundCustom}, proofs.Values.{value_sound}}
+use Rattle.ppdb_values_sound.{specs.Customs.{SoundCustom}, proofs.Values.{value_sound}}
 use Rattle.ppdb_merge_names.specs.References.{references}
-use Rattle.ppdb_merge_items.{specs.Each.{Each}, specs.NamedRows.{named_rows}, specs.Annotated.{annotated_file}, proofs.Lists.{each_row}}
+use Rattle.ppdb_merge_annotated.{specs.Each.{Each}, specs.NamedRows.{named_rows}, specs.Annotated.{annotated_file}, proofs.Lists.{each_row}}
 use Rattle.ppdb_merge_moved.{specs.Fits.{IsImaged, AreApart}, proofs.Elements.{each_in}}
-use Rattle.ppdb_merge_fits.{specs.Clashes.{first_clash, clashes}, specs.Laws.{NoClash}, specs.Offsets.{beyond}, proofs.Told.{both_fine}}
+use Rattle.ppdb_merge_fits.{specs.Clashes.{first_clash, clashes}, specs.Laws.{NoClash}, specs.Offsets.{beyond}, proofs.Reported.{both_fine}}
 use Rattle.ppdb_run.{specs.SampleLaws.{FittingMapsDoNotClash}, proofs.Silent.{kinds_silent, points_silent, ranges_silent, customs_silent, lost_silent}}
 use Rattle.ppdb_run.proofs.{SilentDocuments.{documents_silent}, SilentRows.{rows_silent, rows_apart_silent, slots_silent, slots_apart_silent}}
 

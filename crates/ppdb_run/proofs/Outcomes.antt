@@ -8,7 +8,7 @@ use Rattle.ppdb_run.specs.{Ends.{Asks, AreSeen, IsApart, OnOutcome, OnTask, OnRe
 use Rattle.ppdb_run.specs.Outcome.{input_of, verified, answer_of, rebuilt, outcome_of, all_joined, in_limits, map_in, with_input, with_inputs, with_texts, steps_of}
 use Rattle.ppdb_run.{specs.Outcome.{IsOutcome, done, form_of, listed, looked_up}, specs.Stops.{Gives, Settles, Finds}, proofs.MapSteps.{one_composed, one_text}}
 use Rattle.ppdb_run.proofs.Steps.{GivesOne, gives_stop, is_one, one_next, one_given, one_then}
-use Rattle.ppdb_merge.specs.{declared.trace.Trace.{Trace}, Refusals.{added}, Together.{joined_of}}
+use Rattle.ppdb_merge.specs.{declared.summary.Summary.{Summary}, Refusals.{added}, Together.{joined_of}}
 use Rattle.ppdb_show.specs.Lookup.{lookup_text_of}
 use Rattle.ppdb_show_lines.specs.declared.form.Form.{Form}
 use Rattle.ppdb_queries_list.proofs.Lists.{no_list, one_list, one_other}
@@ -43,38 +43,38 @@ one_verified files file =
 
 -- ---- so are inputs
 
-one_texts : (marks : List (List ℕ)) (traces : List Trace) (input : Input) (bytes text : List ℕ)
-    → GivesOne (λ x y. x ≡ y) (with_texts marks traces input bytes text)
-one_texts marks traces input bytes text =
+one_texts : (marks : List (List ℕ)) (summaries : List Summary) (input : Input) (bytes text : List ℕ)
+    → GivesOne (λ x y. x ≡ y) (with_texts marks summaries input bytes text)
+one_texts marks summaries input bytes text =
     one_then (judged_file input.file bytes) (λ raw. map_in input.map_file text
-    >>= λ m. gives (result_map_both (λ traces. traces) (unfit input.file) (added marks traces m raw)))
+    >>= λ m. gives (result_map_both (λ summaries. summaries) (unfit input.file) (added marks summaries m raw)))
     (one_judged input.file (FileFaults bytes) (IsRawOf bytes) (λ a b. a ≡ b) (one_raw bytes))
-    (λ raw. one_then (map_in input.map_file text) (λ m. gives (result_map_both (λ traces. traces) (unfit input.file) (added marks traces m raw)))
+    (λ raw. one_then (map_in input.map_file text) (λ m. gives (result_map_both (λ summaries. summaries) (unfit input.file) (added marks summaries m raw)))
     (one_text input.map_file text)
-    (λ m. one_given (result_map_both (λ traces. traces) (unfit input.file) (added marks traces m raw))))
+    (λ m. one_given (result_map_both (λ summaries. summaries) (unfit input.file) (added marks summaries m raw))))
 
-one_input : (files : Files) (marks : List (List ℕ)) (traces : List Trace) (input : Input) → GivesOne (λ x y. x ≡ y) (with_input files marks traces input)
-one_input files marks traces input =
-    one_then (file_at files input.file) (λ bytes. file_at files input.map_file >>= λ text. with_texts marks traces input bytes text)
+one_input : (files : Files) (marks : List (List ℕ)) (summaries : List Summary) (input : Input) → GivesOne (λ x y. x ≡ y) (with_input files marks summaries input)
+one_input files marks summaries input =
+    one_then (file_at files input.file) (λ bytes. file_at files input.map_file >>= λ text. with_texts marks summaries input bytes text)
     (one_given (input_of input.file (reading files input.file MAX_FILE_BYTES)))
-    (λ bytes. one_then (file_at files input.map_file) (with_texts marks traces input bytes)
-    (one_given (input_of input.map_file (reading files input.map_file MAX_FILE_BYTES))) (one_texts marks traces input bytes))
+    (λ bytes. one_then (file_at files input.map_file) (with_texts marks summaries input bytes)
+    (one_given (input_of input.map_file (reading files input.map_file MAX_FILE_BYTES))) (one_texts marks summaries input bytes))
 
-one_inputs : (files : Files) (marks : List (List ℕ)) (traces : List Trace) (inputs : List Input) → GivesOne (λ x y. x ≡ y)
-    (with_inputs files marks traces inputs)
-one_inputs files marks traces [] = one_given (Ok traces)
-one_inputs files marks traces (input ∷ inputs) =
-    one_then (with_input files marks traces input) (λ more. with_inputs files marks more inputs) (one_input files marks traces input)
+one_inputs : (files : Files) (marks : List (List ℕ)) (summaries : List Summary) (inputs : List Input) → GivesOne (λ x y. x ≡ y)
+    (with_inputs files marks summaries inputs)
+one_inputs files marks summaries [] = one_given (Ok summaries)
+one_inputs files marks summaries (input ∷ inputs) =
+    one_then (with_input files marks summaries input) (λ more. with_inputs files marks more inputs) (one_input files marks summaries input)
     (λ more. one_inputs files marks more inputs)
 
 one_merged : (inputs : List Input) (output : List ℕ) (options : Options) (files : Files) (r t : Result Outcome Outcome)
     → steps_of (Merge inputs output options) files r → steps_of (Merge inputs output options) files t → r ≡ t
 one_merged inputs output options files r t h k =
     is_one r t (one_then (with_inputs files options.marks [] inputs)
-    (λ traces. gives (all_joined inputs (joined_of traces)) >>= λ value. gives (in_limits output options value))
+    (λ summaries. gives (all_joined inputs (joined_of summaries)) >>= λ value. gives (in_limits output options value))
     (one_inputs files options.marks [] inputs)
-    (λ traces. one_then (gives (all_joined inputs (joined_of traces))) (λ value. gives (in_limits output options value))
-    (one_given (all_joined inputs (joined_of traces))) (λ value. one_given (in_limits output options value))) r t h k)
+    (λ summaries. one_then (gives (all_joined inputs (joined_of summaries))) (λ value. gives (in_limits output options value))
+    (one_given (all_joined inputs (joined_of summaries))) (λ value. one_given (in_limits output options value))) r t h k)
 
 -- ---- so is what a list asks of a file
 
@@ -150,19 +150,19 @@ one_outcome (Some task) files a b (inr h) (inr k) = err_inj a b (one_end task fi
 -- ---- what a command knows of its outcome
 
 -- what holds of a task that reads files over those that are reported holds of what the words ask for
-pub of_told : (P : Option Task → Files → Type 0) (words : List (List ℕ)) (task : Task) (files : Option Files) → IfSome files (λ all. P (Some task) all)
+pub of_reported : (P : Option Task → Files → Type 0) (words : List (List ℕ)) (task : Task) (files : Option Files) → IfSome files (λ all. P (Some task) all)
     → Words task words → (IsApart (Some task) → ⊥)
     → (asked : Option Task) → Asks words asked → (all : Files) → AreSeen asked files all → P asked all
-of_told P words task files k h reads None none all seen = absurd (none task h)
-of_told P words task None k h reads (Some other) asks all seen =
+of_reported P words task files k h reads None none all seen = absurd (none task h)
+of_reported P words task None k h reads (Some other) asks all seen =
     absurd (reads (subst (λ (t : Task). IsApart (Some t)) (one_task words other task asks h) seen))
-of_told P words task (Some told) k h reads (Some other) asks all seen =
+of_reported P words task (Some reported) k h reads (Some other) asks all seen =
     subst (λ (t : Task). P (Some t) all) (one_task words task other h asks) (subst (λ (fs : Files). P (Some task) fs) seen k)
 
 -- what holds of the outcome of a task holds of that of its words
 pub of_task : {P : Outcome → Type 0} (words : List (List ℕ)) (task : Task) (files : Option Files) → OnTask task files P → Words task words
     → (IsApart (Some task) → ⊥) → OnOutcome words files P
-of_task {P = P} words task files k h reads = of_told (λ asked all. (due : Outcome) → IsOutcome asked all due → P due) words task files k.holds h reads
+of_task {P = P} words task files k h reads = of_reported (λ asked all. (due : Outcome) → IsOutcome asked all due → P due) words task files k.holds h reads
 
 -- so do the rows that it reads
 pub of_rows : (words : List (List ℕ)) (task : Task) (files : Option Files) (before after : ℕ) → IsWithinRows task files before after → Words task words

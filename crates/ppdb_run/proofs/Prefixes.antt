@@ -2,8 +2,8 @@
 use Rattle.std.{proofs.Common.{ℕ, ◌≡◌, ◌⊎◌, inl, inr, List, [], ◌∷◌, ◌++◌, refl, sym, ◌∙◌, ap, subst}, specs.Prelude.{Option, IfSome}}
 use Rattle.ppdb_base.{specs.Files.{Files}, specs.Written.{appended, AppendsPrefix}, proofs.Written.{prefix_whole, appended_nothing}}
 use Rattle.ppdb_run_stops.specs.{declared.status.Status.{Status}, Refusals.{Outcome}, Causes.{Cause, Refusal, Unread, Unwritten, Unput, OutOfMemory, line_of}}
-use Rattle.ppdb_run_stops.specs.Causes.{refusal_of, ComesFrom, OnUntold, OnCut}
-use Rattle.ppdb_run.specs.{Ends.{OnOutcome, IsUnread, IsUnwritten, PutsPrefix, TellsUnread, TellsUnwritten}, Stops.{Tells, Told, Failed, NoMemory}}
+use Rattle.ppdb_run_stops.specs.Causes.{refusal_of, ComesFrom, OnUnreported, OnCut}
+use Rattle.ppdb_run.specs.{Ends.{OnOutcome, IsUnread, IsUnwritten, PutsPrefix, TellsUnread, TellsUnwritten}, Stops.{Tells, Reported, Failed, NoMemory}}
 
 module _ (words : List (List ℕ)) (files : Option Files) (before after : ℕ) (ReadFailed WriteFailed : Type 0) (old mid new : Option (List ℕ)) where
   abbrev Due : Outcome → List ℕ → Type 0
@@ -29,7 +29,7 @@ module _ (words : List (List ℕ)) (files : Option Files) (before after : ℕ) (
 
   module _ (M C : Type 0) where
     stopped : (cause : Cause) (due : Outcome) → ComesFrom cause M (IsUnread words files before after) (IsUnwritten words) files ReadFailed WriteFailed C
-        → IfSome (refusal_of cause) (λ refusal. due ≡ refusal) → OnUntold cause (mid ≡ old) → OnCut cause (AppendsPrefix old mid due.text)
+        → IfSome (refusal_of cause) (λ refusal. due ≡ refusal) → OnUnreported cause (mid ≡ old) → OnCut cause (AppendsPrefix old mid due.text)
         → AppendsPrefix mid new (line_of cause) → Puts due
     stopped (Refusal outcome) due comes settles silent cut h = the_refusal due outcome settles silent h
     stopped (Unread name) due comes settles silent cut h = the_line due _ (inr (inl (comes.1, (name, comes.0, refl)))) silent h
@@ -37,21 +37,21 @@ module _ (words : List (List ℕ)) (files : Option Files) (before after : ℕ) (
     stopped Unput due comes settles silent cut h = the_text due cut h
     stopped OutOfMemory due comes settles silent cut h = the_text due cut h
 
-    told_prefix : (cause : Cause) (status : Status) (faults faults' : ℕ) → Tells cause status faults faults' mid new → AppendsPrefix mid new (line_of cause)
-    told_prefix cause status faults faults' (Told s w l) = prefix_whole mid new (line_of cause) w
-    told_prefix cause status faults faults' (Failed s r f) = f
-    told_prefix cause status faults faults' (NoMemory s f l) = f
+    reported_prefix : (cause : Cause) (status : Status) (faults faults' : ℕ) → Tells cause status faults faults' mid new → AppendsPrefix mid new (line_of cause)
+    reported_prefix cause status faults faults' (Reported s w l) = prefix_whole mid new (line_of cause) w
+    reported_prefix cause status faults faults' (Failed s r f) = f
+    reported_prefix cause status faults faults' (NoMemory s f l) = f
 
     -- a run that stopped put a prefix of a text that was due
     pub prefix_of_stop : (cause : Cause) (status : Status) (faults faults' : ℕ)
         → ComesFrom cause M (IsUnread words files before after) (IsUnwritten words) files ReadFailed WriteFailed C
         → OnOutcome words files (λ due. IfSome (refusal_of cause) (λ refusal. due ≡ refusal))
         → OnOutcome words files (λ due. OnCut cause (AppendsPrefix old mid due.text))
-        → OnUntold cause (mid ≡ old)
+        → OnUnreported cause (mid ≡ old)
         → Tells cause status faults faults' mid new
         → OnOutcome words files Puts
     prefix_of_stop cause status f f' comes settles cut silent t asked h all seen due is =
-        stopped cause due comes (settles asked h all seen due is) silent (cut asked h all seen due is) (told_prefix cause status f f' t)
+        stopped cause due comes (settles asked h all seen due is) silent (cut asked h all seen due is) (reported_prefix cause status f f' t)
 
 -- a run that was done put its text
 pub prefix_of_done : (words : List (List ℕ)) (files : Option Files) (before after : ℕ) (ReadFailed WriteFailed : Type 0) (old new : Option (List ℕ))

@@ -63,6 +63,7 @@ rebuilds options value bytes none is accepted says same files name other read =
     whole : rebuilt name other options (value_of says.raw) ≡ Ok (written other bytes)
     whole =
         ap (λ error. unless (option_map (unfit name) error)
-        (unless (option_map limited (first_limit (value_of says.raw))) (Ok (written other (canon (value_of says.raw) (if options.keep_id then Keep else Hash)))))) unknown
+        (unless (option_map limited (first_limit (value_of says.raw))) (Ok (written other (canon (value_of says.raw) (if options.keep_id then Keep else Hash))))))
+        unknown
         ∙ (ap (λ limit. unless (option_map limited limit) (Ok (written other (canon (value_of says.raw) (if options.keep_id then Keep else Hash))))) again.limit
         ∙ ap (λ file. Ok (written other file)) bytes_are)

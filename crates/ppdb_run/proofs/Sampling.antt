@@ -36,7 +36,8 @@ module _ (words : List (List ℕ)) (n : ℕ) (asked : Words (Sample n) words) (f
   -- what holds of it holds of the outcome of the words
   pub of_sampled : (P : Outcome → Type 0) → P (outcome_of (sampled n)) → OnOutcome words files P
   of_sampled P p other asks all seen =
-      of_all (λ task all. (due : Outcome) → IsOutcome task all due → P due) words (Sample n) (λ all due is. subst P (sym (due_is n all due is)) p) asked other asks all
+      of_all (λ task all. (due : Outcome) → IsOutcome task all due
+      → P due) words (Sample n) (λ all due is. subst P (sym (due_is n all due is)) p) asked other asks all
 
   -- they have one
   pub sampled_found : {T : Type 0} (result : Result T Stop) → Settles result (outcome_of (sampled n)) → FindsOutcome words files result

@@ -10,9 +10,9 @@ use Rattle.ppdb_maps.specs.{Map.{Map, offsets_in}, Readable.{IsReadable}, Says.{
 use Rattle.sequence_points.specs.declared.point.Point.{Point}
 use Rattle.ppdb_values.specs.declared.custom.{CustomBody.{CustomBody}, CustomBody.TheVariants.{Async, Hoisted, TypeDocuments, Unread}, CustomValue.{CustomValue}}
 use Rattle.ppdb_values.specs.{declared.file.FileValue.{FileValue}, declared.file.MethodValue.{MethodValue}, declared.scope.ScopeValue.{ScopeValue}, Rules.{StandsOn}}
-use Rattle.ppdb_values_sound_laws.specs.Customs.{SoundCustom, IsBodyOfKind}
-use Rattle.ppdb_merge_items.specs.{Each.{Each}, NamedRows.{live_custom}, Annotated.{annotated_file, annotated_scope}, declared.file.AnnotatedScope.{AnnotatedScope}}
-use Rattle.ppdb_merge_items.proofs.Lists.{Each-weaker, Each-unmap}
+use Rattle.ppdb_values_sound.specs.Customs.{SoundCustom, IsBodyOfKind}
+use Rattle.ppdb_merge_annotated.specs.{Each.Each, NamedRows.live_custom, Annotated.{annotated_file, annotated_scope}, declared.file.AnnotatedScope.AnnotatedScope}
+use Rattle.ppdb_merge_annotated.proofs.Lists.{Each-weaker, Each-unmap}
 use Rattle.ppdb_merge_moved.{specs.Fits.{IsKept, KeepsStep, KeepsAsync, EndsWithin, AreWithin}, proofs.Elements.{each_left}, proofs.Fitting.{offsets_rise}}
 use Rattle.ppdb_merge_fits.specs.{Clashes.{if_unknown, is_unknown, is_at_gone}, Offsets.{MethodOffset, offset_in, step_offsets, handler_offsets, async_offsets}}
 use Rattle.ppdb_merge_fits.specs.Offsets.{if_past, offset_beyond, points_beyond, scope_beyond, slot_beyond, body_beyond, is_kept, if_lost}
@@ -25,11 +25,11 @@ flat_nil f [] each = refl
 flat_nil f (x ∷ xs) each = ap (λ l. l ++ flat_map f xs) each.0 ∙ flat_nil f xs each.1
 
 -- what is reported where a test holds, and where it fails
-pub if_fails : {B : Type 0} (told : List B) (b : Bool) → b ≡ false → cond b told [] ≡ []
-if_fails told b is = ap (λ c. cond c told []) is
+pub if_fails : {B : Type 0} (reported : List B) (b : Bool) → b ≡ false → cond b reported [] ≡ []
+if_fails reported b is = ap (λ c. cond c reported []) is
 
-pub if_holds : {B : Type 0} (told : List B) (b : Bool) → b ≡ true → cond b [] told ≡ []
-if_holds told b is = ap (λ c. cond c [] told) is
+pub if_holds : {B : Type 0} (reported : List B) (b : Bool) → b ≡ true → cond b [] reported ≡ []
+if_holds reported b is = ap (λ c. cond c [] reported) is
 
 both_nil : {A : Type 0} (xs ys : List A) → xs ≡ [] → ys ≡ [] → xs ++ ys ≡ []
 both_nil xs ys none also = ap (λ l. l ++ ys) none ∙ also
@@ -91,25 +91,25 @@ slot_silent m method Empty ends = refl
 slot_silent m method (Held range) ends = within (offsets_in m method) method range.end ends
 
 -- nothing is reported of the offsets of an async record that are all kept, where nothing is reported of one that is
-async_silent : (m : Map) (told : MethodOffset → List MergeError) → ((method x : ℕ) → IsKept m method x → told (offset_in method x) ≡ [])
-    → (method : ℕ) (body : CustomBody) → KeepsAsync m method body → flat_map told (async_offsets method body) ≡ []
-async_silent m told silent method (Async handler steps) keeps =
-    flat_append told (handler_offsets method handler) (flat_map (step_offsets method) steps)
-    ∙ both_nil (flat_map told (handler_offsets method handler)) _ (of_handler handler keeps.0)
-    (flat_nested told (step_offsets method) steps ∙ flat_nil (λ s. flat_map told (step_offsets method s)) steps
-    (Each-weaker (KeepsStep m method) (λ s. flat_map told (step_offsets method s) ≡ []) of_step steps keeps.1))
+async_silent : (m : Map) (reported : MethodOffset → List MergeError) → ((method x : ℕ) → IsKept m method x → reported (offset_in method x) ≡ [])
+    → (method : ℕ) (body : CustomBody) → KeepsAsync m method body → flat_map reported (async_offsets method body) ≡ []
+async_silent m reported silent method (Async handler steps) keeps =
+    flat_append reported (handler_offsets method handler) (flat_map (step_offsets method) steps)
+    ∙ both_nil (flat_map reported (handler_offsets method handler)) _ (of_handler handler keeps.0)
+    (flat_nested reported (step_offsets method) steps ∙ flat_nil (λ s. flat_map reported (step_offsets method s)) steps
+    (Each-weaker (KeepsStep m method) (λ s. flat_map reported (step_offsets method s) ≡ []) of_step steps keeps.1))
   where
-    of_handler : (h : Option ℕ) → IfSome h (IsKept m method) → flat_map told (handler_offsets method h) ≡ []
+    of_handler : (h : Option ℕ) → IfSome h (IsKept m method) → flat_map reported (handler_offsets method h) ≡ []
     of_handler None kept = refl
-    of_handler (Some x) kept = both_nil (told (offset_in method x)) [] (silent method x kept) refl
+    of_handler (Some x) kept = both_nil (reported (offset_in method x)) [] (silent method x kept) refl
 
-    of_step : (s : AsyncStep) → KeepsStep m method s → flat_map told (step_offsets method s) ≡ []
+    of_step : (s : AsyncStep) → KeepsStep m method s → flat_map reported (step_offsets method s) ≡ []
     of_step s kept =
-        both_nil (told (offset_in method s.pause)) _ (silent method s.pause kept.0)
-        (both_nil (told (offset_in s.method s.resume)) [] (silent s.method s.resume kept.1) refl)
-async_silent m told silent method (Hoisted slots) keeps = refl
-async_silent m told silent method (TypeDocuments rows) keeps = refl
-async_silent m told silent method (Unread bytes) keeps = refl
+        both_nil (reported (offset_in method s.pause)) _ (silent method s.pause kept.0)
+        (both_nil (reported (offset_in s.method s.resume)) [] (silent s.method s.resume kept.1) refl)
+async_silent m reported silent method (Hoisted slots) keeps = refl
+async_silent m reported silent method (TypeDocuments rows) keeps = refl
+async_silent m reported silent method (Unread bytes) keeps = refl
 
 kept_below_size : (o : Offsets) → Rise o → (method x y : ℕ) → Kept o x y → if_past (λ size. nat_le size x) method x (sizes_of o) ≡ []
 kept_below_size every rise method x y kept = refl
@@ -182,10 +182,10 @@ module _ (m : Map) (ready : IsReadable m) (value : FileValue) where
   body_silent method (Unread bytes) ends keeps = refl
 
   -- what is reported of a record that stays
-  if_live : (c : CustomValue) (told : List MergeError) → (live_custom m c ≡ true → told ≡ []) → cond (live_custom m c) told [] ≡ []
-  if_live c told silent = of (live_custom m c) silent
+  if_live : (c : CustomValue) (reported : List MergeError) → (live_custom m c ≡ true → reported ≡ []) → cond (live_custom m c) reported [] ≡ []
+  if_live c reported silent = of (live_custom m c) silent
     where
-      of : (b : Bool) → (b ≡ true → told ≡ []) → cond b told [] ≡ []
+      of : (b : Bool) → (b ≡ true → reported ≡ []) → cond b reported [] ≡ []
       of true silent = silent refl
       of false silent = refl
 

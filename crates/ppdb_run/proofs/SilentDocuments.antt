@@ -4,7 +4,7 @@ use Rattle.std.{specs.List.{enumerate_from}, proofs.lemmas.Bool.{le-ltb}}
 use Rattle.ppdb_maps.specs.Map.{Map, moved_name}
 use Rattle.ppdb_values.specs.declared.{annotation.Annotation.{Annotation}, file.DocumentValue.{DocumentValue}, file.FileValue.{FileValue}}
 use Rattle.ppdb_values.specs.Meaning.{annotated_on}
-use Rattle.ppdb_merge_items.{specs.Each.{Each, Pairs}, specs.Annotated.{annotated_file}, proofs.Lists.{Each-weaker, Pairs-unmap}}
+use Rattle.ppdb_merge_annotated.{specs.Each.{Each, Pairs}, specs.Annotated.{annotated_file}, proofs.Lists.{Each-weaker, Pairs-unmap}}
 use Rattle.ppdb_merge_joined.proofs.{Each.{Each-with}, Names.{bytes_apart}}
 use Rattle.ppdb_merge_moved.specs.Fits.{NamesDiffer}
 use Rattle.ppdb_merge_fits.{specs.Documents.{documents_twice, if_one_name}, proofs.Parts.{get_one_name, name_twice}}
@@ -60,10 +60,10 @@ module _ (m : Map) where
       (Each-weaker (λ second. Each (IsSilent second) rows) (λ second. name_twice m value.documents second ≡ [])
       (λ second each. flat_nil (if_one_name m second) rows
       (Each-weaker (IsSilent second) (λ first. if_one_name m second first ≡ []) (λ first is. if_fails _ (get_one_name m second first) is) rows each))
-      rows (all_silent 1 value.documents (Pairs-unmap noted (NamesDiffer m) rows pairs)))
+      rows (all_silent 1 value.documents (Pairs-unmap cached (NamesDiffer m) rows pairs)))
     where
       rows : List Row
       rows = enumerate_from 1 value.documents
 
-      noted : Row → Annotation DocumentValue
-      noted d = record { item = d.1; customs = annotated_on value 0x30 d.0 }
+      cached : Row → Annotation DocumentValue
+      cached d = record { item = d.1; customs = annotated_on value 0x30 d.0 }

@@ -8,9 +8,9 @@ use Rattle.ppdb_merge_names.specs.{declared.imaged.Imaged.{Imaged}, References.{
 use Rattle.ppdb_merge_names_laws.specs.Laws.{named_by}
 use Rattle.ppdb_values.specs.{RawFile.{RawFile}, declared.file.FileValue.{FileValue}, declared.scope.ScopeValue.{ScopeValue}}
 use Rattle.ppdb_values.specs.declared.{scope.VariableValue.{VariableValue}, annotation.Annotation.{Annotation}}
-use Rattle.ppdb_merge_items.specs.{Each.{Each, Pairs}, NamedRows.{live_scope}, Annotated.{annotated_file, annotated_scope}, Sorted.{in_order}}
-use Rattle.ppdb_merge_items.{specs.declared.file.AnnotatedScope.{AnnotatedScope}, proofs.Lists.{Each-filter, Each-weaker, Each-map, Each-unmap, each_of}}
-use Rattle.ppdb_merge_items.proofs.Orders.{in_order_each}
+use Rattle.ppdb_merge_annotated.specs.{Each.{Each, Pairs}, NamedRows.{live_scope}, Annotated.{annotated_file, annotated_scope}, Sorted.{in_order}}
+use Rattle.ppdb_merge_annotated.{specs.declared.file.AnnotatedScope.{AnnotatedScope}, proofs.Lists.{Each-filter, Each-weaker, Each-map, Each-unmap, each_of}}
+use Rattle.ppdb_merge_annotated.proofs.Orders.{in_order_each}
 use Rattle.ppdb_merge_joined.proofs.Each.{Each-flat}
 use Rattle.ppdb_merge_moved.{specs.Fits.{may_share, IsImaged, AreApart, HasSlot, SlotsAreApart}, proofs.Elements.{each_in}, proofs.Lists.{Each-filter_map}}
 use Rattle.ppdb_merge_fits.specs.{Rows.{image_key, imaged, imaged_to, image_twice, is_row, unmapped, unshared, imaged_rows, rows_twice}, Slots.{scope_slots}}
@@ -53,13 +53,13 @@ pairs_among R (x ∷ xs) each =
 
 -- ---- items of which no two of a group have one image
 
-module _ {A B : Type 0} (group number image : A → ℕ) (told : A → A → B) where
-  two_silent : (x y : A) → OneNumber group number image x y → if_one_image group number image told x y ≡ []
+module _ {A B : Type 0} (group number image : A → ℕ) (reported : A → A → B) where
+  two_silent : (x y : A) → OneNumber group number image x y → if_one_image group number image reported x y ≡ []
   two_silent x y one =
       of (nat_eq (group x) (group y)) (nat_eq (image x) (image y)) (nat_eq (number x) (number y)) refl refl refl
     where
       of : (a b c : Bool) → nat_eq (group x) (group y) ≡ a → nat_eq (image x) (image y) ≡ b → nat_eq (number x) (number y) ≡ c
-          → cond (a && (b && not c)) (told x y ∷ []) [] ≡ []
+          → cond (a && (b && not c)) (reported x y ∷ []) [] ≡ []
       of false b c groups images numbers = refl
       of true false c groups images numbers = refl
       of true true true groups images numbers = refl
@@ -67,12 +67,12 @@ module _ {A B : Type 0} (group number image : A → ℕ) (told : A → A → B) 
           absurd (both_ways (nat_eq (number x) (number y)) numbers
           (eq-eqb (number x) (number y) (one (eqb-true (group x) (group y) groups) (eqb-true (image x) (image y) images))))
 
-  from_silent : (x : A) (ys : List A) → Pairs (OneNumber group number image) (x ∷ ys) → beside_from (if_one_image group number image told) x ys ≡ []
+  from_silent : (x : A) (ys : List A) → Pairs (OneNumber group number image) (x ∷ ys) → beside_from (if_one_image group number image reported) x ys ≡ []
   from_silent x [] pairs = refl
   from_silent x (y ∷ ys) pairs =
-      ap (λ l. l ++ beside_from (if_one_image group number image told) y ys) (two_silent x y pairs.0.0) ∙ from_silent y ys pairs.1
+      ap (λ l. l ++ beside_from (if_one_image group number image reported) y ys) (two_silent x y pairs.0.0) ∙ from_silent y ys pairs.1
 
-  all_silent : (xs : List A) → Pairs (OneNumber group number image) xs → beside (if_one_image group number image told) xs ≡ []
+  all_silent : (xs : List A) → Pairs (OneNumber group number image) xs → beside (if_one_image group number image reported) xs ≡ []
   all_silent [] pairs = refl
   all_silent (x ∷ xs) pairs = from_silent x xs pairs
 
@@ -82,7 +82,7 @@ module _ {A B : Type 0} (group number image : A → ℕ) (told : A → A → B) 
   kept : (P : A → Type 0) (xs : List A) → Each P xs → Each P (sorted xs)
   kept P xs each = in_order_each group P (in_order image xs) (in_order_each image P xs each)
 
-  pub two_by_two_silent : (xs : List A) → Each (λ a. Each (OneNumber group number image a) xs) xs → twice group number image told xs ≡ []
+  pub two_by_two_silent : (xs : List A) → Each (λ a. Each (OneNumber group number image a) xs) xs → twice group number image reported xs ≡ []
   two_by_two_silent xs each =
       all_silent (sorted xs)
       (pairs_among (OneNumber group number image) (sorted xs)
@@ -90,7 +90,7 @@ module _ {A B : Type 0} (group number image : A → ℕ) (told : A → A → B) 
       (Each-weaker (λ a. Each (OneNumber group number image a) xs) (λ a. Each (OneNumber group number image a) (sorted xs))
       (λ a others. kept (OneNumber group number image a) xs others) xs each)))
 
-  twice_silent : (xs : List A) → Each (λ a. Each (OneNumber group number image a) xs) xs → twice group number image told (each_once group number xs) ≡ []
+  twice_silent : (xs : List A) → Each (λ a. Each (OneNumber group number image a) xs) xs → twice group number image reported (each_once group number xs) ≡ []
   twice_silent xs each =
       two_by_two_silent (each_once group number xs) (two_once group number (OneNumber group number image) xs each)
 

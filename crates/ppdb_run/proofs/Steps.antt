@@ -65,5 +65,5 @@ one_then {B = B} first next one then r t h k =
     (λ x y e. subst (λ z. (r t : Result B Outcome) → next x r → next z t → r ≡ t) e (λ r t h k. is_one r t (then x r t h k))) r t h k)
 
 -- what is reported is one thing
-pub one_given : {A : Type 0} (told : Result A Outcome) → GivesOne (λ x y. x ≡ y) (gives told)
-one_given told r t h k = subst (λ x. Agree (λ x y. x ≡ y) x t) (sym h) (subst (λ x. Agree (λ x y. x ≡ y) told x) (sym k) (agree_refl told))
+pub one_given : {A : Type 0} (reported : Result A Outcome) → GivesOne (λ x y. x ≡ y) (gives reported)
+one_given reported r t h k = subst (λ x. Agree (λ x y. x ≡ y) x t) (sym h) (subst (λ x. Agree (λ x y. x ≡ y) reported x) (sym k) (agree_refl reported))

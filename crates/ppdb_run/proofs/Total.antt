@@ -13,7 +13,7 @@ use Rattle.ppdb_run.specs.Outcome.{◌>>=◌, IsOutcome, gives, input_of, answer
 use Rattle.ppdb_run.specs.Outcome.{in_limits, judged, map_in, with_input, with_inputs, with_texts, done, form_of, listed, looked_up}
 use Rattle.ppdb_run.proofs.MapSteps.{some_composed}
 use Rattle.ppdb_maps_text.proofs.Judged.{texts_are_judged}
-use Rattle.ppdb_merge.specs.{declared.trace.Trace.{Trace}, Refusals.{added}, Together.{joined_of}}
+use Rattle.ppdb_merge.specs.{declared.summary.Summary.{Summary}, Refusals.{added}, Together.{joined_of}}
 use Rattle.ppdb_queries_list.proofs.Lists.{lists_are_judged}
 use Rattle.ppdb_show.specs.Lookup.{lookup_text_of}
 use Rattle.ppdb_run_words.specs.Words.{Input, Options, Task, Ask, Lookup, Rebuild, Compose, Merge, Sample}
@@ -80,8 +80,8 @@ over_file answer file files Due is none =
 abbrev GivesSome : {A : Type 0} → Step A → Type 0
 GivesSome step = ((r : Result _ Outcome) → step r → ⊥) → ⊥
 
-some_given : {A : Type 0} (told : Result A Outcome) → GivesSome (gives told)
-some_given told none = none told refl
+some_given : {A : Type 0} (reported : Result A Outcome) → GivesSome (gives reported)
+some_given reported none = none reported refl
 
 some_then : {A B : Type 0} (first : Step A) (next : A → Step B) → GivesSome first → ((x : A) → GivesSome (next x)) → GivesSome (first >>= next)
 some_then {A = A} first next some then none = some by_first
@@ -101,35 +101,35 @@ some_text : (name text : List ℕ) → GivesSome (map_in name text)
 some_text name text none =
     texts_are_judged text (λ m has. none (Ok m) has) (λ n kind invalid. none (Err (no_map name n kind)) (n, kind, invalid, refl))
 
-some_texts : (marks : List (List ℕ)) (traces : List Trace) (input : Input) (bytes text : List ℕ) → GivesSome (with_texts marks traces input bytes text)
-some_texts marks traces input bytes text =
+some_texts : (marks : List (List ℕ)) (summaries : List Summary) (input : Input) (bytes text : List ℕ) → GivesSome (with_texts marks summaries input bytes text)
+some_texts marks summaries input bytes text =
     some_then (judged input.file (FileFaults bytes) (IsRawOf bytes))
-    (λ raw. map_in input.map_file text >>= λ m. gives (result_map_both (λ traces. traces) (unfit input.file) (added marks traces m raw)))
+    (λ raw. map_in input.map_file text >>= λ m. gives (result_map_both (λ summaries. summaries) (unfit input.file) (added marks summaries m raw)))
     (some_judged input.file bytes)
-    (λ raw. some_then (map_in input.map_file text) (λ m. gives (result_map_both (λ traces. traces) (unfit input.file) (added marks traces m raw)))
+    (λ raw. some_then (map_in input.map_file text) (λ m. gives (result_map_both (λ summaries. summaries) (unfit input.file) (added marks summaries m raw)))
     (some_text input.map_file text)
-    (λ m. some_given (result_map_both (λ traces. traces) (unfit input.file) (added marks traces m raw))))
+    (λ m. some_given (result_map_both (λ summaries. summaries) (unfit input.file) (added marks summaries m raw))))
 
-some_input : (files : Files) (marks : List (List ℕ)) (traces : List Trace) (input : Input) → GivesSome (with_input files marks traces input)
-some_input files marks traces input =
-    some_then (file_at files input.file) (λ bytes. file_at files input.map_file >>= λ text. with_texts marks traces input bytes text)
+some_input : (files : Files) (marks : List (List ℕ)) (summaries : List Summary) (input : Input) → GivesSome (with_input files marks summaries input)
+some_input files marks summaries input =
+    some_then (file_at files input.file) (λ bytes. file_at files input.map_file >>= λ text. with_texts marks summaries input bytes text)
     (some_given (input_of input.file (reading files input.file MAX_FILE_BYTES)))
-    (λ bytes. some_then (file_at files input.map_file) (with_texts marks traces input bytes)
-    (some_given (input_of input.map_file (reading files input.map_file MAX_FILE_BYTES))) (some_texts marks traces input bytes))
+    (λ bytes. some_then (file_at files input.map_file) (with_texts marks summaries input bytes)
+    (some_given (input_of input.map_file (reading files input.map_file MAX_FILE_BYTES))) (some_texts marks summaries input bytes))
 
-some_inputs : (files : Files) (marks : List (List ℕ)) (traces : List Trace) (inputs : List Input) → GivesSome (with_inputs files marks traces inputs)
-some_inputs files marks traces [] = some_given (Ok traces)
-some_inputs files marks traces (input ∷ inputs) =
-    some_then (with_input files marks traces input) (λ more. with_inputs files marks more inputs) (some_input files marks traces input)
+some_inputs : (files : Files) (marks : List (List ℕ)) (summaries : List Summary) (inputs : List Input) → GivesSome (with_inputs files marks summaries inputs)
+some_inputs files marks summaries [] = some_given (Ok summaries)
+some_inputs files marks summaries (input ∷ inputs) =
+    some_then (with_input files marks summaries input) (λ more. with_inputs files marks more inputs) (some_input files marks summaries input)
     (λ more. some_inputs files marks more inputs)
 
 some_merged : (inputs : List Input) (output : List ℕ) (options : Options) (files : Files) → GivesSome (steps_of (Merge inputs output options) files)
 some_merged inputs output options files =
     some_then (with_inputs files options.marks [] inputs)
-    (λ traces. gives (all_joined inputs (joined_of traces)) >>= λ value. gives (in_limits output options value))
+    (λ summaries. gives (all_joined inputs (joined_of summaries)) >>= λ value. gives (in_limits output options value))
     (some_inputs files options.marks [] inputs)
-    (λ traces. some_then (gives (all_joined inputs (joined_of traces))) (λ value. gives (in_limits output options value))
-    (some_given (all_joined inputs (joined_of traces))) (λ value. some_given (in_limits output options value)))
+    (λ summaries. some_then (gives (all_joined inputs (joined_of summaries))) (λ value. gives (in_limits output options value))
+    (some_given (all_joined inputs (joined_of summaries))) (λ value. some_given (in_limits output options value)))
 
 some_listed : (name text : List ℕ) → GivesSome (listed name text)
 some_listed name text none = lists_are_judged (lines text) (λ asked is. none (Ok asked) is) (λ n other. none (Err (unlisted name n)) (n, other, refl))

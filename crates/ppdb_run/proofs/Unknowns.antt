@@ -7,7 +7,7 @@ use Rattle.ppdb_maps.specs.Map.{is_dropped, is_gone_row, no_lines}
 use Rattle.ppdb_tables.specs.RawTables.{numbered, row_at}
 use Rattle.ppdb_values.specs.{Names.{Parent}, declared.custom.CustomValue.{CustomValue}, declared.file.FileValue.{FileValue}}
 use Rattle.ppdb_values.specs.declared.scope.{ConstantValue.{ConstantValue}, ScopeValue.{ScopeValue}}
-use Rattle.ppdb_merge_items.specs.NamedRows.{goes_constant}
+use Rattle.ppdb_merge_annotated.specs.NamedRows.{goes_constant}
 use Rattle.ppdb_merge_unmoved_laws.proofs.Staying.{never_gone, no_constant_goes}
 use Rattle.ppdb_merge_fits.specs.Clashes.{if_unknown, is_at_gone, is_at_gone_constant, is_unknown, method_at, unknown_kinds}
 use Rattle.ppdb_run.specs.Outcome.{unknown_kind}
@@ -35,18 +35,18 @@ module _ (marks : List (List ℕ)) (value : FileValue) where
   abbrev unknown_in : ℕ × CustomValue → Bool
   unknown_in custom = is_unknown (kind_of marks custom.1.kind)
 
-  abbrev told : ℕ × CustomValue → MergeError
-  told custom = KindUnknown custom.0 custom.1.kind
+  abbrev reported : ℕ × CustomValue → MergeError
+  reported custom = KindUnknown custom.0 custom.1.kind
 
-  one_first : (x : ℕ × CustomValue) (b : Bool) (errors : List MergeError) (later : Option (ℕ × CustomValue)) → slice_get errors 0 ≡ option_map told later
-      → slice_get (cond (b && not false) (told x ∷ []) [] ++ errors) 0 ≡ option_map told (if b then Some x else later)
+  one_first : (x : ℕ × CustomValue) (b : Bool) (errors : List MergeError) (later : Option (ℕ × CustomValue)) → slice_get errors 0 ≡ option_map reported later
+      → slice_get (cond (b && not false) (reported x ∷ []) [] ++ errors) 0 ≡ option_map reported (if b then Some x else later)
   one_first x true errors later rest = refl
   one_first x false errors later rest = rest
 
-  first_is : (rows : List (ℕ × CustomValue)) → slice_get (flat_map (if_unknown marks no_lines value) rows) 0 ≡ option_map told (find unknown_in rows)
+  first_is : (rows : List (ℕ × CustomValue)) → slice_get (flat_map (if_unknown marks no_lines value) rows) 0 ≡ option_map reported (find unknown_in rows)
   first_is [] = refl
   first_is (x ∷ rows) =
-      ap (λ b. slice_get (cond (unknown_in x && not b) (told x ∷ []) [] ++ flat_map (if_unknown marks no_lines value) rows) 0) (never_at_gone x.1.parent)
+      ap (λ b. slice_get (cond (unknown_in x && not b) (reported x ∷ []) [] ++ flat_map (if_unknown marks no_lines value) rows) 0) (never_at_gone x.1.parent)
       ∙ one_first x (unknown_in x) (flat_map (if_unknown marks no_lines value) rows) (find unknown_in rows) (first_is rows)
 
   pub unmoved_unknown : slice_get (unknown_kinds marks no_lines value) 0 ≡ unknown_kind marks value

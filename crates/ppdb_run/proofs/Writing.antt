@@ -3,7 +3,7 @@ use Rattle.std.{proofs.Common.{ℕ, ◌≡◌, inl, List, [], refl, sym, ◌∙�
 use Rattle.ppdb_base.{specs.Files.{Files}, specs.Written.{appended}, proofs.Written.{appended_nothing}}
 use Rattle.ppdb_run_stops.specs.{declared.stop.Stop.{Stop}, Refusals.{Outcome}, Causes.{cause_of, refusal_of}}
 use Rattle.ppdb_run.specs.{Ends.{IsApart, IsValid, KeepsFiles, OnTask, OnAsked, WritesValid}, Outcome.{IsOutcome, steps_of, written}, Stops.{Leaves, LeavesAt}}
-use Rattle.ppdb_run.{specs.Stops.{Finds, Settles}, proofs.Kept.{leaves_unchanged}, proofs.Outcomes.{of_told, on_due}}
+use Rattle.ppdb_run.{specs.Stops.{Finds, Settles}, proofs.Kept.{leaves_unchanged}, proofs.Outcomes.{of_reported, on_due}}
 use Rattle.ppdb_run_words.{specs.Words.{Task, Words, written_file}, proofs.OneTask.{one_task}}
 
 module _ (task : Task) (output : List ℕ) (files : Option Files) where
@@ -95,7 +95,7 @@ writes_file words task output old new writes h (Some other) asks keeps =
 pub on_asked : (P : Option Task → Outcome → Type 0) (words : List (List ℕ)) (asked : Task) (files : Option Files) → OnTask asked files (P (Some asked))
     → Words asked words → (IsApart (Some asked) → ⊥) → OnAsked words files P
 on_asked P words asked files k h reads =
-    of_told (λ asked all. (due : Outcome) → IsOutcome asked all due → P asked due) words asked files k.holds h reads
+    of_reported (λ asked all. (due : Outcome) → IsOutcome asked all due → P asked due) words asked files k.holds h reads
 
 -- nothing is said of an outcome
 pub nothing_due : (task : Task) (files : Option Files) → OnTask task files (λ due. Unit {0})

@@ -1,26 +1,32 @@
 -- What is left of a merge when its inputs are read.
 use Rattle.std.specs.Prelude.{◌≡◌, ℕ, Bool, List, Option, Some, None, Result, Ok, Err, IfSome}
 use Rattle.ppdb_values.specs.declared.file.FileValue.{FileValue}
-use Rattle.ppdb_merge.specs.{declared.trace.Trace.Trace, Together.joined_of}
-use Rattle.ppdb_run_stops.specs.{declared.stop.Stop.Stop, Causes.{cause_of, refusal_of}, Refusals.Outcome}
+use Rattle.ppdb_merge.specs.{declared.summary.Summary.Summary, Together.joined_of}
+use Rattle.ppdb_run_stops.specs.{declared.stop.Stop.Stop, Causes.{cause_of, refusal_of}}
+use Rattle.ppdb_run_stops.specs.Refusals.{Outcome}
 use Rattle.ppdb_run_words.specs.Words.{Input, Options}
-use Rattle.ppdb_run.specs.{Ends.RebuildsWhereKnown, MeaningLaws.SaysButForId, Outcome.{Step, ◌>>=◌, all_joined, gives, in_limits}}
+use Rattle.ppdb_run.specs.{Ends.RebuildsWhereKnown, MeaningLaws.SaysButForId, Outcome.{Step, ◌>>=◌}}
+use Rattle.ppdb_run.specs.Outcome.{all_joined, gives, in_limits}
 
 -- they are joined, and the canonical file of the value is written
-abbrev pub joined_steps : List Input → List ℕ → Options → List Trace → Step Outcome
-joined_steps inputs output options traces = do
-  value ← gives (all_joined inputs (joined_of traces))
+abbrev pub joined_steps : List Input → List ℕ → Options → List Summary → Step Outcome
+joined_steps inputs output options summaries = do
+  value ← gives (all_joined inputs (joined_of summaries))
   gives (in_limits output options value)
 
--- an answer that is there, seen by view, is one that the step may give; a stop that is a refusal is a refusal that it may give
+-- an answer that is there, seen by view, is one that the step may give; a stop that is a refusal is
+-- a refusal that it may give
 abbrev pub GivesIfSome : {X Y : Type 0} → (X → Y) → Result (Option X) Stop → Step Y → Type 0
 GivesIfSome view (Ok (Some x)) step = step (Ok (view x))
 GivesIfSome view (Ok None) step = Unit {0}
-GivesIfSome view (Err stop) step = IfSome (refusal_of (cause_of stop)) (λ refusal. step (Err refusal))
+GivesIfSome view (Err stop) step =
+    IfSome (refusal_of (cause_of stop)) (λ refusal. step (Err refusal))
 
--- Bytes that say the value that inputs are joined to, and that are rebuilt to themselves where its kinds are known.
-pub record IsJoinedFile (keep_id : Bool) (traces : List Trace) (bytes : List ℕ) : Type 0 where
+-- Bytes that say the value that inputs are joined to, and that are rebuilt to themselves where its
+-- kinds are known.
+pub record IsJoinedFile (keep_id : Bool) (summaries : List Summary) (bytes : List ℕ) : Type 0 where
   pub value : FileValue
-  pub joined : joined_of traces ≡ Ok value
+  pub joined : joined_of summaries ≡ Ok value
   pub says : SaysButForId bytes value
-  pub again : (output : List ℕ) (marks : List (List ℕ)) → RebuildsWhereKnown (record { keep_id = keep_id; marks = marks }) (output, bytes)
+  pub again : (output : List ℕ) (marks : List (List ℕ))
+      → RebuildsWhereKnown (record { keep_id = keep_id; marks = marks }) (output, bytes)

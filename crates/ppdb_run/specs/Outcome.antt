@@ -1,22 +1,34 @@
 -- What a command comes to over the files: a status, a text, and at most one file that is written.
-use Rattle.ppdb_values.specs.Names.{kind_of, Code, Place, Fault, Files, Missing, Longer, Contents, reading, LinkError, MergeError, KindUnknown, MAX_FILE_BYTES, IsAccepted, IsFirst, lines, RowsDiffer}
+use Rattle.ppdb_values.specs.Names.{kind_of, Code, Place, Fault, Files, Missing, Longer, Contents}
+use Rattle.ppdb_values.specs.Names.{reading, LinkError, MergeError, KindUnknown, MAX_FILE_BYTES}
+use Rattle.ppdb_values.specs.Names.{IsAccepted, IsFirst, lines, RowsDiffer}
 use Rattle.ppdb_values.specs.Names.{ImageRange, numbered}
-use Rattle.std.specs.{Prelude.{ℕ, ◌≡◌, ◌<◌, ◌≤◌, ◌⊎◌, List, [], ◌∷◌, Bool, if◌then◌else◌, find, Option, Some, None, option_map, ok_or, Result, Ok, Err, codes, length}, Result.result_map_both}
+use Rattle.std.specs.Prelude.{ℕ, ◌≡◌, ◌<◌, ◌≤◌, ◌⊎◌, List, [], ◌∷◌, Bool, if◌then◌else◌, find}
+use Rattle.std.specs.Prelude.{Option, Some, None, option_map, ok_or, Result, Ok, Err, codes, length}
+use Rattle.std.specs.Result.{result_map_both}
 use Rattle.ppdb_base.specs.Files.{Reading}
-use Rattle.ppdb_queries_list.specs.{Lists.{IsFirstOther, Lists}, declared.line.MethodOffset.MethodOffset}
-use Rattle.ppdb_show_lines.specs.{declared.form.Form.{Form, TheVariants.{Text, Json}}, Forms.lines_as, Heads.{id_line, entry_line}, Pieces.line}
-use Rattle.ppdb_show.specs.{Lookup.{has_method, lookup_text_of}, Query.query_text_of, Show.show_text_of}
-use Rattle.ppdb_run_stops.specs.Refusals.{Outcome, prints, usage, absent, too_long, refused, no_map, unfit, limited, map_limited, no_method, unlinked, no_document, unlisted, sizes_differ}
-use Rattle.ppdb_run_words.specs.{Task.file_of, Words.{Question, Id, Verify, Show, Query, Links, Breaks, Options, Input, Task, Ask, Lookup, Rebuild, Compose, Merge, Sample}}
+use Rattle.ppdb_queries_list.specs.Lists.{IsFirstOther, Lists}
+use Rattle.ppdb_queries_list.specs.declared.line.MethodOffset.{MethodOffset}
+use Rattle.ppdb_show_lines.specs.declared.form.{Form.Form, Form.TheVariants.{Text, Json}}
+use Rattle.ppdb_show_lines.specs.{Forms.lines_as, Heads.{id_line, entry_line}, Pieces.line}
+use Rattle.ppdb_show.specs.{Lookup.{has_method, lookup_text_of}, Query.query_text_of}
+use Rattle.ppdb_show.specs.Show.{show_text_of}
+use Rattle.ppdb_run_stops.specs.Refusals.{Outcome, prints, usage, absent, too_long, refused, no_map}
+use Rattle.ppdb_run_stops.specs.Refusals.{unfit, limited, map_limited, no_method, unlinked}
+use Rattle.ppdb_run_stops.specs.Refusals.{no_document, unlisted, sizes_differ}
+use Rattle.ppdb_run_words.specs.{Task.file_of, Words.{Question, Id, Verify, Show, Query, Links}}
+use Rattle.ppdb_run_words.specs.Words.{Breaks, Options, Input, Task, Ask, Lookup, Rebuild, Compose}
+use Rattle.ppdb_run_words.specs.Words.{Merge, Sample}
 use Rattle.ppdb_merge_fits.specs.Clashes.{is_unknown}
-use Rattle.ppdb_merge.specs.{declared.trace.Trace.Trace, Refusals.added, Together.joined_of}
+use Rattle.ppdb_merge.specs.{declared.summary.Summary.Summary, Refusals.added, Together.joined_of}
 pub use Rattle.ppdb_merge.specs.Merged.{unless}
 use Rattle.map_compose.specs.{Composition.IsTextOfBoth, Sizes.{SizesAgree, IsFirstDiffering}}
 use Rattle.ppdb_maps.specs.{Map.Map, Text.{IsMapOf, Refused}}
 use Rattle.source_link.specs.declared.pair.Pair.{Pair}
 use Rattle.ppdb_show_sources.specs.{Links.{file_links, link_text}, Breaks.text_of_breaks}
 use Rattle.break_lines.specs.Breaks.{breaks_in, document_named}
-use Rattle.ppdb_build_canon.specs.{declared.choice.IdChoice.TheVariants.{Hash, Keep}, Canon.canon, Limits.first_limit}
+use Rattle.ppdb_build_canon.specs.{declared.choice.IdChoice.TheVariants.{Hash, Keep}, Canon.canon}
+use Rattle.ppdb_build_canon.specs.Limits.{first_limit}
 use Rattle.ppdb_values.specs.{declared.file.FileValue.FileValue, Value.value_of, RawFile.RawFile}
 use Rattle.ppdb_verify.specs.Files.{FileFaults, IsRawOf}
 use Rattle.ppdb_run.specs.{Sampled.{limit_of_sample, report_of}, Sample.sample_text}
@@ -37,7 +49,7 @@ abbrev pub ◌>>=◌ : {A B : Type 0} → Step A → (A → Step B) → Step B
 
 -- a step that gives this and nothing else
 abbrev pub gives : {A : Type 0} → Result A Outcome → Step A
-gives told result = result ≡ told
+gives reported result = result ≡ reported
 
 -- the bytes of a file that was read, or the refusal of one that is missing or too long
 abbrev pub input_of : List ℕ → Reading → Result (List ℕ) Outcome
@@ -49,10 +61,12 @@ input_of name (Contents bytes) = Ok bytes
 abbrev pub file_at : Files → List ℕ → Step (List ℕ)
 file_at files name = gives (input_of name (reading files name MAX_FILE_BYTES))
 
--- what a file says, where none of the rules is broken; else the file is refused with its first fault
+-- what a file says, where none of the rules is broken; else the file is refused with its first
+-- fault
 abbrev pub judged : {A : Type 0} → List ℕ → (Code → Place → Type 0) → (A → Type 0) → Step A
 judged name Faults Says (Ok x) = IsAccepted Faults × Says x
-judged name Faults Says (Err refusal) = (fault : Fault) × IsFirst Faults fault × (refusal ≡ refused name fault)
+judged name Faults Says (Err refusal) =
+    (fault : Fault) × IsFirst Faults fault × (refusal ≡ refused name fault)
 
 -- what a file is read as, where no rule is broken; else it is refused with its first fault
 abbrev pub verified : Files → List ℕ → Step RawFile
@@ -82,24 +96,31 @@ abbrev pub done : List ℕ → Result Outcome Outcome
 done text = Ok (prints statuses.Done text)
 
 -- the addresses of the documents, where the Source Link record gives some
-abbrev pub links_answer : Form → List ℕ → FileValue → Result (List Pair) LinkError → Result Outcome Outcome
-links_answer form file value links = result_map_both (λ pairs. prints statuses.Done (link_text form value pairs)) (unlinked file) links
+abbrev pub links_answer : Form → List ℕ → FileValue → Result (List Pair) LinkError
+    → Result Outcome Outcome
+links_answer form file value links = result_map_both
+    (λ pairs. prints statuses.Done (link_text form value pairs)) (unlinked file) links
 
 -- the breaks of a line, by method and IL offset, where there is such a document
 abbrev pub breaks_answer : Form → List ℕ → ℕ → FileValue → Option ℕ → Result Outcome Outcome
 breaks_answer form document line value named =
-    ok_or (option_map (λ row. prints statuses.Done (text_of_breaks form (breaks_in value row line))) named) (no_document document)
+    ok_or (option_map (λ row. prints statuses.Done (text_of_breaks form (breaks_in value row line)))
+    named) (no_document document)
 
 -- what the answer to a question about a file is: a text, or why there is none
 abbrev pub answer_of : Question → List ℕ → RawFile → Result Outcome Outcome
-answer_of (Id json) file raw = done (lines_as (form_of json) (id_line raw.id ∷ entry_line raw.entry ∷ []))
+answer_of (Id json) file raw =
+    done (lines_as (form_of json) (id_line raw.id ∷ entry_line raw.entry ∷ []))
 answer_of Verify file raw = done (line (codes "accepted"))
 answer_of (Show json) file raw = done (show_text_of (form_of json) raw)
 answer_of (Query method offset json) file raw =
-    if has_method raw.tables method then done (query_text_of (form_of json) raw method offset) else Err (no_method method)
-answer_of (Links json) file raw = links_answer (form_of json) file (value_of raw) (file_links (value_of raw))
+    if has_method raw.tables method then done (query_text_of (form_of json) raw method offset)
+    else Err (no_method method)
+answer_of (Links json) file raw =
+    links_answer (form_of json) file (value_of raw) (file_links (value_of raw))
 answer_of (Breaks document line json) file raw =
-    breaks_answer (form_of json) document line (value_of raw) (document_named (value_of raw) document)
+    breaks_answer (form_of json) document line (value_of raw)
+    (document_named (value_of raw) document)
 
 -- ---- the questions of a list
 
@@ -128,36 +149,40 @@ unknown_kind marks value = option_map (λ custom. KindUnknown custom.0 custom.1.
 -- the canonical file of a value, with its identity or a hash for one, where it meets no limit
 abbrev pub in_limits : List ℕ → Options → FileValue → Result Outcome Outcome
 in_limits output options value =
-    unless (option_map limited (first_limit value)) (Ok (written output (canon value (if options.keep_id then Keep else Hash))))
+    unless (option_map limited (first_limit value))
+    (Ok (written output (canon value (if options.keep_id then Keep else Hash))))
 
 -- the canonical file of what a file says, where it can be written
 abbrev pub rebuilt : List ℕ → List ℕ → Options → FileValue → Result Outcome Outcome
-rebuilt input output options value = unless (option_map (unfit input) (unknown_kind options.marks value)) (in_limits output options value)
+rebuilt input output options value = unless
+    (option_map (unfit input) (unknown_kind options.marks value)) (in_limits output options value)
 
 -- ---- inputs that are moved and joined
 
--- an input by what was read of it: the file is verified, the map's text has a map, and the input fits those before it
-abbrev pub with_texts : List (List ℕ) → List Trace → Input → List ℕ → List ℕ → Step (List Trace)
-with_texts marks traces input bytes text = do
+-- an input by what was read of it: the file is verified, the map's text has a map, and the input
+-- fits those before it
+abbrev pub with_texts : List (List ℕ) → List Summary → Input → List ℕ → List ℕ → Step (List Summary)
+with_texts marks summaries input bytes text = do
   raw ← judged input.file (FileFaults bytes) (IsRawOf bytes)
   m ← map_in input.map_file text
-  gives (result_map_both (λ traces. traces) (unfit input.file) (added marks traces m raw))
+  gives (result_map_both (λ summaries. summaries) (unfit input.file) (added marks summaries m raw))
 
 -- one more input: its file and its map are read
-abbrev pub with_input : Files → List (List ℕ) → List Trace → Input → Step (List Trace)
-with_input files marks traces input = do
+abbrev pub with_input : Files → List (List ℕ) → List Summary → Input → Step (List Summary)
+with_input files marks summaries input = do
   bytes ← file_at files input.file
   text ← file_at files input.map_file
-  with_texts marks traces input bytes text
+  with_texts marks summaries input bytes text
 
 -- inputs in order
-abbrev pub with_inputs : Files → List (List ℕ) → List Trace → List Input → Step (List Trace)
-with_inputs files marks traces [] = gives (Ok traces)
-with_inputs files marks traces (input ∷ inputs) = do
-  more ← with_input files marks traces input
+abbrev pub with_inputs : Files → List (List ℕ) → List Summary → List Input → Step (List Summary)
+with_inputs files marks summaries [] = gives (Ok summaries)
+with_inputs files marks summaries (input ∷ inputs) = do
+  more ← with_input files marks summaries input
   with_inputs files marks more inputs
 
--- the number of the input that is not joined, counted from 1: it gives a table another number of rows than the first, or an image is above its count
+-- the number of the input that is not joined, counted from 1: it gives a table another number of
+-- rows than the first, or an image is above its count
 abbrev pub input_in : MergeError → ℕ
 input_in (RowsDiffer input table first second) = input
 input_in (ImageRange input table row image rows) = input
@@ -165,16 +190,21 @@ input_in error = 0
 
 -- the value of all inputs, where they can be joined; else the file of the one that cannot, and why
 abbrev pub all_joined : List Input → Result FileValue MergeError → Result FileValue Outcome
-all_joined inputs joined = result_map_both (λ value. value) (λ error. unfit (file_of inputs (input_in error)) error) joined
+all_joined inputs joined =
+    result_map_both (λ value. value) (λ error. unfit (file_of inputs (input_in error)) error) joined
 
 -- ---- a map that is written
 
--- the text of the map of two maps; else the least method whose sizes differ, or the length of a text that is longer than any map's
+-- the text of the map of two maps; else the least method whose sizes differ, or the length of a
+-- text that is longer than any map's
 abbrev pub composed_text : Map → Map → Step (List ℕ)
-composed_text f s (Ok text) = SizesAgree f s × IsTextOfBoth f s text × (length text ≤ MAX_FILE_BYTES)
+composed_text f s (Ok text) =
+    SizesAgree f s × IsTextOfBoth f s text × (length text ≤ MAX_FILE_BYTES)
 composed_text f s (Err refusal) =
-    ((method first second : ℕ) × IsFirstDiffering f s method first second × (refusal ≡ sizes_differ method first second))
-    ⊎ (SizesAgree f s × ((text : List ℕ) × IsTextOfBoth f s text × (MAX_FILE_BYTES < length text) × (refusal ≡ map_limited (length text))))
+    ((method first second : ℕ) × IsFirstDiffering f s method first second
+    × (refusal ≡ sizes_differ method first second))
+    ⊎ (SizesAgree f s × ((text : List ℕ) × IsTextOfBoth f s text × (MAX_FILE_BYTES < length text)
+    × (refusal ≡ map_limited (length text))))
 
 -- ---- the sample
 
@@ -206,8 +236,8 @@ steps_of (Compose first second output) files = do
   text ← composed_text f s
   gives (Ok (written output text))
 steps_of (Merge inputs output options) files = do
-  traces ← with_inputs files options.marks [] inputs
-  value ← gives (all_joined inputs (joined_of traces))
+  summaries ← with_inputs files options.marks [] inputs
+  value ← gives (all_joined inputs (joined_of summaries))
   gives (in_limits output options value)
 steps_of (Sample n) files = gives (sampled n)
 

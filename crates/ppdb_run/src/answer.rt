@@ -5,7 +5,8 @@ ghost use Rattle.ppdb_base.specs.Written.{appended, AppendsPrefix, PutsInto};
 ghost use Rattle.ppdb_show_lines.specs.{Forms.lines_as, Heads.{id_line, entry_line}};
 ghost use Rattle.ppdb_run.specs.Ends.{OnTask, IsWithinRows, IsWithinBound, NeedsNoRows};
 ghost use Rattle.ppdb_run.specs.Outcome.{IsOutcome, answer_of, outcome_of};
-ghost use Rattle.ppdb_run_stops.specs.Causes.{cause_of, ComesFrom, no_file, OnCut, OnUntold, StopsPutting};
+ghost use Rattle.ppdb_run_stops.specs.Causes.{cause_of, ComesFrom, no_file, OnCut, OnUnreported};
+ghost use Rattle.ppdb_run_stops.specs.Causes.{StopsPutting};
 ghost use Rattle.ppdb_run.specs.Stops.{Settles, Finds};
 ghost use Rattle.ppdb_run_words.specs.Task.{question_of};
 ghost use Rattle.ppdb_run_words.specs.Words.{Ask};
@@ -35,10 +36,14 @@ pub fn answer<'a, F: Folder, O: Sink, K: Ledger, L: Ledger>(
     steps: &mut Steps<L>,
 ) -> Result<(), Stop<'a>>
     // What it comes to over reported files.
-    ensures found { IfSome (F.files folder.old) (λ all. Finds result (IsOutcome (Some (Ask (question_of question.entry) file.now)) all)) }
-    ensures told { OnTask (Ask (question_of question.entry) file.now) (F.files folder.old) (Settles result) }
-    ensures text { OnTask (Ask (question_of question.entry) file.now) (F.files folder.old) (λ due. OnOk result (O.written out.new ≡ appended (O.written out.old) due.text)) }
-    ensures rows { IsWithinRows (Ask (question_of question.entry) file.now) (F.files folder.old) steps.old steps.new }
+    ensures found { IfSome (F.files folder.old)
+        (λ all. Finds result (IsOutcome (Some (Ask (question_of question.entry) file.now)) all)) }
+    ensures reported { OnTask (Ask (question_of question.entry) file.now) (F.files folder.old)
+        (Settles result) }
+    ensures text { OnTask (Ask (question_of question.entry) file.now) (F.files folder.old)
+        (λ due. OnOk result (O.written out.new ≡ appended (O.written out.old) due.text)) }
+    ensures rows { IsWithinRows (Ask (question_of question.entry) file.now)
+        (F.files folder.old) steps.old steps.new }
     ensures files { F.files folder.new ≡ F.files folder.old }
 
     // What a stop comes from, and what it leaves.
@@ -50,9 +55,11 @@ pub fn answer<'a, F: Folder, O: Sink, K: Ledger, L: Ledger>(
         (Rose (F.read_faults folder.old) (F.read_faults folder.new))
         (Rose (F.write_faults folder.old) (F.write_faults folder.new))
         (Rose (O.faults out.old) (O.faults out.new))) }
-    ensures silent { IfErr result (λ stop. OnUntold (cause_of stop) (O.written out.new ≡ O.written out.old)) }
+    ensures silent { IfErr result
+        (λ stop. OnUnreported (cause_of stop) (O.written out.new ≡ O.written out.old)) }
     ensures cut { OnTask (Ask (question_of question.entry) file.now) (F.files folder.old)
-        (λ due. IfErr result (λ stop. OnCut (cause_of stop) (AppendsPrefix (O.written out.old) (O.written out.new) due.text))) }
+        (λ due. IfErr result (λ stop.
+        OnCut (cause_of stop) (AppendsPrefix (O.written out.old) (O.written out.new) due.text))) }
     ensures later { O.faults out.old ≤ O.faults out.new }
 {
     let mut bytes = List::new(alloc);
@@ -72,15 +79,20 @@ fn put_answer<'a, O: Sink, L: Ledger>(
     out: &mut O,
     steps: &mut Steps<L>,
 ) -> Result<(), Stop<'a>>
-    ensures told { Settles result (outcome_of (answer_of (question_of question.entry) name.now (raw_file file.now))) }
-    ensures text { OnOk result (O.written out.new ≡ appended (O.written out.old) (outcome_of (answer_of (question_of question.entry) name.now (raw_file file.now))).text) }
+    ensures reported { Settles result
+        (outcome_of (answer_of (question_of question.entry) name.now (raw_file file.now))) }
+    ensures text { OnOk result (O.written out.new ≡ appended (O.written out.old)
+        (outcome_of (answer_of (question_of question.entry) name.now (raw_file file.now))).text) }
     ensures causes { StopsPutting O.faults result out.old out.new }
-    ensures silent { IfErr result (λ stop. OnUntold (cause_of stop) (O.written out.new ≡ O.written out.old)) }
+    ensures silent { IfErr result
+        (λ stop. OnUnreported (cause_of stop) (O.written out.new ≡ O.written out.old)) }
     ensures cut { IfErr result (λ stop. OnCut (cause_of stop)
-        (AppendsPrefix (O.written out.old) (O.written out.new) (outcome_of (answer_of (question_of question.entry) name.now (raw_file file.now))).text)) }
+        (AppendsPrefix (O.written out.old) (O.written out.new)
+        (outcome_of (answer_of (question_of question.entry) name.now (raw_file file.now))).text)) }
     ensures later { O.faults out.old ≤ O.faults out.new }
     ensures none { NeedsNoRows (Ask (question_of question.entry) name.now) → steps.new ≡ steps.old }
-    ensures bound { IsWithinBound (question_of question.entry) (raw_file file.now) steps.old steps.new }
+    ensures bound { IsWithinBound (question_of question.entry)
+        (raw_file file.now) steps.old steps.new }
 {
     let room = Cell::new(Vec::new(alloc));
     let printer = Printer {
@@ -111,9 +123,10 @@ fn put_answer<'a, O: Sink, L: Ledger>(
 /// Puts the two lines of `id`.
 fn put_id<O: Sink>(printer: Printer<'_>, out: &mut O, file: &Verified<'_>) -> Result<(), WriteError>
     ensures { PutsInto O.written O.faults result out.old out.new
-        (lines_as printer.entry.form (id_line (raw_file file.now).id ∷ entry_line (raw_file file.now).entry ∷ [])) }
+        (lines_as printer.entry.form (id_line (raw_file file.now).id
+        ∷ entry_line (raw_file file.now).entry ∷ [])) }
 {
-    let _ = file.keeps();
+    let _ = file.facts();
     let head = file.head();
     put_id_line(printer, out, &head.id)?;
     put_entry_line(printer, out, head.entry)

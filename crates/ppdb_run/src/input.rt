@@ -15,7 +15,8 @@ pub fn read_input<'a, F: Folder>(
     folder: &mut F,
     name: &'a str,
 ) -> Result<Bytes, Stop<'a>>
-    ensures told { IfSome (F.files folder.old) (λ files. Gives (λ bytes. bytes) result (file_at files name.now)) }
+    ensures reported { IfSome (F.files folder.old)
+        (λ files. Gives (λ bytes. bytes) result (file_at files name.now)) }
     ensures short { IfOk result (λ bytes. length bytes ≤ MAX_FILE_BYTES) }
     ensures causes { StopsReading F.files F.read_faults result folder.old folder.new
         (λ failed. (failed ≡ name.now) × (F.reads folder.new ≡ F.reads folder.old)) }

@@ -1,7 +1,7 @@
 // The canonical file of what inputs are joined to.
 ghost use Rattle.std.specs.Prelude.{◌≤◌, ℕ, List, length, None, IfOk, IfSome};
 ghost use Rattle.ppdb_base.specs.First.{IsAccepted};
-ghost use Rattle.ppdb_values_sound_laws.specs.Sound.{IsSound};
+ghost use Rattle.ppdb_values_sound.specs.Sound.{IsSound};
 ghost use Rattle.ppdb_verify.specs.Files.{FileFaults};
 ghost use Rattle.ppdb_merge_meaning_laws.specs.Kept.{InputsFit, joined_inputs};
 ghost use Rattle.ppdb_build.specs.Joining.{moved_inputs};
@@ -17,7 +17,7 @@ use crate::joined_value::{input_of, joined_value_bytes};
 use crate::rebuild::choice;
 use ppdb_base::{Bytes, Steps};
 use ppdb_build::{BuildError, RowInput, write_joined};
-use ppdb_merge::RowMerger;
+use ppdb_merge::InputMerger;
 use ppdb_run_stops::Stop;
 use ppdb_run_words::Inputs;
 use std::alloc::Global;
@@ -27,14 +27,15 @@ use std::sync::ledger::Ledger;
 pub(crate) fn joined_bytes<'a, L: Ledger>(
     alloc: Global,
     inputs: Inputs<'a>,
-    merger: RowMerger<'_>,
+    merger: InputMerger<'_>,
     keep_id: bool,
     steps: &mut Steps<L>,
 ) -> Result<Bytes, Stop<'a>>
-    requires { 1 ≤ length merger.traces }
-    ensures told { (output : List ℕ) (marks : List (List ℕ)) →
-        Gives (written output) result (joined_steps (inputs_of inputs.entry) output (record { keep_id = keep_id; marks = marks }) merger.entry.traces) }
-    ensures joined { IfOk result (IsJoinedFile keep_id merger.entry.traces) }
+    requires { 1 ≤ length merger.summaries }
+    ensures reported { (output : List ℕ) (marks : List (List ℕ)) →
+        Gives (written output) result (joined_steps (inputs_of inputs.entry) output
+        (record { keep_id = keep_id; marks = marks }) merger.entry.summaries) }
+    ensures joined { IfOk result (IsJoinedFile keep_id merger.entry.summaries) }
     ensures accepted { IfOk result (λ bytes. IsAccepted (FileFaults bytes)) }
     ensures causes { StopsInside result }
 {
@@ -49,7 +50,8 @@ pub(crate) fn joined_bytes<'a, L: Ledger>(
     }
 }
 
-/// The canonical file of what inputs are joined to, from their rows. None where these do not tell whether it passes a limit.
+/// The canonical file of what inputs are joined to, from their rows. None where these do not tell
+/// whether it passes a limit.
 fn rows_bytes<'a, L: Ledger>(
     alloc: Global,
     inputs: &[RowInput<'_>],
@@ -60,12 +62,15 @@ fn rows_bytes<'a, L: Ledger>(
     requires most { length inputs.now ≤ 256 }
     requires fit { InputsFit (moved_inputs inputs.now) }
     requires sound { IsSound (joined_inputs (moved_inputs inputs.now)) }
-    ensures told { (output : List ℕ) (marks : List (List ℕ)) →
-        GivesIfSome (written output) result (gives (in_limits output (record { keep_id = keep_id; marks = marks }) (joined_inputs (moved_inputs inputs.now)))) }
+    ensures reported { (output : List ℕ) (marks : List (List ℕ)) →
+        GivesIfSome (written output) result (gives (in_limits output
+        (record { keep_id = keep_id; marks = marks }) (joined_inputs (moved_inputs inputs.now)))) }
     ensures accepted { IfOk result (λ file. IfSome file (λ bytes. IsAccepted (FileFaults bytes))) }
-    ensures says { IfOk result (λ file. IfSome file (λ bytes. SaysButForId bytes (joined_inputs (moved_inputs inputs.now)))) }
+    ensures says { IfOk result (λ file.
+        IfSome file (λ bytes. SaysButForId bytes (joined_inputs (moved_inputs inputs.now)))) }
     ensures again { (output : List ℕ) (marks : List (List ℕ)) →
-        IfOk result (λ file. IfSome file (λ bytes. RebuildsWhereKnown (record { keep_id = keep_id; marks = marks }) (output, bytes))) }
+        IfOk result (λ file. IfSome file (λ bytes.
+        RebuildsWhereKnown (record { keep_id = keep_id; marks = marks }) (output, bytes))) }
     ensures causes { StopsInside result }
 {
     match write_joined(alloc, inputs, choice(keep_id), steps) {

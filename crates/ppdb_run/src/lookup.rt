@@ -8,7 +8,8 @@ ghost use Rattle.ppdb_queries_list.specs.declared.line.MethodOffset.{MethodOffse
 ghost use Rattle.ppdb_show.specs.Lookup.{lookup_rows};
 ghost use Rattle.ppdb_run.specs.Ends.{OnTask, IsUnreadOf, IsWithinRows};
 ghost use Rattle.ppdb_run.specs.Outcome.{IsOutcome, form_of, looked_up};
-ghost use Rattle.ppdb_run_stops.specs.Causes.{cause_of, ComesFrom, no_file, OnCut, OnUntold, StopsPutting};
+ghost use Rattle.ppdb_run_stops.specs.Causes.{cause_of, ComesFrom, no_file, OnCut, OnUnreported};
+ghost use Rattle.ppdb_run_stops.specs.Causes.{StopsPutting};
 ghost use Rattle.ppdb_run.specs.Stops.{Delivers, Settles, Finds};
 ghost use Rattle.ppdb_run_words.specs.Words.{Lookup};
 ghost use Rattle.ppdb_verify.specs.Views.{raw_file};
@@ -38,24 +39,31 @@ pub fn lookup<'a, F: Folder, O: Sink, K: Ledger, L: Ledger>(
     steps: &mut Steps<L>,
 ) -> Result<(), Stop<'a>>
     // What it comes to over reported files.
-    ensures found { IfSome (F.files folder.old) (λ all. Finds result (IsOutcome (Some (Lookup file.now list.now json)) all)) }
-    ensures told { OnTask (Lookup file.now list.now json) (F.files folder.old) (Settles result) }
-    ensures text { OnTask (Lookup file.now list.now json) (F.files folder.old) (λ due. OnOk result (O.written out.new ≡ appended (O.written out.old) due.text)) }
-    ensures rows { IsWithinRows (Lookup file.now list.now json) (F.files folder.old) steps.old steps.new }
+    ensures found { IfSome (F.files folder.old)
+        (λ all. Finds result (IsOutcome (Some (Lookup file.now list.now json)) all)) }
+    ensures reported { OnTask (Lookup file.now list.now json) (F.files folder.old)
+        (Settles result) }
+    ensures text { OnTask (Lookup file.now list.now json) (F.files folder.old)
+        (λ due. OnOk result (O.written out.new ≡ appended (O.written out.old) due.text)) }
+    ensures rows { IsWithinRows (Lookup file.now list.now json)
+        (F.files folder.old) steps.old steps.new }
     ensures files { F.files folder.new ≡ F.files folder.old }
 
     // What a stop comes from, and what it leaves.
     ensures causes { IfErr result (λ stop. ComesFrom (cause_of stop)
         ⊥
-        (IsUnreadOf (Lookup file.now list.now json) (F.files folder.old) (F.reads folder.old) (F.reads folder.new))
+        (IsUnreadOf (Lookup file.now list.now json) (F.files folder.old) (F.reads folder.old)
+        (F.reads folder.new))
         no_file
         (F.files folder.old)
         (Rose (F.read_faults folder.old) (F.read_faults folder.new))
         (Rose (F.write_faults folder.old) (F.write_faults folder.new))
         (Rose (O.faults out.old) (O.faults out.new))) }
-    ensures silent { IfErr result (λ stop. OnUntold (cause_of stop) (O.written out.new ≡ O.written out.old)) }
+    ensures silent { IfErr result
+        (λ stop. OnUnreported (cause_of stop) (O.written out.new ≡ O.written out.old)) }
     ensures cut { OnTask (Lookup file.now list.now json) (F.files folder.old)
-        (λ due. IfErr result (λ stop. OnCut (cause_of stop) (AppendsPrefix (O.written out.old) (O.written out.new) due.text))) }
+        (λ due. IfErr result (λ stop.
+        OnCut (cause_of stop) (AppendsPrefix (O.written out.old) (O.written out.new) due.text))) }
     ensures later { O.faults out.old ≤ O.faults out.new }
 {
     let bytes = match read_input(alloc, folder, file) {
@@ -73,7 +81,8 @@ pub fn lookup<'a, F: Folder, O: Sink, K: Ledger, L: Ledger>(
     answer_list(alloc, json, list, text.as_slice(), &verified, out, steps)
 }
 
-/// Puts the answers to all that a list asks of a verified file; nothing where it has a line that a list cannot have.
+/// Puts the answers to all that a list asks of a verified file; nothing where it has a line that a
+/// list cannot have.
 fn answer_list<'a, O: Sink, L: Ledger>(
     alloc: Global,
     json: bool,
@@ -84,10 +93,13 @@ fn answer_list<'a, O: Sink, L: Ledger>(
     steps: &mut Steps<L>,
 ) -> Result<(), Stop<'a>>
     requires { length list.now ≤ MAX_FILE_BYTES }
-    ensures answered { Delivers (looked_up (form_of json) name.now (raw_file file.now) list.now) result (O.written out.old) (O.written out.new) }
-    ensures bound { (asked : List MethodOffset) → Lists (lines list.now) asked → steps.new ≤ steps.old + lookup_rows (raw_file file.now).tables asked }
+    ensures answered { Delivers (looked_up (form_of json) name.now (raw_file file.now) list.now)
+        result (O.written out.old) (O.written out.new) }
+    ensures bound { (asked : List MethodOffset) → Lists (lines list.now) asked
+        → steps.new ≤ steps.old + lookup_rows (raw_file file.now).tables asked }
     ensures causes { StopsPutting O.faults result out.old out.new }
-    ensures silent { IfErr result (λ stop. OnUntold (cause_of stop) (O.written out.new ≡ O.written out.old)) }
+    ensures silent { IfErr result
+        (λ stop. OnUnreported (cause_of stop) (O.written out.new ≡ O.written out.old)) }
     ensures later { O.faults out.old ≤ O.faults out.new }
 {
     match check_list(list) {

@@ -17,7 +17,8 @@ pub fn read_map_file<'a, F: Folder>(
     name: &'a str,
     folder: &mut F,
 ) -> Result<MapText, Stop<'a>>
-    ensures told { IfSome (F.files folder.old) (λ files. Gives (λ read. read) result (map_at files name.now)) }
+    ensures reported { IfSome (F.files folder.old)
+        (λ files. Gives (λ read. read) result (map_at files name.now)) }
     ensures causes { StopsReading F.files F.read_faults result folder.old folder.new
         (λ failed. (failed ≡ name.now) × (F.reads folder.new ≡ F.reads folder.old)) }
     ensures reads { IfOk result (λ _. F.reads folder.new ≡ counted (F.reads folder.old)) }
@@ -35,7 +36,7 @@ pub fn read_map_file<'a, F: Folder>(
 /// The map that a text has. The text is given up.
 pub fn map_of<'a>(alloc: Global, name: &'a str, text: Bytes) -> Result<MapText, Stop<'a>>
     requires { length text ≤ MAX_FILE_BYTES }
-    ensures told { Gives (λ read. read) result (map_in name.now text) }
+    ensures reported { Gives (λ read. read) result (map_in name.now text) }
     ensures causes { StopsInside result }
 {
     let read = read_map(alloc, text.as_slice());
@@ -47,8 +48,9 @@ pub fn map_of<'a>(alloc: Global, name: &'a str, text: Bytes) -> Result<MapText, 
     }
 }
 
-/// Frees a text, shrunk to one byte first: glibc keeps freed memory up to the size of the largest block that was freed at once, so a long
-/// text that is freed whole would keep later memory from going back to the system.
+/// Frees a text, shrunk to one byte first: glibc keeps freed memory up to the size of the largest
+/// block that was freed at once, so a long text that is freed whole would keep later memory from
+/// going back to the system.
 fn give_up(text: Bytes) {
     let mut bytes = text.into_vec();
     bytes.truncate(1);

@@ -36,13 +36,16 @@ pub fn merge<'a, F: Folder, K: Ledger, L: Ledger>(
     requires most { length (inputs_of inputs) ≤ 256 }
 
     // What it comes to over reported files.
-    ensures comes { WritesOutcome (Merge (inputs_of inputs.entry) output.now (options_of options.entry)) result (F.files folder.old) (F.files folder.new) }
+    ensures comes { WritesOutcome (Merge (inputs_of inputs.entry) output.now
+        (options_of options.entry)) result (F.files folder.old) (F.files folder.new) }
 
     // What a stop comes from, and what it leaves.
     ensures causes { StopsWriting F.files F.read_faults F.write_faults result folder.old folder.new
-        (IsUnreadOf (Merge (inputs_of inputs.entry) output.now (options_of options.entry)) (F.files folder.old) (F.reads folder.old) (F.reads folder.new))
+        (IsUnreadOf (Merge (inputs_of inputs.entry) output.now (options_of options.entry))
+        (F.files folder.old) (F.reads folder.old) (F.reads folder.new))
         output.now }
-    ensures kept { IfErr result (λ stop. OnKept (cause_of stop) (F.files folder.new ≡ F.files folder.old)) }
+    ensures kept { IfErr result
+        (λ stop. OnKept (cause_of stop) (F.files folder.new ≡ F.files folder.old)) }
 {
     let bytes = match merged_bytes(alloc, inputs, options, folder, checks, steps) {
         Ok(bytes) => bytes,
@@ -62,16 +65,20 @@ fn merged_bytes<'a, F: Folder, K: Ledger, L: Ledger>(
 ) -> Result<Bytes, Stop<'a>>
     requires some { 1 ≤ length (inputs_of inputs) }
     requires most { length (inputs_of inputs) ≤ 256 }
-    ensures told { (output : List ℕ) → IfSome (F.files folder.old)
-        (λ all. Gives (written output) result (steps_of (Merge (inputs_of inputs.entry) output (options_of options.entry)) all)) }
+    ensures reported { (output : List ℕ) → IfSome (F.files folder.old)
+        (λ all. Gives (written output) result
+        (steps_of (Merge (inputs_of inputs.entry) output (options_of options.entry)) all)) }
     ensures accepted { IfOk result (λ bytes. IsAccepted (FileFaults bytes)) }
     ensures means { (output : List ℕ) → IfOk result (λ bytes. IfSome (F.files folder.old)
-        (λ all. ExactlyMeans (Merge (inputs_of inputs.entry) output (options_of options.entry)) (options_of options.entry) all bytes)) }
+        (λ all. ExactlyMeans (Merge (inputs_of inputs.entry) output (options_of options.entry))
+        (options_of options.entry) all bytes)) }
     ensures files { F.files folder.new ≡ F.files folder.old }
     ensures write_faults { F.write_faults folder.new ≡ F.write_faults folder.old }
     ensures later { F.read_faults folder.old ≤ F.read_faults folder.new }
-    ensures causes { (output : List ℕ) → StopsReading F.files F.read_faults result folder.old folder.new
-        (IsUnreadOf (Merge (inputs_of inputs.entry) output (options_of options.entry)) (F.files folder.old) (F.reads folder.old) (F.reads folder.new)) }
+    ensures causes { (output : List ℕ)
+        → StopsReading F.files F.read_faults result folder.old folder.new
+        (IsUnreadOf (Merge (inputs_of inputs.entry) output (options_of options.entry))
+        (F.files folder.old) (F.reads folder.old) (F.reads folder.new)) }
 {
     read_inputs_are_valid();
     joined_kinds_are_known();

@@ -13,7 +13,8 @@ pub fn write_output<'a, F: Folder>(
     name: &'a str,
     bytes: &[u8],
 ) -> Result<(), Stop<'a>>
-    ensures files { Leaves result (Some (name.now, bytes.now)) (F.files folder.old) (F.files folder.new) }
+    ensures files { Leaves result (Some (name.now, bytes.now)) (F.files folder.old)
+        (F.files folder.new) }
     ensures causes { IfErr result (λ stop. ComesFrom (cause_of stop)
         ⊥
         no_file
@@ -23,7 +24,8 @@ pub fn write_output<'a, F: Folder>(
         (Rose (F.write_faults folder.old) (F.write_faults folder.new))
         ⊥) }
     ensures no_refusal { IfErr result (λ stop. refusal_of (cause_of stop) ≡ None) }
-    ensures kept { IfErr result (λ stop. OnKept (cause_of stop) (F.files folder.new ≡ F.files folder.old)) }
+    ensures kept { IfErr result
+        (λ stop. OnKept (cause_of stop) (F.files folder.new ≡ F.files folder.old)) }
     ensures reads { F.reads folder.new ≡ F.reads folder.old }
     ensures read_faults { F.read_faults folder.new ≡ F.read_faults folder.old }
 {

@@ -1,11 +1,13 @@
 // The command `rebuild`: the canonical file of a file.
-ghost use Rattle.std.specs.Prelude.{◌≡◌, ◌≤◌, ℕ, List, Some, None, IfOk, IfErr, IfSome, if◌then◌else◌};
+ghost use Rattle.std.specs.Prelude.{◌≡◌, ◌≤◌, ℕ, List, Some, None, IfOk, IfErr, IfSome};
+ghost use Rattle.std.specs.Prelude.{if◌then◌else◌};
 ghost use Rattle.ppdb_base.specs.First.{IsAccepted};
 ghost use Rattle.ppdb_maps.specs.Map.{no_lines};
 ghost use Rattle.ppdb_run.specs.Ends.{RebuildsToItself};
 ghost use Rattle.ppdb_run.specs.Means.{ExactlyMeans};
 ghost use Rattle.ppdb_run.specs.Outcome.{gives, rebuilt, steps_of, unknown_kind, written};
-ghost use Rattle.ppdb_run_stops.specs.Causes.{cause_of, OnKept, StopsInside, StopsReading, StopsWriting};
+ghost use Rattle.ppdb_run_stops.specs.Causes.{cause_of, OnKept, StopsInside, StopsReading};
+ghost use Rattle.ppdb_run_stops.specs.Causes.{StopsWriting};
 ghost use Rattle.ppdb_run.specs.Stops.{Gives, WritesOutcome};
 ghost use Rattle.ppdb_run_words.specs.Task.{options_of};
 ghost use Rattle.ppdb_run_words.specs.Words.{Rebuild};
@@ -38,13 +40,15 @@ pub fn rebuild<'a, F: Folder, K: Ledger, L: Ledger>(
     steps: &mut Steps<L>,
 ) -> Result<(), Stop<'a>>
     // What it comes to over reported files.
-    ensures comes { WritesOutcome (Rebuild input.now output.now (options_of options.entry)) result (F.files folder.old) (F.files folder.new) }
+    ensures comes { WritesOutcome (Rebuild input.now output.now (options_of options.entry)) result
+        (F.files folder.old) (F.files folder.new) }
 
     // What a stop comes from, and what it leaves.
     ensures causes { StopsWriting F.files F.read_faults F.write_faults result folder.old folder.new
         (λ failed. (failed ≡ input.now) × (F.reads folder.new ≡ F.reads folder.old))
         output.now }
-    ensures kept { IfErr result (λ stop. OnKept (cause_of stop) (F.files folder.new ≡ F.files folder.old)) }
+    ensures kept { IfErr result
+        (λ stop. OnKept (cause_of stop) (F.files folder.new ≡ F.files folder.old)) }
 {
     let bytes = match rebuilt_bytes(alloc, input, options, folder, checks, steps) {
         Ok(bytes) => bytes,
@@ -62,12 +66,14 @@ fn rebuilt_bytes<'a, F: Folder, K: Ledger, L: Ledger>(
     checks: &mut Steps<K>,
     steps: &mut Steps<L>,
 ) -> Result<Bytes, Stop<'a>>
-    ensures told { (output : List ℕ) → IfSome (F.files folder.old)
-        (λ all. Gives (written output) result (steps_of (Rebuild input.now output (options_of options.entry)) all)) }
+    ensures reported { (output : List ℕ) → IfSome (F.files folder.old)
+        (λ all. Gives (written output) result
+        (steps_of (Rebuild input.now output (options_of options.entry)) all)) }
     ensures accepted { IfOk result (λ bytes. IsAccepted (FileFaults bytes)) }
     ensures again { IfOk result (RebuildsToItself (options_of options.entry)) }
     ensures means { (output : List ℕ) → IfOk result (λ bytes. IfSome (F.files folder.old)
-        (λ all. ExactlyMeans (Rebuild input.now output (options_of options.entry)) (options_of options.entry) all bytes)) }
+        (λ all. ExactlyMeans (Rebuild input.now output (options_of options.entry))
+        (options_of options.entry) all bytes)) }
     ensures files { F.files folder.new ≡ F.files folder.old }
     ensures write_faults { F.write_faults folder.new ≡ F.write_faults folder.old }
     ensures later { F.read_faults folder.old ≤ F.read_faults folder.new }
@@ -88,7 +94,8 @@ fn rebuilt_bytes<'a, F: Folder, K: Ledger, L: Ledger>(
     file_bytes(alloc, input, &unmoved, &marks, options.keep_id, steps)
 }
 
-/// The canonical file of a verified file that no line moves, where each of its custom records is of a kind that is read or passed on.
+/// The canonical file of a verified file that no line moves, where each of its custom records is of
+/// a kind that is read or passed on.
 fn file_bytes<'a, L: Ledger>(
     alloc: Global,
     name: &'a str,
@@ -98,11 +105,13 @@ fn file_bytes<'a, L: Ledger>(
     steps: &mut Steps<L>,
 ) -> Result<Bytes, Stop<'a>>
     requires { input.now.map ≡ no_lines }
-    ensures told { (output : List ℕ) → Gives (written output) result
-        (gives (rebuilt name.now output (record { keep_id = keep_id; marks = marks.now }) (value_of (raw_file input.now.file)))) }
+    ensures reported { (output : List ℕ) → Gives (written output) result
+        (gives (rebuilt name.now output (record { keep_id = keep_id; marks = marks.now })
+        (value_of (raw_file input.now.file)))) }
     ensures accepted { IfOk result (λ bytes. IsAccepted (FileFaults bytes)) }
     ensures says { IfOk result (λ bytes. SaysButForId bytes (value_of (raw_file input.now.file))) }
-    ensures again { IfOk result (RebuildsToItself (record { keep_id = keep_id; marks = marks.now })) }
+    ensures again { IfOk result
+        (RebuildsToItself (record { keep_id = keep_id; marks = marks.now })) }
     ensures causes { StopsInside result }
 {
     if let Some(error) = unknown(alloc, input, marks, steps)? {
@@ -126,7 +135,8 @@ pub fn choice(keep_id: bool) -> IdChoice
     }
 }
 
-/// The first custom record of a kind that is neither read nor passed on: no line removes what it is on.
+/// The first custom record of a kind that is neither read nor passed on: no line removes what it is
+/// on.
 fn unknown<L: Ledger>(
     alloc: Global,
     input: &RowInput<'_>,
@@ -134,7 +144,8 @@ fn unknown<L: Ledger>(
     steps: &mut Steps<L>,
 ) -> Result<Option<MergeError>, Memory>
     requires { input.now.map ≡ no_lines }
-    ensures { IfOk result (λ told. told ≡ unknown_kind marks.now (value_of (raw_file input.now.file))) }
+    ensures { IfOk result
+        (λ reported. reported ≡ unknown_kind marks.now (value_of (raw_file input.now.file))) }
 {
     first_unknown(alloc, marks, &input.map, &input.file, steps)
 }

@@ -7,7 +7,7 @@ ghost use Rattle.ppdb_values.specs.RawFile.{RawFile};
 ghost use Rattle.ppdb_verify.specs.Files.{FileFaults, IsRawOf};
 ghost use Rattle.ppdb_verify.specs.Views.{raw_file};
 ghost use Rattle.ppdb_build_sample.specs.Sample.{sample};
-ghost use Rattle.ppdb_values_sound_laws.specs.Sound.{IsSound};
+ghost use Rattle.ppdb_values_sound.specs.Sound.{IsSound};
 ghost use Rattle.ppdb_run.specs.Holding.{HoldsSample};
 ghost use Rattle.ppdb_run.specs.Sampled.{remapped_sample};
 
@@ -56,14 +56,14 @@ fn moved<L: Ledger>(
 ) -> Result<Merger, Memory>
     requires few { methods ≤ 100000 }
     requires says { value_of (raw_file file.now) ≡ sample methods }
-    ensures { IfOk result (λ merger. HoldsSample methods merger.traces) }
+    ensures { IfOk result (λ merger. HoldsSample methods merger.summaries) }
 {
-    let _ = file.keeps();
+    let _ = file.facts();
     samples_fit();
     references_are_named();
     fitting_maps_do_not_clash();
     let map = sample_map(alloc, methods)?;
-    let _ = map.keeps();
+    let _ = map.facts();
     let mut merger = Merger::new(alloc, Marks::new(alloc));
     match merger.add(file, &map, steps) {
         Ok(()) => Ok(merger),
@@ -71,7 +71,8 @@ fn moved<L: Ledger>(
     }
 }
 
-/// Verifies the bytes of the sample's file, and moves by the sample's map what they say. The bytes are given up.
+/// Verifies the bytes of the sample's file, and moves by the sample's map what they say. The bytes
+/// are given up.
 fn merged<K: Ledger, L: Ledger>(
     alloc: Global,
     methods: u32,
@@ -83,7 +84,7 @@ fn merged<K: Ledger, L: Ledger>(
     requires short { length file ≤ MAX_FILE_BYTES }
     requires accepted { IsAccepted (FileFaults file) }
     requires says { (raw : RawFile) → IsRawOf file raw → value_of raw ≡ sample methods }
-    ensures { IfOk result (λ merger. HoldsSample methods merger.traces) }
+    ensures { IfOk result (λ merger. HoldsSample methods merger.summaries) }
 {
     match accepted(alloc, file.as_slice(), checks) {
         Ok(verified) => moved(alloc, methods, &verified, steps),
@@ -93,7 +94,7 @@ fn merged<K: Ledger, L: Ledger>(
 
 /// The value of the sample that was moved.
 fn finished(merger: Merger, methods: u32) -> Result<FileValue, Memory>
-    requires { HoldsSample methods merger.traces }
+    requires { HoldsSample methods merger.summaries }
     ensures value { IfOk result (λ value. value ≡ remapped_sample methods) }
     ensures sound { IfOk result IsSound }
 {
@@ -103,7 +104,8 @@ fn finished(merger: Merger, methods: u32) -> Result<FileValue, Memory>
     }
 }
 
-/// What the sample's file says, moved by the sample's map. The file is verified first, and then given up.
+/// What the sample's file says, moved by the sample's map. The file is verified first, and then
+/// given up.
 pub(crate) fn remapped_value<K: Ledger, L: Ledger>(
     alloc: Global,
     methods: u32,

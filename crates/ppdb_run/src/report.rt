@@ -8,7 +8,7 @@ ghost use Rattle.ppdb_values.specs.RawFile.{RawFile};
 ghost use Rattle.ppdb_values.specs.Value.{value_of};
 ghost use Rattle.ppdb_verify.specs.Files.{FileFaults, IsRawOf};
 ghost use Rattle.ppdb_build_sample.specs.Sample.{sample};
-ghost use Rattle.ppdb_values_sound_laws.specs.Sound.{IsSound};
+ghost use Rattle.ppdb_values_sound.specs.Sound.{IsSound};
 ghost use Rattle.ppdb_run.specs.Sampled.{limit_of_sample, remapped_sample, report_of};
 
 use crate::remapped::remapped_value;
@@ -42,7 +42,8 @@ fn sample_file(alloc: Global, methods: u32) -> Result<Bytes, BuildError>
     ensures limit { IfErr result (IsLimit (limit_of_sample methods)) }
     ensures short { IfOk result (λ file. length file ≤ MAX_FILE_BYTES) }
     ensures accepted { IfOk result (λ file. IsAccepted (FileFaults file)) }
-    ensures says { IfOk result (λ file. (raw : RawFile) → IsRawOf file raw → value_of raw ≡ sample methods) }
+    ensures says { IfOk result (λ file. (raw : RawFile) → IsRawOf file raw
+        → value_of raw ≡ sample methods) }
 {
     samples_fit();
     values_without_limits_are_small();
@@ -74,7 +75,7 @@ fn report(
     requires within { first_limit (sample methods) ≡ None }
     requires value { value.now ≡ remapped_sample methods }
     requires sound { IsSound value.now }
-    ensures told { IfOk result (λ told. told ≡ report_of methods) }
+    ensures reported { IfOk result (λ reported. reported ≡ report_of methods) }
     ensures within { OnOk result (limit_of_sample methods ≡ None) }
     ensures limit { IfErr result (IsLimit (limit_of_sample methods)) }
 {
@@ -96,11 +97,13 @@ fn report(
     }
 }
 
-/// Writes the sample file of `methods` methods, verifies it, moves what it says by the sample's map, and writes that.
+/// Writes the sample file of `methods` methods, verifies it, moves what it says by the sample's
+/// map, and writes that.
 ///
 /// # Errors
 ///
-/// The first limit that the sample passes, or else the first that the moved one passes; or that there was no memory left.
+/// The first limit that the sample passes, or else the first that the moved one passes; or that
+/// there was no memory left.
 pub fn sampled<K: Ledger, L: Ledger>(
     alloc: Global,
     methods: u32,
@@ -108,7 +111,7 @@ pub fn sampled<K: Ledger, L: Ledger>(
     steps: &mut Steps<L>,
 ) -> Result<SampleReport, BuildError>
     requires { methods ≤ 100000 }
-    ensures told { IfOk result (λ told. told ≡ report_of methods) }
+    ensures reported { IfOk result (λ reported. reported ≡ report_of methods) }
     ensures within { OnOk result (limit_of_sample methods ≡ None) }
     ensures limit { IfErr result (IsLimit (limit_of_sample methods)) }
 {

@@ -6,7 +6,7 @@ ghost use Rattle.ppdb_show_sources.specs.Links.{file_links as links_of};
 ghost use Rattle.ppdb_values.specs.Value.{value_of};
 ghost use Rattle.ppdb_run.specs.Ends.{IsWithinBound};
 ghost use Rattle.ppdb_run.specs.Outcome.{breaks_answer, links_answer, outcome_of};
-ghost use Rattle.ppdb_run_stops.specs.Causes.{cause_of, OnCut, OnUntold, StopsPutting};
+ghost use Rattle.ppdb_run_stops.specs.Causes.{cause_of, OnCut, OnUnreported, StopsPutting};
 ghost use Rattle.ppdb_run.specs.Stops.{Settles};
 ghost use Rattle.ppdb_run_words.specs.Words.{Links, Breaks};
 ghost use Rattle.ppdb_verify.specs.Views.{raw_file};
@@ -27,15 +27,19 @@ pub fn answer_links<'a, O: Sink, L: Ledger>(
     out: &mut O,
     steps: &mut Steps<L>,
 ) -> Result<(), Stop<'a>>
-    ensures told { Settles result
-        (outcome_of (links_answer printer.entry.form name.now (value_of (raw_file file.now)) (links_of (value_of (raw_file file.now))))) }
+    ensures reported { Settles result
+        (outcome_of (links_answer printer.entry.form name.now (value_of (raw_file file.now))
+        (links_of (value_of (raw_file file.now))))) }
     ensures text { OnOk result (O.written out.new ≡ appended (O.written out.old)
-        (outcome_of (links_answer printer.entry.form name.now (value_of (raw_file file.now)) (links_of (value_of (raw_file file.now))))).text) }
+        (outcome_of (links_answer printer.entry.form name.now (value_of (raw_file file.now))
+        (links_of (value_of (raw_file file.now))))).text) }
     ensures causes { StopsPutting O.faults result out.old out.new }
-    ensures silent { IfErr result (λ stop. OnUntold (cause_of stop) (O.written out.new ≡ O.written out.old)) }
+    ensures silent { IfErr result
+        (λ stop. OnUnreported (cause_of stop) (O.written out.new ≡ O.written out.old)) }
     ensures cut { IfErr result (λ stop. OnCut (cause_of stop)
         (AppendsPrefix (O.written out.old) (O.written out.new)
-        (outcome_of (links_answer printer.entry.form name.now (value_of (raw_file file.now)) (links_of (value_of (raw_file file.now))))).text)) }
+        (outcome_of (links_answer printer.entry.form name.now (value_of (raw_file file.now))
+        (links_of (value_of (raw_file file.now))))).text)) }
     ensures later { O.faults out.old ≤ O.faults out.new }
     ensures bound { IsWithinBound (Links false) (raw_file file.now) steps.old steps.new }
 {
@@ -48,7 +52,8 @@ pub fn answer_links<'a, O: Sink, L: Ledger>(
     }
 }
 
-/// Puts the places at which a debugger may stop for a line of a document. The answer does not look at the file's name.
+/// Puts the places at which a debugger may stop for a line of a document. The answer does not look
+/// at the file's name.
 pub fn answer_breaks<'a, O: Sink, L: Ledger>(
     printer: Printer<'_>,
     document: &'a str,
@@ -57,19 +62,24 @@ pub fn answer_breaks<'a, O: Sink, L: Ledger>(
     out: &mut O,
     steps: &mut Steps<L>,
 ) -> Result<(), Stop<'a>>
-    ensures told { Settles result
-        (outcome_of (breaks_answer printer.entry.form document.now line (value_of (raw_file file.now)) (named (value_of (raw_file file.now)) document.now))) }
+    ensures reported { Settles result
+        (outcome_of (breaks_answer printer.entry.form document.now line
+        (value_of (raw_file file.now)) (named (value_of (raw_file file.now)) document.now))) }
     ensures text { OnOk result (O.written out.new ≡ appended (O.written out.old)
-        (outcome_of (breaks_answer printer.entry.form document.now line (value_of (raw_file file.now)) (named (value_of (raw_file file.now)) document.now))).text) }
+        (outcome_of (breaks_answer printer.entry.form document.now line
+        (value_of (raw_file file.now)) (named (value_of (raw_file file.now)) document.now))).text) }
     ensures causes { StopsPutting O.faults result out.old out.new }
-    ensures silent { IfErr result (λ stop. OnUntold (cause_of stop) (O.written out.new ≡ O.written out.old)) }
+    ensures silent { IfErr result
+        (λ stop. OnUnreported (cause_of stop) (O.written out.new ≡ O.written out.old)) }
     ensures cut { IfErr result (λ stop. OnCut (cause_of stop)
         (AppendsPrefix (O.written out.old) (O.written out.new)
-        (outcome_of (breaks_answer printer.entry.form document.now line (value_of (raw_file file.now)) (named (value_of (raw_file file.now)) document.now))).text)) }
+        (outcome_of (breaks_answer printer.entry.form document.now line (value_of
+        (raw_file file.now)) (named (value_of (raw_file file.now)) document.now))).text)) }
     ensures later { O.faults out.old ≤ O.faults out.new }
-    ensures bound { IsWithinBound (Breaks document.now line false) (raw_file file.now) steps.old steps.new }
+    ensures bound { IsWithinBound (Breaks document.now line false)
+        (raw_file file.now) steps.old steps.new }
 {
-    let _ = file.keeps();
+    let _ = file.facts();
     let Some(row) = document_named(file, document.as_bytes(), steps) else {
         return Err(Stop::NoDocument(document));
     };

@@ -21,7 +21,8 @@ pub fn read_verified<'a, 'b, F: Folder, L: Ledger>(
     bytes: &'b mut Bytes,
     steps: &mut Steps<L>,
 ) -> Result<Verified<'b>, Stop<'a>>
-    ensures told { IfSome (F.files folder.old) (λ all. Gives raw_file result (verified all file.now)) }
+    ensures reported { IfSome (F.files folder.old)
+        (λ all. Gives raw_file result (verified all file.now)) }
     ensures files { F.files folder.new ≡ F.files folder.old }
     ensures write_faults { F.write_faults folder.new ≡ F.write_faults folder.old }
     ensures later { F.read_faults folder.old ≤ F.read_faults folder.new }
@@ -47,7 +48,8 @@ pub fn verify_bytes<'a, 'b, L: Ledger>(
     steps: &mut Steps<L>,
 ) -> Result<Verified<'b>, Stop<'a>>
     requires { length bytes.now ≤ MAX_FILE_BYTES }
-    ensures told { Gives raw_file result (judged file.now (FileFaults bytes.now) (IsRawOf bytes.now)) }
+    ensures reported { Gives raw_file result
+        (judged file.now (FileFaults bytes.now) (IsRawOf bytes.now)) }
     ensures causes { StopsInside result }
 {
     match verify(alloc, bytes, steps) {

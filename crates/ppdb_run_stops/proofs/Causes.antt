@@ -84,7 +84,7 @@ at_refusal P a b c d e f g h i j k Unlisted is = k
 pub widened : {M M' : Type 0} {R R' W W' : List ℕ → Type 0} {files files' : Option Files} {A A' B B' C C' : Type 0} (cause : Cause)
     → (M → M') → ((name : List ℕ) → R name → R' name) → ((name : List ℕ) → W name → W' name) → (files' ≡ None → files ≡ None) → (A → A') → (B → B') → (C → C')
     → ComesFrom cause M R W files A B C → ComesFrom cause M' R' W' files' A' B' C'
-widened (Refusal outcome) m r w n a b c h = (λ usage. m (h.0 usage), λ untold no_input. a (h.1 (n untold) no_input))
+widened (Refusal outcome) m r w n a b c h = (λ usage. m (h.0 usage), λ unreported no_input. a (h.1 (n unreported) no_input))
 widened (Unread name) m r w n a b c h = (r name h.0, a h.1)
 widened (Unwritten name) m r w n a b c h = (w name h.0, b h.1)
 widened Unput m r w n a b c h = c h

@@ -1,8 +1,11 @@
 -- Why a run stopped, and what that says.
 use Rattle.std.specs.Prelude.{ℕ, List, [], Option, Some, None, Result, IfErr, ◌≡◌, ◌⊎◌}
 use Rattle.ppdb_base.specs.{declared.sink.WriteError.WriteError, Causes.Rose, Files.Files}
-use Rattle.ppdb_run_stops.specs.{declared.status.Status.Status, declared.stop.Stop.Stop, Lines.{read_fault_line, write_fault_line}}
-use Rattle.ppdb_run_stops.specs.Refusals.{Outcome, usage, absent, too_long, refused, no_map, unfit, limited, map_limited, no_method, unlinked, no_document, sizes_differ, unlisted}
+use Rattle.ppdb_run_stops.specs.declared.{status.Status.Status, stop.Stop.Stop}
+use Rattle.ppdb_run_stops.specs.Lines.{read_fault_line, write_fault_line}
+use Rattle.ppdb_run_stops.specs.Refusals.{Outcome, usage, absent, too_long, refused, no_map, unfit}
+use Rattle.ppdb_run_stops.specs.Refusals.{limited, map_limited, no_method, unlinked, no_document}
+use Rattle.ppdb_run_stops.specs.Refusals.{sizes_differ, unlisted}
 use Rattle.ppdb_base.specs.declared.link_error.LinkError.TheVariants as link_errors
 use Rattle.ppdb_base.specs.declared.merge_error.MergeError.TheVariants as merge_errors
 use Rattle.ppdb_base.specs.declared.sink.WriteError.TheVariants as write_errors
@@ -69,11 +72,12 @@ line_of (Unwritten name) = write_fault_line name
 line_of Unput = []
 line_of OutOfMemory = []
 
--- P holds where a line is still to say what the cause is: of each cause but that the sink failed or that there was no memory left
-abbrev pub OnUntold : Cause → Type 0 → Type 0
-OnUntold Unput P = Unit {0}
-OnUntold OutOfMemory P = Unit {0}
-OnUntold cause P = P
+-- P holds where a line is still to say what the cause is: of each cause but that the sink failed or
+-- that there was no memory left
+abbrev pub OnUnreported : Cause → Type 0 → Type 0
+OnUnreported Unput P = Unit {0}
+OnUnreported OutOfMemory P = Unit {0}
+OnUnreported cause P = P
 
 -- P holds where the text may be cut off: the sink failed, or there was no memory left
 abbrev pub OnCut : Cause → Type 0 → Type 0
@@ -91,14 +95,19 @@ OnKept cause P = P
 abbrev pub IsNoInput : Status → Type 0
 IsNoInput status = (status ≡ statuses.Absent) ⊎ (status ≡ statuses.TooLong)
 
--- what a stop comes from: Misused says that the words are no command's, ToRead and ToWrite which file was to be read or written, and
--- ReadFailed, WriteFailed and PutFailed that a count of faults rose
-abbrev pub ComesFrom : Cause → (Misused : Type 0) → (ToRead ToWrite : List ℕ → Type 0) → (files : Option Files) → (ReadFailed WriteFailed PutFailed : Type 0)
+-- what a stop comes from: Misused says that the words are no command's, ToRead and ToWrite which
+-- file was to be read or written, and ReadFailed, WriteFailed and PutFailed that a count of faults
+-- rose
+abbrev pub ComesFrom : Cause → (Misused : Type 0) → (ToRead ToWrite : List ℕ → Type 0)
+    → (files : Option Files) → (ReadFailed WriteFailed PutFailed : Type 0)
     → Type 0
 ComesFrom (Refusal outcome) Misused ToRead ToWrite files ReadFailed WriteFailed PutFailed =
-    (outcome.status ≡ statuses.Usage → Misused) × (files ≡ None → IsNoInput outcome.status → ReadFailed)
-ComesFrom (Unread name) Misused ToRead ToWrite files ReadFailed WriteFailed PutFailed = ToRead name × ReadFailed
-ComesFrom (Unwritten name) Misused ToRead ToWrite files ReadFailed WriteFailed PutFailed = ToWrite name × WriteFailed
+    (outcome.status ≡ statuses.Usage → Misused)
+    × (files ≡ None → IsNoInput outcome.status → ReadFailed)
+ComesFrom (Unread name) Misused ToRead ToWrite files ReadFailed WriteFailed PutFailed =
+    ToRead name × ReadFailed
+ComesFrom (Unwritten name) Misused ToRead ToWrite files ReadFailed WriteFailed PutFailed =
+    ToWrite name × WriteFailed
 ComesFrom Unput Misused ToRead ToWrite files ReadFailed WriteFailed PutFailed = PutFailed
 ComesFrom OutOfMemory Misused ToRead ToWrite files ReadFailed WriteFailed PutFailed = Unit {0}
 
@@ -114,18 +123,23 @@ StopsInside result = IfErr result (λ stop. ComesFrom (cause_of stop) ⊥ no_fil
 
 -- a result stops by nothing outside but a sink, which is seen by its count of faults
 abbrev pub StopsPutting : {S T : Type 0} → (S → ℕ) → Result T Stop → (old new : S) → Type 0
-StopsPutting faults result old new = IfErr result (λ stop. ComesFrom (cause_of stop) ⊥ no_file no_file None ⊥ ⊥ (Rose (faults old) (faults new)))
+StopsPutting faults result old new = IfErr result
+    (λ stop. ComesFrom (cause_of stop) ⊥ no_file no_file None ⊥ ⊥ (Rose (faults old) (faults new)))
 
--- a result stops by nothing outside but a folder, which is seen by its files and by its count of failed reads: ToRead says which file was
--- to be read
-abbrev pub StopsReading : {S T : Type 0} → (S → Option Files) → (S → ℕ) → Result T Stop → (old new : S) → (ToRead : List ℕ → Type 0) → Type 0
+-- a result stops by nothing outside but a folder, which is seen by its files and by its count of
+-- failed reads: ToRead says which file was to be read
+abbrev pub StopsReading : {S T : Type 0} → (S → Option Files) → (S → ℕ) → Result T Stop
+    → (old new : S) → (ToRead : List ℕ → Type 0) → Type 0
 StopsReading files read_faults result old new ToRead =
-    IfErr result (λ stop. ComesFrom (cause_of stop) ⊥ ToRead no_file (files old) (Rose (read_faults old) (read_faults new)) ⊥ ⊥)
+    IfErr result (λ stop. ComesFrom (cause_of stop) ⊥ ToRead no_file (files old)
+    (Rose (read_faults old) (read_faults new)) ⊥ ⊥)
 
--- a result stops by nothing outside but a folder, which is seen by its files and by its counts of failed reads and writes: ToRead says
--- which file was to be read, and output was to be written
-abbrev pub StopsWriting : {S T : Type 0} → (S → Option Files) → (read_faults write_faults : S → ℕ) → Result T Stop → (old new : S)
+-- a result stops by nothing outside but a folder, which is seen by its files and by its counts of
+-- failed reads and writes: ToRead says which file was to be read, and output was to be written
+abbrev pub StopsWriting : {S T : Type 0} → (S → Option Files) → (read_faults write_faults : S → ℕ)
+    → Result T Stop → (old new : S)
     → (ToRead : List ℕ → Type 0) → (output : List ℕ) → Type 0
 StopsWriting files read_faults write_faults result old new ToRead output =
-    IfErr result (λ stop. ComesFrom (cause_of stop) ⊥ ToRead (λ name. name ≡ output) (files old) (Rose (read_faults old) (read_faults new))
+    IfErr result (λ stop. ComesFrom (cause_of stop) ⊥ ToRead (λ name. name ≡ output) (files old)
+    (Rose (read_faults old) (read_faults new))
     (Rose (write_faults old) (write_faults new)) ⊥)

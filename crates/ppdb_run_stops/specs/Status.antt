@@ -1,6 +1,10 @@
 -- The status that a process ends with.
 use Rattle.std.specs.Prelude.{ℕ}
-use Rattle.ppdb_run_stops.specs.declared.status.Status.TheVariants.{Done, Refused, Usage, ReadFault, WriteFault, Memory, Absent, TooLong, Unfit, Limit, NoMethod, Unlinked, NoDocument, Uncomposed}
+use Rattle.ppdb_run_stops.specs.declared.status.Status.TheVariants.{Done, Refused, Usage, ReadFault}
+use Rattle.ppdb_run_stops.specs.declared.status.Status.TheVariants.{WriteFault, Memory, Absent}
+use Rattle.ppdb_run_stops.specs.declared.status.Status.TheVariants.{TooLong, Unfit, Limit, NoMethod}
+use Rattle.ppdb_run_stops.specs.declared.status.Status.TheVariants.{Unlinked, NoDocument}
+use Rattle.ppdb_run_stops.specs.declared.status.Status.TheVariants.{Uncomposed}
 use Rattle.ppdb_run_stops.specs.declared.status.Status.TheVariants.{Unlisted}
 use Rattle.ppdb_run_stops.specs.declared.status.Status.{Status}
 

@@ -6,7 +6,7 @@ ghost use Rattle.ppdb_base.specs.Written.{PutsInto};
 
 use ppdb_base::{Fault, Sink, WriteError};
 use ppdb_show_lines::Item::{Name, Number, Table};
-use ppdb_show_lines::Part::{Field, Mark};
+use ppdb_show_lines::Part::{Field, Literal};
 use ppdb_show_lines::{Key, put_text_line};
 
 /// The number of the part that has the rows of the tables.
@@ -26,7 +26,7 @@ pub fn put_refused<O: Sink>(out: &mut O, name: &str, fault: Fault) -> Result<(),
         let column = Field(" column ", Key::None, Number(u32::from(place.column)));
         put_text_line(out, "refused", &[name, code, table, row, column, byte])
     } else {
-        let part = Mark(part_name(place.part));
+        let part = Literal(part_name(place.part));
         put_text_line(out, "refused", &[name, code, part, byte])
     }
 }

@@ -34,7 +34,8 @@ pub fn put_limit<O: Sink>(out: &mut O, limit: Limit) -> Result<(), WriteError>
 
 /// Puts words and a number as the end of a line.
 pub fn put_number_line<O: Sink>(out: &mut O, words: &[u8], number: u64) -> Result<(), WriteError>
-    ensures { PutsInto O.written O.faults result out.old out.new (line (numbered words.now number)) }
+    ensures { PutsInto O.written O.faults result out.old out.new
+        (line (numbered words.now number)) }
 {
     put_numbered64(out, words, number)?;
     out.put(b"\n")

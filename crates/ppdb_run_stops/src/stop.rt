@@ -14,7 +14,7 @@ use crate::status::Status;
 use crate::unfit::put_unfit;
 use ppdb_base::{Fault, Limit, LinkError, Memory, MergeError, Sink, WriteError};
 use ppdb_show_lines::Item::{Name, Number};
-use ppdb_show_lines::Part::{Field, Mark};
+use ppdb_show_lines::Part::{Field, Literal};
 use ppdb_show_lines::{Key, put_text_line};
 
 /// What ends a run before its answer. A name is that of the file that it comes from.
@@ -32,7 +32,8 @@ pub enum Stop<'a> {
     TooLong(&'a str),
     /// The file has this first fault.
     Refused(&'a str, Fault),
-    /// The map's text has no reading: its first line that breaks a rule, and the least number of one that it breaks.
+    /// The map's text has no reading: its first line that breaks a rule, and the least number of
+    /// one that it breaks.
     Map {
         name: &'a str,
         line: u32,
@@ -112,7 +113,8 @@ impl Stop<'_> {
 
     /// Puts the line that says so, if there is one.
     pub fn put<O: Sink>(self, out: &mut O) -> Result<(), WriteError>
-        ensures { PutsInto O.written O.faults result out.old out.new (line_of (cause_of self.entry)) }
+        ensures { PutsInto O.written O.faults result out.old out.new
+            (line_of (cause_of self.entry)) }
     {
         match self {
             Stop::Usage => put_text_line(out, "usage", &[]),
@@ -142,7 +144,8 @@ impl Stop<'_> {
 
 /// Puts a line of words and a name.
 fn put_name<O: Sink>(out: &mut O, words: &str, name: &str) -> Result<(), WriteError>
-    ensures { PutsInto O.written O.faults result out.old out.new (text_of (record { word = words.now; fields = said " " (named_bytes name.now) ∷ [] })) }
+    ensures { PutsInto O.written O.faults result out.old out.new
+        (text_of (record { word = words.now; fields = said " " (named_bytes name.now) ∷ [] })) }
 {
     put_text_line(out, words, &[Field(" ", Key::None, Name(name.as_bytes()))])
 }
@@ -179,15 +182,16 @@ fn put_unlinked<O: Sink>(out: &mut O, name: &str, error: LinkError) -> Result<()
 {
     let name = Field(" ", Key::None, Name(name.as_bytes()));
     match error {
-        LinkError::NotJson => put_text_line(out, "links", &[name, Mark(" not json")]),
-        LinkError::Shape => put_text_line(out, "links", &[name, Mark(" shape")]),
+        LinkError::NotJson => put_text_line(out, "links", &[name, Literal(" not json")]),
+        LinkError::Shape => put_text_line(out, "links", &[name, Literal(" shape")]),
         LinkError::Memory => put_text_line(out, "links", &[name]),
     }
 }
 
 /// Puts the line of maps that do not fit one another.
 fn put_sizes<O: Sink>(out: &mut O, method: u32, first: u32, second: u32) -> Result<(), WriteError>
-    ensures { PutsInto O.written O.faults result out.old out.new (sizes_differ method first second).text }
+    ensures { PutsInto O.written O.faults result out.old out.new
+        (sizes_differ method first second).text }
 {
     let method = Field(" method ", Key::None, Number(method));
     let first = Field(" ", Key::None, Number(first));

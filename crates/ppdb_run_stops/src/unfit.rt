@@ -8,7 +8,7 @@ ghost use Rattle.ppdb_base.specs.Written.{PutsInto};
 use crate::fault::{ROWS, part_name};
 use ppdb_base::{MergeError, Place, Sink, WriteError};
 use ppdb_show_lines::Item::{Guid, Name, Number, Table};
-use ppdb_show_lines::Part::{Field, Mark};
+use ppdb_show_lines::Part::{Field, Literal};
 use ppdb_show_lines::{Key, put_text_line};
 
 /// Puts the line of an input that is not joined.
@@ -45,7 +45,8 @@ pub fn put_unfit<O: Sink>(out: &mut O, file: &str, error: MergeError) -> Result<
     }
 }
 
-/// Puts the line of an input of which an image is refused: it is taken, or above the number of rows.
+/// Puts the line of an input of which an image is refused: it is taken, or above the number of
+/// rows.
 fn put_image_refused<O: Sink>(out: &mut O, file: &str, error: MergeError) -> Result<(), WriteError>
     requires { IsTrue (refuses_image error) }
     ensures { PutsInto O.written O.faults result out.old out.new (unfit file.now error).text }
@@ -90,7 +91,8 @@ fn put_unmapped<O: Sink>(
     row: u32,
     place: Place,
 ) -> Result<(), WriteError>
-    ensures { PutsInto O.written O.faults result out.old out.new (unfit file.now (merge_errors.Unmapped table row place)).text }
+    ensures { PutsInto O.written O.faults result out.old out.new
+        (unfit file.now (merge_errors.Unmapped table row place)).text }
 {
     let file = Field(" ", Key::None, Name(file.as_bytes()));
     let table = Field(" M1 table ", Key::None, Table(table));
@@ -107,7 +109,7 @@ fn put_unmapped<O: Sink>(
                 file,
                 table,
                 row,
-                Mark(" at"),
+                Literal(" at"),
                 in_table,
                 in_row,
                 column,
@@ -115,8 +117,12 @@ fn put_unmapped<O: Sink>(
             ],
         )
     } else {
-        let part = Mark(part_name(place.part));
-        put_text_line(out, "unfit", &[file, table, row, Mark(" at"), part, byte])
+        let part = Literal(part_name(place.part));
+        put_text_line(
+            out,
+            "unfit",
+            &[file, table, row, Literal(" at"), part, byte],
+        )
     }
 }
 
@@ -129,7 +135,8 @@ fn put_image_twice<O: Sink>(
     second: u32,
     image: u32,
 ) -> Result<(), WriteError>
-    ensures { PutsInto O.written O.faults result out.old out.new (unfit file.now (merge_errors.ImageTwice table first second image)).text }
+    ensures { PutsInto O.written O.faults result out.old out.new
+        (unfit file.now (merge_errors.ImageTwice table first second image)).text }
 {
     let file = Field(" ", Key::None, Name(file.as_bytes()));
     let table = Field(" M2 table ", Key::None, Table(table));
@@ -148,7 +155,8 @@ fn put_method_taken<O: Sink>(
     second: u32,
     image: u32,
 ) -> Result<(), WriteError>
-    ensures { PutsInto O.written O.faults result out.old out.new (unfit file.now (merge_errors.MethodTaken input first second image)).text }
+    ensures { PutsInto O.written O.faults result out.old out.new
+        (unfit file.now (merge_errors.MethodTaken input first second image)).text }
 {
     let file = Field(" ", Key::None, Name(file.as_bytes()));
     let input = Field(" M3 input ", Key::None, Number(input));
@@ -166,7 +174,8 @@ fn put_offset_beyond<O: Sink>(
     offset: u32,
     size: u32,
 ) -> Result<(), WriteError>
-    ensures { PutsInto O.written O.faults result out.old out.new (unfit file.now (merge_errors.OffsetBeyond method offset size)).text }
+    ensures { PutsInto O.written O.faults result out.old out.new
+        (unfit file.now (merge_errors.OffsetBeyond method offset size)).text }
 {
     let file = Field(" ", Key::None, Name(file.as_bytes()));
     let method = Field(" M4 method ", Key::None, Number(method));
@@ -182,7 +191,8 @@ fn put_async_lost<O: Sink>(
     method: u32,
     offset: u32,
 ) -> Result<(), WriteError>
-    ensures { PutsInto O.written O.faults result out.old out.new (unfit file.now (merge_errors.AsyncLost method offset)).text }
+    ensures { PutsInto O.written O.faults result out.old out.new
+        (unfit file.now (merge_errors.AsyncLost method offset)).text }
 {
     let file = Field(" ", Key::None, Name(file.as_bytes()));
     let method = Field(" M5 method ", Key::None, Number(method));
@@ -197,7 +207,8 @@ fn put_kind_unknown<O: Sink>(
     row: u32,
     kind: [u8; 16],
 ) -> Result<(), WriteError>
-    ensures { PutsInto O.written O.faults result out.old out.new (unfit file.now (merge_errors.KindUnknown row kind)).text }
+    ensures { PutsInto O.written O.faults result out.old out.new
+        (unfit file.now (merge_errors.KindUnknown row kind)).text }
 {
     let file = Field(" ", Key::None, Name(file.as_bytes()));
     let row = Field(" M6 row ", Key::None, Number(row));
@@ -212,7 +223,8 @@ fn put_document_conflict<O: Sink>(
     row: u32,
     joined: u32,
 ) -> Result<(), WriteError>
-    ensures { PutsInto O.written O.faults result out.old out.new (unfit file.now (merge_errors.DocumentConflict row joined)).text }
+    ensures { PutsInto O.written O.faults result out.old out.new
+        (unfit file.now (merge_errors.DocumentConflict row joined)).text }
 {
     let file = Field(" ", Key::None, Name(file.as_bytes()));
     let row = Field(" M7 document ", Key::None, Number(row));
@@ -229,7 +241,8 @@ fn put_rows_differ<O: Sink>(
     first: u32,
     second: u32,
 ) -> Result<(), WriteError>
-    ensures { PutsInto O.written O.faults result out.old out.new (unfit file.now (merge_errors.RowsDiffer input table first second)).text }
+    ensures { PutsInto O.written O.faults result out.old out.new
+        (unfit file.now (merge_errors.RowsDiffer input table first second)).text }
 {
     let file = Field(" ", Key::None, Name(file.as_bytes()));
     let table = Field(" M8 table ", Key::None, Table(table));
@@ -248,7 +261,8 @@ fn put_image_range<O: Sink>(
     image: u32,
     rows: u32,
 ) -> Result<(), WriteError>
-    ensures { PutsInto O.written O.faults result out.old out.new (unfit file.now (merge_errors.ImageRange input table row image rows)).text }
+    ensures { PutsInto O.written O.faults result out.old out.new
+        (unfit file.now (merge_errors.ImageRange input table row image rows)).text }
 {
     let file = Field(" ", Key::None, Name(file.as_bytes()));
     let table = Field(" M9 table ", Key::None, Table(table));
@@ -265,7 +279,8 @@ fn put_slot_unmapped<O: Sink>(
     row: u32,
     slot: u16,
 ) -> Result<(), WriteError>
-    ensures { PutsInto O.written O.faults result out.old out.new (unfit file.now (merge_errors.SlotUnmapped row slot)).text }
+    ensures { PutsInto O.written O.faults result out.old out.new
+        (unfit file.now (merge_errors.SlotUnmapped row slot)).text }
 {
     let file = Field(" ", Key::None, Name(file.as_bytes()));
     let row = Field(" M10 variable ", Key::None, Number(row));
@@ -282,7 +297,8 @@ fn put_slot_twice<O: Sink>(
     second: u16,
     image: u16,
 ) -> Result<(), WriteError>
-    ensures { PutsInto O.written O.faults result out.old out.new (unfit file.now (merge_errors.SlotTwice method first second image)).text }
+    ensures { PutsInto O.written O.faults result out.old out.new
+        (unfit file.now (merge_errors.SlotTwice method first second image)).text }
 {
     let file = Field(" ", Key::None, Name(file.as_bytes()));
     let method = Field(" M11 method ", Key::None, Number(method));
@@ -299,7 +315,8 @@ fn put_document_twice<O: Sink>(
     first: u32,
     second: u32,
 ) -> Result<(), WriteError>
-    ensures { PutsInto O.written O.faults result out.old out.new (unfit file.now (merge_errors.DocumentTwice first second)).text }
+    ensures { PutsInto O.written O.faults result out.old out.new
+        (unfit file.now (merge_errors.DocumentTwice first second)).text }
 {
     let file = Field(" ", Key::None, Name(file.as_bytes()));
     let first = Field(" M12 documents ", Key::None, Number(first));
@@ -309,7 +326,8 @@ fn put_document_twice<O: Sink>(
 
 /// Puts M13: a Source Link record differs from that of an earlier input.
 fn put_link_differs<O: Sink>(out: &mut O, file: &str, row: u32) -> Result<(), WriteError>
-    ensures { PutsInto O.written O.faults result out.old out.new (unfit file.now (merge_errors.LinkDiffers row)).text }
+    ensures { PutsInto O.written O.faults result out.old out.new
+        (unfit file.now (merge_errors.LinkDiffers row)).text }
 {
     let file = Field(" ", Key::None, Name(file.as_bytes()));
     let row = Field(" M13 row ", Key::None, Number(row));

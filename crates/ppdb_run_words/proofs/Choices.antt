@@ -79,7 +79,8 @@ append_nothing [] = refl
 append_nothing (mark ∷ marks) = ap (λ rest. mark ∷ rest) (append_nothing marks)
 
 -- a word that is no GUID marks nothing
-pub no_mark : (guid : Option (List ℕ)) → ((bytes : List ℕ) → guid ≡ Some bytes → ⊥) → (marks : List (List ℕ)) → marks ≡ marks ++ map swap_fields (option_to_list guid)
+pub no_mark : (guid : Option (List ℕ)) → ((bytes : List ℕ) → guid ≡ Some bytes → ⊥) → (marks : List (List ℕ))
+    → marks ≡ marks ++ map swap_fields (option_to_list guid)
 no_mark None none marks = sym (append_nothing marks)
 no_mark (Some bytes) none marks = absurd (none bytes refl)
 

@@ -47,13 +47,13 @@ task_in ((letter ∷ second ∷ letters) ∷ word ∷ rest) =
 task_in words = None
 
 -- what it is of the words of a task
-abbrev told : Task → Option Task
-told (Ask question file) = Some (Ask question file)
-told (Lookup file list json) = Some (Lookup file list json)
-told (Rebuild input output options) = None
-told (Compose first second output) = Some (Compose first second output)
-told (Merge inputs output options) = None
-told (Sample n) = Some (Sample n)
+abbrev reported : Task → Option Task
+reported (Ask question file) = Some (Ask question file)
+reported (Lookup file list json) = Some (Lookup file list json)
+reported (Rebuild input output options) = None
+reported (Compose first second output) = Some (Compose first second output)
+reported (Merge inputs output options) = None
+reported (Sample n) = Some (Sample n)
 
 value : (n most : ℕ) → most < 2 ^ 32 → n ≤ most → digits_value 10 (decimal n) ≡ n
 value n most below a = digits_value-decimal numerals n (omega arith)
@@ -82,7 +82,7 @@ read_back words (Breaks document n json) f h =
     let same : task_in words ≡ Some (Ask (Breaks document (digits_value 10 (decimal n)) (some_word (json_words json))) f) = ap task_in h.0 in
     cc
 
-reads : (words : List (List ℕ)) (task : Task) → Words task words → task_in words ≡ told task
+reads : (words : List (List ℕ)) (task : Task) → Words task words → task_in words ≡ reported task
 unfolding task_in task_of compose_in lookup_in
 reads words (Ask question file) h = read_back words question file h
 reads words (Lookup file list json) h = ap task_in h.0 ∙ ap (λ b. Some (Lookup file list b)) (some_json json)
@@ -98,7 +98,7 @@ reads words (Sample n) h =
     cc
 
 -- a task that is read back is the only one
-only : (one other : Task) → told one ≡ Some one → told one ≡ told other → one ≡ other
+only : (one other : Task) → reported one ≡ Some one → reported one ≡ reported other → one ≡ other
 only one (Ask question file) e same = let both : Some one ≡ Some (Ask question file) = sym e ∙ same in cc
 only one (Lookup file list json) e same = let both : Some one ≡ Some (Lookup file list json) = sym e ∙ same in cc
 only one (Rebuild input output options) e same = absurd (let both : Some one ≡ None = sym e ∙ same in cc)
@@ -106,7 +106,7 @@ only one (Compose first second output) e same = let both : Some one ≡ Some (Co
 only one (Merge inputs output options) e same = absurd (let both : Some one ≡ None = sym e ∙ same in cc)
 only one (Sample n) e same = let both : Some one ≡ Some (Sample n) = sym e ∙ same in cc
 
-read_is : (words : List (List ℕ)) (one other : Task) → told one ≡ Some one → Words one words → Words other words → one ≡ other
+read_is : (words : List (List ℕ)) (one other : Task) → reported one ≡ Some one → Words one words → Words other words → one ≡ other
 read_is words one other e h k = only one other e (sym (reads words one h) ∙ reads words other k)
 
 -- words have one list of options at most

@@ -1,11 +1,17 @@
 -- A command as it is asked for.
-use Rattle.std.specs.{Prelude.{ℕ, ◌≡◌, ◌&&◌, Bool, false, List, [], ◌∷◌, ◌++◌, drop, map, Some, option_map, option_to_list, codes, if◌then◌else◌, decimal, unwrap_or, bytes_eq}, List.prefix_len}
+use Rattle.std.specs.Prelude.{ℕ, ◌≡◌, ◌&&◌, Bool, false, List, [], ◌∷◌, ◌++◌, drop, map, Some}
+use Rattle.std.specs.Prelude.{option_map, option_to_list, codes, if◌then◌else◌, decimal, unwrap_or}
+use Rattle.std.specs.{Prelude.bytes_eq, List.prefix_len}
 use Rattle.std.specs.Prelude.{take_while}
 use Rattle.ppdb_tables.specs.RawTables.{row_at}
 use Rattle.uuid.specs.{Text.parsed, Parts.swap_fields}
-use Rattle.ppdb_run_words.specs.{declared.question.Question.Question as GivenQuestion, declared.options.Options.Options as Given, declared.inputs.{Inputs.Inputs, Pair.Pair}}
+use Rattle.ppdb_run_words.specs.declared.question.Question.{Question as GivenQuestion}
+use Rattle.ppdb_run_words.specs.declared.{options.Options.Options as Given, inputs.Inputs.Inputs}
+use Rattle.ppdb_run_words.specs.declared.inputs.Pair.{Pair}
 use Rattle.ppdb_run_words.specs.declared.command.{Asked.Asked, Command.Command}
-use Rattle.ppdb_run_words.specs.Words.{Question, Id, Verify, Show, Query, Links, Breaks, Options, Input, Task, Ask, Lookup, Rebuild, Compose, Merge, Sample, is_file_word, json_words, texts}
+use Rattle.ppdb_run_words.specs.Words.{Question, Id, Verify, Show, Query, Links, Breaks, Options}
+use Rattle.ppdb_run_words.specs.Words.{Input, Task, Ask, Lookup, Rebuild, Compose, Merge, Sample}
+use Rattle.ppdb_run_words.specs.Words.{is_file_word, json_words, texts}
 use Rattle.ppdb_run_words.specs.declared.question.Question.TheVariants as questions
 use Rattle.ppdb_run_words.specs.declared.inputs.Inputs.TheVariants as inputs
 use Rattle.ppdb_run_words.specs.declared.command.Asked.TheVariants as asked
@@ -37,7 +43,8 @@ abbrev pub marks_in : List (List ℕ) → List (List ℕ)
 marks_in [] = []
 marks_in (word ∷ []) = []
 marks_in (word ∷ next ∷ words) =
-    if bytes_eq word (codes "--free") then map swap_fields (option_to_list (parsed next)) ++ marks_in words else marks_in (next ∷ words)
+    if bytes_eq word (codes "--free") then map swap_fields (option_to_list (parsed next))
+    ++ marks_in words else marks_in (next ∷ words)
 
 -- options regardless of where their words lie in memory
 abbrev pub options_of : Given → Options
@@ -74,7 +81,8 @@ asked_task (asked.Ask question file) = Ask (question_of question) file.now
 asked_task (asked.Lookup file list json) = Lookup file.now list.now json
 asked_task (asked.Rebuild input output options) = Rebuild input.now output.now (options_of options)
 asked_task (asked.Compose first second output) = Compose first.now second.now output.now
-asked_task (asked.Merge inputs output options) = Merge (inputs_of inputs) output.now (options_of options)
+asked_task (asked.Merge inputs output options) =
+    Merge (inputs_of inputs) output.now (options_of options)
 asked_task (asked.Sample n) = Sample n
 
 -- a command regardless of where its words lie in memory
@@ -88,8 +96,10 @@ task_of (commands.Breaks file document line json) = Ask (Breaks document.now lin
 task_of (commands.Lookup file list json) = Lookup file.now list.now json
 task_of (commands.Rebuild input output options) = Rebuild input.now output.now (options_of options)
 task_of (commands.Compose first second output) = Compose first.now second.now output.now
-task_of (commands.Remap input map_file output options) = Merge (record { file = input.now; map_file = map_file.now } ∷ []) output.now (options_of options)
-task_of (commands.Merge output pairs options) = Merge (pairs_of (texts pairs.now)) output.now (options_of options)
+task_of (commands.Remap input map_file output options) = Merge
+    (record { file = input.now; map_file = map_file.now } ∷ []) output.now (options_of options)
+task_of (commands.Merge output pairs options) =
+    Merge (pairs_of (texts pairs.now)) output.now (options_of options)
 task_of (commands.Sample n) = Sample n
 
 -- the words of a command
@@ -97,18 +107,25 @@ abbrev pub words_of : Command → List (List ℕ)
 words_of (commands.Id file json) = codes "id" ∷ file.now ∷ json_words json
 words_of (commands.Verify file) = codes "verify" ∷ file.now ∷ []
 words_of (commands.Show file json) = codes "show" ∷ file.now ∷ json_words json
-words_of (commands.Query file method offset json) = codes "query" ∷ file.now ∷ decimal method ∷ decimal offset ∷ json_words json
+words_of (commands.Query file method offset json) =
+    codes "query" ∷ file.now ∷ decimal method ∷ decimal offset ∷ json_words json
 words_of (commands.Links file json) = codes "links" ∷ file.now ∷ json_words json
-words_of (commands.Breaks file document line json) = codes "breaks" ∷ file.now ∷ document.now ∷ decimal line ∷ json_words json
+words_of (commands.Breaks file document line json) =
+    codes "breaks" ∷ file.now ∷ document.now ∷ decimal line ∷ json_words json
 words_of (commands.Lookup file list json) = codes "lookup" ∷ file.now ∷ list.now ∷ json_words json
-words_of (commands.Rebuild input output options) = codes "rebuild" ∷ input.now ∷ output.now ∷ texts options.words.now
-words_of (commands.Compose first second output) = codes "compose" ∷ first.now ∷ second.now ∷ output.now ∷ []
-words_of (commands.Remap input map_file output options) = codes "remap" ∷ input.now ∷ map_file.now ∷ output.now ∷ texts options.words.now
-words_of (commands.Merge output pairs options) = codes "merge" ∷ output.now ∷ (texts pairs.now ++ texts options.words.now)
+words_of (commands.Rebuild input output options) =
+    codes "rebuild" ∷ input.now ∷ output.now ∷ texts options.words.now
+words_of (commands.Compose first second output) =
+    codes "compose" ∷ first.now ∷ second.now ∷ output.now ∷ []
+words_of (commands.Remap input map_file output options) =
+    codes "remap" ∷ input.now ∷ map_file.now ∷ output.now ∷ texts options.words.now
+words_of (commands.Merge output pairs options) =
+    codes "merge" ∷ output.now ∷ (texts pairs.now ++ texts options.words.now)
 words_of (commands.Sample n) = codes "sample" ∷ decimal n ∷ []
 
--- of the words after `merge` and OUT, the pairs of a merge are exactly those before the first option, which are all that can name files,
--- and the words of its options exactly those from there on
+-- of the words after `merge` and OUT, the pairs of a merge are exactly those before the first
+-- option, which are all that can name files, and the words of its options exactly those from there
+-- on
 abbrev pub PairsEndAtOptions : List (List ℕ) → Command → Type 0
 PairsEndAtOptions words (commands.Merge output pairs options) =
     (texts pairs.now ≡ take_while is_file_word (drop 2 words))

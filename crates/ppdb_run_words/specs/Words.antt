@@ -1,5 +1,7 @@
 -- The command line: which words ask for what.
-use Rattle.std.specs.{Prelude.{ℕ, ◌≡◌, ◌≤◌, ◌⊎◌, List, [], ◌∷◌, ◌++◌, length, map, Bool, true, false, not, ◌&&◌, ◌==◌, Option, Some, None, codes, IsTrue, String, decimal, string_bytes}, List.list_all}
+use Rattle.std.specs.Prelude.{ℕ, ◌≡◌, ◌≤◌, ◌⊎◌, List, [], ◌∷◌, ◌++◌, length, map, Bool, true, false}
+use Rattle.std.specs.Prelude.{not, ◌&&◌, ◌==◌, Option, Some, None, codes, IsTrue, String, decimal}
+use Rattle.std.specs.{Prelude.string_bytes, List.list_all}
 use Rattle.std.specs.declared.alloc.Global.{Global}
 use Rattle.uuid.specs.{Text.parsed, Parts.swap_fields}
 use Rattle.ppdb_base.specs.declared.limits.TheConstants.{MAX_ROWS, MAX_OFFSET}
@@ -28,7 +30,8 @@ pub data Question : Type 0 where
 pub record Options : Type 0 where
   -- with the identity of the file that was read
   pub keep_id : Bool
-  -- kinds of custom debug information that are passed on unread although they are on no list, as they lie in a file
+  -- kinds of custom debug information that are passed on unread although they are on no list, as
+  -- they lie in a file
   pub marks : List (List ℕ)
 
 -- a file that is read, and the map by which it is moved
@@ -90,11 +93,14 @@ pub data AreOptions : List (List ℕ) → Options → Type 0 where
   no_option : AreOptions [] (record { keep_id = false; marks = [] })
   keep_id : {words : List (List ℕ)} {options : Options} → AreOptions words options
       → AreOptions (codes "--keep-id" ∷ words) (record { keep_id = true; marks = options.marks })
-  free : {words : List (List ℕ)} {options : Options} (word guid : List ℕ) → parsed word ≡ Some guid → AreOptions words options
-      → AreOptions (codes "--free" ∷ word ∷ words) (record { keep_id = options.keep_id; marks = swap_fields guid ∷ options.marks })
+  free : {words : List (List ℕ)} {options : Options} (word guid : List ℕ) → parsed word ≡ Some guid
+      → AreOptions words options
+      → AreOptions (codes "--free" ∷ word ∷ words)
+      (record { keep_id = options.keep_id; marks = swap_fields guid ∷ options.marks })
 
 -- the words that move inputs, 1 to 256, and join them; one may also be moved by `remap`
-pub record IsMerge (inputs : List Input) (output : List ℕ) (options : Options) (words : List (List ℕ)) : Type 0 where
+pub record IsMerge (inputs : List Input) (output : List ℕ) (options : Options)
+    (words : List (List ℕ)) : Type 0 where
   pub rest : List (List ℕ)
   pub some : 1 ≤ length inputs
   pub most : length inputs ≤ 256
@@ -105,21 +111,29 @@ pub record IsMerge (inputs : List Input) (output : List ℕ) (options : Options)
 
 -- the words of a task, one case for each form
 abbrev pub Words : Task → List (List ℕ) → Type 0
-Words (Ask (Id json) file) words = (words ≡ codes "id" ∷ file ∷ json_words json) × IsTrue (is_file_word file)
+Words (Ask (Id json) file) words =
+    (words ≡ codes "id" ∷ file ∷ json_words json) × IsTrue (is_file_word file)
 Words (Ask Verify file) words = (words ≡ codes "verify" ∷ file ∷ []) × IsTrue (is_file_word file)
-Words (Ask (Show json) file) words = (words ≡ codes "show" ∷ file ∷ json_words json) × IsTrue (is_file_word file)
+Words (Ask (Show json) file) words =
+    (words ≡ codes "show" ∷ file ∷ json_words json) × IsTrue (is_file_word file)
 Words (Ask (Query method offset json) file) words =
-    (words ≡ codes "query" ∷ file ∷ decimal method ∷ decimal offset ∷ json_words json) × IsTrue (is_file_word file) × (method ≤ MAX_ROWS)
+    (words ≡ codes "query" ∷ file ∷ decimal method ∷ decimal offset ∷ json_words json)
+    × IsTrue (is_file_word file) × (method ≤ MAX_ROWS)
     × (offset ≤ MAX_OFFSET)
-Words (Ask (Links json) file) words = (words ≡ codes "links" ∷ file ∷ json_words json) × IsTrue (is_file_word file)
+Words (Ask (Links json) file) words =
+    (words ≡ codes "links" ∷ file ∷ json_words json) × IsTrue (is_file_word file)
 Words (Ask (Breaks document line json) file) words =
-    (words ≡ codes "breaks" ∷ file ∷ document ∷ decimal line ∷ json_words json) × IsTrue (is_file_word file) × (1 ≤ length document) × (line ≤ MAX_LINE)
-Words (Lookup file list json) words = (words ≡ codes "lookup" ∷ file ∷ list ∷ json_words json) × IsTrue (is_file_word file) × IsTrue (is_file_word list)
+    (words ≡ codes "breaks" ∷ file ∷ document ∷ decimal line ∷ json_words json)
+    × IsTrue (is_file_word file) × (1 ≤ length document) × (line ≤ MAX_LINE)
+Words (Lookup file list json) words = (words ≡ codes "lookup" ∷ file ∷ list ∷ json_words json)
+    × IsTrue (is_file_word file) × IsTrue (is_file_word list)
 Words (Rebuild input output options) words =
-    (rest : List (List ℕ)) × (words ≡ codes "rebuild" ∷ input ∷ output ∷ rest) × IsTrue (is_file_word input) × IsTrue (is_file_word output)
+    (rest : List (List ℕ)) × (words ≡ codes "rebuild" ∷ input ∷ output ∷ rest)
+    × IsTrue (is_file_word input) × IsTrue (is_file_word output)
     × AreOptions rest options
 Words (Compose first second output) words =
-    (words ≡ codes "compose" ∷ first ∷ second ∷ output ∷ []) × IsTrue (is_file_word first) × IsTrue (is_file_word second)
+    (words ≡ codes "compose" ∷ first ∷ second ∷ output ∷ []) × IsTrue (is_file_word first)
+    × IsTrue (is_file_word second)
     × IsTrue (is_file_word output)
 Words (Merge inputs output options) words = IsMerge inputs output options words
 Words (Sample n) words = (words ≡ codes "sample" ∷ decimal n ∷ []) × (n ≤ 100000)

@@ -23,7 +23,8 @@ pub enum Command<'a> {
         file: &'a str,
         json: bool,
     },
-    /// What belongs to an IL offset of a method. The method is at most 16777215, the offset at most 2147483647.
+    /// What belongs to an IL offset of a method. The method is at most 16777215, the offset at most
+    /// 2147483647.
     Query {
         file: &'a str,
         method: u32,
@@ -35,7 +36,8 @@ pub enum Command<'a> {
         file: &'a str,
         json: bool,
     },
-    /// The places at which a debugger may stop for a line of a document. The line is at most 536870911.
+    /// The places at which a debugger may stop for a line of a document. The line is at most
+    /// 536870911.
     Breaks {
         file: &'a str,
         document: &'a str,
@@ -67,7 +69,8 @@ pub enum Command<'a> {
         output: &'a str,
         options: Options<'a>,
     },
-    /// The canonical file of inputs that are moved by their maps and joined. Their words name files and maps, two by two.
+    /// The canonical file of inputs that are moved by their maps and joined. Their words name files
+    /// and maps, two by two.
     Merge {
         output: &'a str,
         pairs: &'a [String],
@@ -84,7 +87,8 @@ pub enum Command<'a> {
 pub enum Asked<'a> {
     /// A question about a file.
     Ask(Question<'a>, &'a str),
-    /// The questions of a list about a file: the file, the list, and whether the answers are put as objects of JSON.
+    /// The questions of a list about a file: the file, the list, and whether the answers are put as
+    /// objects of JSON.
     Lookup(&'a str, &'a str, bool),
     /// The canonical file of a file, the file that is written, and how.
     Rebuild(&'a str, &'a str, Options<'a>),

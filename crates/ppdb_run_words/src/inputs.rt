@@ -32,7 +32,8 @@ impl<'a> Inputs<'a> {
     }
 }
 
-/// The file of the input of a number from 1, of words that name files and maps, two by two; the empty name where there is none.
+/// The file of the input of a number from 1, of words that name files and maps, two by two; the
+/// empty name where there is none.
 fn file_in(words: &[String], number: u32) -> &str
     ensures { result.now ≡ file_of (pairs_of (texts words.now)) number }
 {

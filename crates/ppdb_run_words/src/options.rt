@@ -1,5 +1,6 @@
 // The options of a command that writes a file.
-ghost use Rattle.std.specs.Prelude.{◌≡◌, ◌<◌, ℕ, List, [], ◌∷◌, ◌++◌, length, map, option_to_list, IfSome, IfNone, IfOk, OnOk, OnErr};
+ghost use Rattle.std.specs.Prelude.{◌≡◌, ◌<◌, ℕ, List, [], ◌∷◌, ◌++◌, length, map, option_to_list};
+ghost use Rattle.std.specs.Prelude.{IfSome, IfNone, IfOk, OnOk, OnErr};
 ghost use Rattle.uuid.specs.Text.{parsed};
 ghost use Rattle.ppdb_run_words.specs.Task.{IsBehindGuid, marks_in, options_of};
 ghost use Rattle.uuid.specs.Parts.{swap_fields};
@@ -14,7 +15,8 @@ use uuid::Uuid;
 /// How a file is written.
 #[derive(Clone, Copy, Debug, PartialEq, Eq)]
 pub struct Options<'a> {
-    /// Whether the file keeps the identity of the first file that was read, as `--keep-id` asks; else it gets one by a hash.
+    /// Whether the file keeps the identity of the first file that was read, as `--keep-id` asks;
+    /// else it gets one by a hash.
     pub keep_id: bool,
     /// All words of the options.
     pub words: &'a [String],
@@ -42,7 +44,8 @@ impl Options<'_> {
 
 /// Marks the GUID of a word, if it is one.
 fn add_mark(marks: &mut Marks, word: &str) -> Result<(), Memory>
-    ensures { OnOk result (marks.new ≡ marks.old ++ map swap_fields (option_to_list (parsed word.now))) }
+    ensures { OnOk result (marks.new ≡ marks.old
+        ++ map swap_fields (option_to_list (parsed word.now))) }
 {
     match Uuid::parse_str(word) {
         Ok(guid) => marks.add(guid.to_bytes_le()),
@@ -78,7 +81,8 @@ pub(crate) fn read_options(words: &[String]) -> Result<Options<'_>, Usage>
 fn behind_guid(words: &[String]) -> Option<&[String]>
     ensures guid { IfSome result (λ rest. IsBehindGuid (texts words.now) (texts rest.now)) }
     ensures fewer { IfSome result (λ rest. length rest.now < length words.now) }
-    ensures none { IfNone result ((rest : List (List ℕ)) → IsBehindGuid (texts words.now) rest → ⊥) }
+    ensures none { IfNone result ((rest : List (List ℕ)) → IsBehindGuid (texts words.now) rest
+        → ⊥) }
 {
     let (word, rest) = first_word(words)?;
     match Uuid::parse_str(word) {

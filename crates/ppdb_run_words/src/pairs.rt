@@ -19,7 +19,8 @@ pub fn split_pairs(words: &[String]) -> (&[String], &[String])
 /// How many words those are.
 fn pairs_in_prefix(words: &[String]) -> usize
     ensures within { result ≤ length words.now }
-    ensures even { take result (texts words.now) ≡ input_words (pairs_of (take result (texts words.now))) }
+    ensures even { take result (texts words.now)
+        ≡ input_words (pairs_of (take result (texts words.now))) }
     ensures files { IsTrue (list_all is_file_word (take result (texts words.now))) }
     ensures behind { NoPair (drop result (texts words.now)) }
 {

@@ -1,6 +1,7 @@
 // The words of the command line.
 ghost use Rattle.std.specs.Prelude.{◌≡◌, ℕ, Bool, List, ◌∷◌, codes, length, nat_le, IfOk, OnErr};
-ghost use Rattle.ppdb_run_words.specs.Words.{Words, NoTask, IsFileAlone, IsFileInForm, is_file_word, json_words, texts};
+ghost use Rattle.ppdb_run_words.specs.Words.{Words, NoTask, IsFileAlone, IsFileInForm};
+ghost use Rattle.ppdb_run_words.specs.Words.{is_file_word, json_words, texts};
 ghost use Rattle.ppdb_run_words.specs.Task.{PairsEndAtOptions, task_of, words_of};
 
 use crate::command::Command;
@@ -75,7 +76,8 @@ fn asks_json(words: &[String]) -> Result<bool, Usage>
 /// The word that names a file, and whether JSON is asked for.
 fn file_in_form(args: &[String]) -> Result<(&str, bool), Usage>
     ensures file { IfOk result (λ asked. IsFileInForm asked.0.now asked.1 (texts args.now)) }
-    ensures usage { OnErr result ((file : List ℕ) (json : Bool) → IsFileInForm file json (texts args.now) → ⊥) }
+    ensures usage { OnErr result ((file : List ℕ) (json : Bool)
+        → IsFileInForm file json (texts args.now) → ⊥) }
 {
     match args {
         [file, form @ ..] if names_file(file) => {
@@ -88,7 +90,8 @@ fn file_in_form(args: &[String]) -> Result<(&str, bool), Usage>
 
 /// The command `query` of the words after its name.
 fn query(args: &[String]) -> Result<Command<'_>, Usage>
-    ensures command { IfOk result (λ command. Words (task_of command) (codes "query" ∷ texts args.now)) }
+    ensures command { IfOk result
+        (λ command. Words (task_of command) (codes "query" ∷ texts args.now)) }
     ensures spelled { IfOk result (λ command. codes "query" ∷ texts args.now ≡ words_of command) }
     ensures pairs { IfOk result (PairsEndAtOptions (codes "query" ∷ texts args.now)) }
     ensures usage { OnErr result (NoTask (codes "query" ∷ texts args.now)) }
@@ -110,7 +113,8 @@ fn query(args: &[String]) -> Result<Command<'_>, Usage>
 
 /// The command `breaks` of the words after its name.
 fn breaks(args: &[String]) -> Result<Command<'_>, Usage>
-    ensures command { IfOk result (λ command. Words (task_of command) (codes "breaks" ∷ texts args.now)) }
+    ensures command { IfOk result
+        (λ command. Words (task_of command) (codes "breaks" ∷ texts args.now)) }
     ensures spelled { IfOk result (λ command. codes "breaks" ∷ texts args.now ≡ words_of command) }
     ensures pairs { IfOk result (PairsEndAtOptions (codes "breaks" ∷ texts args.now)) }
     ensures usage { OnErr result (NoTask (codes "breaks" ∷ texts args.now)) }
@@ -132,7 +136,8 @@ fn breaks(args: &[String]) -> Result<Command<'_>, Usage>
 
 /// The command `lookup` of the words after its name.
 fn lookup(args: &[String]) -> Result<Command<'_>, Usage>
-    ensures command { IfOk result (λ command. Words (task_of command) (codes "lookup" ∷ texts args.now)) }
+    ensures command { IfOk result
+        (λ command. Words (task_of command) (codes "lookup" ∷ texts args.now)) }
     ensures spelled { IfOk result (λ command. codes "lookup" ∷ texts args.now ≡ words_of command) }
     ensures pairs { IfOk result (PairsEndAtOptions (codes "lookup" ∷ texts args.now)) }
     ensures usage { OnErr result (NoTask (codes "lookup" ∷ texts args.now)) }
@@ -152,7 +157,8 @@ fn lookup(args: &[String]) -> Result<Command<'_>, Usage>
 
 /// The command `rebuild` of the words after its name.
 fn rebuild(args: &[String]) -> Result<Command<'_>, Usage>
-    ensures command { IfOk result (λ command. Words (task_of command) (codes "rebuild" ∷ texts args.now)) }
+    ensures command { IfOk result
+        (λ command. Words (task_of command) (codes "rebuild" ∷ texts args.now)) }
     ensures spelled { IfOk result (λ command. codes "rebuild" ∷ texts args.now ≡ words_of command) }
     ensures pairs { IfOk result (PairsEndAtOptions (codes "rebuild" ∷ texts args.now)) }
     ensures usage { OnErr result (NoTask (codes "rebuild" ∷ texts args.now)) }
@@ -172,7 +178,8 @@ fn rebuild(args: &[String]) -> Result<Command<'_>, Usage>
 
 /// The command `compose` of the words after its name.
 fn compose(args: &[String]) -> Result<Command<'_>, Usage>
-    ensures command { IfOk result (λ command. Words (task_of command) (codes "compose" ∷ texts args.now)) }
+    ensures command { IfOk result
+        (λ command. Words (task_of command) (codes "compose" ∷ texts args.now)) }
     ensures spelled { IfOk result (λ command. codes "compose" ∷ texts args.now ≡ words_of command) }
     ensures pairs { IfOk result (PairsEndAtOptions (codes "compose" ∷ texts args.now)) }
     ensures usage { OnErr result (NoTask (codes "compose" ∷ texts args.now)) }
@@ -192,7 +199,8 @@ fn compose(args: &[String]) -> Result<Command<'_>, Usage>
 
 /// The command `remap` of the words after its name.
 fn remap(args: &[String]) -> Result<Command<'_>, Usage>
-    ensures command { IfOk result (λ command. Words (task_of command) (codes "remap" ∷ texts args.now)) }
+    ensures command { IfOk result
+        (λ command. Words (task_of command) (codes "remap" ∷ texts args.now)) }
     ensures spelled { IfOk result (λ command. codes "remap" ∷ texts args.now ≡ words_of command) }
     ensures pairs { IfOk result (PairsEndAtOptions (codes "remap" ∷ texts args.now)) }
     ensures usage { OnErr result (NoTask (codes "remap" ∷ texts args.now)) }
@@ -214,7 +222,8 @@ fn remap(args: &[String]) -> Result<Command<'_>, Usage>
 
 /// The command `merge` of the words after its name.
 fn merge(args: &[String]) -> Result<Command<'_>, Usage>
-    ensures command { IfOk result (λ command. Words (task_of command) (codes "merge" ∷ texts args.now)) }
+    ensures command { IfOk result
+        (λ command. Words (task_of command) (codes "merge" ∷ texts args.now)) }
     ensures spelled { IfOk result (λ command. codes "merge" ∷ texts args.now ≡ words_of command) }
     ensures pairs { IfOk result (PairsEndAtOptions (codes "merge" ∷ texts args.now)) }
     ensures usage { OnErr result (NoTask (codes "merge" ∷ texts args.now)) }
@@ -238,7 +247,8 @@ fn merge(args: &[String]) -> Result<Command<'_>, Usage>
 
 /// The command `sample` of the words after its name.
 fn sample(args: &[String]) -> Result<Command<'_>, Usage>
-    ensures command { IfOk result (λ command. Words (task_of command) (codes "sample" ∷ texts args.now)) }
+    ensures command { IfOk result
+        (λ command. Words (task_of command) (codes "sample" ∷ texts args.now)) }
     ensures spelled { IfOk result (λ command. codes "sample" ∷ texts args.now ≡ words_of command) }
     ensures pairs { IfOk result (PairsEndAtOptions (codes "sample" ∷ texts args.now)) }
     ensures usage { OnErr result (NoTask (codes "sample" ∷ texts args.now)) }

@@ -5,7 +5,7 @@ pub mod Given
 pub mod Lines
 pub mod Looked
 pub mod Names
-pub mod Notes
+pub mod Cache
 pub mod Numbered
 pub mod OfKind
 pub mod Runs

@@ -8,7 +8,8 @@ use Rattle.ppdb_show.{specs.Query.{custom_found, customs_found, lines_of_record}
 -- the custom records of a run
 pub customs_all : (form : Form) (raw : RawTables) (parent : Parent) (run : Run) (old new : List ℕ)
     → rows_in run raw.customs ≡ customs_at raw parent.table parent.row
-    → Adds form old new (flat_map (λ custom. custom_found raw custom.1 ∷ []) (rows_in run raw.customs)) → Adds form old new (customs_found raw parent.table parent.row)
+    → Adds form old new (flat_map (λ custom. custom_found raw custom.1 ∷ []) (rows_in run raw.customs))
+    → Adds form old new (customs_found raw parent.table parent.row)
 customs_all form raw parent run old new all h =
     adds_same form old new _ _ (lines_each (λ (custom : ℕ × CustomRow). custom_found raw custom.1) (rows_in run raw.customs)
     ∙ ap (map (λ (custom : ℕ × CustomRow). custom_found raw custom.1)) all) h

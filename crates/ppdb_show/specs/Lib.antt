@@ -1,6 +1,6 @@
 pub mod Bound
 pub mod Lookup
-pub mod Noted
+pub mod Cached
 pub mod Query
 pub mod QueryWalk
 pub mod Show

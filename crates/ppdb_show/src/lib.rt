@@ -1,5 +1,5 @@
-//! The texts of a valid file, as lines of text or as objects of JSON: all its rows, what belongs to an offset of a method, and
-//! what belongs to each offset of a list.
+//! The texts of a valid file, as lines of text or as objects of JSON: all its rows, what belongs to
+//! an offset of a method, and what belongs to each offset of a list.
 #![tactic(auto)]
 
 mod lookup;

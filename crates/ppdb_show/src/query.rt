@@ -9,24 +9,24 @@ ghost use Rattle.ppdb_queries.specs.Points.{PointIs};
 ghost use Rattle.ppdb_queries.specs.Runs.{IsNoMethod};
 ghost use Rattle.ppdb_show_lines.specs.declared.form.Form.TheVariants.{Text};
 ghost use Rattle.ppdb_show.specs.Bound.{query_rows};
-ghost use Rattle.ppdb_show.specs.Noted.{AreNotes};
+ghost use Rattle.ppdb_show.specs.Cached.{IsCacheOf};
 ghost use Rattle.ppdb_show.specs.Query.{query_lines, query_text_of};
 ghost use Rattle.ppdb_show.specs.QueryWalk.{Adds};
 
+pub(crate) mod cache;
 mod customs;
 mod hoisted;
 mod imports;
 mod items;
 mod links;
-pub(crate) mod notes;
 mod point;
 mod records;
 mod scopes;
 mod text;
 
+use crate::query::cache::Cache;
 use crate::query::hoisted::put_hoisted;
 use crate::query::links::put_links;
-use crate::query::notes::Notes;
 use crate::query::point::put_point;
 use crate::query::records::put_records;
 use crate::query::scopes::put_scopes;
@@ -57,17 +57,19 @@ fn put_answer<L: Ledger>(
     method: u32,
     offset: u32,
     found: Option<PointAt<'_>>,
-    notes: &mut Notes,
+    cache: &mut Cache,
     steps: &mut Steps<L>,
 ) -> Result<(), Memory>
     requires there { HasRow (raw_of (tables_of file.now)) 0x06 method }
     requires point { PointIs (raw_file file.now) method offset found }
-    requires known { AreNotes printer.form (raw_file file.now) notes.old }
-    ensures known { AreNotes printer.entry.form (raw_file file.now) notes.new }
-    ensures ok { OnOk result (Adds printer.entry.form text.old text.new (query_lines (raw_file file.now) method offset)) }
-    ensures cost { steps.new + 2 ≤ steps.old + query_rows (raw_of (tables_of file.now)) method offset }
+    requires known { IsCacheOf printer.form (raw_file file.now) cache.old }
+    ensures known { IsCacheOf printer.entry.form (raw_file file.now) cache.new }
+    ensures ok { OnOk result (Adds printer.entry.form text.old text.new
+        (query_lines (raw_file file.now) method offset)) }
+    ensures cost { steps.new + 2 ≤ steps.old
+        + query_rows (raw_of (tables_of file.now)) method offset }
 {
-    let _ = file.keeps();
+    let _ = file.facts();
     put_point(printer, text, found)?;
     put_scopes(
         printer,
@@ -75,46 +77,50 @@ fn put_answer<L: Ledger>(
         file,
         method,
         offset,
-        &mut notes.imports,
+        &mut cache.imports,
         steps,
     )?;
     put_hoisted(printer, text, file, method, offset, steps)?;
-    put_links(printer, text, file, method, &mut notes.kickoffs, steps)?;
+    put_links(printer, text, file, method, &mut cache.kickoffs, steps)?;
     put_records(printer, text, file, method, steps)
 }
 
-/// Puts what belongs to an offset of a method, by what the answers before it noted of the same file.
+/// Puts what belongs to an offset of a method, by what the answers before it stored of the same
+/// file.
 ///
 /// # Errors
 ///
-/// The method is 0 or above the rows of MethodDef, and nothing was put; or the sink failed, or there was no memory left, and a
-/// prefix of the text was put.
+/// The method is 0 or above the rows of MethodDef, and nothing was put; or the sink failed, or
+/// there was no memory left, and a prefix of the text was put.
 #[tactic(auto, unfolding(crate::specs::Query::query_text_of))]
-pub(crate) fn put_noted_query<O: Sink, L: Ledger>(
+pub(crate) fn put_cached_query<O: Sink, L: Ledger>(
     printer: Printer<'_>,
     file: &Verified<'_>,
     method: u32,
     offset: u32,
-    notes: &mut Notes,
+    cache: &mut Cache,
     out: &mut O,
     steps: &mut Steps<L>,
 ) -> Result<(), QueryError>
-    requires known { AreNotes printer.form (raw_file file.now) notes.old }
-    ensures known { AreNotes printer.entry.form (raw_file file.now) notes.new }
-    ensures none { IsErrOf result QueryError.NoMethod ↔ IsNoMethod (raw_of (tables_of file.now)) method }
+    requires known { IsCacheOf printer.form (raw_file file.now) cache.old }
+    ensures known { IsCacheOf printer.entry.form (raw_file file.now) cache.new }
+    ensures none { IsErrOf result QueryError.NoMethod
+        ↔ IsNoMethod (raw_of (tables_of file.now)) method }
     ensures nothing { IsErrOf result QueryError.NoMethod → O.written out.new ≡ O.written out.old }
-    ensures ok { OnOk result (O.written out.new ≡ appended (O.written out.old) (query_text_of printer.entry.form (raw_file file.now) method offset)) }
-    ensures err { OnErr result (AppendsPrefix (O.written out.old) (O.written out.new) (query_text_of printer.entry.form (raw_file file.now) method offset)) }
+    ensures ok { OnOk result (O.written out.new ≡ appended (O.written out.old)
+        (query_text_of printer.entry.form (raw_file file.now) method offset)) }
+    ensures err { OnErr result (AppendsPrefix (O.written out.old) (O.written out.new)
+        (query_text_of printer.entry.form (raw_file file.now) method offset)) }
     ensures failed { IsErrOf result QueryError.Failed → Rose (O.faults out.old) (O.faults out.new) }
     ensures later { O.faults out.old ≤ O.faults out.new }
     ensures cost { steps.new ≤ steps.old + query_rows (raw_of (tables_of file.now)) method offset }
 {
-    let Ok(found) = point_by(file, method, offset, &mut notes.points, steps) else {
+    let Ok(found) = point_by(file, method, offset, &mut cache.points, steps) else {
         return Err(QueryError::NoMethod);
     };
     let mut text = SteadySink::new(printer.alloc);
     if put_answer(
-        printer, &mut text, file, method, offset, found, notes, steps,
+        printer, &mut text, file, method, offset, found, cache, steps,
     )
     .is_err()
     {
@@ -127,14 +133,15 @@ pub(crate) fn put_noted_query<O: Sink, L: Ledger>(
     }
 }
 
-/// Puts what belongs to an offset of a method: its last sequence point that is not after the offset, the scopes that hold it
-/// with their variables, constants and imports, the hoisted locals that hold it, the method's state machines, and the custom
-/// records on all of them. Each row is found by halving where the table is sorted.
+/// Puts what belongs to an offset of a method: its last sequence point that is not after the
+/// offset, the scopes that hold it with their variables, constants and imports, the hoisted locals
+/// that hold it, the method's state machines, and the custom records on all of them. Each row is
+/// found by halving where the table is sorted.
 ///
 /// # Errors
 ///
-/// The method is 0 or above the rows of MethodDef, and nothing was put; or the sink failed, or there was no memory left, and a
-/// prefix of the text was put.
+/// The method is 0 or above the rows of MethodDef, and nothing was put; or the sink failed, or
+/// there was no memory left, and a prefix of the text was put.
 pub fn put_query<O: Sink, L: Ledger>(
     printer: Printer<'_>,
     file: &Verified<'_>,
@@ -143,24 +150,27 @@ pub fn put_query<O: Sink, L: Ledger>(
     out: &mut O,
     steps: &mut Steps<L>,
 ) -> Result<(), QueryError>
-    ensures none { IsErrOf result QueryError.NoMethod ↔ IsNoMethod (raw_of (tables_of file.now)) method }
+    ensures none { IsErrOf result QueryError.NoMethod
+        ↔ IsNoMethod (raw_of (tables_of file.now)) method }
     ensures nothing { IsErrOf result QueryError.NoMethod → O.written out.new ≡ O.written out.old }
-    ensures ok { OnOk result (O.written out.new ≡ appended (O.written out.old) (query_text_of printer.entry.form (raw_file file.now) method offset)) }
-    ensures err { OnErr result (AppendsPrefix (O.written out.old) (O.written out.new) (query_text_of printer.entry.form (raw_file file.now) method offset)) }
+    ensures ok { OnOk result (O.written out.new ≡ appended (O.written out.old)
+        (query_text_of printer.entry.form (raw_file file.now) method offset)) }
+    ensures err { OnErr result (AppendsPrefix (O.written out.old) (O.written out.new)
+        (query_text_of printer.entry.form (raw_file file.now) method offset)) }
     ensures failed { IsErrOf result QueryError.Failed → Rose (O.faults out.old) (O.faults out.new) }
     ensures later { O.faults out.old ≤ O.faults out.new }
     ensures cost { steps.new ≤ steps.old + query_rows (raw_of (tables_of file.now)) method offset }
 {
-    let mut notes = Notes::new(printer.alloc);
-    put_noted_query(printer, file, method, offset, &mut notes, out, steps)
+    let mut cache = Cache::new(printer.alloc);
+    put_cached_query(printer, file, method, offset, &mut cache, out, steps)
 }
 
 /// Puts what belongs to an offset of a method, as the command `query` does.
 ///
 /// # Errors
 ///
-/// The method is 0 or above the rows of MethodDef, and nothing was put; or the sink failed, or there was no memory left, and a
-/// prefix of the text was put.
+/// The method is 0 or above the rows of MethodDef, and nothing was put; or the sink failed, or
+/// there was no memory left, and a prefix of the text was put.
 pub fn query_text<O: Sink, L: Ledger>(
     alloc: Global,
     file: &Verified<'_>,
@@ -169,10 +179,13 @@ pub fn query_text<O: Sink, L: Ledger>(
     out: &mut O,
     steps: &mut Steps<L>,
 ) -> Result<(), QueryError>
-    ensures none { IsErrOf result QueryError.NoMethod ↔ IsNoMethod (raw_of (tables_of file.now)) method }
+    ensures none { IsErrOf result QueryError.NoMethod
+        ↔ IsNoMethod (raw_of (tables_of file.now)) method }
     ensures nothing { IsErrOf result QueryError.NoMethod → O.written out.new ≡ O.written out.old }
-    ensures ok { OnOk result (O.written out.new ≡ appended (O.written out.old) (query_text_of Text (raw_file file.now) method offset)) }
-    ensures err { OnErr result (AppendsPrefix (O.written out.old) (O.written out.new) (query_text_of Text (raw_file file.now) method offset)) }
+    ensures ok { OnOk result (O.written out.new
+        ≡ appended (O.written out.old) (query_text_of Text (raw_file file.now) method offset)) }
+    ensures err { OnErr result (AppendsPrefix (O.written out.old) (O.written out.new)
+        (query_text_of Text (raw_file file.now) method offset)) }
     ensures failed { IsErrOf result QueryError.Failed → Rose (O.faults out.old) (O.faults out.new) }
     ensures later { O.faults out.old ≤ O.faults out.new }
     ensures cost { steps.new ≤ steps.old + query_rows (raw_of (tables_of file.now)) method offset }

@@ -33,7 +33,8 @@ pub fn put_show<O: Sink, L: Ledger>(
     out: &mut O,
     steps: &mut Steps<L>,
 ) -> Result<(), WriteError>
-    ensures { PutsInto O.written O.faults result out.old out.new (show_text_of printer.entry.form (raw_file file.now)) }
+    ensures { PutsInto O.written O.faults result out.old out.new
+        (show_text_of printer.entry.form (raw_file file.now)) }
 {
     put_head(printer, file, out)?;
     put_tables(printer, file, out, steps)
@@ -50,7 +51,8 @@ pub fn show_text<O: Sink, L: Ledger>(
     out: &mut O,
     steps: &mut Steps<L>,
 ) -> Result<(), WriteError>
-    ensures { PutsInto O.written O.faults result out.old out.new (show_text_of Text (raw_file file.now)) }
+    ensures { PutsInto O.written O.faults result out.old out.new
+        (show_text_of Text (raw_file file.now)) }
 {
     let room = Cell::new(Vec::new(alloc));
     let printer = Printer {
@@ -72,7 +74,8 @@ pub fn show_json<O: Sink, L: Ledger>(
     out: &mut O,
     steps: &mut Steps<L>,
 ) -> Result<(), WriteError>
-    ensures { PutsInto O.written O.faults result out.old out.new (show_text_of Json (raw_file file.now)) }
+    ensures { PutsInto O.written O.faults result out.old out.new
+        (show_text_of Json (raw_file file.now)) }
 {
     let room = Cell::new(Vec::new(alloc));
     let printer = Printer {
@@ -90,7 +93,8 @@ fn put_tables<O: Sink, L: Ledger>(
     out: &mut O,
     steps: &mut Steps<L>,
 ) -> Result<(), WriteError>
-    ensures { PutsInto O.written O.faults result out.old out.new (lines_as printer.entry.form (row_lines (raw_file file.now).tables)) }
+    ensures { PutsInto O.written O.faults result out.old out.new
+        (lines_as printer.entry.form (row_lines (raw_file file.now).tables)) }
 {
     put_rows(printer, Rows::Documents, file, out, steps)?;
     put_rows(printer, Rows::Methods, file, out, steps)?;

@@ -30,23 +30,23 @@ pub parts_all : (parts : List Part) (i : ℕ) → length parts ≤ i → fields_
 parts_all parts i h = ap fields_text (sym (take_all i parts h))
 
 -- one part more
-pub parts_then : (old mid new : Option (List ℕ)) (kept between left : List ℕ) (before middle after : ℕ) (parts : List Part) (i : ℕ) (d : Part)
+pub parts_then : (old mid new : Option (List ℕ)) (buffered between left : List ℕ) (before middle after : ℕ) (parts : List Part) (i : ℕ) (d : Part)
     → i < length parts
-    → Keeps {T = Unit {0}} (Ok tt) old mid kept between before middle (fields_text (take i parts))
+    → Keeps {T = Unit {0}} (Ok tt) old mid buffered between before middle (fields_text (take i parts))
     → Keeps {T = Unit {0}} (Ok tt) mid new between left middle after (field_text (field_of (get_or parts i d)))
-    → Keeps {T = Unit {0}} (Ok tt) old new kept left before after (fields_text (take (i + 1) parts))
-parts_then old mid new kept between left before middle after parts i d within h k =
-    rw (parts_more parts i d within) (keeps_then (Ok tt) old mid new kept between left before middle after (fields_text (take i parts))
+    → Keeps {T = Unit {0}} (Ok tt) old new buffered left before after (fields_text (take (i + 1) parts))
+parts_then old mid new buffered between left before middle after parts i d within h k =
+    rw (parts_more parts i d within) (keeps_then (Ok tt) old mid new buffered between left before middle after (fields_text (take i parts))
     (field_text (field_of (get_or parts i d))) h k)
 
 -- a prefix of one
-pub parts_cut : {T U : Type 0} (e : WriteError) (r : Result T WriteError) (old mid new : Option (List ℕ)) (kept between left later : List ℕ)
+pub parts_cut : {T U : Type 0} (e : WriteError) (r : Result T WriteError) (old mid new : Option (List ℕ)) (buffered between left later : List ℕ)
     (before middle after : ℕ) (parts : List Part) (i : ℕ) (d : Part) → i < length parts
-    → Keeps {T = Unit {0}} (Ok tt) old mid kept between before middle (fields_text (take i parts)) → IsErrAnd r (λ x. x ≡ e)
+    → Keeps {T = Unit {0}} (Ok tt) old mid buffered between before middle (fields_text (take i parts)) → IsErrAnd r (λ x. x ≡ e)
     → Keeps {T = U} (Err e) mid new between left middle after (field_text (field_of (get_or parts i d)))
-    → Keeps r old new kept later before after (fields_text parts)
-parts_cut e r old mid new kept between left later before middle after parts i d within h is k =
+    → Keeps r old new buffered later before after (fields_text parts)
+parts_cut e r old mid new buffered between left later before middle after parts i d within h is k =
     rw (parts_around parts i d within)
-    (keeps_then r old mid new kept between later before middle after (fields_text (take i parts))
+    (keeps_then r old mid new buffered between later before middle after (fields_text (take i parts))
     (field_text (field_of (get_or parts i d)) ++ fields_text (drop (suc i) parts)) h
     (keeps_cut e r mid new between left later middle after (field_text (field_of (get_or parts i d))) (fields_text (drop (suc i) parts)) is k))

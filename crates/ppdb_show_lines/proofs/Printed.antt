@@ -5,7 +5,7 @@ use Rattle.json.specs.Token.{Token}
 use Rattle.json.specs.Token as tokens
 use Rattle.json.specs.Print.{print, print_from, quoted, token_text, ends}
 use Rattle.serde_json.specs.{Data.{Members, object}, Written.{compact_text, members_text, comma_if}}
-use Rattle.ppdb_show_lines.specs.Lines.{Content, number, table, token, guid, octets, name, absent, content_data, Field, field, mark, Line, members_of}
+use Rattle.ppdb_show_lines.specs.Lines.{Content, number, table, token, guid, octets, name, absent, content_data, Field, field, literal, Line, members_of}
 use Rattle.ppdb_show_lines.specs.Tokens.{content_token, field_tokens, member_tokens, object_tokens, with_member, listed, IsKeyOrder}
 
 content_text_is : (c : Content) → token_text (content_token c) ≡ compact_text (content_data c)
@@ -53,7 +53,7 @@ place_printed : (o : Option Field) (places : List ℕ) (shown : Line)
     → print_from later (field_tokens o ++ (flat_map (member_tokens shown) places ++ tokens.end_object ∷ []))
     ≡ members_text later (with_member o (listed places shown))
 place_printed (Some (field words k c)) places shown h later = field_printed later k c _ (listed places shown) (h true)
-place_printed (Some (mark words)) places shown h later = h later
+place_printed (Some (literal words)) places shown h later = h later
 place_printed None places shown h later = h later
 
 places_printed : (places : List ℕ) (shown : Line) (later : Bool)

@@ -1,6 +1,7 @@
 -- Lines in a form: as text, or as objects of JSON (this project's format).
 use Rattle.std.specs.Prelude.{ℕ, List, flat_map}
-use Rattle.ppdb_show_lines.specs.{declared.form.Form.{Form, TheVariants.{Text, Json}}, Lines.{Line, text_of, json_of}}
+use Rattle.ppdb_show_lines.specs.declared.form.{Form.Form, Form.TheVariants.{Text, Json}}
+use Rattle.ppdb_show_lines.specs.Lines.{Line, text_of, json_of}
 
 -- a line in a form
 abbrev pub put_as : Form → Line → List ℕ

@@ -2,7 +2,8 @@
 use Prim.Native.String.{String}
 use Rattle.std.specs.Prelude.{ℕ, List, [], ◌∷◌, ◌++◌, Option, None, decimal, codes, flat_map, fold}
 use Rattle.ppdb_base.specs.Escaped.{escaped}
-use Rattle.serde_json.specs.{Data.{Data, Members, no_members, null, string, object, unsigned, put, number as json_number}, Written.compact_text}
+use Rattle.serde_json.specs.Data.{Data, Members, no_members, null, string, object, unsigned, put}
+use Rattle.serde_json.specs.{Data.number as json_number, Written.compact_text}
 use Rattle.ppdb_show_lines.specs.{Pieces.line, Values.{table_text, token_text, guid_text, hex_text}}
 
 -- What a field holds.
@@ -22,10 +23,11 @@ pub data Content : Type 0 where
   -- nothing, and the words that say so in the text
   absent : List ℕ → Content
 
--- A field: the words before it in the text, its key in JSON, and what it holds; or words that stand in the text alone.
+-- A field: the words before it in the text, its key in JSON, and what it holds; or words that stand
+-- in the text alone.
 pub data Field : Type 0 where
   field : (words key : List ℕ) → Content → Field
-  mark : (words : List ℕ) → Field
+  literal : (words : List ℕ) → Field
 
 -- A line: its first word, and its fields.
 pub record Line : Type 0 where
@@ -46,8 +48,10 @@ named key content = field (codes " " ++ (codes key ++ codes " ")) (codes key) co
 -- from a line and column to another
 abbrev pub range_fields : (start_line start_column end_line end_column : ℕ) → List Field
 range_fields start_line start_column end_line end_column =
-    bare "start_line" (number start_line) ∷ field (codes ":") (codes "start_column") (number start_column)
-    ∷ bare "end_line" (number end_line) ∷ field (codes ":") (codes "end_column") (number end_column) ∷ []
+    bare "start_line" (number start_line)
+    ∷ field (codes ":") (codes "start_column") (number start_column)
+    ∷ bare "end_line" (number end_line) ∷ field (codes ":") (codes "end_column") (number end_column)
+    ∷ []
 
 -- ---- as text
 
@@ -62,7 +66,7 @@ content_text (absent words) = words
 
 abbrev pub field_text : Field → List ℕ
 field_text (field words key content) = words ++ content_text content
-field_text (mark words) = words
+field_text (literal words) = words
 
 unfoldable pub text_of : Line → List ℕ
 text_of shown = shown.word ++ line (flat_map field_text shown.fields)
@@ -79,7 +83,7 @@ content_data content = string (content_text content)
 
 abbrev pub with_field : Members → Field → Members
 with_field members (field words key content) = put key (content_data content) members
-with_field members (mark words) = members
+with_field members (literal words) = members
 
 -- The first word is the member "line". The members stand by their keys, ascending.
 abbrev pub members_of : Line → Members

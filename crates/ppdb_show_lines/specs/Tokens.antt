@@ -1,8 +1,10 @@
 -- The tokens of a line's object, key by key.
-use Rattle.std.specs.Prelude.{ℕ, suc, zero, ◌≡◌, List, [], ◌∷◌, ◌++◌, Option, Some, None, decimal, codes, slice_get, flat_map}
+use Rattle.std.specs.Prelude.{ℕ, suc, zero, ◌≡◌, List, [], ◌∷◌, ◌++◌, Option, Some, None, decimal}
+use Rattle.std.specs.Prelude.{codes, slice_get, flat_map}
 use Rattle.json.specs.Token.{Token}
 use Rattle.serde_json.specs.Data.{Members, no_members, member, string}
-use Rattle.ppdb_show_lines.specs.Lines.{Content, number, guid, octets, absent, content_text, content_data, Field, field, mark, Line, members_of}
+use Rattle.ppdb_show_lines.specs.Lines.{Content, number, guid, octets, absent, content_text}
+use Rattle.ppdb_show_lines.specs.Lines.{content_data, Field, field, literal, Line, members_of}
 use Rattle.json.specs.Token as tokens
 
 -- what a field holds
@@ -15,7 +17,7 @@ content_token content = tokens.string (content_text content)
 
 abbrev pub field_tokens : Option Field → List Token
 field_tokens (Some (field words key content)) = tokens.key key ∷ content_token content ∷ []
-field_tokens (Some (mark words)) = []
+field_tokens (Some (literal words)) = []
 field_tokens None = []
 
 -- the member of the word, which is at 0, or of a field, of which the first is at 1
@@ -24,12 +26,13 @@ member_tokens shown zero = tokens.key (codes "line") ∷ tokens.string shown.wor
 member_tokens shown (suc place) = field_tokens (slice_get shown.fields place)
 
 abbrev pub object_tokens : List ℕ → Line → List Token
-object_tokens order shown = tokens.begin_object ∷ (flat_map (member_tokens shown) order ++ tokens.end_object ∷ [])
+object_tokens order shown =
+    tokens.begin_object ∷ (flat_map (member_tokens shown) order ++ tokens.end_object ∷ [])
 
--- a member for a field, and none for a mark
+-- a member for a field, and none for a literal
 abbrev pub with_member : Option Field → Members → Members
 with_member (Some (field words key content)) later = member key (content_data content) later
-with_member (Some (mark words)) later = later
+with_member (Some (literal words)) later = later
 with_member None later = later
 
 -- the members at these places, in this order

@@ -7,7 +7,8 @@ use Rattle.uuid.specs.{Parts.swap_fields, Text.{hyphenated_text, lower}}
 unfoldable pub table_text : ℕ → List ℕ
 table_text table = encode_lower (table ∷ [])
 
--- a token, in eight hexadecimal digits (ECMA-335 III.1.9, "Metadata tokens": the table in the first two, the row in the others)
+-- a token, in eight hexadecimal digits (ECMA-335 III.1.9, "Metadata tokens": the table in the first
+-- two, the row in the others)
 unfoldable pub token_text : ℕ → List ℕ
 token_text token = encode_lower (to_be_bytes w32 token)
 

@@ -1,7 +1,11 @@
 -- What the code's lines show.
 use Rattle.std.specs.Prelude.{map, ℕ, List, flat_map}
-use Rattle.ppdb_show_lines.specs.{declared.line.{Item.{Item, TheVariants.{Number, Table, Token, Guid, Octets, Name, Absent}}, Part.{Part, TheVariants.{Field as FieldPart, Mark}}}, Keys.key_text}
-use Rattle.ppdb_show_lines.specs.Lines.{Content, number, table, token, guid, octets, name, absent, Field, field, mark, Line, field_text}
+use Rattle.ppdb_show_lines.specs.declared.line.{Item.Item, Item.TheVariants.{Number, Table, Token}}
+use Rattle.ppdb_show_lines.specs.declared.line.Item.TheVariants.{Guid, Octets, Name, Absent}
+use Rattle.ppdb_show_lines.specs.declared.line.{Part.Part, Part.TheVariants.Field as FieldPart}
+use Rattle.ppdb_show_lines.specs.{declared.line.Part.TheVariants.Literal, Keys.key_text}
+use Rattle.ppdb_show_lines.specs.Lines.{Content, number, table, token, guid, octets, name, absent}
+use Rattle.ppdb_show_lines.specs.Lines.{Field, field, literal, Line, field_text}
 
 abbrev pub content_of : Item → Content
 content_of (Number n) = number n
@@ -20,7 +24,7 @@ IsText content = Unit {0}
 
 abbrev pub field_of : Part → Field
 field_of (FieldPart words key item) = field words.now (key_text key) (content_of item)
-field_of (Mark words) = mark words.now
+field_of (Literal words) = literal words.now
 
 abbrev pub line_of : List ℕ → List Part → Line
 line_of word parts = record { word = word; fields = map field_of parts }

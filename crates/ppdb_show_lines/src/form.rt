@@ -31,7 +31,8 @@ pub struct Printer<'a> {
 }
 
 impl Printer<'_> {
-    /// Puts a line. The order is that of its keys in JSON: 0 is the word's, and 1 that of the first part.
+    /// Puts a line. The order is that of its keys in JSON: 0 is the word's, and 1 that of the first
+    /// part.
     pub fn put_line<O: Sink>(
         self,
         out: &mut O,
@@ -40,7 +41,8 @@ impl Printer<'_> {
         parts: &[Part<'_>],
     ) -> Result<(), WriteError>
         requires { IsKeyOrder order.now (line_of word.now parts.now) }
-        ensures { PutsInto O.written O.faults result out.old out.new (lines_as self.entry.form (line_of word.now parts.now ∷ [])) }
+        ensures { PutsInto O.written O.faults result out.old out.new
+            (lines_as self.entry.form (line_of word.now parts.now ∷ [])) }
     {
         match self.form {
             Form::Text => put_text_line(out, word, parts),

@@ -17,7 +17,8 @@ pub fn put_id_line<O: Sink>(
     out: &mut O,
     id: &[u8; 20],
 ) -> Result<(), WriteError>
-    ensures { PutsInto O.written O.faults result out.old out.new (lines_as printer.entry.form (id_line id.now ∷ [])) }
+    ensures { PutsInto O.written O.faults result out.old out.new
+        (lines_as printer.entry.form (id_line id.now ∷ [])) }
 {
     printer.put_line(
         out,
@@ -34,7 +35,8 @@ pub fn put_entry_line<O: Sink>(
     row: u32,
 ) -> Result<(), WriteError>
     requires { row < 2 ^ 24 }
-    ensures { PutsInto O.written O.faults result out.old out.new (lines_as printer.entry.form (entry_line row ∷ [])) }
+    ensures { PutsInto O.written O.faults result out.old out.new
+        (lines_as printer.entry.form (entry_line row ∷ [])) }
 {
     let token = Token(method_token(row));
     printer.put_line(

@@ -10,7 +10,8 @@ use ppdb_base::{Sink, WriteError, put_escaped};
 
 /// Puts what a field holds.
 pub fn put_item<O: Sink>(out: &mut O, item: &Item<'_>) -> Result<(), WriteError>
-    ensures { PutsInto O.written O.faults result out.old out.new (content_text (content_of item.now)) }
+    ensures { PutsInto O.written O.faults result out.old out.new
+        (content_text (content_of item.now)) }
 {
     match *item {
         Item::Number(number) => out.put(Buffer::new().format(number).as_bytes()),

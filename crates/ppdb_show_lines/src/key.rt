@@ -6,8 +6,8 @@ ghost use Rattle.ppdb_show_lines.specs.Keys.{key_text};
 use json::Writer;
 use std::alloc::AllocError;
 
-/// A key: by its name where it is one of the lines of which a file has most, which are those of methods, points, scopes, variables,
-/// constants and custom records.
+/// A key: by its name where it is one of the lines of which a file has most, which are those of
+/// methods, points, scopes, variables, constants and custom records.
 #[derive(Clone, Copy)]
 pub enum Key {
     Attributes,
@@ -36,7 +36,8 @@ pub enum Key {
     None,
 }
 
-/// Puts a key. What has a name is a constant where it is put, which is not looked through for what has to be escaped.
+/// Puts a key. What has a name is a constant where it is put, which is not looked through for what
+/// has to be escaped.
 pub(crate) fn put_key(writer: &mut Writer, key: Key) -> Result<(), AllocError>
     ensures { Writes result writer.old writer.new (tokens.key (key_text key)) }
 {

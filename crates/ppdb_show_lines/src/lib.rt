@@ -1,11 +1,11 @@
-//! Lines as the commands print them: their pieces, and a line by its first word and its fields, put as text or as an
-//! object of JSON.
+//! Lines as the commands print them: their pieces, and a line by its first word and its fields, put
+//! as text or as an object of JSON.
 #![tactic(auto)]
 
+mod buffered;
 mod form;
 mod head;
 mod item;
-mod kept;
 mod key;
 mod line;
 mod object;

@@ -26,5 +26,5 @@ pub enum Part<'a> {
     /// A field: the words before it in the text, its key in JSON, and what it holds.
     Field(&'static str, Key, Item<'a>),
     /// Words that stand in the text alone.
-    Mark(&'static str),
+    Literal(&'static str),
 }

@@ -16,7 +16,8 @@ use ppdb_base::{Memory, Sink, SteadySink, WriteError};
 use std::alloc::Global;
 use std::cell::Cell;
 
-/// Puts a line as an object of JSON. The order is that of the keys: 0 is the word, and 1 the first part.
+/// Puts a line as an object of JSON. The order is that of the keys: 0 is the word, and 1 the first
+/// part.
 #[tactic(auto, unfolding(crate::specs::Lines::json_of))]
 pub(crate) fn put_json_line<O: Sink>(
     alloc: Global,
@@ -27,7 +28,8 @@ pub(crate) fn put_json_line<O: Sink>(
     parts: &[Part<'_>],
 ) -> Result<(), WriteError>
     requires { IsKeyOrder order.now (line_of word.now parts.now) }
-    ensures { PutsInto O.written O.faults result out.old out.new (json_of (line_of word.now parts.now)) }
+    ensures { PutsInto O.written O.faults result out.old out.new
+        (json_of (line_of word.now parts.now)) }
 {
     let text = object_line(alloc, room.replace(Vec::new(alloc)), word, order, parts)?;
     let put = out.put(text.as_slice());
@@ -68,7 +70,8 @@ fn put_member(
     parts: &[Part<'_>],
     place: usize,
 ) -> Result<(), Memory>
-    ensures ok { OnOk result (writer.new.tokens ≡ writer.old.tokens ++ member_tokens (line_of word.now parts.now) place) }
+    ensures ok { OnOk result (writer.new.tokens ≡ writer.old.tokens
+        ++ member_tokens (line_of word.now parts.now) place) }
     ensures before { writer.new.before ≡ writer.old.before }
 {
     if place == 0 {
@@ -81,7 +84,7 @@ fn put_member(
             put_key(writer, *key)?;
             put_value(alloc, writer, item)
         }
-        Some(Part::Mark(_)) => Ok(()),
+        Some(Part::Literal(_)) => Ok(()),
         None => Ok(()),
     }
 }
@@ -89,7 +92,8 @@ fn put_member(
 /// Puts what a field holds, as a value of JSON.
 #[inline(always)]
 fn put_value(alloc: Global, writer: &mut Writer, item: &Item<'_>) -> Result<(), Memory>
-    ensures ok { OnOk result (writer.new.tokens ≡ writer.old.tokens ++ content_token (content_of item.now) ∷ []) }
+    ensures ok { OnOk result (writer.new.tokens ≡ writer.old.tokens
+        ++ content_token (content_of item.now) ∷ []) }
     ensures before { writer.new.before ≡ writer.old.before }
 {
     match item {
@@ -104,7 +108,8 @@ fn put_value(alloc: Global, writer: &mut Writer, item: &Item<'_>) -> Result<(), 
 /// Puts a number. A few digits are put where their count is known, so that they are copied at once.
 #[inline(always)]
 fn put_number(writer: &mut Writer, number: u32) -> Result<(), Memory>
-    ensures ok { OnOk result (writer.new.tokens ≡ writer.old.tokens ++ tokens.number (decimal number) ∷ []) }
+    ensures ok { OnOk result (writer.new.tokens ≡ writer.old.tokens
+        ++ tokens.number (decimal number) ∷ []) }
     ensures before { writer.new.before ≡ writer.old.before }
 {
     match number {
@@ -119,7 +124,8 @@ fn put_number(writer: &mut Writer, number: u32) -> Result<(), Memory>
 /// Puts a number by its digits.
 #[inline(always)]
 fn put_digits(writer: &mut Writer, number: u32) -> Result<(), Memory>
-    ensures ok { OnOk result (writer.new.tokens ≡ writer.old.tokens ++ tokens.number (decimal number) ∷ []) }
+    ensures ok { OnOk result (writer.new.tokens ≡ writer.old.tokens
+        ++ tokens.number (decimal number) ∷ []) }
     ensures before { writer.new.before ≡ writer.old.before }
 {
     let mut buffer = Buffer::new();
@@ -130,7 +136,8 @@ fn put_digits(writer: &mut Writer, number: u32) -> Result<(), Memory>
 #[inline(never)]
 fn put_string(alloc: Global, writer: &mut Writer, item: &Item<'_>) -> Result<(), Memory>
     requires { IsText (content_of item.now) }
-    ensures ok { OnOk result (writer.new.tokens ≡ writer.old.tokens ++ tokens.string (content_text (content_of item.now)) ∷ []) }
+    ensures ok { OnOk result (writer.new.tokens ≡ writer.old.tokens
+        ++ tokens.string (content_text (content_of item.now)) ∷ []) }
     ensures before { writer.new.before ≡ writer.old.before }
 {
     if let Item::Name(name) = item {

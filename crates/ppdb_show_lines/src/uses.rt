@@ -29,7 +29,8 @@ macro_rules! put {
     };
 }
 
-/// Puts the line of an import: its kind, and what the kind has of an alias, an assembly, a namespace and a type.
+/// Puts the line of an import: its kind, and what the kind has of an alias, an assembly, a
+/// namespace and a type.
 pub fn put_use<O: Sink>(
     printer: Printer<'_>,
     out: &mut O,

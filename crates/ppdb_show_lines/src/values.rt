@@ -64,7 +64,8 @@ fn digits_of(byte: u8) -> [u8; 2]
     digits
 }
 
-/// Puts a GUID, whose bytes are in the order of the heap, in its hyphenated form, and a dash where there is none.
+/// Puts a GUID, whose bytes are in the order of the heap, in its hyphenated form, and a dash where
+/// there is none.
 #[tactic(auto, unfolding(crate::specs::Values::guid_text))]
 pub fn put_guid<O: Sink>(out: &mut O, guid: Option<[u8; 16]>) -> Result<(), WriteError>
     ensures { PutsInto O.written O.faults result out.old out.new (guid_text guid) }

@@ -13,7 +13,8 @@ use std::sync::ledger::Ledger;
 
 /// Puts the line of a break.
 fn put_break<O: Sink>(printer: Printer<'_>, out: &mut O, found: &Break) -> Result<(), WriteError>
-    ensures { PutsInto O.written O.faults result out.old out.new (lines_as printer.entry.form (break_line found.now ∷ [])) }
+    ensures { PutsInto O.written O.faults result out.old out.new
+        (lines_as printer.entry.form (break_line found.now ∷ [])) }
 {
     let parts = [
         Field(" ", Key::Method, Number(found.method)),
@@ -26,14 +27,16 @@ fn put_break<O: Sink>(printer: Printer<'_>, out: &mut O, found: &Break) -> Resul
     printer.put_line(out, "break", &[6, 5, 0, 1, 2, 4, 3], &parts)
 }
 
-/// Puts the lines of the breaks that are left, a line each. In all at most as many rows are read as the walk has left.
+/// Puts the lines of the breaks that are left, a line each. In all at most as many rows are read as
+/// the walk has left.
 pub fn put_breaks<O: Sink, L: Ledger>(
     printer: Printer<'_>,
     breaks: BreakCursor<'_>,
     out: &mut O,
     steps: &mut Steps<L>,
 ) -> Result<(), WriteError>
-    ensures puts { PutsInto O.written O.faults result out.old out.new (text_of_breaks printer.entry.form breaks.entry.items) }
+    ensures puts { PutsInto O.written O.faults result out.old out.new
+        (text_of_breaks printer.entry.form breaks.entry.items) }
     ensures later { steps.old ≤ steps.new }
     ensures cost { steps.new ≤ steps.old + breaks.entry.rows }
 {

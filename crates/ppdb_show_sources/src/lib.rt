@@ -1,5 +1,5 @@
-//! The texts that say where the sources of documents are found, and where a debugger may stop: a line for each document with its
-//! address, and a line for each break.
+//! The texts that say where the sources of documents are found, and where a debugger may stop: a
+//! line for each document with its address, and a line for each break.
 #![tactic(auto)]
 
 mod breaks;

@@ -1,5 +1,6 @@
 // The lines of the documents, with the addresses of their sources.
-ghost use Rattle.std.specs.Prelude.{◌≡◌, ◌+◌, ◌*◌, ◌≤◌, [], ◌∷◌, length, Some, codes, option_copied, option_map, unwrap_or, IfOk};
+ghost use Rattle.std.specs.Prelude.{◌≡◌, ◌+◌, ◌*◌, ◌≤◌, [], ◌∷◌, length, Some, codes};
+ghost use Rattle.std.specs.Prelude.{option_copied, option_map, unwrap_or, IfOk};
 ghost use Rattle.ppdb_base.specs.Written.{PutsInto};
 ghost use Rattle.ppdb_tables.specs.RawTables.{count as count_of};
 ghost use Rattle.ppdb_tables.specs.declared.rows.DocumentRow.{DocumentRow};
@@ -15,7 +16,8 @@ ghost use Rattle.ppdb_show_lines.specs.Forms.{lines_as};
 ghost use Rattle.ppdb_show_lines.specs.Lines.{absent, name as named_bytes};
 ghost use Rattle.ppdb_show_lines.specs.Views.{content_of};
 ghost use Rattle.ppdb_show_sources.specs.Found.{AreFileLinks};
-ghost use Rattle.ppdb_show_sources.specs.Links.{file_links as links_said, link_line, link_of, link_text};
+ghost use Rattle.ppdb_show_sources.specs.Links.{file_links as links_said, link_line, link_of};
+ghost use Rattle.ppdb_show_sources.specs.Links.{link_text};
 
 use ppdb_base::{Bytes, LinkError, List, Sink, Steps, WriteError};
 use ppdb_show_lines::Item::{Absent, Name, Number};
@@ -23,7 +25,7 @@ use ppdb_show_lines::Part::Field;
 use ppdb_show_lines::{Item, Key, Printer};
 use ppdb_tables::DOCUMENT;
 use ppdb_verify::Verified;
-use ppdb_verify_rows::{count, document, joined_name};
+use ppdb_verify_readers::{count, document, joined_name};
 use source_link::{Links, find_link, read_links};
 use std::alloc::Global;
 use std::sync::ledger::Ledger;
@@ -41,7 +43,8 @@ pub fn file_links<L: Ledger>(
     ensures links { IfOk result (AreFileLinks (value_of (raw_file file.now))) }
     ensures refused { IsRefusedBy result (links_said (value_of (raw_file file.now))) }
     ensures later { steps.old ≤ steps.new }
-    ensures cost { steps.new ≤ steps.old + 2 * digits (length (raw_file file.now).tables.customs) + length
+    ensures cost { steps.new ≤ steps.old + 2 * digits (length (raw_file file.now).tables.customs)
+        + length
         (customs_at (raw_file file.now).tables 0x00 1) }
 {
     source_link::order_is_free();
@@ -53,7 +56,8 @@ pub fn file_links<L: Ledger>(
 
 /// An address, or that there is none.
 fn address_item<'a>(address: Option<&'a [u8]>) -> Item<'a>
-    ensures { content_of result ≡ unwrap_or (option_map named_bytes (option_copied address.entry)) (absent (codes "none")) }
+    ensures { content_of result
+        ≡ unwrap_or (option_map named_bytes (option_copied address.entry)) (absent (codes "none")) }
 {
     match address {
         Some(address) => Name(address),
@@ -89,9 +93,11 @@ fn put_link<O: Sink, L: Ledger>(
     steps: &mut Steps<L>,
 ) -> Result<(), WriteError>
     requires { HasRow (raw_file file.now).tables 0x30 row }
-    ensures puts { (cells : DocumentRow) → row_at (raw_file file.now).tables.documents row ≡ Some cells
+    ensures puts { (cells : DocumentRow)
+        → row_at (raw_file file.now).tables.documents row ≡ Some cells
         → PutsInto O.written O.faults result out.old out.new
-        (lines_as printer.entry.form (link_of links.now (row, document_of (raw_file file.now).tables cells) ∷ [])) }
+        (lines_as printer.entry.form
+        (link_of links.now (row, document_of (raw_file file.now).tables cells) ∷ [])) }
     ensures step { steps.new ≡ steps.old + 1 }
 {
     let cells = document(file, row, steps);
@@ -104,7 +110,8 @@ fn put_link<O: Sink, L: Ledger>(
     }
 }
 
-/// Puts the lines of the documents, a line each. In all at most as many rows are read as Document has.
+/// Puts the lines of the documents, a line each. In all at most as many rows are read as Document
+/// has.
 pub fn put_links<O: Sink, L: Ledger>(
     printer: Printer<'_>,
     file: &Verified<'_>,
@@ -117,7 +124,7 @@ pub fn put_links<O: Sink, L: Ledger>(
     ensures later { steps.old ≤ steps.new }
     ensures cost { steps.new ≤ steps.old + count_of (raw_file file.now).tables 0x30 }
 {
-    let _ = file.keeps();
+    let _ = file.facts();
     let mut address: Bytes = List::new(printer.alloc);
     'rows: for row in 1..count(file, DOCUMENT) + 1 {
         put_link(printer, file, links, row, &mut address, out, steps)?;

@@ -85,11 +85,13 @@ module _ (stream : List ℕ) where
   -- ---- the row count of a table, after good ones
   module _ (table : ℕ) (lt : table < 64) (set : HasCount (referenced stream) table) (known : referenced stream < 2 ^ 45)
       (few : (t : ℕ) → t < table → pdb_rows stream t ≤ 16777215) where
-    few_before : (t : ℕ) → HasCount (referenced stream) t → count_place 32 (referenced stream) t < count_place 32 (referenced stream) table → pdb_rows stream t ≤ 16777215
+    few_before : (t : ℕ) → HasCount (referenced stream) t → count_place 32 (referenced stream) t < count_place 32 (referenced stream) table
+        → pdb_rows stream t ≤ 16777215
     few_before t set_t before = few t (earlier_table 32 (referenced stream) t table before)
 
     count_short : (fault : Fault) → count_place 32 (referenced stream) table ≤ length stream
-        → (fault ≡ record { code = PdbShort; place = at_byte 3 (count_place 32 (referenced stream) table) }) × (length stream < count_place 32 (referenced stream) table + 4)
+        → (fault ≡ record { code = PdbShort; place = at_byte 3 (count_place 32 (referenced stream) table) })
+        × (length stream < count_place 32 (referenced stream) table + 4)
         → IsFirst (PdbFieldFaults stream) fault
     count_short fault le past =
         let n = counts_below (referenced stream) table in

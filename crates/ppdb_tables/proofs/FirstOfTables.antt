@@ -163,7 +163,8 @@ module _ (methods : ℕ) (stream : List ℕ) where
     }
 
     count_short : (fault : Fault) → count_place 24 (valid stream) table ≤ length stream
-        → (fault ≡ record { code = TablesShort; place = at_byte 4 (count_place 24 (valid stream) table) }) × (length stream < count_place 24 (valid stream) table + 4)
+        → (fault ≡ record { code = TablesShort; place = at_byte 4 (count_place 24 (valid stream) table) })
+        × (length stream < count_place 24 (valid stream) table + 4)
         → IsFirst (TableFieldFaults methods stream) fault
     count_short fault le past =
         let n = counts_below (valid stream) table in

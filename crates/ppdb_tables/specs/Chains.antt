@@ -1,4 +1,5 @@
--- Chains of rows, each the parent of the one before it (Portable PDB v1.0, "ImportScope Table": Parent).
+-- Chains of rows, each the parent of the one before it (Portable PDB v1.0, "ImportScope Table":
+-- Parent).
 use Rattle.std.specs.Prelude.{ℕ, zero, suc, ◌≢◌, List, unwrap_or, option_map}
 use Rattle.ppdb_tables.specs.RawTables.{row_at}
 

@@ -1,8 +1,13 @@
--- The #Pdb stream, and what is wrong with it (Portable PDB v1.0, "Standalone debugging metadata", #Pdb).
-use Rattle.std.specs.{Prelude.{◌≡◌, ◌≢◌, ℕ, ◌+◌, ◌*◌, ◌%◌, ◌^◌, ◌<◌, ◌≤◌, ◌==◌, if◌then◌else◌, List, ◌∷◌, length, map, take, slice_index}, List.range_with_len}
-use Rattle.ppdb_base.specs.{declared.code.Code.{Code, TheVariants.{PdbShort, PdbTables, PdbRows, EntryPoint}}, declared.fault.Place.Place, Place.at_byte, First.Then, Fields.IsField}
+-- The #Pdb stream, and what is wrong with it (Portable PDB v1.0, "Standalone debugging metadata",
+-- #Pdb).
+use Rattle.std.specs.Prelude.{◌≡◌, ◌≢◌, ℕ, ◌+◌, ◌*◌, ◌%◌, ◌^◌, ◌<◌, ◌≤◌, ◌==◌, if◌then◌else◌, List}
+use Rattle.std.specs.{Prelude.{◌∷◌, length, map, take, slice_index}, List.range_with_len}
+use Rattle.ppdb_base.specs.declared.code.{Code.Code, Code.TheVariants.{PdbShort, PdbTables}}
+use Rattle.ppdb_base.specs.declared.{code.Code.TheVariants.{PdbRows, EntryPoint}, fault.Place.Place}
+use Rattle.ppdb_base.specs.{Place.at_byte, First.Then, Fields.IsField}
 use Rattle.metadata_root.specs.Fields.{number_at}
-use Rattle.ppdb_tables.specs.{declared.head.PdbHead.PdbHead, Counts.{HasCount, count_fields, count_place, rows_in}}
+use Rattle.ppdb_tables.specs.{declared.head.PdbHead.PdbHead, Counts.{HasCount, count_fields}}
+use Rattle.ppdb_tables.specs.Counts.{count_place, rows_in}
 
 -- the entry point's token (EntryPoint)
 abbrev pub entry_in : List ℕ → ℕ
@@ -20,25 +25,31 @@ pdb_fields stream = 20 ∷ 4 ∷ 8 ∷ count_fields (referenced stream)
 abbrev pub pdb_rows : List ℕ → ℕ → ℕ
 pdb_rows stream table = rows_in stream 32 (referenced stream) table
 
--- The rules of the fields, F9 to F11. A field is judged where the fields before it fit; 2d is the first number above those of the
--- type system's tables.
+-- The rules of the fields, F9 to F11. A field is judged where the fields before it fit; 2d is the
+-- first number above those of the type system's tables.
 pub data PdbFieldFaults (stream : List ℕ) : Code → Place → Type 0 where
-  short : (at len : ℕ) → IsField (pdb_fields stream) at len → at ≤ length stream → length stream < at + len → PdbFieldFaults stream PdbShort (at_byte 3 at)
-  foreign : 24 ≤ length stream → 2 ^ 0x2D ≤ referenced stream → PdbFieldFaults stream PdbTables (at_byte 3 24)
-  rows : (table : ℕ) → table < 64 → HasCount (referenced stream) table → count_place 32 (referenced stream) table ≤ length stream → 16777215 < pdb_rows stream table
+  short : (at len : ℕ) → IsField (pdb_fields stream) at len → at ≤ length stream
+      → length stream < at + len → PdbFieldFaults stream PdbShort (at_byte 3 at)
+  foreign : 24 ≤ length stream → 2 ^ 0x2D ≤ referenced stream
+      → PdbFieldFaults stream PdbTables (at_byte 3 24)
+  rows : (table : ℕ) → table < 64 → HasCount (referenced stream) table
+      → count_place 32 (referenced stream) table ≤ length stream → 16777215 < pdb_rows stream table
       → PdbFieldFaults stream PdbRows (at_byte 3 (count_place 32 (referenced stream) table))
 
--- the token of a row of MethodDef, table 06, or of no method, which is 0 (ECMA-335 III.1.9, "Metadata tokens"; II.22.26)
+-- the token of a row of MethodDef, table 06, or of no method, which is 0 (ECMA-335 III.1.9,
+-- "Metadata tokens"; II.22.26)
 abbrev pub method_token : ℕ → ℕ
 method_token row = if row == 0 then 0 else 0x06000000 + row
 
--- a token of MethodDef, table 06, whose row is there (ECMA-335 III.1.9, "Metadata tokens"; II.22, II.22.26)
+-- a token of MethodDef, table 06, whose row is there (ECMA-335 III.1.9, "Metadata tokens"; II.22,
+-- II.22.26)
 abbrev pub NamesMethod : ℕ → ℕ → Type 0
 NamesMethod methods token = (row : ℕ) × (1 ≤ row) × (row ≤ methods) × (token ≡ 6 * 2 ^ 24 + row)
 
 -- The rule of the entry point, F12.
 pub data EntryFaults (stream : List ℕ) : Code → Place → Type 0 where
-  entry : entry_in stream ≢ 0 → (NamesMethod (pdb_rows stream 6) (entry_in stream) → ⊥) → EntryFaults stream EntryPoint (at_byte 3 20)
+  entry : entry_in stream ≢ 0 → (NamesMethod (pdb_rows stream 6) (entry_in stream) → ⊥)
+      → EntryFaults stream EntryPoint (at_byte 3 20)
 
 -- the rules of the stream: the entry point is judged where no field is at fault
 abbrev pub PdbFaults : List ℕ → Code → Place → Type 0
@@ -52,4 +63,8 @@ pub record IsHeadOf (stream : List ℕ) (head : PdbHead) : Type 0 where
 
 -- what a #Pdb stream says, as a function of its bytes
 abbrev pub head_in : List ℕ → PdbHead
-head_in stream = record { id = take 20 stream; entry = entry_in stream % 2 ^ 24; rows = map (pdb_rows stream) (range_with_len 0 64) }
+head_in stream = record {
+  id = take 20 stream;
+  entry = entry_in stream % 2 ^ 24;
+  rows = map (pdb_rows stream) (range_with_len 0 64);
+}

@@ -2,7 +2,9 @@
 use Rattle.std.specs.Prelude.{◌≡◌}
 use Rattle.row_layout.specs.declared.column.Sizes.{Sizes}
 use Rattle.ppdb_tables.specs.declared.layouts.Layouts.{Layouts}
-use Rattle.ppdb_tables.specs.Layouts.{widths_of, document_columns, method_columns, scope_columns, variable_columns, constant_columns, import_columns, machine_columns, custom_columns}
+use Rattle.ppdb_tables.specs.Layouts.{widths_of, document_columns, method_columns, scope_columns}
+use Rattle.ppdb_tables.specs.Layouts.{variable_columns, constant_columns, import_columns}
+use Rattle.ppdb_tables.specs.Layouts.{machine_columns, custom_columns}
 
 -- each layout is that of its table's columns
 pub record AreLayouts (sizes : Sizes) (layouts : Layouts) : Type 0 where

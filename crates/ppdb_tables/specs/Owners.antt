@@ -7,4 +7,5 @@ pub record Owns (list : ScopeRow → ℕ) (scopes : List ScopeRow) (owner item :
   pub scope : ScopeRow
   pub there : row_at scopes owner ≡ Some scope
   pub begun : list scope ≤ item
-  pub last : (later : ℕ) (other : ScopeRow) → row_at scopes later ≡ Some other → list other ≤ item → later ≤ owner
+  pub last : (later : ℕ) (other : ScopeRow) → row_at scopes later ≡ Some other → list other ≤ item
+      → later ≤ owner

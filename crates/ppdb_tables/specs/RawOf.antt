@@ -1,6 +1,8 @@
 -- The tables as contracts see them.
 use Rattle.ppdb_heaps.specs.Views.{strings_of, blobs_of, guids_of}
-use Rattle.ppdb_tables.specs.{declared.tables.Tables.Tables, Layouts.{document_row, method_row, scope_row, variable_row, constant_row, import_row, machine_row, custom_row}, RawTables.RawTables}
+use Rattle.ppdb_tables.specs.{declared.tables.Tables.Tables, Layouts.{document_row, method_row}}
+use Rattle.ppdb_tables.specs.Layouts.{scope_row, variable_row, constant_row, import_row}
+use Rattle.ppdb_tables.specs.{Layouts.{machine_row, custom_row}, RawTables.RawTables}
 use Rattle.ppdb_tables.specs.TableOf.{rows_of}
 
 abbrev pub raw_of : Tables → RawTables

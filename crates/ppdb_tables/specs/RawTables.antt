@@ -1,8 +1,12 @@
--- The tables of a Portable PDB file as they are stored: the rows of each table as lists of numbers, and the heaps that they
--- point into (Portable PDB v1.0, "Metadata Tables"; ECMA-335 II.22, II.24.2).
-use Rattle.std.specs.{Prelude.{◌≡◌, ℕ, zero, suc, ◌≤◌, List, Option, None, length, slice_get, slice_index}, List.enumerate_from}
+-- The tables of a Portable PDB file as they are stored: the rows of each table as lists of numbers,
+-- and the heaps that they point into (Portable PDB v1.0, "Metadata Tables"; ECMA-335 II.22,
+-- II.24.2).
+use Rattle.std.specs.Prelude.{◌≡◌, ℕ, zero, suc, ◌≤◌, List, Option, None, length, slice_get}
+use Rattle.std.specs.{Prelude.slice_index, List.enumerate_from}
 use Rattle.ppdb_base.specs.declared.limits.TheConstants.{MAX_FILE_BYTES}
-use Rattle.ppdb_tables.specs.declared.rows.{DocumentRow.DocumentRow, MethodDebugRow.MethodDebugRow, ScopeRow.ScopeRow, VariableRow.VariableRow, ConstantRow.ConstantRow, ImportRow.ImportRow}
+use Rattle.ppdb_tables.specs.declared.rows.{DocumentRow.DocumentRow, MethodDebugRow.MethodDebugRow}
+use Rattle.ppdb_tables.specs.declared.rows.{ScopeRow.ScopeRow, VariableRow.VariableRow}
+use Rattle.ppdb_tables.specs.declared.rows.{ConstantRow.ConstantRow, ImportRow.ImportRow}
 use Rattle.ppdb_tables.specs.declared.rows.{MachineRow.MachineRow, CustomRow.CustomRow}
 
 pub record RawTables : Type 0 where

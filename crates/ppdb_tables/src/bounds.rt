@@ -1,4 +1,5 @@
-ghost use Rattle.std.specs.Prelude.{◌≡◌, ◌+◌, ◌*◌, ◌<◌, ◌≤◌, ℕ, length, map, slice_index, IfOk, OnOk, IfErr};
+ghost use Rattle.std.specs.Prelude.{◌≡◌, ◌+◌, ◌*◌, ◌<◌, ◌≤◌, ℕ, length, map, slice_index, IfOk};
+ghost use Rattle.std.specs.Prelude.{OnOk, IfErr};
 ghost use Rattle.ppdb_base.specs.First.{IsFirst, IsAccepted};
 ghost use Rattle.ppdb_tables.specs.Layouts.{debug_tables, row_len};
 ghost use Rattle.ppdb_tables.specs.Tables.{BoundFaults, rows_start};
@@ -34,7 +35,8 @@ pub fn place_tables(
     requires start { start ≡ rows_start bytes.now }
     requires inside { start ≤ length bytes.now }
     requires lens { lens.now ≡ map (row_len sizes.now) debug_tables }
-    ensures places { IfOk result (λ places. (index : ℕ) → index < 8 → StandsAt sizes.now bytes.now index (slice_index places index)) }
+    ensures places { IfOk result (λ places. (index : ℕ) → index < 8
+        → StandsAt sizes.now bytes.now index (slice_index places index)) }
     ensures accepted { OnOk result (IsAccepted (BoundFaults sizes.now bytes.now)) }
     ensures first { IfErr result (IsFirst (BoundFaults sizes.now bytes.now)) }
 {

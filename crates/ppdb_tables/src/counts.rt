@@ -1,4 +1,5 @@
-ghost use Rattle.std.specs.Prelude.{◌≡◌, ◌+◌, ◌*◌, ◌^◌, ◌<◌, ◌≤◌, ◌==◌, ◌↔◌, if◌then◌else◌, length, sum, IfOk, IfErr, IsTrue};
+ghost use Rattle.std.specs.Prelude.{◌≡◌, ◌+◌, ◌*◌, ◌^◌, ◌<◌, ◌≤◌, ◌==◌, ◌↔◌, if◌then◌else◌, length};
+ghost use Rattle.std.specs.Prelude.{sum, IfOk, IfErr, IsTrue};
 ghost use Rattle.std.specs.Int.{bit_at};
 ghost use Rattle.ppdb_base.specs.Place.{at_byte};
 ghost use Rattle.metadata_root.specs.Fields.{number_at};
@@ -33,7 +34,9 @@ impl Part {
         requires small { at < 1000 }
         requires inside { at ≤ length bytes.now }
         ensures end { IfOk result (λ end. (end ≡ at + len) × (end ≤ length bytes.now)) }
-        ensures short { IfErr result (λ fault. (fault ≡ record { code = self.short; place = at_byte self.number at }) × (length bytes.now < at + len)) }
+        ensures short { IfErr result
+            (λ fault. (fault ≡ record { code = self.short; place = at_byte self.number at })
+            × (length bytes.now < at + len)) }
     {
         if bytes.len() - at < len {
             return Err(self.fault(self.short, at));
@@ -66,9 +69,11 @@ impl Part {
         requires table { table < 64 }
         requires small { at < 1000 }
         requires inside { at ≤ length bytes.now }
-        ensures count { IfOk result (λ found. found.0 ≡ (if bit_at bits table == 1 then number_at bytes.now at 4 else 0)) }
+        ensures count { IfOk result
+            (λ found. found.0 ≡ (if bit_at bits table == 1 then number_at bytes.now at 4 else 0)) }
         ensures few { IfOk result (λ found. found.0 ≤ MAX_ROWS) }
-        ensures end { IfOk result (λ found. (found.1 ≡ at + 4 * bit_at bits table) × (found.1 ≤ length bytes.now)) }
+        ensures end { IfOk result (λ found. (found.1 ≡ at + 4 * bit_at bits table)
+            × (found.1 ≤ length bytes.now)) }
         ensures fault { IfErr result (IsCountFault self bytes.now bits table at) }
     {
         if !has_count(bits, table) {

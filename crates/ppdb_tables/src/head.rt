@@ -1,8 +1,10 @@
-ghost use Rattle.std.specs.Prelude.{◌≡◌, ◌≢◌, ◌%◌, ◌^◌, ◌<◌, ◌≤◌, ◌⊎◌, ℕ, length, slice_index, IfOk, OnOk, IfErr, IfNone, IfSome};
+ghost use Rattle.std.specs.Prelude.{◌≡◌, ◌≢◌, ◌%◌, ◌^◌, ◌<◌, ◌≤◌, ◌⊎◌, ℕ, length, slice_index};
+ghost use Rattle.std.specs.Prelude.{IfOk, OnOk, IfErr, IfNone, IfSome};
 ghost use Rattle.ppdb_base.specs.First.{IsFirst, IsAccepted};
 ghost use Rattle.metadata_root.specs.declared.kind.StreamKind.TheVariants.{Pdb};
 ghost use Rattle.metadata_root.specs.Streams.{bytes_of};
-ghost use Rattle.ppdb_tables.specs.Head.{PdbFieldFaults, PdbFaults, IsHeadOf, NamesMethod, method_token, referenced, pdb_rows};
+ghost use Rattle.ppdb_tables.specs.Head.{PdbFieldFaults, PdbFaults, IsHeadOf, NamesMethod};
+ghost use Rattle.ppdb_tables.specs.Head.{method_token, referenced, pdb_rows};
 
 use crate::counts::Part;
 use crate::streams::stream_bytes;
@@ -47,7 +49,8 @@ fn read_rows(bytes: &[u8], bits: u64) -> Result<[u32; 64], Fault>
     requires bits { bits ≡ referenced bytes.now }
     requires known { bits < 2 ^ 45 }
     requires long { 32 ≤ length bytes.now }
-    ensures rows { IfOk result (λ rows. (table : ℕ) → table < 64 → slice_index rows table ≡ pdb_rows bytes.now table) }
+    ensures rows { IfOk result (λ rows. (table : ℕ) → table < 64
+        → slice_index rows table ≡ pdb_rows bytes.now table) }
     ensures few { OnOk result (pdb_rows bytes.now 6 ≤ MAX_ROWS) }
     ensures accepted { OnOk result (IsAccepted (PdbFieldFaults bytes.now)) }
     ensures first { IfErr result (IsFirst (PdbFieldFaults bytes.now)) }
@@ -74,7 +77,8 @@ pub fn method_token(row: u32) -> u32
 fn method_of(token: u32, methods: u32) -> Option<u32>
     requires { methods ≤ MAX_ROWS }
     ensures none { IfNone result ((token ≢ 0) × (NamesMethod methods token → ⊥)) }
-    ensures row { IfSome result (λ row. (row ≡ token % 2 ^ 24) × ((token ≡ 0) ⊎ NamesMethod methods token)) }
+    ensures row { IfSome result (λ row. (row ≡ token % 2 ^ 24)
+        × ((token ≡ 0) ⊎ NamesMethod methods token)) }
 {
     let row = token % 0x0100_0000;
     if token == 0 {

@@ -1,7 +1,9 @@
-ghost use Rattle.std.specs.Prelude.{◌≡◌, ◌≢◌, ◌%◌, ◌<◌, ◌≤◌, ◌↔◌, ℕ, length, map, slice_index, nat_lt, if◌then◌else◌, IfOk, OnOk, IfErr, IsTrue};
+ghost use Rattle.std.specs.Prelude.{◌≡◌, ◌≢◌, ◌%◌, ◌<◌, ◌≤◌, ◌↔◌, ℕ, length, map, slice_index};
+ghost use Rattle.std.specs.Prelude.{nat_lt, if◌then◌else◌, IfOk, OnOk, IfErr, IsTrue};
 ghost use Rattle.std.specs.List.{range_with_len};
 ghost use Rattle.ppdb_base.specs.First.{IsFirst, IsAccepted};
-ghost use Rattle.ppdb_tables.specs.Tables.{TableFieldFaults, IsForeign, heap_sizes, valid, table_rows, count_in, sizes_in, rows_start};
+ghost use Rattle.ppdb_tables.specs.Tables.{TableFieldFaults, IsForeign, heap_sizes, valid};
+ghost use Rattle.ppdb_tables.specs.Tables.{table_rows, count_in, sizes_in, rows_start};
 
 use crate::counts::Part;
 use crate::head::PdbHead;
@@ -48,7 +50,8 @@ fn is_foreign(bits: u64) -> bool
     bits % (1 << 0x30) != 0 || bits >> 0x38 != 0
 }
 
-/// Reads the bits of the tables that have a row count, and passes the fields up to the first row count.
+/// Reads the bits of the tables that have a row count, and passes the fields up to the first row
+/// count.
 fn read_valid(bytes: &[u8], methods: u32) -> Result<u64, Fault>
     requires known { heap_sizes bytes.now < 8 }
     requires long { 7 ≤ length bytes.now }
@@ -76,7 +79,8 @@ fn differ_from_methods(table: usize, count: u32, methods: u32) -> bool
 /// The rows of a table, where `#~` has so many.
 fn rows_of(head: &PdbHead, table: usize, count: u32) -> u32
     requires { table < 64 }
-    ensures { result ≡ (if nat_lt table 0x2D then slice_index head.now.rows table else if nat_lt table 0x30 then 0 else if nat_lt table 0x38 then count else 0) }
+    ensures { result ≡ (if nat_lt table 0x2D then slice_index head.now.rows table
+        else if nat_lt table 0x30 then 0 else if nat_lt table 0x38 then count else 0) }
 {
     match table {
         0..0x2d => head.rows[table],
@@ -85,17 +89,22 @@ fn rows_of(head: &PdbHead, table: usize, count: u32) -> u32
     }
 }
 
-/// Reads the row count of each table, and judges the fields; answers the rows of all tables, and where those of `#~` begin.
+/// Reads the row count of each table, and judges the fields; answers the rows of all tables, and
+/// where those of `#~` begin.
 fn read_counts(bytes: &[u8], bits: u64, head: &PdbHead) -> Result<([u32; 64], usize), Fault>
     requires bits { bits ≡ valid bytes.now }
     requires heap { heap_sizes bytes.now < 8 }
     requires known { IsForeign (valid bytes.now) → ⊥ }
     requires long { 24 ≤ length bytes.now }
-    ensures rows { IfOk result (λ found. found.0 ≡ map (count_in head.now bytes.now) (range_with_len 0 64)) }
+    ensures rows { IfOk result
+        (λ found. found.0 ≡ map (count_in head.now bytes.now) (range_with_len 0 64)) }
     ensures few { OnOk result ((table : ℕ) → table < 64 → table_rows bytes.now table ≤ MAX_ROWS) }
-    ensures start { IfOk result (λ found. (found.1 ≡ rows_start bytes.now) × (found.1 ≤ length bytes.now)) }
-    ensures accepted { OnOk result (IsAccepted (TableFieldFaults (slice_index head.now.rows 6) bytes.now)) }
-    ensures first { IfErr result (IsFirst (TableFieldFaults (slice_index head.now.rows 6) bytes.now)) }
+    ensures start { IfOk result (λ found. (found.1 ≡ rows_start bytes.now)
+        × (found.1 ≤ length bytes.now)) }
+    ensures accepted { OnOk result
+        (IsAccepted (TableFieldFaults (slice_index head.now.rows 6) bytes.now)) }
+    ensures first { IfErr result
+        (IsFirst (TableFieldFaults (slice_index head.now.rows 6) bytes.now)) }
 {
     let mut rows = [0; 64];
     let mut at = 24;
@@ -114,9 +123,12 @@ fn read_counts(bytes: &[u8], bits: u64, head: &PdbHead) -> Result<([u32; 64], us
 pub fn read_header(bytes: &[u8], head: &PdbHead) -> Result<Header, Fault>
     ensures sizes { IfOk result (λ header. header.sizes ≡ sizes_in head.now bytes.now) }
     ensures few { OnOk result ((table : ℕ) → table < 64 → table_rows bytes.now table ≤ MAX_ROWS) }
-    ensures start { IfOk result (λ header. (header.start ≡ rows_start bytes.now) × (header.start ≤ length bytes.now)) }
-    ensures accepted { OnOk result (IsAccepted (TableFieldFaults (slice_index head.now.rows 6) bytes.now)) }
-    ensures first { IfErr result (IsFirst (TableFieldFaults (slice_index head.now.rows 6) bytes.now)) }
+    ensures start { IfOk result (λ header. (header.start ≡ rows_start bytes.now)
+        × (header.start ≤ length bytes.now)) }
+    ensures accepted { OnOk result
+        (IsAccepted (TableFieldFaults (slice_index head.now.rows 6) bytes.now)) }
+    ensures first { IfErr result
+        (IsFirst (TableFieldFaults (slice_index head.now.rows 6) bytes.now)) }
 {
     let methods = head.rows[6];
     let heap = read_heap_bits(bytes, methods)?;

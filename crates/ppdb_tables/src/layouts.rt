@@ -1,6 +1,8 @@
 // The layouts of the rows of the debug tables (Portable PDB v1.0, "Metadata Tables").
 ghost use Rattle.std.specs.Prelude.{◌≡◌, sum, [], ◌∷◌};
-ghost use Rattle.ppdb_tables.specs.Layouts.{widths_of, document_columns, method_columns, scope_columns, variable_columns, constant_columns, import_columns};
+ghost use Rattle.ppdb_tables.specs.Layouts.{widths_of, document_columns, method_columns};
+ghost use Rattle.ppdb_tables.specs.Layouts.{scope_columns, variable_columns, constant_columns};
+ghost use Rattle.ppdb_tables.specs.Layouts.{import_columns};
 ghost use Rattle.ppdb_tables.specs.Layouts.{machine_columns, custom_columns};
 
 use crate::numbers::{DOCUMENT, IMPORT_SCOPE, LOCAL_CONSTANT, LOCAL_VARIABLE, METHOD_DEF};
@@ -105,7 +107,8 @@ impl Layouts {
 
     /// How many bytes a row of each table has, in file order.
     pub fn lens(&self) -> [usize; 8]
-        ensures { result ≡ sum self.now.documents ∷ sum self.now.methods ∷ sum self.now.scopes ∷ sum self.now.variables ∷ sum self.now.constants
+        ensures { result ≡ sum self.now.documents ∷ sum self.now.methods ∷ sum self.now.scopes
+            ∷ sum self.now.variables ∷ sum self.now.constants
             ∷ sum self.now.imports ∷ sum self.now.machines ∷ sum self.now.customs ∷ [] }
     {
         [

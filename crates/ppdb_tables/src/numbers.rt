@@ -1,4 +1,5 @@
-//! The tables by their names in the standards (ECMA-335 II.22; Portable PDB v1.0, "Metadata Tables").
+//! The tables by their names in the standards (ECMA-335 II.22; Portable PDB v1.0, "Metadata
+//! Tables").
 
 /// Module.
 pub const MODULE: u8 = 0x00;

@@ -20,7 +20,8 @@ fn table_of(tables: &[u8], tag: u32) -> Option<u8>
     tables.get(tag as usize).copied()
 }
 
-/// The tag that picks a table (Portable PDB v1.0, HasCustomDebugInformation); None exactly if there is none.
+/// The tag that picks a table (Portable PDB v1.0, HasCustomDebugInformation); None exactly if there
+/// is none.
 pub fn tag_of(table: u8) -> Option<usize>
     ensures tag { result ≡ position (λ other. other == table) parent_tables }
     ensures small { IfSome result (λ tag. tag < 32) }
@@ -62,7 +63,8 @@ pub fn coded(parent: Parent) -> u64
     }
 }
 
-/// The coded index of a parent names that parent, and the parent that a coded index names has that index.
+/// The coded index of a parent names that parent, and the parent that a coded index names has that
+/// index.
 pub fn codes_are_parents()
     ensures { CodesAreParents }
 {}

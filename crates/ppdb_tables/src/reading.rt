@@ -1,6 +1,7 @@
 ghost use Rattle.std.specs.Prelude.{◌≡◌, ◌<◌, slice_index, IfOk, OnOk, IfErr};
 ghost use Rattle.ppdb_base.specs.First.{IsFirst, IsAccepted};
-ghost use Rattle.metadata_root.specs.declared.kind.StreamKind.TheVariants.{Pdb, Tables as TablesKind};
+ghost use Rattle.metadata_root.specs.declared.kind.StreamKind.TheVariants.{Pdb};
+ghost use Rattle.metadata_root.specs.declared.kind.StreamKind.TheVariants.{Tables as TablesKind};
 ghost use Rattle.metadata_root.specs.Streams.{bytes_of};
 ghost use Rattle.ppdb_tables.specs.Head.{PdbFaults, IsHeadOf};
 ghost use Rattle.ppdb_tables.specs.RawOf.{raw_of};
@@ -29,7 +30,8 @@ use ppdb_heaps::{Blobs, Guids, Strings};
 pub fn read_tables<'a>(root: &Root<'a>, head: &PdbHead) -> Result<Tables<'a>, Fault>
     requires judged { IsAccepted (PdbFaults (bytes_of root.now Pdb)) }
     requires head { IsHeadOf (bytes_of root.now Pdb) head.now }
-    ensures accepted { OnOk result (IsAccepted (TablesFaults head.now (bytes_of root.now TablesKind))) }
+    ensures accepted { OnOk result
+        (IsAccepted (TablesFaults head.now (bytes_of root.now TablesKind))) }
     ensures tables { IfOk result (λ tables. raw_of tables ≡ tables_in root.now head.now) }
     ensures first { IfErr result (IsFirst (TablesFaults head.now (bytes_of root.now TablesKind))) }
 {

@@ -12,7 +12,8 @@ use ppdb_heaps::{Blobs, Guids, Strings};
 use row_layout::Sizes;
 use std::sync::ledger::Ledger;
 
-/// The tables of a debug file, and the heaps that their rows point into, where they stand in the file.
+/// The tables of a debug file, and the heaps that their rows point into, where they stand in the
+/// file.
 #[derive(Clone, Copy)]
 pub struct Tables<'a> {
     pub(crate) sizes: Sizes,
@@ -27,7 +28,8 @@ pub struct Tables<'a> {
     pub(crate) imports: Table<'a, 2>,
     pub(crate) machines: Table<'a, 2>,
     pub(crate) customs: Table<'a, 3>,
-    ghost short_heaps: { (length (strings_of strings) ≤ MAX_FILE_BYTES) × (length (guids_of guids) ≤ MAX_FILE_BYTES) × (length (blobs_of blobs) ≤ MAX_FILE_BYTES) },
+    ghost short_heaps: { (length (strings_of strings) ≤ MAX_FILE_BYTES)
+        × (length (guids_of guids) ≤ MAX_FILE_BYTES) × (length (blobs_of blobs) ≤ MAX_FILE_BYTES) },
     ghost entries: { length sizes.rows ≡ 64 },
     ghost small: { (table : ℕ) → slice_index sizes.rows table ≤ 16777215 },
     ghost document_count: { documents.count ≡ slice_index sizes.rows 0x30 },

@@ -1,8 +1,14 @@
 -- What of a value belongs to a method, to a row and to an offset (Portable PDB v1.0).
-use Rattle.ppdb_values.specs.Names.{last_or, option_map_or, Point, Range, Slot, Parent, numbered, source_link}
-use Rattle.std.specs.Prelude.{ℕ, suc, ◌-◌, ◌==◌, ◌&&◌, nat_le, nat_lt, List, [], Option, Some, None, Bool, take, filter, filter_map, find, sum_by, bytes_eq}
-use Rattle.ppdb_values.specs.{declared.file.{FileValue.FileValue, MethodValue.MethodValue}, declared.scope.ScopeValue.ScopeValue, declared.import.ImportScopeValue.ImportScopeValue}
-use Rattle.ppdb_values.specs.{declared.custom.{CustomBody.{CustomBody, TheVariants.{Hoisted, Unread}}, CustomValue.CustomValue}, Chains.chain_of}
+use Rattle.ppdb_values.specs.Names.{last_or, option_map_or, Point, Range, Slot, Parent, numbered}
+use Rattle.ppdb_values.specs.Names.{source_link}
+use Rattle.std.specs.Prelude.{ℕ, suc, ◌-◌, ◌==◌, ◌&&◌, nat_le, nat_lt, List, [], Option, Some, None}
+use Rattle.std.specs.Prelude.{Bool, take, filter, filter_map, find, sum_by, bytes_eq}
+use Rattle.ppdb_values.specs.declared.file.{FileValue.FileValue, MethodValue.MethodValue}
+use Rattle.ppdb_values.specs.declared.scope.ScopeValue.{ScopeValue}
+use Rattle.ppdb_values.specs.declared.import.ImportScopeValue.{ImportScopeValue}
+use Rattle.ppdb_values.specs.declared.custom.{CustomBody.CustomBody, CustomBody.TheVariants.Hoisted}
+use Rattle.ppdb_values.specs.declared.custom.CustomBody.TheVariants.{Unread}
+use Rattle.ppdb_values.specs.{declared.custom.CustomValue.CustomValue, Chains.chain_of}
 
 -- ---- points ("Sequence Points Blob")
 
@@ -28,7 +34,8 @@ holds range x = nat_le range.start x && nat_lt x range.end
 
 -- the scopes of a method that hold an offset, with their rows
 abbrev pub scopes_at : FileValue → ℕ → ℕ → List (ℕ × ScopeValue)
-scopes_at value m x = filter (λ scope. (scope.1.method == m) && holds scope.1.range x) (numbered value.scopes)
+scopes_at value m x =
+    filter (λ scope. (scope.1.method == m) && holds scope.1.range x) (numbered value.scopes)
 
 -- The row of the first item of a scope: variables, and constants, count through all scopes.
 abbrev pub first_item : (ScopeValue → ℕ) → FileValue → ℕ → ℕ

@@ -1,4 +1,5 @@
--- The order of the ranges of scopes, and how they lie in each other (Portable PDB v1.0, "LocalScope Table").
+-- The order of the ranges of scopes, and how they lie in each other (Portable PDB v1.0, "LocalScope
+-- Table").
 use Rattle.std.specs.Prelude.{◌≡◌, ◌<◌, ◌≤◌, ◌⊎◌}
 use Rattle.custom_info.specs.declared.slots.Range.{Range}
 

@@ -1,6 +1,8 @@
--- A Portable PDB file as it is stored: its identity and entry point, and its tables with their heaps (Portable PDB v1.0,
--- "#Pdb stream" and "Metadata Tables").
-use Rattle.ppdb_values.specs.Names.{Value, Grammar, cut, prefix_of, text_at, blob_at, guid_at, PointLimits, TypeLimits, Pdb, Streams, bytes_of, head_in, RawTables, count, tables_in}
+-- A Portable PDB file as it is stored: its identity and entry point, and its tables with their
+-- heaps (Portable PDB v1.0, "#Pdb stream" and "Metadata Tables").
+use Rattle.ppdb_values.specs.Names.{Value, Grammar, cut, prefix_of, text_at, blob_at, guid_at}
+use Rattle.ppdb_values.specs.Names.{PointLimits, TypeLimits, Pdb, Streams, bytes_of, head_in}
+use Rattle.ppdb_values.specs.Names.{RawTables, count, tables_in}
 use Rattle.std.specs.Prelude.{ℕ, List, [], Option, unwrap_or}
 
 pub record RawFile : Type 0 where
@@ -46,4 +48,9 @@ point_limits raw = record { documents = count raw 0x30; signatures = count raw 0
 
 -- TypeRef, TypeDef, TypeSpec and AssemblyRef
 abbrev pub type_limits : RawTables → TypeLimits
-type_limits raw = record { type_refs = count raw 0x01; type_defs = count raw 0x02; type_specs = count raw 0x1b; assembly_refs = count raw 0x23 }
+type_limits raw = record {
+  type_refs = count raw 0x01;
+  type_defs = count raw 0x02;
+  type_specs = count raw 0x1b;
+  assembly_refs = count raw 0x23;
+}

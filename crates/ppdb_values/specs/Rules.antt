@@ -1,11 +1,20 @@
--- What holds of every valid file, as facts that its readers can use (Portable PDB v1.0, "Metadata Tables" and the formats of
--- its blobs; ECMA-335 II.22, II.24.2).
-use Rattle.ppdb_values.specs.Names.{Grammar, Reading, text_at, blob_at, guid_at, names, sequence_points, constants, body_of, imports as import_grammar, Kind, Async, Hoisted, TypeDocuments, kind_of}
-use Rattle.ppdb_values.specs.Names.{async_stepping, type_documents, DocumentRow, MethodDebugRow, ScopeRow, ConstantRow, ImportRow, MachineRow, CustomRow, parent_in, RawTables, HasShape, count, row_at}
-use Rattle.std.specs.Prelude.{◌≡◌, ◌≢◌, ℕ, suc, ◌+◌, ◌<◌, ◌≤◌, ◌⊎◌, map, List, [], length, Some, None, is_some, true}
+-- What holds of every valid file, as facts that its readers can use (Portable PDB v1.0, "Metadata
+-- Tables" and the formats of its blobs; ECMA-335 II.22, II.24.2).
+use Rattle.ppdb_values.specs.Names.{Grammar, Reading, text_at, blob_at, guid_at, names}
+use Rattle.ppdb_values.specs.Names.{sequence_points, constants, body_of, imports as import_grammar}
+use Rattle.ppdb_values.specs.Names.{Kind, Async, Hoisted, TypeDocuments, kind_of}
+use Rattle.ppdb_values.specs.Names.{async_stepping, type_documents, DocumentRow, MethodDebugRow}
+use Rattle.ppdb_values.specs.Names.{ScopeRow, ConstantRow, ImportRow, MachineRow, CustomRow}
+use Rattle.ppdb_values.specs.Names.{parent_in, RawTables, HasShape, count, row_at}
+use Rattle.std.specs.Prelude.{◌≡◌, ◌≢◌, ℕ, suc, ◌+◌, ◌<◌, ◌≤◌, ◌⊎◌, map, List, [], length, Some}
+use Rattle.std.specs.Prelude.{None, is_some, true}
 use Rattle.custom_info.specs.HoistedScopes.{hoisted_scopes}
-use Rattle.ppdb_values.specs.{RawFile.{RawFile, text, blob, records_of, begun_of, point_limits, type_limits}, Documents.document_of, Customs.{parent_of, kind_in}}
-use Rattle.ppdb_values.specs.{Ranges.{ComesAfter, IsInOrAfter}, Value.{owner_of, range_of}, Chains.{chain_for, chain_of}, Ordered.{EachRow, EachPair, IsSorted, Rises}}
+use Rattle.ppdb_values.specs.RawFile.{RawFile, text, blob, records_of, begun_of, point_limits}
+use Rattle.ppdb_values.specs.{RawFile.type_limits, Documents.document_of, Customs.parent_of}
+use Rattle.ppdb_values.specs.Customs.{kind_in}
+use Rattle.ppdb_values.specs.{Ranges.{ComesAfter, IsInOrAfter}, Value.{owner_of, range_of}}
+use Rattle.ppdb_values.specs.{Chains.{chain_for, chain_of}, Ordered.{EachRow, EachPair, IsSorted}}
+use Rattle.ppdb_values.specs.Ordered.{Rises}
 
 -- ---- items that are there
 
@@ -40,14 +49,16 @@ pub record IsDocument (raw : RawTables) (row : DocumentRow) : Type 0 where
 
 pub record KeepsDocuments (raw : RawTables) : Type 0 where
   pub each : EachRow (IsDocument raw) raw.documents
-  pub names_differ : EachPair (λ a b. (document_of raw a).name ≢ (document_of raw b).name) raw.documents
+  pub names_differ : EachPair
+      (λ a b. (document_of raw a).name ≢ (document_of raw b).name) raw.documents
 
 -- ---- "MethodDebugInformation Table"
 
 pub record IsMethod (raw : RawTables) (row : MethodDebugRow) : Type 0 where
   pub document : HasRowOrNone raw 0x30 row.document
   pub points : HasBlob raw row.points
-  pub points_whole : (blob raw row.points ≡ []) ⊎ IsWhole (sequence_points row.document (point_limits raw)) (blob raw row.points)
+  pub points_whole : (blob raw row.points ≡ [])
+      ⊎ IsWhole (sequence_points row.document (point_limits raw)) (blob raw row.points)
 
 -- One row for each method, or none at all.
 pub record KeepsMethods (raw : RawTables) : Type 0 where
@@ -65,11 +76,14 @@ pub record IsScope (raw : RawTables) (row : ScopeRow) : Type 0 where
 pub record KeepsScopes (raw : RawTables) : Type 0 where
   pub each : EachRow (IsScope raw) raw.scopes
   pub by_method : IsSorted (map (λ scope. scope.method) raw.scopes)
-  pub by_start : EachPair (λ a b. a.method ≡ b.method → ComesAfter (range_of a) (range_of b)) raw.scopes
-  pub nested : EachPair (λ a b. a.method ≡ b.method → IsInOrAfter (range_of a) (range_of b)) raw.scopes
+  pub by_start : EachPair (λ a b. a.method ≡ b.method
+      → ComesAfter (range_of a) (range_of b)) raw.scopes
+  pub nested : EachPair (λ a b. a.method ≡ b.method
+      → IsInOrAfter (range_of a) (range_of b)) raw.scopes
 
--- The lists of the scopes share out the items of a table: the first list begins at 1, none begins before that of the row before,
--- and each begins at an item or right after the last. Where there are no scopes, there are no items.
+-- The lists of the scopes share out the items of a table: the first list begins at 1, none begins
+-- before that of the row before, and each begins at an item or right after the last. Where there
+-- are no scopes, there are no items.
 pub record KeepsLists (list : ScopeRow → ℕ) (scopes : List ScopeRow) (items : ℕ) : Type 0 where
   pub first : (scope : ScopeRow) → row_at scopes 1 ≡ Some scope → list scope ≡ 1
   pub sorted : IsSorted (map list scopes)
@@ -77,40 +91,48 @@ pub record KeepsLists (list : ScopeRow → ℕ) (scopes : List ScopeRow) (items 
   pub none : scopes ≡ [] → items ≡ 0
 
 -- Two items of one scope differ in this.
-abbrev pub DifferInScope : {X K : Type 0} → (X → K) → (ScopeRow → ℕ) → List ScopeRow → List X → Type 0
+abbrev pub DifferInScope : {X K : Type 0} → (X → K) → (ScopeRow → ℕ) → List ScopeRow → List X
+    → Type 0
 DifferInScope {X} key list scopes items =
-    (a b : ℕ) (x y : X) → row_at items a ≡ Some x → row_at items b ≡ Some y → a < b → owner_of list scopes a ≡ owner_of list scopes b → key x ≢ key y
+    (a b : ℕ) (x y : X) → row_at items a ≡ Some x → row_at items b ≡ Some y → a < b
+    → owner_of list scopes a ≡ owner_of list scopes b → key x ≢ key y
 
 pub record KeepsVariables (raw : RawTables) : Type 0 where
   pub lists : KeepsLists (λ scope. scope.variables) raw.scopes (length raw.variables)
   pub names : EachRow (λ variable. HasText raw variable.name) raw.variables
-  pub slots_differ : DifferInScope (λ variable. variable.slot) (λ scope. scope.variables) raw.scopes raw.variables
-  pub names_differ : DifferInScope (λ variable. text raw variable.name) (λ scope. scope.variables) raw.scopes raw.variables
+  pub slots_differ : DifferInScope (λ variable. variable.slot)
+      (λ scope. scope.variables) raw.scopes raw.variables
+  pub names_differ : DifferInScope (λ variable. text raw variable.name)
+      (λ scope. scope.variables) raw.scopes raw.variables
 
 -- The signature is whole: modifiers, and a body after them ("LocalConstantSig Blob").
 pub record IsConstant (raw : RawTables) (row : ConstantRow) : Type 0 where
   pub name : HasText raw row.name
   pub signature : HasBlob raw row.signature
   pub signature_whole : IsWhole (constants (type_limits raw)) (blob raw row.signature)
-  pub body : is_some (body_of (begun_of (constants (type_limits raw)) (blob raw row.signature))) ≡ true
+  pub body : is_some (body_of (begun_of (constants (type_limits raw)) (blob raw row.signature)))
+      ≡ true
 
 pub record KeepsConstants (raw : RawTables) : Type 0 where
   pub lists : KeepsLists (λ scope. scope.constants) raw.scopes (length raw.constants)
   pub each : EachRow (IsConstant raw) raw.constants
-  pub names_differ : DifferInScope (λ constant. text raw constant.name) (λ scope. scope.constants) raw.scopes raw.constants
+  pub names_differ : DifferInScope (λ constant. text raw constant.name)
+      (λ scope. scope.constants) raw.scopes raw.constants
 
 -- ---- "ImportScope Table"
 
 pub record IsImport (raw : RawTables) (row : ImportRow) : Type 0 where
   pub parent : HasRowOrNone raw 0x35 row.parent
   pub imports : HasBlob raw row.imports
-  pub imports_whole : IsWhole (import_grammar (type_limits raw) (blob_at raw.blobs)) (blob raw row.imports)
+  pub imports_whole : IsWhole (import_grammar (type_limits raw) (blob_at raw.blobs))
+      (blob raw row.imports)
 
 -- Each chain of parents ends: one link more than there are rows adds nothing.
 pub record KeepsImports (raw : RawTables) : Type 0 where
   pub each : EachRow (IsImport raw) raw.imports
   pub chains_end : (row : ℕ) → row ≤ length raw.imports
-      → chain_for (λ scope. scope.parent) raw.imports (suc (length raw.imports)) row ≡ chain_of (λ scope. scope.parent) raw.imports row
+      → chain_for (λ scope. scope.parent) raw.imports (suc (length raw.imports)) row
+      ≡ chain_of (λ scope. scope.parent) raw.imports row
 
 -- ---- "StateMachineMethod Table"
 

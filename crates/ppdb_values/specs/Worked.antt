@@ -1,7 +1,10 @@
 -- Three worked files: their values, and what two of these say of a method and of an offset.
 use Rattle.std.specs.Prelude.{◌≡◌}
-use Rattle.ppdb_values.specs.{Value.value_of, Meaning.meaning, Links.links, WorkedSmall.{empty_file, empty_value, small_file, small_value, small_meaning, small_links}}
-use Rattle.ppdb_values.specs.WorkedProgram.{program_file, program_value, program_meaning, program_links}
+use Rattle.ppdb_values.specs.{Value.value_of, Meaning.meaning, Links.links, WorkedSmall.empty_file}
+use Rattle.ppdb_values.specs.WorkedSmall.{empty_value, small_file, small_value, small_meaning}
+use Rattle.ppdb_values.specs.WorkedSmall.{small_links}
+use Rattle.ppdb_values.specs.WorkedProgram.{program_file, program_value, program_meaning}
+use Rattle.ppdb_values.specs.WorkedProgram.{program_links}
 
 -- The values of the files, from their rows and heaps.
 pub record WorkedValues : Type 0 where

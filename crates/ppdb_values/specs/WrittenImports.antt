@@ -1,9 +1,16 @@
--- The import of a value as it is stored and as its writer takes it (Portable PDB v1.0, "Imports Blob").
-use Rattle.ppdb_values.specs.Names.{TypeToken, ImportNumbers, ImportItem, namespace, assembly_namespace, target, xml, alias, assembly_alias, namespace_alias, assembly_namespace_alias, target_alias}
+-- The import of a value as it is stored and as its writer takes it (Portable PDB v1.0, "Imports
+-- Blob").
+use Rattle.ppdb_values.specs.Names.{TypeToken, ImportNumbers, ImportItem, namespace}
+use Rattle.ppdb_values.specs.Names.{assembly_namespace, target, xml, alias, assembly_alias}
+use Rattle.ppdb_values.specs.Names.{namespace_alias, assembly_namespace_alias, target_alias}
 use Rattle.ppdb_values.specs.Names.{text_of, IsImport, import_item, IsToken}
 use Rattle.std.specs.Prelude.{◌≡◌, ℕ, ◌<◌, ◌^◌, List, [], Option, Some}
 use Rattle.ppdb_values.specs.declared.import.ImportValue.{ImportValue}
-use Rattle.ppdb_values.specs.declared.import.ImportValue.TheVariants.{Namespace, AssemblyNamespace, Target, Xml, Alias, AssemblyAlias, NamespaceAlias, AssemblyNamespaceAlias, TargetAlias}
+use Rattle.ppdb_values.specs.declared.import.ImportValue.TheVariants.{Namespace, AssemblyNamespace}
+use Rattle.ppdb_values.specs.declared.import.ImportValue.TheVariants.{Target, Xml, Alias}
+use Rattle.ppdb_values.specs.declared.import.ImportValue.TheVariants.{AssemblyAlias, NamespaceAlias}
+use Rattle.ppdb_values.specs.declared.import.ImportValue.TheVariants.{AssemblyNamespaceAlias}
+use Rattle.ppdb_values.specs.declared.import.ImportValue.TheVariants.{TargetAlias}
 use Rattle.ppdb_values.specs.Imports.{import_value}
 
 -- the import as the records of its blob have it
@@ -15,7 +22,8 @@ stored_import (Xml prefix name) = xml prefix name
 stored_import (Alias name) = alias name
 stored_import (AssemblyAlias name assembly) = assembly_alias name assembly
 stored_import (NamespaceAlias name other) = namespace_alias name other
-stored_import (AssemblyNamespaceAlias name assembly other) = assembly_namespace_alias name assembly other
+stored_import (AssemblyNamespaceAlias name assembly other) =
+    assembly_namespace_alias name assembly other
 stored_import (TargetAlias name type) = target_alias name type
 
 -- ---- its fields; one that it has not is empty, 0 or no row
@@ -73,17 +81,21 @@ import_numbers import a n = record {
   target = target_type import;
 }
 
--- The indexes are those of the import's texts; of a text that it has not it is any that names the empty text, as 0 does.
+-- The indexes are those of the import's texts; of a text that it has not it is any that names the
+-- empty text, as 0 does.
 abbrev pub AreTextsOf : (ℕ → Option (List ℕ)) → ImportValue → ℕ → ℕ → Type 0
-AreTextsOf heap import a n = (text_of heap a ≡ alias_text import) × (text_of heap n ≡ namespace_text import)
+AreTextsOf heap import a n =
+    (text_of heap a ≡ alias_text import) × (text_of heap n ≡ namespace_text import)
 
 pub record ImportsAreStored : Type 0 where
   -- `import_value` and `stored_import` undo each other
   pub back : (import : ImportValue) → import_value (stored_import import) ≡ import
   pub forth : (item : ImportItem) → stored_import (import_value item) ≡ item
   -- the numbers stand for the import
-  pub numbers : (heap : ℕ → Option (List ℕ)) (import : ImportValue) (a n : ℕ) → IsToken (target_type import) → AreTextsOf heap import a n
+  pub numbers : (heap : ℕ → Option (List ℕ)) (import : ImportValue) (a n : ℕ)
+      → IsToken (target_type import) → AreTextsOf heap import a n
       → import_item heap (import_numbers import a n) ≡ Some (stored_import import)
   -- and can be written, where they have a form
-  pub writable : (import : ImportValue) (a n : ℕ) → a < 2 ^ 29 → n < 2 ^ 29 → assembly_row import < 2 ^ 29 → IsToken (target_type import)
+  pub writable : (import : ImportValue) (a n : ℕ) → a < 2 ^ 29 → n < 2 ^ 29
+      → assembly_row import < 2 ^ 29 → IsToken (target_type import)
       → IsImport (import_numbers import a n)

@@ -1,4 +1,5 @@
-// What a value takes from the blobs of a file, where chains of import scopes end, and what three worked files say.
+// What a value takes from the blobs of a file, where chains of import scopes end, and what three
+// worked files say.
 ghost use Rattle.std.specs.Prelude.{List};
 ghost use Rattle.ppdb_tables.specs.declared.rows.ImportRow.{ImportRow};
 ghost use Rattle.ppdb_values.specs.Chains.{ChainsEnd};
@@ -21,7 +22,8 @@ pub fn constants_are_read()
     ensures { ConstantsAreRead }
 {}
 
-/// What a value has of a method, of an offset and of an import scope is what the rows have, under the same numbers.
+/// What a value has of a method, of an offset and of an import scope is what the rows have, under
+/// the same numbers.
 pub fn values_are_rows()
     ensures { ValuesAreRows }
 {}
@@ -31,13 +33,14 @@ pub fn owners_are_last()
     ensures { OwnersAreLast }
 {}
 
-/// Where the lists of the scopes are in order, a scope owns the items from the first of its list up to the first of the next
-/// row's.
+/// Where the lists of the scopes are in order, a scope owns the items from the first of its list up
+/// to the first of the next row's.
 pub fn lists_are_owned()
     ensures { ListsAreOwned }
 {}
 
-/// An import of a value is the item that its blob holds, and the numbers that its writer takes stand for it.
+/// An import of a value is the item that its blob holds, and the numbers that its writer takes
+/// stand for it.
 pub fn imports_are_stored()
     ensures { ImportsAreStored }
 {}
@@ -47,10 +50,11 @@ pub fn values_have_types()
     ensures { ValuesHaveTypes }
 {}
 
-/// Where each parent of an import scope is there, and no chain of parents goes on for ever, no chain has more links than there
-/// are import scopes.
+/// Where each parent of an import scope is there, and no chain of parents goes on for ever, no
+/// chain has more links than there are import scopes.
 pub fn import_chains_end()
-    ensures { (imports : List ImportRow) → ChainsEnd (λ (import : ImportRow). import.parent) imports }
+    ensures { (imports : List ImportRow)
+        → ChainsEnd (λ (import : ImportRow). import.parent) imports }
 {}
 
 /// The values of three worked files, from their rows and heaps.

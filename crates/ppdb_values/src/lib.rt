@@ -1,7 +1,9 @@
-//! What a Portable PDB file says, as a value: the items themselves in place of indexes, names joined, points at absolute
-//! offsets, variables and constants inside the scope that owns them, and the custom kinds that are read as records.
+//! What a Portable PDB file says, as a value: the items themselves in place of indexes, names
+//! joined, points at absolute offsets, variables and constants inside the scope that owns them, and
+//! the custom kinds that are read as records.
 //!
-//! `specs/` says what the value of a file is, and what a value means at an IL offset of a method and of a method as a whole.
+//! `specs/` says what the value of a file is, and what a value means at an IL offset of a method
+//! and of a method as a whole.
 #![tactic(auto)]
 
 mod annotation;

@@ -7,8 +7,8 @@ use Rattle.ppdb_values.specs.declared.file.{FileValue.{FileValue}, DocumentValue
 use Rattle.ppdb_values.specs.declared.{custom.CustomValue.{CustomValue}, import.ImportScopeValue.{ImportScopeValue}, scope.ConstantValue.{ConstantValue}}
 use Rattle.ppdb_values.specs.{declared.scope.ScopeValue.{ScopeValue}, declared.scope.VariableValue.{VariableValue}, Chains.{NeverEnds}, Ordered.{EachPair, EachRow}}
 use Rattle.ppdb_values.specs.Ranges.{ComesAfter}
-use Rattle.ppdb_values_sound_laws.specs.{Customs.{SoundCustom, SoundCustoms}, Imports.{SoundImportScope, SoundImports}, Methods.{SoundMethod, SoundMethods}}
-use Rattle.ppdb_values_sound_laws.specs.{Scopes.{SoundScope, SoundScopes}, Sound.{SoundDocuments, SoundMachine, SoundMachines}}
+use Rattle.ppdb_values_sound.specs.{Customs.{SoundCustom, SoundCustoms}, Imports.{SoundImportScope, SoundImports}, Methods.{SoundMethod, SoundMethods}}
+use Rattle.ppdb_values_sound.specs.{Scopes.{SoundScope, SoundScopes}, Sound.{SoundDocuments, SoundMachine, SoundMachines}}
 use Rattle.ppdb_values_check.{specs.Scopes.{ComesBefore, HasDistinctItems, IsNested, IsPlainScope}, specs.Chains.{parent_of}, proofs.Open.{comes_after}}
 use Rattle.ppdb_values_check.proofs.{Open.{comes_before, method_rises}, Listed.{each_pair, each_row, rises, sorted}}
 

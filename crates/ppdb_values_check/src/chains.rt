@@ -9,13 +9,15 @@ use ppdb_base::Memory;
 use ppdb_values::ImportScopeValue;
 use std::alloc::Global;
 
-/// Whether the chain of parents from a row never ends. A mark is the row from which a row was first reached.
+/// Whether the chain of parents from a row never ends. A mark is the row from which a row was first
+/// reached.
 fn never_ends(imports: &[ImportScopeValue], row: usize, marks: &mut [usize]) -> bool
     requires first { 1 ≤ row }
     requires last { row ≤ length imports.now }
     requires marks { MarksEnd (parent_of imports.now) (length imports.now) row marks.old }
     ensures value { IsTrue result ↔ NeverEnds (parent_of imports.now) row }
-    ensures marks { OnFalse result (MarksEnd (parent_of imports.now) (length imports.now) (row + 1) marks.new) }
+    ensures marks { OnFalse result
+        (MarksEnd (parent_of imports.now) (length imports.now) (row + 1) marks.new) }
 {
     let mut at = row;
     while at != 0 && at <= imports.len() {
@@ -34,7 +36,8 @@ fn never_ends(imports: &[ImportScopeValue], row: usize, marks: &mut [usize]) -> 
 
 /// Whether each chain of parents ends.
 pub(crate) fn chains_end(alloc: Global, imports: &[ImportScopeValue]) -> Result<bool, Memory>
-    ensures { IfOk result (λ answer. IsTrue answer ↔ ((row : ℕ) → ¬ (NeverEnds (parent_of imports.now) row))) }
+    ensures { IfOk result (λ answer. IsTrue answer
+        ↔ ((row : ℕ) → ¬ (NeverEnds (parent_of imports.now) row))) }
 {
     let mut all: Vec<usize> = vec![in alloc; 0; imports.len()]?;
     let marks = all.as_mut_slice();

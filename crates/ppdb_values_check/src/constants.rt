@@ -2,8 +2,9 @@
 ghost use Rattle.std.specs.Prelude.{◌≡◌, ◌↔◌, IsTrue, length, true};
 ghost use Rattle.type_blobs.specs.Constants.{size_of, is_enumerable, is_string};
 ghost use Rattle.type_blobs.specs.Spelling.{IsBody, IsBodyThere, IsPrimitive};
-ghost use Rattle.ppdb_values_sound_laws.specs.Named.{HasType, type_limits};
-ghost use Rattle.ppdb_values_sound_laws.specs.Scopes.{HoldsNoZero, SoundConstant, SoundVariable, stored_body};
+ghost use Rattle.ppdb_values_sound.specs.Named.{HasType, type_limits};
+ghost use Rattle.ppdb_values_sound.specs.Scopes.{HoldsNoZero, SoundConstant, SoundVariable};
+ghost use Rattle.ppdb_values_sound.specs.Scopes.{stored_body};
 
 use crate::counts::Counted;
 use crate::differ::{Named, Numbered};
@@ -62,7 +63,8 @@ fn is_enumerated(code: u8, value: &[u8]) -> bool
 
 /// Whether a body has a value of its type, and its type is there.
 fn is_body(body: &ConstantBody, counted: &Counted<'_>) -> bool
-    ensures { IsTrue result ↔ (IsBody (stored_body body.now) × IsBodyThere (type_limits counted.now) (stored_body body.now)) }
+    ensures { IsTrue result ↔ (IsBody (stored_body body.now)
+        × IsBodyThere (type_limits counted.now) (stored_body body.now)) }
 {
     match body {
         ConstantBody::Primitive { code, value } => is_value(*code, value.as_slice()),

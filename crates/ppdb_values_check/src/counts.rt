@@ -2,7 +2,7 @@
 ghost use Rattle.std.specs.Prelude.{◌≡◌, ◌↔◌, [], length, slice_index, IsTrue};
 ghost use Rattle.std.specs.List.{sum_by};
 ghost use Rattle.custom_info.specs.Kinds.{kind_of as the_kind};
-ghost use Rattle.ppdb_values_sound_laws.specs.Named.{HasRow, HasRowOrNone, HasType, count};
+ghost use Rattle.ppdb_values_sound.specs.Named.{HasRow, HasRowOrNone, HasType, count};
 ghost use Rattle.ppdb_values_check.specs.Counts.{IsCapped};
 
 use custom_info::{Kind, Marks, kind_of};
@@ -69,7 +69,8 @@ impl<'a> Model for Counted<'a> {
 
     ghost view = { λ c. c.value.now };
 
-    ghost invariant = { λ c. IsCapped (sum_by (λ scope. length scope.variables) c.value.now.scopes) c.variables
+    ghost invariant = { λ c.
+        IsCapped (sum_by (λ scope. length scope.variables) c.value.now.scopes) c.variables
         × IsCapped (sum_by (λ scope. length scope.constants) c.value.now.scopes) c.constants };
 }
 

@@ -5,8 +5,8 @@ ghost use Rattle.custom_info.specs.AsyncStepping.{IsHandler, IsStep};
 ghost use Rattle.custom_info.specs.HoistedScopes.{IsSlot};
 ghost use Rattle.ppdb_tables.specs.Parents.{coded_in, coded_of};
 ghost use Rattle.ppdb_values.specs.Rules.{StandsOn};
-ghost use Rattle.ppdb_values_sound_laws.specs.Customs.{IsBodyOfKind, SoundCustom, SoundCustoms};
-ghost use Rattle.ppdb_values_sound_laws.specs.Named.{HasRow, count};
+ghost use Rattle.ppdb_values_sound.specs.Customs.{IsBodyOfKind, SoundCustom, SoundCustoms};
+ghost use Rattle.ppdb_values_sound.specs.Named.{HasRow, count};
 
 use crate::counts::Counted;
 use crate::order::{Ordered, in_order};

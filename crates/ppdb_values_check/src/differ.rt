@@ -63,7 +63,8 @@ pub(crate) fn names_differ<'a, T: Named>(
     items: &'a [T],
     names: &mut Vec<&'a [u8]>,
 ) -> Result<bool, Memory>
-    ensures { IfOk result (λ differ. IsTrue differ ↔ AllPairs (λ a b. T.name_of a ≢ T.name_of b) items.now) }
+    ensures { IfOk result (λ differ. IsTrue differ
+        ↔ AllPairs (λ a b. T.name_of a ≢ T.name_of b) items.now) }
 {
     names.clear();
     for item in items {
@@ -87,7 +88,8 @@ pub(crate) fn numbers_differ<T: Numbered>(
     items: &[T],
     numbers: &mut Vec<u32>,
 ) -> Result<bool, Memory>
-    ensures { IfOk result (λ differ. IsTrue differ ↔ AllPairs (λ a b. T.number_of a ≢ T.number_of b) items.now) }
+    ensures { IfOk result (λ differ. IsTrue differ
+        ↔ AllPairs (λ a b. T.number_of a ≢ T.number_of b) items.now) }
 {
     numbers.clear();
     for item in items {

@@ -1,6 +1,6 @@
 // Documents.
 ghost use Rattle.std.specs.Prelude.{◌↔◌, IsTrue, IfOk};
-ghost use Rattle.ppdb_values_sound_laws.specs.Sound.{SoundDocuments};
+ghost use Rattle.ppdb_values_sound.specs.Sound.{SoundDocuments};
 
 use crate::differ::{Named, names_differ};
 use ppdb_base::Memory;

@@ -1,6 +1,6 @@
 // Import scopes.
 ghost use Rattle.std.specs.Prelude.{◌↔◌, IsTrue, IfOk};
-ghost use Rattle.ppdb_values_sound_laws.specs.Imports.{SoundImport, SoundImportScope, SoundImports};
+ghost use Rattle.ppdb_values_sound.specs.Imports.{SoundImport, SoundImportScope, SoundImports};
 
 use crate::chains::chains_end;
 use crate::counts::Counted;

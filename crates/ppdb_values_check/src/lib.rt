@@ -1,6 +1,7 @@
 //! Whether a value is sound: whether a Portable PDB file can say it, but for the limits L1 to L6.
 //!
-//! Each pass goes over one part of the value once and reports one fact of `IsSound`; `sound` joins them.
+//! Each pass goes over one part of the value once and reports one fact of `IsSound`; `sound` joins
+//! them.
 #![tactic(auto)]
 
 mod chains;

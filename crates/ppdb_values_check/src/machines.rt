@@ -1,7 +1,7 @@
 // State machines.
 ghost use Rattle.std.proofs.Common.{rules};
 ghost use Rattle.std.specs.Prelude.{◌↔◌, ◌<◌, IsTrue, IfOk};
-ghost use Rattle.ppdb_values_sound_laws.specs.Sound.{SoundMachine, SoundMachines};
+ghost use Rattle.ppdb_values_sound.specs.Sound.{SoundMachine, SoundMachines};
 
 use crate::counts::Counted;
 use crate::differ::{Numbered, numbers_differ};

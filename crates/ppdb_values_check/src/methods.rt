@@ -3,7 +3,7 @@ ghost use Rattle.std.proofs.Common.{rules};
 ghost use Rattle.std.specs.Prelude.{◌↔◌, ◌<◌, IsTrue};
 ghost use Rattle.sequence_points.specs.Ranges.{IsLine};
 ghost use Rattle.sequence_points.specs.Written.{IsSpan};
-ghost use Rattle.ppdb_values_sound_laws.specs.Methods.{SoundMethod, SoundMethods, SoundPoint};
+ghost use Rattle.ppdb_values_sound.specs.Methods.{SoundMethod, SoundMethods, SoundPoint};
 
 use crate::counts::Counted;
 use crate::order::{Ordered, in_order};

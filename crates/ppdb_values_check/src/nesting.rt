@@ -1,5 +1,6 @@
 // Whether the scopes of each method are nested or disjoint.
-ghost use Rattle.std.specs.Prelude.{◌≡◌, ◌↔◌, ◌<◌, ◌≤◌, ◌-◌, ℕ, All, AllPairs, length, take, slice_index, vec_len, IsTrue, IfOk};
+ghost use Rattle.std.specs.Prelude.{◌≡◌, ◌↔◌, ◌<◌, ◌≤◌, ◌-◌, ℕ, All, AllPairs, length, take};
+ghost use Rattle.std.specs.Prelude.{slice_index, vec_len, IsTrue, IfOk};
 ghost use Rattle.ppdb_values_check.specs.Scopes.{ComesBefore, IsNested, IsOpen, WasOpen};
 ghost use Rattle.ppdb_values_check.specs.Pairs.{PrefixStands};
 
@@ -11,8 +12,10 @@ use std::alloc::Global;
 fn close(ends: &mut Vec<u32>, offset: u32)
     ensures shorter { vec_len ends.new ≤ length ends.old.items }
     ensures kept { ends.new.items ≡ take (vec_len ends.new) ends.old.items }
-    ensures closed { (k : ℕ) → vec_len ends.new ≤ k → k < length ends.old.items → slice_index ends.old.items k ≤ offset }
-    ensures last { 0 < vec_len ends.new → offset < slice_index ends.new.items (vec_len ends.new - 1) }
+    ensures closed { (k : ℕ) → vec_len ends.new ≤ k → k < length ends.old.items
+        → slice_index ends.old.items k ≤ offset }
+    ensures last { 0 < vec_len ends.new
+        → offset < slice_index ends.new.items (vec_len ends.new - 1) }
 {
     while let Some(end) = ends.last() {
         if offset < *end {
@@ -42,7 +45,8 @@ fn go_to(scopes: &[ScopeValue], place: usize, ends: &mut Vec<u32>)
     close(ends, scope.range.start);
 }
 
-/// Whether the scope lies in each earlier one of its method, or after it: the innermost open one reports.
+/// Whether the scope lies in each earlier one of its method, or after it: the innermost open one
+/// reports.
 fn lies_in_open(scopes: &[ScopeValue], place: usize, ends: &Vec<u32>) -> bool
     requires within { place < length scopes.now }
     requires opened { IsOpen scopes.now place place ends.now.items }

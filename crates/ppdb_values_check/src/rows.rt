@@ -1,6 +1,6 @@
 // The row counts of the type system.
 ghost use Rattle.std.specs.Prelude.{◌↔◌, IsTrue};
-ghost use Rattle.ppdb_values_sound_laws.specs.Sound.{SoundRows};
+ghost use Rattle.ppdb_values_sound.specs.Sound.{SoundRows};
 
 use ppdb_base::MAX_ROWS;
 use ppdb_tables::TYPE_TABLES;

@@ -1,8 +1,9 @@
 // Local scopes.
 ghost use Rattle.std.proofs.Common.{rules};
 ghost use Rattle.std.specs.Prelude.{◌↔◌, All, IsTrue, IfOk};
-ghost use Rattle.ppdb_values_sound_laws.specs.Scopes.{SoundScopes};
-ghost use Rattle.ppdb_values_check.specs.Scopes.{ComesBefore, HasDistinctItems, HasSoundItems, HasSoundPlace, IsPlainScope};
+ghost use Rattle.ppdb_values_sound.specs.Scopes.{SoundScopes};
+ghost use Rattle.ppdb_values_check.specs.Scopes.{ComesBefore, HasDistinctItems, HasSoundItems};
+ghost use Rattle.ppdb_values_check.specs.Scopes.{HasSoundPlace, IsPlainScope};
 
 use crate::counts::Counted;
 use crate::differ::{names_differ, numbers_differ};

@@ -1,6 +1,6 @@
 // Whether a value is sound.
 ghost use Rattle.std.specs.Prelude.{◌↔◌, IsTrue, IfOk};
-ghost use Rattle.ppdb_values_sound_laws.specs.Sound.{IsSound};
+ghost use Rattle.ppdb_values_sound.specs.Sound.{IsSound};
 
 use crate::counts::Counted;
 use crate::customs::sound_customs;

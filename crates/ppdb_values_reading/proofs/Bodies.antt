@@ -5,7 +5,7 @@ use Rattle.custom_info.specs.{declared.kinds.Kind.{Kind}, declared.kinds.Kind.Th
 use Rattle.ppdb_tables.specs.{declared.rows.CustomRow.{CustomRow}, RawTables.{RawTables, count}}
 use Rattle.ppdb_values.specs.{declared.custom.CustomBody.TheVariants.{TypeDocuments}, Customs.{custom_body, custom_of}, RawFile.{blob}, Readings.{ValuesAreRead}}
 use Rattle.ppdb_values.specs.Rules.{IsCustom}
-use Rattle.ppdb_verify_rows.{specs.Customs.{IsOfKind}, proofs.Records.{whole_of_kind}, proofs.Whole.{whole_left}}
+use Rattle.ppdb_verify_readers.{specs.Customs.{IsOfKind}, proofs.Records.{whole_of_kind}, proofs.Whole.{whole_left}}
 
 -- the body, by the kind
 pub body_of_kind : (raw : RawTables) (row : CustomRow) (kind : Kind) → IsOfKind raw row kind

@@ -8,7 +8,7 @@ use Rattle.ppdb_values.specs.{Constants.{constant_of}, Owners.{list_end, ListsAr
 use Rattle.ppdb_values.{specs.Value.{range_of, scope_of, variable_of}, proofs.Lists.{index_map}}
 use Rattle.ppdb_values_reading.specs.{Lent.{variables_of, constants_of}, Scopes.{list_range, scope_in, items_in, scope_with, IsWithin, HasLists, rows_of}}
 use Rattle.ppdb_values_reading.{specs.Scopes.{OwnTheirLists}, proofs.Lists.{slice_made}}
-use Rattle.ppdb_values_sound_laws.proofs.Listed.{sum_of_map}
+use Rattle.ppdb_values_sound.proofs.Listed.{sum_of_map}
 
 -- ---- lists in order
 

@@ -7,7 +7,7 @@ use Rattle.type_blobs.specs.Constants.{ConstantBody, constants, body_of}
 use Rattle.ppdb_tables.specs.{declared.rows.ConstantRow.{ConstantRow}, RawTables.{RawTables}}
 use Rattle.ppdb_values.specs.{declared.scope.ConstantValue.{ConstantValue}, declared.scope.ConstantBody.TheVariants.{Object}, Constants.{constant_of, body_value}}
 use Rattle.ppdb_values.specs.{RawFile.{blob, text, begun_of, type_limits}, Readings.{ConstantsAreRead}, Rules.{IsConstant}}
-use Rattle.ppdb_verify_rows.proofs.Whole.{whole_left}
+use Rattle.ppdb_verify_readers.proofs.Whole.{whole_left}
 
 -- how a whole constant ends
 abbrev pub Ends : ConstantEnd → Type 0
@@ -58,6 +58,7 @@ constant_read raw row left modifiers r constant read keeps reading same answer o
     subst (λ (end : ConstantEnd). ConstantReading (type_limits raw) content (record { modifiers = left.modifiers; end = end })) ends.1 reading in
     let m = read.modifiers raw content left.modifiers ends.0 there in
     let b = read.body_is raw content left.modifiers ends.0 there in
-    let made : List Modifier → Option ConstantBody → ConstantValue = λ ms o. record { name = text raw row.name; modifiers = ms; body = option_map_or body_value o Object } in
+    let made : List Modifier → Option ConstantBody → ConstantValue =
+    λ ms o. record { name = text raw row.name; modifiers = ms; body = option_map_or body_value o Object } in
     ap (λ (ms : List Modifier). made ms (body_of (begun_of (constants (type_limits raw)) content))) (m ∙ sym same)
     ∙ ap (λ (o : Option ConstantBody). made modifiers o) (b ∙ ap (λ (c : ConstantBody). Some c) (sym is))

@@ -1,12 +1,18 @@
--- The scopes of a file, each with the rows of what it owns (Portable PDB v1.0, "LocalScope Table": VariableList, ConstantList).
-use Rattle.std.specs.Prelude.{◌≡◌, map, ℕ, ◌+◌, ◌-◌, ◌≤◌, List, length, drop, slice_range, All, sum_by}
+-- The scopes of a file, each with the rows of what it owns (Portable PDB v1.0, "LocalScope Table":
+-- VariableList, ConstantList).
+use Rattle.std.specs.Prelude.{◌≡◌, map, ℕ, ◌+◌, ◌-◌, ◌≤◌, List, length, drop, slice_range, All}
+use Rattle.std.specs.Prelude.{sum_by}
 use Rattle.ppdb_tables.specs.{declared.rows.ScopeRow.ScopeRow, RawTables.{RawTables, numbered}}
-use Rattle.ppdb_values.specs.{declared.scope.ScopeValue.ScopeValue, Owners.list_end, RawFile.RawFile, Rules.KeepsRules, Value.{range_of, value_of}}
-use Rattle.ppdb_values_reading.specs.{declared.scopes.{ListRange.ListRange, Scope.Scope}, Lent.{variables_of, constants_of}}
+use Rattle.ppdb_values.specs.{declared.scope.ScopeValue.ScopeValue, Owners.list_end}
+use Rattle.ppdb_values.specs.{RawFile.RawFile, Rules.KeepsRules, Value.{range_of, value_of}}
+use Rattle.ppdb_values_reading.specs.declared.scopes.{ListRange.ListRange, Scope.Scope}
+use Rattle.ppdb_values_reading.specs.Lent.{variables_of, constants_of}
 
--- the list of a scope: from its first item up to and without that of the next scope, or to the table's end
+-- the list of a scope: from its first item up to and without that of the next scope, or to the
+-- table's end
 abbrev pub list_range : (ScopeRow → ℕ) → List ScopeRow → ℕ → ℕ × ScopeRow → ListRange
-list_range list scopes items row = record { first = list row.1; end = list_end list scopes row.0 items }
+list_range list scopes items row =
+    record { first = list row.1; end = list_end list scopes row.0 items }
 
 abbrev pub scope_in : RawTables → ℕ × ScopeRow → Scope
 scope_in raw row = record {
@@ -54,12 +60,14 @@ rows_in list = list.end - list.first
 abbrev pub rows_of : Scope → ℕ
 rows_of scope = rows_in scope.variables + rows_in scope.constants
 
--- In a file that keeps the rules, the lists of the scopes share out the rows of the two tables: each is within its table, the scopes of
--- the value own the items of their lists, and all lists together have as many rows as the tables.
+-- In a file that keeps the rules, the lists of the scopes share out the rows of the two tables:
+-- each is within its table, the scopes of the value own the items of their lists, and all lists
+-- together have as many rows as the tables.
 pub record OwnTheirLists (raw : RawFile) : Type 0 where
   pub within : All (HasLists raw.tables) (scopes_in raw.tables)
   pub owned : map (scope_with raw.tables) (scopes_in raw.tables) ≡ (value_of raw).scopes
-  pub rows : sum_by rows_of (scopes_in raw.tables) ≡ length raw.tables.variables + length raw.tables.constants
+  pub rows : sum_by rows_of (scopes_in raw.tables) ≡ length raw.tables.variables
+      + length raw.tables.constants
 
 abbrev pub ScopesOwnTheirLists : Type 0
 ScopesOwnTheirLists = (raw : RawFile) → KeepsRules raw → OwnTheirLists raw

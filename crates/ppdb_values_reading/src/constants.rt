@@ -11,7 +11,7 @@ use crate::scratch::Scratch;
 use ppdb_base::{List, Memory, Steps};
 use ppdb_values::{ConstantValue, constants_are_read};
 use ppdb_verify::Verified;
-use ppdb_verify_rows::{blob, constant, text, type_limits};
+use ppdb_verify_readers::{blob, constant, text, type_limits};
 use std::alloc::Global;
 use std::sync::ledger::Ledger;
 use type_blobs::{Constant, ConstantCursor, Modifier};
@@ -25,8 +25,8 @@ pub struct LentConstant<'a> {
     pub body: Constant<'a>,
 }
 
-/// Reads a row of LocalConstant. The modifiers of its type are put into `modifiers` in place of what that held; after a refusal it is
-/// empty.
+/// Reads a row of LocalConstant. The modifiers of its type are put into `modifiers` in place of
+/// what that held; after a refusal it is empty.
 pub fn read_constant<'a, L: Ledger>(
     file: &Verified<'a>,
     row: u32,
@@ -34,11 +34,12 @@ pub fn read_constant<'a, L: Ledger>(
     steps: &mut Steps<L>,
 ) -> Result<LentConstant<'a>, Memory>
     requires there { HasRow (raw_file file.now).tables 0x34 row }
-    ensures constant { IfOk result (λ lent. row_at (constants_of (raw_file file.now).tables) row ≡ Some (constant_value_shown lent modifiers.new)) }
+    ensures constant { IfOk result (λ lent. row_at (constants_of (raw_file file.now).tables) row
+        ≡ Some (constant_value_shown lent modifiers.new)) }
     ensures refused { OnErr result (modifiers.new ≡ []) }
     ensures step { steps.new ≡ steps.old + 1 }
 {
-    let _ = file.keeps();
+    let _ = file.facts();
     constants_are_read();
     let cells = constant(file, row, steps);
     let mut cursor = ConstantCursor::new(blob(file, cells.signature), type_limits(file));
@@ -61,7 +62,8 @@ pub fn constant_value<L: Ledger>(
     steps: &mut Steps<L>,
 ) -> Result<ConstantValue, Memory>
     requires there { HasRow (raw_file file.now).tables 0x34 row }
-    ensures constant { IfOk result (λ constant. row_at (constants_of (raw_file file.now).tables) row ≡ Some constant) }
+    ensures constant { IfOk result
+        (λ constant. row_at (constants_of (raw_file file.now).tables) row ≡ Some constant) }
     ensures step { steps.new ≡ steps.old + 1 }
 {
     let lent = read_constant(file, row, &mut scratch.modifiers, steps)?;

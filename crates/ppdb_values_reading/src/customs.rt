@@ -5,7 +5,7 @@ ghost use Rattle.ppdb_values.specs.Customs.{custom_of};
 ghost use Rattle.ppdb_values.specs.Rules.{HasRow};
 ghost use Rattle.ppdb_values.specs.Value.{value_of};
 ghost use Rattle.ppdb_verify.specs.Views.{raw_file};
-ghost use Rattle.ppdb_verify_rows.specs.Customs.{IsOfKind};
+ghost use Rattle.ppdb_verify_readers.specs.Customs.{IsOfKind};
 ghost use Rattle.ppdb_values_reading.specs.Lent.{body_shown, custom_shown, HasNoFault};
 
 use crate::filling::fill;
@@ -15,7 +15,7 @@ use ppdb_base::{List, Memory, Steps};
 use ppdb_tables::{CustomRow, DOCUMENT, Parent, parent_of};
 use ppdb_values::{CustomBody, CustomValue, values_are_read};
 use ppdb_verify::Verified;
-use ppdb_verify_rows::{blob, count, custom, guid_of_kind, kind, slots_of, stepping_of};
+use ppdb_verify_readers::{blob, count, custom, guid_of_kind, kind, slots_of, stepping_of};
 use std::alloc::Global;
 use std::sync::ledger::Ledger;
 
@@ -47,10 +47,11 @@ pub enum LentBody<'a> {
 fn documents_of<'a>(file: &Verified<'a>, row: u32, cells: &CustomRow) -> RowCursor<'a>
     requires there { row_at (raw_file file.now).tables.customs row ≡ Some cells.now }
     requires kind { IsOfKind (raw_file file.now).tables cells.now Kind.TypeDocuments }
-    ensures body { body_shown (LentBody.TypeDocuments result) ≡ (custom_of (raw_file file.now).tables cells.now).value }
+    ensures body { body_shown (LentBody.TypeDocuments result)
+        ≡ (custom_of (raw_file file.now).tables cells.now).value }
     ensures whole { result.fault ≡ None }
 {
-    let _ = file.keeps();
+    let _ = file.facts();
     values_are_read();
     RowCursor::new(blob(file, cells.value), count(file, DOCUMENT))
 }
@@ -77,11 +78,12 @@ pub fn read_custom<'a, L: Ledger>(
     steps: &mut Steps<L>,
 ) -> LentCustom<'a>
     requires there { HasRow (raw_file file.now).tables 0x37 row }
-    ensures custom { row_at (value_of (raw_file file.now)).customs row ≡ Some (custom_shown result) }
+    ensures custom { row_at (value_of (raw_file file.now)).customs row
+        ≡ Some (custom_shown result) }
     ensures whole { HasNoFault result.body }
     ensures step { steps.new ≡ steps.old + 1 }
 {
-    let _ = file.keeps();
+    let _ = file.facts();
     let cells = custom(file, row, steps);
     let Some(parent) = parent_of(cells.parent) else {
         unreachable!()
@@ -102,7 +104,8 @@ pub fn custom_value<L: Ledger>(
     steps: &mut Steps<L>,
 ) -> Result<CustomValue, Memory>
     requires there { HasRow (raw_file file.now).tables 0x37 row }
-    ensures custom { IfOk result (λ custom. row_at (value_of (raw_file file.now)).customs row ≡ Some custom) }
+    ensures custom { IfOk result
+        (λ custom. row_at (value_of (raw_file file.now)).customs row ≡ Some custom) }
     ensures step { steps.new ≡ steps.old + 1 }
 {
     let lent = read_custom(alloc, file, row, steps);

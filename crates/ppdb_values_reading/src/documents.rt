@@ -11,7 +11,7 @@ use ppdb_base::{Bytes, List, Memory, Steps};
 use ppdb_heaps::{NameError, name_into};
 use ppdb_values::DocumentValue;
 use ppdb_verify::Verified;
-use ppdb_verify_rows::{blob, blobs, document, guid};
+use ppdb_verify_readers::{blob, blobs, document, guid};
 use std::alloc::Global;
 use std::sync::ledger::Ledger;
 
@@ -26,7 +26,8 @@ pub struct LentDocument<'a> {
     pub language: Option<[u8; 16]>,
 }
 
-/// Reads a row of Document. Its name, the parts joined, is put into `name` in place of what that held; after a refusal `name` is empty.
+/// Reads a row of Document. Its name, the parts joined, is put into `name` in place of what that
+/// held; after a refusal `name` is empty.
 pub fn read_document<'a, L: Ledger>(
     file: &Verified<'a>,
     row: u32,
@@ -34,11 +35,12 @@ pub fn read_document<'a, L: Ledger>(
     steps: &mut Steps<L>,
 ) -> Result<LentDocument<'a>, Memory>
     requires there { HasRow (raw_file file.now).tables 0x30 row }
-    ensures document { IfOk result (λ lent. row_at (value_of (raw_file file.now)).documents row ≡ Some (document_shown lent name.new)) }
+    ensures document { IfOk result (λ lent. row_at (value_of (raw_file file.now)).documents row
+        ≡ Some (document_shown lent name.new)) }
     ensures refused { OnErr result (name.new ≡ []) }
     ensures step { steps.new ≡ steps.old + 1 }
 {
-    let _ = file.keeps();
+    let _ = file.facts();
     let cells = document(file, row, steps);
     name.clear();
     match name_into(blob(file, cells.name), blobs(file), name) {
@@ -61,7 +63,8 @@ pub fn document_value<L: Ledger>(
     steps: &mut Steps<L>,
 ) -> Result<DocumentValue, Memory>
     requires there { HasRow (raw_file file.now).tables 0x30 row }
-    ensures document { IfOk result (λ document. row_at (value_of (raw_file file.now)).documents row ≡ Some document) }
+    ensures document { IfOk result
+        (λ document. row_at (value_of (raw_file file.now)).documents row ≡ Some document) }
     ensures step { steps.new ≡ steps.old + 1 }
 {
     let lent = read_document(file, row, &mut scratch.name, steps)?;

@@ -1,10 +1,12 @@
-// Lists that are filled from the cursors over blobs, and lists that give back the memory that they do not need.
+// Lists that are filled from the cursors over blobs, and lists that give back the memory that they
+// do not need.
 ghost use Rattle.std.specs.Prelude.{◌≡◌, [], map, None, OnOk, OnErr};
 
 use blob_grammar::BlobCursor;
 use ppdb_base::{List, Memory};
 
-/// Puts the items that a cursor has left into a list, in place of what the list held. After a refusal the list is empty.
+/// Puts the items that a cursor has left into a list, in place of what the list held. After a
+/// refusal the list is empty.
 pub(crate) fn fill<C: BlobCursor>(cursor: &mut C, into: &mut List<C::Item>) -> Result<(), Memory>
     requires { (C.left cursor.old).fault ≡ None }
     ensures items { OnOk result (map C.seen into.new ≡ (C.left cursor.old).items) }

@@ -12,7 +12,7 @@ use crate::owned::owned_import;
 use ppdb_base::{List, Memory, Steps};
 use ppdb_values::{ImportScopeValue, ImportValue};
 use ppdb_verify::Verified;
-use ppdb_verify_rows::{import, imports_of};
+use ppdb_verify_readers::{import, imports_of};
 use std::alloc::Global;
 use std::sync::ledger::Ledger;
 use type_blobs::ImportCursor;
@@ -33,7 +33,8 @@ pub fn read_import_scope<'a, L: Ledger>(
     steps: &mut Steps<L>,
 ) -> LentImports<'a>
     requires there { HasRow (raw_file file.now).tables 0x35 row }
-    ensures scope { row_at (value_of (raw_file file.now)).imports row ≡ Some (imports_shown result) }
+    ensures scope { row_at (value_of (raw_file file.now)).imports row
+        ≡ Some (imports_shown result) }
     ensures whole { result.imports.fault ≡ None }
     ensures step { steps.new ≡ steps.old + 1 }
 {
@@ -52,7 +53,8 @@ pub fn import_scope_value<L: Ledger>(
     steps: &mut Steps<L>,
 ) -> Result<ImportScopeValue, Memory>
     requires there { HasRow (raw_file file.now).tables 0x35 row }
-    ensures scope { IfOk result (λ scope. row_at (value_of (raw_file file.now)).imports row ≡ Some scope) }
+    ensures scope { IfOk result
+        (λ scope. row_at (value_of (raw_file file.now)).imports row ≡ Some scope) }
     ensures step { steps.new ≡ steps.old + 1 }
 {
     let lent = read_import_scope(file, row, steps);

@@ -1,6 +1,6 @@
-//! What the rows of a verified file say: lent or filled into lists of the caller a row at a time, as parts of a value of their own, and
-//! as the value of the whole file, which takes as many reads as its eight tables have rows. A row of StateMachineMethod is read by
-//! `ppdb_verify_rows`.
+//! What the rows of a verified file say: lent or filled into lists of the caller a row at a time,
+//! as parts of a value of their own, and as the value of the whole file, which takes as many reads
+//! as its eight tables have rows. A row of StateMachineMethod is read by `ppdb_verify_readers`.
 #![tactic(auto)]
 
 mod constants;

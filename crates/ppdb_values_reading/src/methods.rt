@@ -11,13 +11,14 @@ use crate::scratch::Scratch;
 use ppdb_base::{List, Memory, Steps};
 use ppdb_values::MethodValue;
 use ppdb_verify::Verified;
-use ppdb_verify_rows::{method_debug, points_of};
+use ppdb_verify_readers::{method_debug, points_of};
 use sequence_points::Point;
 use std::alloc::Global;
 use std::sync::ledger::Ledger;
 
-/// Reads a row of MethodDebugInformation: the row of the signature of the method's local variables, or 0; None where the method has no
-/// points. The points are put into `points` in place of what that held; after a refusal, and where there are none, it is empty.
+/// Reads a row of MethodDebugInformation: the row of the signature of the method's local variables,
+/// or 0; None where the method has no points. The points are put into `points` in place of what
+/// that held; after a refusal, and where there are none, it is empty.
 pub fn read_method<L: Ledger>(
     file: &Verified<'_>,
     row: u32,
@@ -25,7 +26,8 @@ pub fn read_method<L: Ledger>(
     steps: &mut Steps<L>,
 ) -> Result<Option<u32>, Memory>
     requires there { HasRow (raw_file file.now).tables 0x31 row }
-    ensures method { IfOk result (λ signature. method_at (value_of (raw_file file.now)) row ≡ method_shown row points.new signature) }
+    ensures method { IfOk result (λ signature. method_at (value_of (raw_file file.now)) row
+        ≡ method_shown row points.new signature) }
     ensures none { IfOk result (λ signature. IfNone signature (points.new ≡ [])) }
     ensures refused { OnErr result (points.new ≡ []) }
     ensures step { steps.new ≡ steps.old + 1 }

@@ -4,7 +4,8 @@ ghost use Rattle.blob_grammar.specs.Reader.{tail};
 ghost use Rattle.ppdb_tables.specs.RawTables.{row_at};
 ghost use Rattle.ppdb_verify.specs.Views.{raw_file};
 ghost use Rattle.ppdb_values_reading.specs.Lent.{variables_of, constants_of};
-ghost use Rattle.ppdb_values_reading.specs.Scopes.{scope_in, scopes_in, items_in, rows_in, rows_of, scope_with, IsWithin, HasLists};
+ghost use Rattle.ppdb_values_reading.specs.Scopes.{scope_in, scopes_in, items_in, rows_in, rows_of};
+ghost use Rattle.ppdb_values_reading.specs.Scopes.{scope_with, IsWithin, HasLists};
 
 use crate::constants::constant_value;
 use crate::scratch::Scratch;
@@ -14,7 +15,7 @@ use ppdb_base::{List, Memory, Steps};
 use ppdb_tables::{LOCAL_CONSTANT, LOCAL_SCOPE, LOCAL_VARIABLE, ScopeRow};
 use ppdb_values::{ConstantValue, ScopeValue, VariableValue};
 use ppdb_verify::Verified;
-use ppdb_verify_rows::{copy_of, count, scope};
+use ppdb_verify_readers::{copy_of, count, scope};
 use std::alloc::Global;
 use std::marker::Model;
 use std::sync::ledger::Ledger;
@@ -45,9 +46,10 @@ pub struct Scope {
 fn cells_at<L: Ledger>(file: &Verified<'_>, row: u32, steps: &mut Steps<L>) -> Option<ScopeRow>
     requires { 1 ≤ row }
     ensures cells { row_at (raw_file file.now).tables.scopes row ≡ result }
-    ensures cost { steps.new + (length (raw_file file.now).tables.scopes - row) ≡ steps.old + (length (raw_file file.now).tables.scopes + 1 - row) }
+    ensures cost { steps.new + (length (raw_file file.now).tables.scopes - row) ≡ steps.old
+        + (length (raw_file file.now).tables.scopes + 1 - row) }
 {
-    let _ = file.keeps();
+    let _ = file.facts();
     if row <= count(file, LOCAL_SCOPE) {
         Some(scope(file, row, steps))
     } else {
@@ -61,7 +63,7 @@ fn scope_at(file: &Verified<'_>, row: u32, cells: &ScopeRow, next: Option<ScopeR
     requires next { row_at (raw_file file.now).tables.scopes (row + 1) ≡ next }
     ensures { result ≡ scope_in (raw_file file.now).tables (row, cells.now) }
 {
-    let _ = file.keeps();
+    let _ = file.facts();
     let (variables_end, constants_end) = match next {
         Some(next) => (next.variables, next.constants),
         None => (
@@ -87,7 +89,8 @@ fn scope_at(file: &Verified<'_>, row: u32, cells: &ScopeRow, next: Option<ScopeR
     }
 }
 
-/// The scopes of a file, by their rows. A row is read while the scope before it is given: its lists end those of that scope.
+/// The scopes of a file, by their rows. A row is read while the scope before it is given: its lists
+/// end those of that scope.
 #[derive(Drop)]
 pub struct ScopeCursor<'a> {
     file: Verified<'a>,
@@ -108,14 +111,16 @@ impl<'a> Model for ScopeCursor<'a> {
 
     ghost view = { λ s. scopes_from (raw_file s.file).tables s.row };
 
-    ghost invariant = { λ s. (1 ≤ s.row) × (s.row ≤ length (raw_file s.file).tables.scopes + 1) × (row_at (raw_file s.file).tables.scopes s.row ≡ s.cells) };
+    ghost invariant = { λ s. (1 ≤ s.row) × (s.row ≤ length (raw_file s.file).tables.scopes + 1)
+        × (row_at (raw_file s.file).tables.scopes s.row ≡ s.cells) };
 }
 
 impl<'a> ScopeCursor<'a> {
     /// All scopes of a file.
     pub fn new<L: Ledger>(file: &Verified<'a>, steps: &mut Steps<L>) -> ScopeCursor<'a>
         ensures scopes { result ≡ scopes_in (raw_file file.now).tables }
-        ensures cost { steps.new + (length result - 1) ≡ steps.old + length (raw_file file.now).tables.scopes }
+        ensures cost { steps.new + (length result - 1) ≡ steps.old
+            + length (raw_file file.now).tables.scopes }
     {
         let cells = cells_at(file, 1, steps);
         ScopeCursor {
@@ -134,7 +139,7 @@ impl<'a> ScopeCursor<'a> {
         let Some(cells) = self.cells else {
             return None;
         };
-        let _ = self.file.keeps();
+        let _ = self.file.facts();
         let row = self.row;
         let next = cells_at(&self.file, row + 1, steps);
         let scope = scope_at(&self.file, row, &cells, next);
@@ -152,10 +157,11 @@ fn variables_in<L: Ledger>(
     steps: &mut Steps<L>,
 ) -> Result<List<VariableValue>, Memory>
     requires { IsWithin (length (raw_file file.now).tables.variables) list }
-    ensures variables { IfOk result (λ variables. variables ≡ items_in list (variables_of (raw_file file.now).tables)) }
+    ensures variables { IfOk result
+        (λ variables. variables ≡ items_in list (variables_of (raw_file file.now).tables)) }
     ensures cost { OnOk result (steps.new ≡ steps.old + rows_in list) }
 {
-    let _ = file.keeps();
+    let _ = file.facts();
     let mut variables = List::with_capacity(alloc, (list.end - list.first) as usize)?;
     let mut row = list.first;
     'rows: while row < list.end {
@@ -174,10 +180,11 @@ fn constants_in<L: Ledger>(
     steps: &mut Steps<L>,
 ) -> Result<List<ConstantValue>, Memory>
     requires { IsWithin (length (raw_file file.now).tables.constants) list }
-    ensures constants { IfOk result (λ constants. constants ≡ items_in list (constants_of (raw_file file.now).tables)) }
+    ensures constants { IfOk result
+        (λ constants. constants ≡ items_in list (constants_of (raw_file file.now).tables)) }
     ensures cost { OnOk result (steps.new ≡ steps.old + rows_in list) }
 {
-    let _ = file.keeps();
+    let _ = file.facts();
     let mut constants = List::with_capacity(alloc, (list.end - list.first) as usize)?;
     let mut row = list.first;
     'rows: while row < list.end {

@@ -6,7 +6,8 @@ use sequence_points::Point;
 use std::alloc::Global;
 use type_blobs::Modifier;
 
-/// Lists that are used again for each row of which a part is made. What they hold between two calls does not matter.
+/// Lists that are used again for each row of which a part is made. What they hold between two calls
+/// does not matter.
 #[derive(Drop)]
 pub struct Scratch {
     pub(crate) name: Bytes,

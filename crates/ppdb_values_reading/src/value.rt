@@ -2,7 +2,7 @@
 ghost use Rattle.std.specs.Prelude.{◌≡◌, ◌+◌, length, IfOk, OnOk};
 ghost use Rattle.ppdb_values.specs.Value.{type_system_rows, value_of as value_in};
 ghost use Rattle.ppdb_verify.specs.Views.{raw_file};
-ghost use Rattle.ppdb_values_sound_laws.specs.Sound.{IsSound};
+ghost use Rattle.ppdb_values_sound.specs.Sound.{IsSound};
 ghost use Rattle.ppdb_values_reading.specs.Totals.{row_total, scope_total};
 
 use crate::customs::custom_value;
@@ -23,7 +23,7 @@ use ppdb_values::{
     values_are_rows,
 };
 use ppdb_verify::Verified;
-use ppdb_verify_rows::{count, machine};
+use ppdb_verify_readers::{count, machine};
 use std::alloc::Global;
 use std::sync::ledger::Ledger;
 
@@ -37,7 +37,7 @@ pub fn value_of<L: Ledger>(
     ensures sound { IfOk result IsSound }
     ensures rows { OnOk result (steps.new ≡ steps.old + row_total (raw_file file.now).tables) }
 {
-    let _ = file.keeps();
+    let _ = file.facts();
     let mut scratch = Scratch::new(alloc);
     Ok(FileValue {
         id: file.head().id,
@@ -56,7 +56,7 @@ pub fn value_of<L: Ledger>(
 pub fn type_rows(file: &Verified<'_>) -> [u32; 64]
     ensures { result ≡ type_system_rows (raw_file file.now).tables.counts }
 {
-    let _ = file.keeps();
+    let _ = file.facts();
     let mut rows = [0; 64];
     'tables: for table in 0..TYPE_TABLES {
         rows[table as usize] = count(file, table);
@@ -71,10 +71,12 @@ fn documents<L: Ledger>(
     scratch: &mut Scratch,
     steps: &mut Steps<L>,
 ) -> Result<List<DocumentValue>, Memory>
-    ensures documents { IfOk result (λ documents. documents ≡ (value_in (raw_file file.now)).documents) }
-    ensures cost { OnOk result (steps.new ≡ steps.old + length (raw_file file.now).tables.documents) }
+    ensures documents { IfOk result
+        (λ documents. documents ≡ (value_in (raw_file file.now)).documents) }
+    ensures cost { OnOk result
+        (steps.new ≡ steps.old + length (raw_file file.now).tables.documents) }
 {
-    let _ = file.keeps();
+    let _ = file.facts();
     let count = count(file, DOCUMENT);
     let mut documents = List::with_capacity(alloc, count as usize)?;
     let mut row = 1;
@@ -95,7 +97,7 @@ fn methods<L: Ledger>(
     ensures methods { IfOk result (λ methods. methods ≡ (value_in (raw_file file.now)).methods) }
     ensures cost { OnOk result (steps.new ≡ steps.old + length (raw_file file.now).tables.methods) }
 {
-    let _ = file.keeps();
+    let _ = file.facts();
     values_are_rows();
     let count = count(file, METHOD_DEBUG);
     let mut methods = List::new(alloc);
@@ -119,7 +121,7 @@ fn scopes<L: Ledger>(
     ensures scopes { IfOk result (λ scopes. scopes ≡ (value_in (raw_file file.now)).scopes) }
     ensures cost { OnOk result (steps.new ≡ steps.old + scope_total (raw_file file.now).tables) }
 {
-    let _ = file.keeps();
+    let _ = file.facts();
     scopes_own_their_lists();
     let mut scopes = List::with_capacity(alloc, count(file, LOCAL_SCOPE) as usize)?;
     let mut cursor = ScopeCursor::new(file, steps);
@@ -138,7 +140,7 @@ fn imports<L: Ledger>(
     ensures imports { IfOk result (λ imports. imports ≡ (value_in (raw_file file.now)).imports) }
     ensures cost { OnOk result (steps.new ≡ steps.old + length (raw_file file.now).tables.imports) }
 {
-    let _ = file.keeps();
+    let _ = file.facts();
     let count = count(file, IMPORT_SCOPE);
     let mut imports = List::with_capacity(alloc, count as usize)?;
     let mut row = 1;
@@ -155,10 +157,12 @@ fn machines<L: Ledger>(
     file: &Verified<'_>,
     steps: &mut Steps<L>,
 ) -> Result<List<MachineRow>, Memory>
-    ensures machines { IfOk result (λ machines. machines ≡ (value_in (raw_file file.now)).machines) }
-    ensures cost { OnOk result (steps.new ≡ steps.old + length (raw_file file.now).tables.machines) }
+    ensures machines { IfOk result
+        (λ machines. machines ≡ (value_in (raw_file file.now)).machines) }
+    ensures cost { OnOk result
+        (steps.new ≡ steps.old + length (raw_file file.now).tables.machines) }
 {
-    let _ = file.keeps();
+    let _ = file.facts();
     let count = count(file, STATE_MACHINE);
     let mut machines = List::with_capacity(alloc, count as usize)?;
     let mut row = 1;
@@ -179,7 +183,7 @@ fn customs<L: Ledger>(
     ensures customs { IfOk result (λ customs. customs ≡ (value_in (raw_file file.now)).customs) }
     ensures cost { OnOk result (steps.new ≡ steps.old + length (raw_file file.now).tables.customs) }
 {
-    let _ = file.keeps();
+    let _ = file.facts();
     let count = count(file, CUSTOM);
     let mut customs = List::with_capacity(alloc, count as usize)?;
     let mut row = 1;

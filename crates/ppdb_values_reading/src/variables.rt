@@ -8,7 +8,7 @@ ghost use Rattle.ppdb_values_reading.specs.Lent.{variable_shown, variables_of};
 use ppdb_base::{List, Memory, Steps};
 use ppdb_values::VariableValue;
 use ppdb_verify::Verified;
-use ppdb_verify_rows::{text, variable};
+use ppdb_verify_readers::{text, variable};
 use std::alloc::Global;
 use std::sync::ledger::Ledger;
 
@@ -30,7 +30,8 @@ pub fn read_variable<'a, L: Ledger>(
     steps: &mut Steps<L>,
 ) -> LentVariable<'a>
     requires there { HasRow (raw_file file.now).tables 0x33 row }
-    ensures variable { row_at (variables_of (raw_file file.now).tables) row ≡ Some (variable_shown result) }
+    ensures variable { row_at (variables_of (raw_file file.now).tables) row
+        ≡ Some (variable_shown result) }
     ensures step { steps.new ≡ steps.old + 1 }
 {
     let cells = variable(file, row, steps);
@@ -49,7 +50,8 @@ pub fn variable_value<L: Ledger>(
     steps: &mut Steps<L>,
 ) -> Result<VariableValue, Memory>
     requires there { HasRow (raw_file file.now).tables 0x33 row }
-    ensures variable { IfOk result (λ variable. row_at (variables_of (raw_file file.now).tables) row ≡ Some variable) }
+    ensures variable { IfOk result
+        (λ variable. row_at (variables_of (raw_file file.now).tables) row ≡ Some variable) }
     ensures step { steps.new ≡ steps.old + 1 }
 {
     let lent = read_variable(file, row, steps);

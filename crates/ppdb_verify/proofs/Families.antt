@@ -57,7 +57,8 @@ module _ (raw : RawTables) where
   -- no sum passes its limit
   pub row_is_first : (fault : Fault) → IsAccepted (SpanFaults raw) → IsFirst (RowFaults raw) fault → IsFirst (RowsFaults raw) fault
   row_is_first fault spans row =
-      first_of_one (RowsFaults raw) (RowFaults raw) (SpanFaults raw) (λ code at invalid. invalid) fault (inl row.invalid) row (λ code at invalid early. spans code at invalid)
+      first_of_one (RowsFaults raw) (RowFaults raw) (SpanFaults raw) (λ code at invalid. invalid) fault (inl row.invalid) row
+      (λ code at invalid early. spans code at invalid)
 
   pub both_accepted : IsAccepted (RowFaults raw) → IsAccepted (SpanFaults raw) → IsAccepted (RowsFaults raw)
   both_accepted rows spans code at invalid = elim invalid [

@@ -53,7 +53,8 @@ module _ (file : List ℕ) (root : Streams) (container : IsAccepted (ContainerFa
         where
           contents : IsAccepted (ContentFaults root)
           contents =
-              accepted_then (PdbFaults (bytes_of root Pdb)) (Then (TablesFaults (head_in (bytes_of root Pdb)) (bytes_of root Tables)) (RowsFaults (raw_in root).tables))
+              accepted_then (PdbFaults (bytes_of root Pdb))
+              (Then (TablesFaults (head_in (bytes_of root Pdb)) (bytes_of root Tables)) (RowsFaults (raw_in root).tables))
               pdb
               (accepted_then (TablesFaults (head_in (bytes_of root Pdb)) (bytes_of root Tables)) (RowsFaults (raw_in root).tables) tables_accepted
               (subst (λ (r : RawTables). IsAccepted (RowsFaults r)) same_tables rows))

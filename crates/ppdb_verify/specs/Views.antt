@@ -1,5 +1,6 @@
 -- A verified file as contracts see it.
-use Rattle.ppdb_tables.specs.{declared.head.PdbHead.PdbHead, declared.tables.Tables.Tables, RawOf.raw_of}
+use Rattle.ppdb_tables.specs.declared.{head.PdbHead.PdbHead, tables.Tables.Tables}
+use Rattle.ppdb_tables.specs.RawOf.{raw_of}
 use Rattle.ppdb_values.specs.RawFile.{RawFile}
 use Rattle.ppdb_verify.specs.declared.verified.Verified.{Verified}
 

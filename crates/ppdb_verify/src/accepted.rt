@@ -9,7 +9,8 @@ use metadata_root::read_root;
 use ppdb_base::MAX_FILE_BYTES;
 use ppdb_tables::{read_head, read_tables};
 
-/// Reads a file again that breaks no rule. Its rows are not judged again, so the cost is that of the headers, whatever the file's length.
+/// Reads a file again that breaks no rule. Its rows are not judged again, so the cost is that of
+/// the headers, whatever the file's length.
 pub fn read_accepted(bytes: &[u8]) -> Verified<'_>
     requires short { length bytes.now ≤ MAX_FILE_BYTES }
     requires accepted { IsAccepted (FileFaults bytes.now) }

@@ -16,8 +16,8 @@ use ppdb_verify_total::judge_spans;
 use std::alloc::Global;
 use std::sync::ledger::Ledger;
 
-/// Judges the rows up to and with the one with which the sum passes its limit. What comes after it is not judged: a small file
-/// may name so much there that judging it would not end in years.
+/// Judges the rows up to and with the one with which the sum passes its limit. What comes after it
+/// is not judged: a small file may name so much there that judging it would not end in years.
 fn judge_up_to<L: Ledger>(
     alloc: Global,
     tables: &Tables<'_>,
@@ -25,7 +25,8 @@ fn judge_up_to<L: Ledger>(
     steps: &mut Steps<L>,
 ) -> Result<(), VerifyError>
     requires { IsFirst (SpanFaults (raw_of tables.now)) over.now }
-    ensures ok { OnOk result (IsJudgedTo (RowFaults (raw_of tables.now)) (numbers over.now.code over.now.place)) }
+    ensures ok { OnOk result
+        (IsJudgedTo (RowFaults (raw_of tables.now)) (numbers over.now.code over.now.place)) }
     ensures err { IfErr result (FaultIs (IsFirst (RowFaults (raw_of tables.now)))) }
 {
     let _ = tables.shape();

@@ -4,9 +4,11 @@ ghost use Rattle.ppdb_base.specs.Place.{ComesBefore, numbers};
 
 use ppdb_base::Fault;
 
-/// Whether a fault comes before another: by part, table, row, column and byte, and then by the code's number.
+/// Whether a fault comes before another: by part, table, row, column and byte, and then by the
+/// code's number.
 pub(crate) fn comes_before(one: &Fault, other: &Fault) -> bool
-    ensures { IsTrue result ↔ ComesBefore (numbers one.now.code one.now.place) (numbers other.now.code other.now.place) }
+    ensures { IsTrue result ↔ ComesBefore (numbers one.now.code one.now.place)
+        (numbers other.now.code other.now.place) }
 {
     let (a, b) = (&one.place, &other.place);
     if a.part != b.part {

@@ -6,7 +6,7 @@ ghost use Rattle.ppdb_tables.specs.RawOf.{raw_of};
 ghost use Rattle.ppdb_verify.specs.Files.{RowsFaults};
 
 use ppdb_tables::{PdbHead, Tables};
-use ppdb_values_sound_laws::values_are_sound;
+use ppdb_values_sound::values_are_sound;
 use ppdb_verify_accepted_laws::{accepted_files_keep_rules, cursors_never_fault};
 
 /// A debug file that keeps all rules, where it stands in memory.
@@ -16,13 +16,15 @@ pub struct Verified<'a> {
     pub(crate) tables: Tables<'a>,
     ghost accepted: { IsAccepted (RowsFaults (raw_of tables)) },
     ghost entry: { head.entry ≤ count (raw_of tables) 0x06 },
-    ghost methods: { count (raw_of tables) 0x31 ≢ 0 → count (raw_of tables) 0x31 ≡ count (raw_of tables) 0x06 },
-    ghost rows: { (table : ℕ) → table < 0x2D → slice_index head.rows table ≡ count (raw_of tables) table },
+    ghost methods: { count (raw_of tables) 0x31 ≢ 0
+        → count (raw_of tables) 0x31 ≡ count (raw_of tables) 0x06 },
+    ghost rows: { (table : ℕ) → table < 0x2D
+        → slice_index head.rows table ≡ count (raw_of tables) table },
 }
 
 impl<'a> Verified<'a> {
     ghost use Rattle.ppdb_verify_accepted_laws.specs.Cursors.{CursorsNeverFault};
-    ghost use Rattle.ppdb_values_sound_laws.specs.Sound.{IsSound};
+    ghost use Rattle.ppdb_values_sound.specs.Sound.{IsSound};
     ghost use Rattle.ppdb_values.specs.Rules.{KeepsRules};
     ghost use Rattle.ppdb_values.specs.Value.{value_of};
     ghost use Rattle.ppdb_verify.specs.Views.{head_of, raw_file, tables_of};
@@ -31,7 +33,8 @@ impl<'a> Verified<'a> {
     pub fn head(&self) -> &PdbHead
         ensures head { result.now ≡ head_of self.now }
         ensures entry { (head_of self.now).entry ≤ count (raw_of (tables_of self.now)) 0x06 }
-        ensures rows { (table : ℕ) → table < 0x2D → slice_index (head_of self.now).rows table ≡ count (raw_of (tables_of self.now)) table }
+        ensures rows { (table : ℕ) → table < 0x2D → slice_index (head_of self.now).rows table
+            ≡ count (raw_of (tables_of self.now)) table }
     {
         &self.head
     }
@@ -44,9 +47,9 @@ impl<'a> Verified<'a> {
         &self.tables
     }
 
-    /// The file keeps the rules of its format, no cursor over a blob of a row, read as that row says, ever answers a fault, and
-    /// its value is sound.
-    pub fn keeps(&self)
+    /// The file keeps the rules of its format, no cursor over a blob of a row, read as that row
+    /// says, ever answers a fault, and its value is sound.
+    pub fn facts(&self)
         ensures rules { KeepsRules (raw_file self.now) }
         ensures cursors { CursorsNeverFault (raw_of (tables_of self.now)) }
         ensures sound { IsSound (value_of (raw_file self.now)) }

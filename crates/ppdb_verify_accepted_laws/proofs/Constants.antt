@@ -30,7 +30,8 @@ module _ (raw : RawTables) (accepted : IsAccepted (RowFaults raw)) where
     signature_there = blob_there raw x.signature (λ none. no_fault (no_signature none))
 
     signature_whole : IsWhole (constants (type_limits raw)) (blob raw x.signature)
-    signature_whole = whole_there raw (constants (type_limits raw)) x.signature signature_there (λ fault invalid. no_fault (invalid_signature {fault = fault} invalid))
+    signature_whole =
+        whole_there raw (constants (type_limits raw)) x.signature signature_there (λ fault invalid. no_fault (invalid_signature {fault = fault} invalid))
 
     kept : IsConstant raw x
     kept = record {

@@ -4,8 +4,8 @@ use Rattle.std.specs.Prelude.{◌≡◌, ◌≢◌, ◌≤◌}
 use Rattle.ppdb_verify_rules.specs.Rows.{RowFaults}
 use Rattle.ppdb_values.specs.{RawFile.RawFile, Rules.KeepsRules}
 
--- The rows break no rule. The counts of rows fit each other: the entry point is no row or one that is there, and there is
--- debug information for each method or for none.
+-- The rows break no rule. The counts of rows fit each other: the entry point is no row or one that
+-- is there, and there is debug information for each method or for none.
 pub record HasGoodRows (raw : RawFile) : Type 0 where
   pub shape : HasShape raw.tables
   pub entry : raw.entry ≤ count raw.tables 0x06

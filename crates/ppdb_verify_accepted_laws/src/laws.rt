@@ -9,7 +9,8 @@ pub fn accepted_files_keep_rules()
     ensures { AcceptedFilesKeepRules }
 {}
 
-/// In a file that keeps the rules no cursor over a blob of a row, read as that row says, ever answers a fault.
+/// In a file that keeps the rules no cursor over a blob of a row, read as that row says, ever
+/// answers a fault.
 pub fn cursors_never_fault()
     ensures { (file : RawFile) → KeepsRules file → CursorsNeverFault file.tables }
 {}

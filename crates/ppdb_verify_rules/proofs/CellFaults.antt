@@ -54,7 +54,8 @@ module _ {X : Type 0} (raw : RawTables) (table : ℕ) (rows : List X) (At : ℕ 
     pub past_row : (row column : ℕ) (x : X) → row_at rows row ≡ Some x → ToCell raw table row column
         → ((c byte : ℕ) (code : Code) → At row x c byte code → c < column) → ToRow raw table (row + 1)
     past_row row column x there judged narrow = rw add-one (next_row (RowFaults raw) 5 table row column judged
-        (λ code at invalid p t r c. let below : at.column < column = narrow at.column at.byte code (in_row code at row x invalid there t r) in omega (arith, c, below)))
+        (λ code at invalid p t r c. let below : at.column
+        < column = narrow at.column at.byte code (in_row code at row x invalid there t r) in omega (arith, c, below)))
 
     -- there is no row 0
     pub first_row : ToTable raw table → ToRow raw table 1

@@ -9,10 +9,12 @@ use Rattle.type_blobs.specs.declared.types.TypeLimits.{TypeLimits}
 
 -- a cell, and a byte of the blob that it names, 0 where it names none
 abbrev pub in_blob : ℕ → ℕ → ℕ → ℕ → Place
-in_blob table row column byte = record { part = 5; table = table; row = row; column = column; byte = byte }
+in_blob table row column byte =
+    record { part = 5; table = table; row = row; column = column; byte = byte }
 
 -- the blob at the index is there, and has this fault by the grammar
-pub record HasFault {R : Type 0} (g : Grammar R) (blobs : List ℕ) (index : ℕ) (fault : BlobFault) : Type 0 where
+pub record HasFault {R : Type 0} (g : Grammar R) (blobs : List ℕ) (index : ℕ)
+    (fault : BlobFault) : Type 0 where
   pub content : List ℕ
   pub there : blob_at blobs index ≡ Some content
   pub reads : HasEnd g content (Some fault)
@@ -31,4 +33,9 @@ point_limits raw = record { documents = count raw 0x30; signatures = count raw 0
 
 -- the rows that type references and imports name: TypeRef, TypeDef, TypeSpec, AssemblyRef
 abbrev pub type_limits : RawTables → TypeLimits
-type_limits raw = record { type_refs = count raw 0x01; type_defs = count raw 0x02; type_specs = count raw 0x1b; assembly_refs = count raw 0x23 }
+type_limits raw = record {
+  type_refs = count raw 0x01;
+  type_defs = count raw 0x02;
+  type_specs = count raw 0x1b;
+  assembly_refs = count raw 0x23;
+}

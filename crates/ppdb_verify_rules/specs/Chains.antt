@@ -8,7 +8,8 @@ use Rattle.ppdb_tables.specs.Marks as marks
 abbrev pub parent_in : List ImportRow → ℕ → ℕ
 parent_in imports = chains.parent_at (λ (i : ImportRow). i.parent) imports
 
--- the chains of the import scopes that are marked end, and their marks are earlier rows than this one
+-- the chains of the import scopes that are marked end, and their marks are earlier rows than this
+-- one
 abbrev pub MarksEnd : List ImportRow → ℕ → List ℕ → Type 0
 MarksEnd imports row found = marks.MarksEnd (parent_in imports) (length imports) row found
 

@@ -1,7 +1,10 @@
--- Custom records: their parents and the kinds that are read (Portable PDB v1.0, "CustomDebugInformation Table").
+-- Custom records: their parents and the kinds that are read (Portable PDB v1.0,
+-- "CustomDebugInformation Table").
 use Rattle.std.specs.Prelude.{ℕ, ◌≡◌, ◌≢◌, ◌/◌, ◌%◌, List, [], Option, Some, None, slice_get}
 use Rattle.ppdb_base.specs.declared.fault.BlobFault.{BlobFault}
-use Rattle.custom_info.specs.{declared.kinds.Kind.{Kind, TheVariants.{Async, Hoisted, TypeDocuments}}, AsyncStepping.async_stepping, HoistedScopes.hoisted_scopes}
+use Rattle.custom_info.specs.declared.kinds.{Kind.Kind, Kind.TheVariants.{Async, Hoisted}}
+use Rattle.custom_info.specs.declared.kinds.Kind.TheVariants.{TypeDocuments}
+use Rattle.custom_info.specs.{AsyncStepping.async_stepping, HoistedScopes.hoisted_scopes}
 use Rattle.custom_info.specs.{TypeDocuments.type_documents, Kinds.kind_of}
 use Rattle.ppdb_heaps.specs.Heaps.{blob_at, guid_at}
 use Rattle.ppdb_tables.specs.{declared.rows.CustomRow.CustomRow, RawTables.{RawTables, count}}
@@ -21,7 +24,8 @@ pub record IsOfKind (guids : List ℕ) (number : ℕ) (kind : Kind) : Type 0 whe
   pub there : guid_at guids number ≡ Some guid
   pub kind_is : kind_of [] guid ≡ kind
 
--- the table that has the parents of a read kind: stepping and hoisted scopes stand on a method, type documents on a type
+-- the table that has the parents of a read kind: stepping and hoisted scopes stand on a method,
+-- type documents on a type
 abbrev pub parent_table : Kind → Option ℕ
 parent_table Async = Some 0x06
 parent_table Hoisted = Some 0x06

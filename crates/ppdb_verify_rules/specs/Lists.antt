@@ -1,7 +1,8 @@
 -- The two lists of a scope.
 use Rattle.std.specs.Prelude.{ℕ}
 use Rattle.ppdb_tables.specs.declared.rows.ScopeRow.{ScopeRow}
-use Rattle.ppdb_verify_rules.specs.declared.lists.ScopeList.{ScopeList, TheVariants.{Variables, Constants}}
+use Rattle.ppdb_verify_rules.specs.declared.lists.ScopeList.{ScopeList}
+use Rattle.ppdb_verify_rules.specs.declared.lists.ScopeList.TheVariants.{Variables, Constants}
 
 -- the first row of the list
 abbrev pub list_of : ScopeList → ScopeRow → ℕ

@@ -1,9 +1,14 @@
 -- What the passes over the tables have seen.
-use Rattle.std.specs.{Prelude.{◌≡◌, ℕ, ◌-◌, ◌/◌, ◌%◌, ◌<◌, ◌≤◌, ◌⊎◌, List, [], Some, IsTrue, slice_index, bytes_eq}, Ordering.{nat_cmp, is_eq}, Cmp.Lexicographic.slice_cmp, Int.bit_at, List.list_any}
+use Rattle.std.specs.Prelude.{◌≡◌, ℕ, ◌-◌, ◌/◌, ◌%◌, ◌<◌, ◌≤◌, ◌⊎◌, List, [], Some, IsTrue}
+use Rattle.std.specs.{Prelude.{slice_index, bytes_eq}, Ordering.{nat_cmp, is_eq}}
+use Rattle.std.specs.{Cmp.Lexicographic.slice_cmp, Int.bit_at, List.list_any}
 use Rattle.std.specs.Borrow.{Bor}
 use Rattle.ppdb_heaps.specs.Heaps.{text_at}
-use Rattle.ppdb_tables.specs.{declared.rows.{MachineRow.MachineRow, ScopeRow.ScopeRow, VariableRow.VariableRow, ConstantRow.ConstantRow}, RawTables.{RawTables, row_at, count}, Owners.Owns}
-use Rattle.ppdb_verify_rules.specs.{declared.lists.ScopeList.ScopeList, declared.seen.Texts.Texts, Earlier.HasEarlier, Lists.{list_of, table_of}, Scopes.IsListOut}
+use Rattle.ppdb_tables.specs.declared.rows.{MachineRow.MachineRow, ScopeRow.ScopeRow}
+use Rattle.ppdb_tables.specs.declared.rows.{VariableRow.VariableRow, ConstantRow.ConstantRow}
+use Rattle.ppdb_tables.specs.{RawTables.{RawTables, row_at, count}, Owners.Owns}
+use Rattle.ppdb_verify_rules.specs.declared.{lists.ScopeList.ScopeList, seen.Texts.Texts}
+use Rattle.ppdb_verify_rules.specs.{Earlier.HasEarlier, Lists.{list_of, table_of}, Scopes.IsListOut}
 
 -- the bit of the number is set: bit n % 32 of word n / 32
 abbrev pub Has : List ℕ → ℕ → Type 0
@@ -22,7 +27,8 @@ HasNoTexts seen = (seen.few.items ≡ []) × (seen.more.keys ≡ [])
 -- the bits of the kickoff methods of the machines before the row are set, and no others
 pub record AreKickoffs (machines : List MachineRow) (row : ℕ) (words : List ℕ) : Type 0 where
   pub sound : (n : ℕ) → Has words n → HasEarlier (λ _ (e : MachineRow). e.kickoff ≡ n) machines row
-  pub complete : (n : ℕ) → HasEarlier (λ _ (e : MachineRow). e.kickoff ≡ n) machines row → Has words n
+  pub complete : (n : ℕ) → HasEarlier (λ _ (e : MachineRow). e.kickoff ≡ n) machines row
+      → Has words n
 
 -- no list of a scope is out of range or falls
 abbrev pub HaveLists : RawTables → ScopeList → Type 0
@@ -34,25 +40,38 @@ abbrev pub OwnsBefore : (ScopeRow → ℕ) → List ScopeRow → ℕ → ℕ →
 OwnsBefore list scopes owner row = ((owner ≡ 0) × (row ≡ 1)) ⊎ Owns list scopes owner (row - 1)
 
 -- an item before the row is the owner's and has this
-abbrev pub HasEarlierOf : {X : Type 0} → (ScopeRow → ℕ) → List ScopeRow → List X → ℕ → ℕ → (X → Type 0) → Type 0
-HasEarlierOf {X} list scopes rows row owner Has_it = HasEarlier (λ before (e : X). Owns list scopes owner before × Has_it e) rows row
+abbrev pub HasEarlierOf : {X : Type 0} → (ScopeRow → ℕ) → List ScopeRow → List X → ℕ → ℕ
+    → (X → Type 0) → Type 0
+HasEarlierOf {X} list scopes rows row owner Has_it =
+    HasEarlier (λ before (e : X). Owns list scopes owner before × Has_it e) rows row
 
--- a slot is marked with the owner where a variable of the owner before the row has it, and no mark is above the owner
-pub record AreSlots (scopes : List ScopeRow) (variables : List VariableRow) (row owner : ℕ) (marks : List ℕ) : Type 0 where
+-- a slot is marked with the owner where a variable of the owner before the row has it, and no mark
+-- is above the owner
+pub record AreSlots (scopes : List ScopeRow) (variables : List VariableRow) (row owner : ℕ)
+    (marks : List ℕ) : Type 0 where
   pub reached : (n : ℕ) → slice_index marks n ≤ owner
-  pub sound : (n : ℕ) → 0 < owner → slice_index marks n ≡ owner → HasEarlierOf (λ s. s.variables) scopes variables row owner (λ (e : VariableRow). e.slot ≡ n)
-  pub complete : (n : ℕ) → HasEarlierOf (λ s. s.variables) scopes variables row owner (λ (e : VariableRow). e.slot ≡ n) → slice_index marks n ≡ owner
+  pub sound : (n : ℕ) → 0 < owner → slice_index marks n ≡ owner
+      → HasEarlierOf (λ s. s.variables) scopes variables row owner (λ (e : VariableRow). e.slot ≡ n)
+  pub complete : (n : ℕ)
+      → HasEarlierOf (λ s. s.variables) scopes variables row owner (λ (e : VariableRow). e.slot ≡ n)
+      → slice_index marks n ≡ owner
 
 -- the texts are the names of the owner's items before the row
-pub record AreTexts {X : Type 0} (list : ScopeRow → ℕ) (scopes : List ScopeRow) (texts : List ℕ) (name_of : X → ℕ) (rows : List X) (row owner : ℕ)
+pub record AreTexts {X : Type 0} (list : ScopeRow
+    → ℕ) (scopes : List ScopeRow) (texts : List ℕ) (name_of : X → ℕ) (rows : List X) (row owner : ℕ)
     (seen : Texts) : Type 0 where
-  pub sound : (t : List ℕ) → HasText seen t → HasEarlierOf list scopes rows row owner (λ e. text_at texts (name_of e) ≡ Some t)
-  pub complete : (t : List ℕ) → HasEarlierOf list scopes rows row owner (λ e. text_at texts (name_of e) ≡ Some t) → HasText seen t
+  pub sound : (t : List ℕ) → HasText seen t
+      → HasEarlierOf list scopes rows row owner (λ e. text_at texts (name_of e) ≡ Some t)
+  pub complete : (t : List ℕ)
+      → HasEarlierOf list scopes rows row owner (λ e. text_at texts (name_of e) ≡ Some t)
+      → HasText seen t
 
 -- the names of the owner's variables before the row
 abbrev pub AreVariableNames : RawTables → ℕ → ℕ → Texts → Type 0
-AreVariableNames raw row owner seen = AreTexts (λ s. s.variables) raw.scopes raw.texts (λ (v : VariableRow). v.name) raw.variables row owner seen
+AreVariableNames raw row owner seen = AreTexts (λ s. s.variables) raw.scopes raw.texts
+    (λ (v : VariableRow). v.name) raw.variables row owner seen
 
 -- the names of the owner's constants before the row
 abbrev pub AreConstantNames : RawTables → ℕ → ℕ → Texts → Type 0
-AreConstantNames raw row owner seen = AreTexts (λ s. s.constants) raw.scopes raw.texts (λ (c : ConstantRow). c.name) raw.constants row owner seen
+AreConstantNames raw row owner seen = AreTexts (λ s. s.constants) raw.scopes raw.texts
+    (λ (c : ConstantRow). c.name) raw.constants row owner seen

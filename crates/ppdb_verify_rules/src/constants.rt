@@ -39,7 +39,8 @@ fn judge_there<'a>(tables: &Tables<'a>, row: u32, constant: &ConstantRow) -> Res
     requires there { row_at (raw_of tables.now).constants row ≡ Some constant.now }
     requires judged { ToCell (raw_of tables.now) 0x34 row 0 }
     ensures some { OnOk result (0 < count (raw_of tables.now) 0x32) }
-    ensures text { IfOk result (λ text. text_at (raw_of tables.now).texts constant.now.name ≡ Some text.now) }
+    ensures text { IfOk result
+        (λ text. text_at (raw_of tables.now).texts constant.now.name ≡ Some text.now) }
     ensures err { IfErr result (IsFirstOf (raw_of tables.now)) }
 {
     let Some(name) = tables.strings().get(constant.name) else {
@@ -70,7 +71,7 @@ fn judge_repeat<'a>(
     ensures names { OnOk result (AreConstantNames (raw_of tables.now) (row + 1) owner names.new) }
     ensures err { IfErr result (FaultIs (IsFirstOf (raw_of tables.now))) }
 {
-    let is_new = names.note(name)?;
+    let is_new = names.enter(name)?;
     if !is_new {
         return Err(VerifyError::Fault(fault(Code::NameRepeated, LOCAL_CONSTANT, row, 0)));
     }
@@ -109,8 +110,10 @@ fn judge_constant<'a, L: Ledger>(
     requires before { OwnsBefore (λ s. s.constants) (raw_of tables.now).scopes before row }
     requires names { AreConstantNames (raw_of tables.now) row before names.old }
     ensures ok { OnOk result (ToRow (raw_of tables.now) 0x34 (row + 1)) }
-    ensures owner { IfOk result (λ owner. OwnsBefore (λ s. s.constants) (raw_of tables.now).scopes owner (row + 1)) }
-    ensures names { IfOk result (λ owner. AreConstantNames (raw_of tables.now) (row + 1) owner names.new) }
+    ensures owner { IfOk result
+        (λ owner. OwnsBefore (λ s. s.constants) (raw_of tables.now).scopes owner (row + 1)) }
+    ensures names { IfOk result
+        (λ owner. AreConstantNames (raw_of tables.now) (row + 1) owner names.new) }
     ensures err { IfErr result (FaultIs (IsFirstOf (raw_of tables.now))) }
 {
     let name = judge_there(tables, row, constant)?;

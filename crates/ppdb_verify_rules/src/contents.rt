@@ -51,7 +51,8 @@ pub(crate) fn points_fault(tables: &Tables<'_>, content: &[u8], document: u32) -
     requires some { 0 < length content.now }
     requires short { length content.now < 2 ^ 32 }
     requires document { document ≤ count (raw_of tables.now) 0x30 }
-    ensures { HasEnd (sequence_points document (words.point_limits (raw_of tables.now))) content.now result }
+    ensures { HasEnd
+        (sequence_points document (words.point_limits (raw_of tables.now))) content.now result }
 {
     blob_fault(content, document, point_limits(tables))
 }
@@ -90,7 +91,8 @@ fn imports_end(content: &[u8], blobs: Blobs<'_>, limits: TypeLimits) -> Option<B
 /// The fault of a list of imports, None where it is whole.
 pub(crate) fn imports_fault(tables: &Tables<'_>, content: &[u8]) -> Option<BlobFault>
     requires { length content.now < 2 ^ 32 }
-    ensures { HasEnd (imports (words.type_limits (raw_of tables.now)) (blob_at (raw_of tables.now).blobs)) content.now result }
+    ensures { HasEnd (imports (words.type_limits (raw_of tables.now))
+        (blob_at (raw_of tables.now).blobs)) content.now result }
 {
     imports_end(content, tables.blobs(), type_limits(tables))
 }

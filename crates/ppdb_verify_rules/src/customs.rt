@@ -1,12 +1,14 @@
 // The rules of CustomDebugInformation.
-ghost use Rattle.std.specs.Prelude.{◌≡◌, ◌<◌, ◌≤◌, ◌+◌, ◌-◌, ◌%◌, ◌↔◌, Some, None, IsTrue, OnOk, IfOk, IfErr, IfSome, IfNone};
+ghost use Rattle.std.specs.Prelude.{◌≡◌, ◌<◌, ◌≤◌, ◌+◌, ◌-◌, ◌%◌, ◌↔◌, Some, None, IsTrue, OnOk};
+ghost use Rattle.std.specs.Prelude.{IfOk, IfErr, IfSome, IfNone};
 ghost use Rattle.ppdb_tables.specs.declared.rows.CustomRow.{CustomRow};
 ghost use Rattle.custom_info.specs.declared.kinds.Kind.{Kind};
 ghost use Rattle.ppdb_heaps.specs.Heaps.{guid_at};
 ghost use Rattle.ppdb_tables.specs.RawTables.{row_at, count};
 ghost use Rattle.ppdb_tables.specs.RawOf.{raw_of};
 ghost use Rattle.ppdb_verify_rules.specs.Judged.{ToTable, ToRow, ToCell, IsFirstOf};
-ghost use Rattle.ppdb_verify_rules.specs.Customs.{HasNoParent, HasOtherParent, IsOfKind, parent_table};
+ghost use Rattle.ppdb_verify_rules.specs.Customs.{HasNoParent, HasOtherParent, IsOfKind};
+ghost use Rattle.ppdb_verify_rules.specs.Customs.{parent_table};
 ghost use Rattle.ppdb_verify_rules.specs.Earlier.{HasEarlier};
 
 use crate::cells::{fault, fault_within, names_no_row, row_count};
@@ -36,7 +38,8 @@ fn is_below_earlier<L: Ledger>(
 ) -> bool
     requires there { row_at (raw_of tables.now).customs row ≡ Some custom.now }
     requires judged { ToCell (raw_of tables.now) 0x37 row 0 }
-    ensures { IsTrue result ↔ HasEarlier (λ _ (e : CustomRow). custom.now.parent < e.parent) (raw_of tables.now).customs row }
+    ensures { IsTrue result ↔ HasEarlier (λ _ (e : CustomRow). custom.now.parent < e.parent)
+        (raw_of tables.now).customs row }
 {
     let _ = tables.shape();
     1 < row && custom.parent < tables.custom(row - 1, steps).parent
@@ -158,7 +161,8 @@ fn judge_custom<L: Ledger>(
     Ok(())
 }
 
-/// Judges the rows of CustomDebugInformation in order up to and with one, and stops at the first fault.
+/// Judges the rows of CustomDebugInformation in order up to and with one, and stops at the first
+/// fault.
 pub(crate) fn judge_customs<L: Ledger>(
     alloc: Global,
     tables: &Tables<'_>,

@@ -1,5 +1,6 @@
 // The rules of Document.
-ghost use Rattle.std.specs.Prelude.{◌≡◌, ◌<◌, ◌≤◌, ◌+◌, ℕ, List, length, Some, IsTrue, OnOk, IfOk, IfErr};
+ghost use Rattle.std.specs.Prelude.{◌≡◌, ◌<◌, ◌≤◌, ◌+◌, ℕ, List, length, Some, IsTrue, OnOk, IfOk};
+ghost use Rattle.std.specs.Prelude.{IfErr};
 ghost use Rattle.ppdb_tables.specs.RawTables.{row_at, count};
 ghost use Rattle.ppdb_tables.specs.RawOf.{raw_of};
 ghost use Rattle.ppdb_verify_rules.specs.Errors.{FaultIs};
@@ -10,7 +11,7 @@ ghost use Rattle.ppdb_verify_rules.specs.SeenNames.{AreNames};
 
 use crate::cells::{fault, fault_within, names_no_blob, names_no_guid, row_count};
 use crate::errors::VerifyError;
-use crate::names::{at_least, exceeds, joined, note_name};
+use crate::names::{at_least, enter_name, exceeds, joined};
 use ppdb_base::{Code, Fault, Steps};
 use ppdb_heaps::NameError;
 use ppdb_tables::{DOCUMENT, DocumentRow, Tables};
@@ -28,7 +29,8 @@ fn whole_name(
     requires there { row_at (raw_of tables.now).documents row ≡ Some document.now }
     requires judged { ToCell (raw_of tables.now) 0x30 row 0 }
     ensures some { OnOk result (IsNil (raw_of tables.now).blobs document.now.name → ⊥) }
-    ensures name { IfOk result (λ v. SpellsName (raw_of tables.now).blobs document.now.name v.items) }
+    ensures name { IfOk result
+        (λ v. SpellsName (raw_of tables.now).blobs document.now.name v.items) }
     ensures err { IfErr result (FaultIs (IsFirstOf (raw_of tables.now))) }
 {
     let Some(content) = tables.blobs().get(document.name) else {
@@ -57,14 +59,16 @@ fn judge_name(
 ) -> Result<(), VerifyError>
     requires there { row_at (raw_of tables.now).documents row ≡ Some document.now }
     requires judged { ToCell (raw_of tables.now) 0x30 row 0 }
-    requires seen { AreNames (raw_of tables.now).blobs (raw_of tables.now).documents row seen.old longest.old }
+    requires seen { AreNames (raw_of tables.now).blobs
+        (raw_of tables.now).documents row seen.old longest.old }
     ensures ok { OnOk result (ToCell (raw_of tables.now) 0x30 row 1) }
-    ensures seen { OnOk result (AreNames (raw_of tables.now).blobs (raw_of tables.now).documents (row + 1) seen.new longest.new) }
+    ensures seen { OnOk result (AreNames (raw_of tables.now).blobs (raw_of tables.now).documents
+        (row + 1) seen.new longest.new) }
     ensures err { IfErr result (FaultIs (IsFirstOf (raw_of tables.now))) }
 {
     let name = whole_name(alloc, tables, row, document)?;
     *longest = at_least(*longest, name.as_slice().len());
-    let is_new = note_name(seen, name)?;
+    let is_new = enter_name(seen, name)?;
     if !is_new {
         return Err(VerifyError::Fault(fault(Code::DocumentRepeated, DOCUMENT, row, 0)));
     }
@@ -73,7 +77,8 @@ fn judge_name(
 
 /// Whether a name is whole and longer than those before it, so that it repeats none of them.
 fn is_longer(tables: &Tables<'_>, document: &DocumentRow, longest: usize) -> bool
-    ensures { IsTrue result → (IsNil (raw_of tables.now).blobs document.now.name → ⊥) × ((name : List ℕ) × SpellsName (raw_of tables.now).blobs document.now.name name
+    ensures { IsTrue result → (IsNil (raw_of tables.now).blobs document.now.name → ⊥)
+        × ((name : List ℕ) × SpellsName (raw_of tables.now).blobs document.now.name name
         × (longest < length name)) }
 {
     let Some(content) = tables.blobs().get(document.name) else {
@@ -107,7 +112,8 @@ fn judge_rest(tables: &Tables<'_>, row: u32, document: &DocumentRow) -> Result<(
     Ok(())
 }
 
-/// Judges a row of Document whose name is not needed again: where it is longer than those before, it is not joined.
+/// Judges a row of Document whose name is not needed again: where it is longer than those before,
+/// it is not joined.
 fn judge_last(
     alloc: Global,
     tables: &Tables<'_>,
@@ -118,7 +124,8 @@ fn judge_last(
 ) -> Result<(), VerifyError>
     requires there { row_at (raw_of tables.now).documents row ≡ Some document.now }
     requires judged { ToCell (raw_of tables.now) 0x30 row 0 }
-    requires seen { AreNames (raw_of tables.now).blobs (raw_of tables.now).documents row seen.old longest.old }
+    requires seen { AreNames (raw_of tables.now).blobs
+        (raw_of tables.now).documents row seen.old longest.old }
     ensures ok { OnOk result (ToRow (raw_of tables.now) 0x30 (row + 1)) }
     ensures err { IfErr result (FaultIs (IsFirstOf (raw_of tables.now))) }
 {
@@ -142,9 +149,11 @@ fn judge_document(
 ) -> Result<(), VerifyError>
     requires there { row_at (raw_of tables.now).documents row ≡ Some document.now }
     requires judged { ToCell (raw_of tables.now) 0x30 row 0 }
-    requires seen { AreNames (raw_of tables.now).blobs (raw_of tables.now).documents row seen.old longest.old }
+    requires seen { AreNames (raw_of tables.now).blobs
+        (raw_of tables.now).documents row seen.old longest.old }
     ensures ok { OnOk result (ToRow (raw_of tables.now) 0x30 (row + 1)) }
-    ensures seen { OnOk result (AreNames (raw_of tables.now).blobs (raw_of tables.now).documents (row + 1) seen.new longest.new) }
+    ensures seen { OnOk result (AreNames (raw_of tables.now).blobs (raw_of tables.now).documents
+        (row + 1) seen.new longest.new) }
     ensures err { IfErr result (FaultIs (IsFirstOf (raw_of tables.now))) }
 {
     judge_name(alloc, tables, row, document, seen, longest)?;
@@ -152,8 +161,8 @@ fn judge_document(
     Ok(())
 }
 
-/// Judges the rows of Document in order up to and with one, and stops at the first fault. Names longer than any before are
-/// not joined in that row.
+/// Judges the rows of Document in order up to and with one, and stops at the first fault. Names
+/// longer than any before are not joined in that row.
 pub(crate) fn judge_documents<L: Ledger>(
     alloc: Global,
     tables: &Tables<'_>,

@@ -1,5 +1,6 @@
 // The rules of ImportScope.
-ghost use Rattle.std.specs.Prelude.{◌≡◌, ◌<◌, ◌≤◌, ◌+◌, ◌-◌, ◌↔◌, length, Some, IsTrue, OnOk, IfErr};
+ghost use Rattle.std.specs.Prelude.{◌≡◌, ◌<◌, ◌≤◌, ◌+◌, ◌-◌, ◌↔◌, length, Some, IsTrue, OnOk};
+ghost use Rattle.std.specs.Prelude.{IfErr};
 ghost use Rattle.std.specs.Bool.{OnFalse};
 ghost use Rattle.ppdb_tables.specs.RawTables.{row_at, count};
 ghost use Rattle.ppdb_tables.specs.RawOf.{raw_of};
@@ -16,7 +17,8 @@ use ppdb_tables::{IMPORT_SCOPE, ImportRow, Tables};
 use std::alloc::Global;
 use std::sync::ledger::Ledger;
 
-/// Whether the chain of parents from a row never ends. A mark is the row from which a row was first reached.
+/// Whether the chain of parents from a row never ends. A mark is the row from which a row was first
+/// reached.
 fn never_ends<L: Ledger>(
     tables: &Tables<'_>,
     row: u32,

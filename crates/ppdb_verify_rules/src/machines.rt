@@ -10,7 +10,7 @@ ghost use Rattle.ppdb_verify_rules.specs.Seen.{AreKickoffs};
 
 use crate::cells::{fault, names_no_row, row_count};
 use crate::errors::VerifyError;
-use crate::seen::note_method;
+use crate::seen::enter_method;
 use ppdb_base::{Code, Fault, Steps};
 use ppdb_tables::{METHOD_DEF, MachineRow, STATE_MACHINE, Tables};
 use std::alloc::Global;
@@ -25,7 +25,8 @@ fn is_out_of_order<L: Ledger>(
 ) -> bool
     requires there { row_at (raw_of tables.now).machines row ≡ Some machine.now }
     requires judged { ToCell (raw_of tables.now) 0x36 row 0 }
-    ensures { IsTrue result ↔ HasEarlier (λ _ (e : MachineRow). machine.now.move_next ≤ e.move_next) (raw_of tables.now).machines row }
+    ensures { IsTrue result ↔ HasEarlier (λ _ (e : MachineRow). machine.now.move_next ≤ e.move_next)
+        (raw_of tables.now).machines row }
 {
     let _ = tables.shape();
     1 < row && machine.move_next <= tables.machine(row - 1, steps).move_next
@@ -69,7 +70,7 @@ fn judge_kickoff(
     if names_no_row(tables, METHOD_DEF, 1, machine.kickoff) {
         return Err(VerifyError::Fault(fault(Code::RowIndex, STATE_MACHINE, row, 1)));
     }
-    let is_new = note_method(seen, machine.kickoff)?;
+    let is_new = enter_method(seen, machine.kickoff)?;
     if !is_new {
         return Err(VerifyError::Fault(fault(Code::KickoffRepeated, STATE_MACHINE, row, 1)));
     }

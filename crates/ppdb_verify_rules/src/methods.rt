@@ -56,7 +56,8 @@ fn judge_method(tables: &Tables<'_>, row: u32, method: &MethodDebugRow) -> Resul
     Ok(())
 }
 
-/// Judges the rows of MethodDebugInformation in order up to and with one, and stops at the first fault.
+/// Judges the rows of MethodDebugInformation in order up to and with one, and stops at the first
+/// fault.
 pub(crate) fn judge_methods<L: Ledger>(
     tables: &Tables<'_>,
     last: u32,

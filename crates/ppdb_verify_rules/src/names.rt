@@ -1,5 +1,6 @@
 // The names of documents: joined, measured, and kept in sets.
-ghost use Rattle.std.specs.Prelude.{◌≡◌, ◌<◌, ◌≤◌, ◌+◌, ◌^◌, ◌⊎◌, ◌++◌, ℕ, List, length, None, Some, IsTrue, OnOk, IfOk, IfErr, ◌↔◌};
+ghost use Rattle.std.specs.Prelude.{◌≡◌, ◌<◌, ◌≤◌, ◌+◌, ◌^◌, ◌⊎◌, ◌++◌, ℕ, List, length, None};
+ghost use Rattle.std.specs.Prelude.{Some, IsTrue, OnOk, IfOk, IfErr, ◌↔◌};
 ghost use Rattle.std.specs.Bool.{OnFalse, OnTrue};
 ghost use Rattle.std.specs.declared.vec.Vec.{Vec};
 ghost use Rattle.std.specs.declared.alloc.Global.{Global};
@@ -47,7 +48,8 @@ pub(crate) fn joined(alloc: Global, content: &[u8], blobs: Blobs<'_>) -> Result<
 
 /// The room that is left after some bytes more; None where there was not so much.
 fn less(room: Option<usize>, bytes: &[u8]) -> Option<usize>
-    ensures { (most : ℕ) (before : List ℕ) → HasRoom most before room → HasRoom most (before ++ bytes.now) result }
+    ensures { (most : ℕ) (before : List ℕ) → HasRoom most before room
+        → HasRoom most (before ++ bytes.now) result }
 {
     match room {
         Some(room) => room.checked_sub(bytes.len()),
@@ -58,8 +60,10 @@ fn less(room: Option<usize>, bytes: &[u8]) -> Option<usize>
 /// Whether the name that a blob spells has more than so many bytes.
 pub(crate) fn exceeds(content: &[u8], blobs: Blobs<'_>, most: usize) -> Result<bool, BlobFault>
     requires { length content.now < 2 ^ 32 }
-    ensures ok { IfOk result (λ longer. (name : List ℕ) × IsName (blobs_of blobs.entry) content.now name × (IsTrue longer ↔ (most < length name))) }
-    ensures fault { IfErr result (λ fault. HasEnd (names (blobs_of blobs.entry)) content.now (Some fault)) }
+    ensures ok { IfOk result (λ longer. (name : List ℕ)
+        × IsName (blobs_of blobs.entry) content.now name × (IsTrue longer ↔ (most < length name))) }
+    ensures fault { IfErr result
+        (λ fault. HasEnd (names (blobs_of blobs.entry)) content.now (Some fault)) }
 {
     let mut cursor = NameCursor::new(content, blobs)?;
     let Some(first) = cursor.next()? else {
@@ -74,12 +78,13 @@ pub(crate) fn exceeds(content: &[u8], blobs: Blobs<'_>, most: usize) -> Result<b
 }
 
 /// Adds a name to a set, and says whether it is new there.
-pub(crate) fn note_name(seen: &mut BTreeSet<Vec<u8>>, name: Vec<u8>) -> Result<bool, AllocError>
+pub(crate) fn enter_name(seen: &mut BTreeSet<Vec<u8>>, name: Vec<u8>) -> Result<bool, AllocError>
     ensures old { IfOk result (λ new. OnFalse new (HasBytes seen.old name)) }
     ensures new { IfOk result (λ new. OnTrue new (HasBytes seen.old name → ⊥)) }
     ensures kept { OnOk result ((v : Vec ℕ Global) → HasBytes seen.old v → HasBytes seen.new v) }
     ensures added { OnOk result ((v : Vec ℕ Global) → v.items ≡ name.items → HasBytes seen.new v) }
-    ensures only { OnOk result ((v : Vec ℕ Global) → HasBytes seen.new v → HasBytes seen.old v ⊎ (v.items ≡ name.items)) }
+    ensures only { OnOk result ((v : Vec ℕ Global) → HasBytes seen.new v
+        → HasBytes seen.old v ⊎ (v.items ≡ name.items)) }
 {
     let new = seen.insert(name)?;
     Ok(new)

@@ -70,7 +70,8 @@ fn judge_tables_before<L: Ledger>(
     Ok(())
 }
 
-/// Judges the rows up to and with one of a table: answers whether no rule is broken there, and else the first fault.
+/// Judges the rows up to and with one of a table: answers whether no rule is broken there, and else
+/// the first fault.
 pub fn judge_rows_to<L: Ledger>(
     alloc: Global,
     tables: &Tables<'_>,

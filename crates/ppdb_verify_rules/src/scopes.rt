@@ -1,5 +1,6 @@
 // The rules of LocalScope.
-ghost use Rattle.std.specs.Prelude.{◌≡◌, ◌<◌, ◌≤◌, ◌+◌, ◌-◌, ◌↔◌, ℕ, length, take, slice_index, vec_len, Some, IsTrue, OnOk, IfErr};
+ghost use Rattle.std.specs.Prelude.{◌≡◌, ◌<◌, ◌≤◌, ◌+◌, ◌-◌, ◌↔◌, ℕ, length, take, slice_index};
+ghost use Rattle.std.specs.Prelude.{vec_len, Some, IsTrue, OnOk, IfErr};
 ghost use Rattle.ppdb_tables.specs.declared.rows.ScopeRow.{ScopeRow};
 ghost use Rattle.ppdb_tables.specs.RawTables.{row_at, count};
 ghost use Rattle.ppdb_tables.specs.RawOf.{raw_of};
@@ -8,7 +9,8 @@ ghost use Rattle.ppdb_verify_rules.specs.Errors.{FaultIs};
 ghost use Rattle.ppdb_verify_rules.specs.Judged.{ToTable, ToRow, ToCell, IsFirstOf};
 ghost use Rattle.ppdb_verify_rules.specs.Lists.{list_of, table_of, column_of};
 ghost use Rattle.ppdb_verify_rules.specs.Open.{AreOpen};
-ghost use Rattle.ppdb_verify_rules.specs.Scopes.{AreCrossed, HasNoRange, IsAbove, IsListOut, scope_end};
+ghost use Rattle.ppdb_verify_rules.specs.Scopes.{AreCrossed, HasNoRange, IsAbove, IsListOut};
+ghost use Rattle.ppdb_verify_rules.specs.Scopes.{scope_end};
 
 use crate::cells::{fault, names_no_row, row_count};
 use crate::errors::VerifyError;
@@ -44,7 +46,8 @@ fn is_below_earlier<L: Ledger>(
 ) -> bool
     requires there { row_at (raw_of tables.now).scopes row ≡ Some scope.now }
     requires judged { ToCell (raw_of tables.now) 0x32 row 0 }
-    ensures { IsTrue result ↔ HasEarlier (λ _ (e : ScopeRow). IsAbove e scope.now) (raw_of tables.now).scopes row }
+    ensures { IsTrue result
+        ↔ HasEarlier (λ _ (e : ScopeRow). IsAbove e scope.now) (raw_of tables.now).scopes row }
 {
     let _ = tables.shape();
     1 < row && is_above(&tables.scope(row - 1, steps), scope)
@@ -100,7 +103,8 @@ fn is_list_out<L: Ledger>(
     steps: &mut Steps<L>,
 ) -> bool
     requires there { row_at (raw_of tables.now).scopes row ≡ Some scope.now }
-    ensures { IsTrue result ↔ IsListOut (list_of list) (count (raw_of tables.now) (table_of list)) (raw_of tables.now).scopes row scope.now }
+    ensures { IsTrue result ↔ IsListOut (list_of list) (count (raw_of tables.now) (table_of list))
+        (raw_of tables.now).scopes row scope.now }
 {
     let first = list.of(scope);
     let _ = tables.shape();
@@ -136,8 +140,10 @@ fn judge_list<L: Ledger>(
 fn close(ends: &mut Vec<u64>, offset: u32)
     ensures shorter { vec_len ends.new ≤ length ends.old.items }
     ensures kept { ends.new.items ≡ take (vec_len ends.new) ends.old.items }
-    ensures closed { (k : ℕ) → vec_len ends.new ≤ k → k < length ends.old.items → slice_index ends.old.items k ≤ offset }
-    ensures last { 0 < vec_len ends.new → offset < slice_index ends.new.items (vec_len ends.new - 1) }
+    ensures closed { (k : ℕ) → vec_len ends.new ≤ k → k < length ends.old.items
+        → slice_index ends.old.items k ≤ offset }
+    ensures last { 0 < vec_len ends.new
+        → offset < slice_index ends.new.items (vec_len ends.new - 1) }
 {
     while let Some(end) = ends.last() {
         if u64::from(offset) < *end {
@@ -157,8 +163,10 @@ fn go_to<L: Ledger>(
 )
     requires there { row_at (raw_of tables.now).scopes row ≡ Some scope.now }
     requires judged { ToCell (raw_of tables.now) 0x32 row 4 }
-    requires opened { (b : ScopeRow) → row_at (raw_of tables.now).scopes (row - 1) ≡ Some b → AreOpen (raw_of tables.now).scopes row b.method b.start ends.old.items }
-    ensures { AreOpen (raw_of tables.now).scopes row scope.now.method scope.now.start ends.new.items }
+    requires opened { (b : ScopeRow) → row_at (raw_of tables.now).scopes (row - 1) ≡ Some b
+        → AreOpen (raw_of tables.now).scopes row b.method b.start ends.old.items }
+    ensures { AreOpen
+        (raw_of tables.now).scopes row scope.now.method scope.now.start ends.new.items }
 {
     let _ = tables.shape();
     if row == 1 {
@@ -174,8 +182,10 @@ fn go_to<L: Ledger>(
 fn crosses_earlier(tables: &Tables<'_>, row: u32, scope: &ScopeRow, ends: &Vec<u64>) -> bool
     requires there { row_at (raw_of tables.now).scopes row ≡ Some scope.now }
     requires judged { ToCell (raw_of tables.now) 0x32 row 4 }
-    requires opened { AreOpen (raw_of tables.now).scopes row scope.now.method scope.now.start ends.now.items }
-    ensures { IsTrue result ↔ HasEarlier (λ _ (e : ScopeRow). AreCrossed e scope.now) (raw_of tables.now).scopes row }
+    requires opened { AreOpen
+        (raw_of tables.now).scopes row scope.now.method scope.now.start ends.now.items }
+    ensures { IsTrue result
+        ↔ HasEarlier (λ _ (e : ScopeRow). AreCrossed e scope.now) (raw_of tables.now).scopes row }
 {
     match ends.last() {
         Some(end) => *end < end_of(scope),
@@ -192,7 +202,8 @@ fn judge_crossing(
 ) -> Result<(), Fault>
     requires there { row_at (raw_of tables.now).scopes row ≡ Some scope.now }
     requires judged { ToCell (raw_of tables.now) 0x32 row 4 }
-    requires opened { AreOpen (raw_of tables.now).scopes row scope.now.method scope.now.start ends.now.items }
+    requires opened { AreOpen
+        (raw_of tables.now).scopes row scope.now.method scope.now.start ends.now.items }
     ensures ok { OnOk result (ToCell (raw_of tables.now) 0x32 row 5) }
     ensures err { IfErr result (IsFirstOf (raw_of tables.now)) }
 {
@@ -224,7 +235,8 @@ fn add_open(
 ) -> Result<(), AllocError>
     requires there { row_at (raw_of tables.now).scopes row ≡ Some scope.now }
     requires judged { ToCell (raw_of tables.now) 0x32 row 6 }
-    requires opened { AreOpen (raw_of tables.now).scopes row scope.now.method scope.now.start ends.old.items }
+    requires opened { AreOpen
+        (raw_of tables.now).scopes row scope.now.method scope.now.start ends.old.items }
     ensures { OnOk result ((b : ScopeRow) → row_at (raw_of tables.now).scopes row ≡ Some b
         → AreOpen (raw_of tables.now).scopes (row + 1) b.method b.start ends.new.items) }
 {
@@ -242,7 +254,8 @@ fn judge_scope<L: Ledger>(
 ) -> Result<(), VerifyError>
     requires there { row_at (raw_of tables.now).scopes row ≡ Some scope.now }
     requires judged { ToCell (raw_of tables.now) 0x32 row 0 }
-    requires opened { (b : ScopeRow) → row_at (raw_of tables.now).scopes (row - 1) ≡ Some b → AreOpen (raw_of tables.now).scopes row b.method b.start ends.old.items }
+    requires opened { (b : ScopeRow) → row_at (raw_of tables.now).scopes (row - 1) ≡ Some b
+        → AreOpen (raw_of tables.now).scopes row b.method b.start ends.old.items }
     ensures ok { OnOk result (ToRow (raw_of tables.now) 0x32 (row + 1)) }
     ensures opened { OnOk result ((b : ScopeRow) → row_at (raw_of tables.now).scopes row ≡ Some b
         → AreOpen (raw_of tables.now).scopes (row + 1) b.method b.start ends.new.items) }

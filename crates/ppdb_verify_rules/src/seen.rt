@@ -1,5 +1,6 @@
 // What the passes over the tables have seen: methods, slots and texts.
-ghost use Rattle.std.specs.Prelude.{◌≡◌, ◌≢◌, ◌↔◌, ℕ, ◌<◌, ◌/◌, ◌^◌, ◌⊎◌, List, length, IsTrue, slice_index, vec_len, OnOk, IfOk};
+ghost use Rattle.std.specs.Prelude.{◌≡◌, ◌≢◌, ◌↔◌, ℕ, ◌<◌, ◌/◌, ◌^◌, ◌⊎◌, List, length, IsTrue};
+ghost use Rattle.std.specs.Prelude.{slice_index, vec_len, OnOk, IfOk};
 ghost use Rattle.std.specs.Bool.{OnFalse, OnTrue};
 ghost use Rattle.ppdb_verify_rules.specs.Seen.{Has, HasText, HasNoTexts};
 
@@ -10,7 +11,8 @@ use std::collections::BTreeSet;
 fn reach(numbers: &mut Vec<u32>, index: usize) -> Result<(), AllocError>
     requires { index < 2 ^ 32 }
     ensures reached { OnOk result (index < vec_len numbers.new) }
-    ensures same { OnOk result ((k : ℕ) → slice_index numbers.new.items k ≡ slice_index numbers.old.items k) }
+    ensures same { OnOk result ((k : ℕ)
+        → slice_index numbers.new.items k ≡ slice_index numbers.old.items k) }
 {
     if numbers.len() <= index {
         numbers.resize(index + 1, 0)?;
@@ -37,12 +39,13 @@ fn set_bit(words: &mut [u32], number: u32)
 }
 
 /// Sets the bit of a method, and says whether it was not set before.
-pub(crate) fn note_method(words: &mut Vec<u32>, method: u32) -> Result<bool, AllocError>
+pub(crate) fn enter_method(words: &mut Vec<u32>, method: u32) -> Result<bool, AllocError>
     ensures old { IfOk result (λ new. OnFalse new (Has words.old.items method)) }
     ensures new { IfOk result (λ new. OnTrue new (Has words.old.items method → ⊥)) }
     ensures kept { OnOk result ((n : ℕ) → Has words.old.items n → Has words.new.items n) }
     ensures added { OnOk result (Has words.new.items method) }
-    ensures only { OnOk result ((n : ℕ) → Has words.new.items n → Has words.old.items n ⊎ (n ≡ method)) }
+    ensures only { OnOk result ((n : ℕ) → Has words.new.items n
+        → Has words.old.items n ⊎ (n ≡ method)) }
 {
     reach(words, (method / 32) as usize)?;
     let old = has_bit(words.as_slice(), method);
@@ -51,11 +54,12 @@ pub(crate) fn note_method(words: &mut Vec<u32>, method: u32) -> Result<bool, All
 }
 
 /// Marks a slot with the owner of its variable, and says whether it had another mark before.
-pub(crate) fn note_slot(marks: &mut Vec<u32>, slot: u16, owner: u32) -> Result<bool, AllocError>
+pub(crate) fn enter_slot(marks: &mut Vec<u32>, slot: u16, owner: u32) -> Result<bool, AllocError>
     ensures old { IfOk result (λ new. OnFalse new (slice_index marks.old.items slot ≡ owner)) }
     ensures new { IfOk result (λ new. OnTrue new (slice_index marks.old.items slot ≢ owner)) }
     ensures marked { OnOk result (slice_index marks.new.items slot ≡ owner) }
-    ensures others { OnOk result ((n : ℕ) → n ≢ slot → slice_index marks.new.items n ≡ slice_index marks.old.items n) }
+    ensures others { OnOk result ((n : ℕ) → n ≢ slot
+        → slice_index marks.new.items n ≡ slice_index marks.old.items n) }
 {
     let index = usize::from(slot);
     reach(marks, index)?;
@@ -67,7 +71,8 @@ pub(crate) fn note_slot(marks: &mut Vec<u32>, slot: u16, owner: u32) -> Result<b
 /// How many texts are kept in a list.
 const FEW: usize = 16;
 
-/// Texts, each once. Most scopes have few names: these stand in a list, and a set after it has the others.
+/// Texts, each once. Most scopes have few names: these stand in a list, and a set after it has the
+/// others.
 #[derive(Drop)]
 pub(crate) struct Texts<'a> {
     few: Vec<&'a [u8]>,
@@ -94,12 +99,13 @@ impl<'a> Texts<'a> {
     }
 
     /// Takes a text, and says whether it is new.
-    pub(crate) fn note(&mut self, text: &'a [u8]) -> Result<bool, AllocError>
+    pub(crate) fn enter(&mut self, text: &'a [u8]) -> Result<bool, AllocError>
         ensures old { IfOk result (λ new. OnFalse new (HasText self.old text.entry.now)) }
         ensures new { IfOk result (λ new. OnTrue new (HasText self.old text.entry.now → ⊥)) }
         ensures kept { OnOk result ((t : List ℕ) → HasText self.old t → HasText self.new t) }
         ensures added { OnOk result (HasText self.new text.entry.now) }
-        ensures only { OnOk result ((t : List ℕ) → HasText self.new t → HasText self.old t ⊎ (t ≡ text.entry.now)) }
+        ensures only { OnOk result ((t : List ℕ) → HasText self.new t
+            → HasText self.old t ⊎ (t ≡ text.entry.now)) }
     {
         if self.few.contains(&text) {
             return Ok(false);

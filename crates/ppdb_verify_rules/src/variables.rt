@@ -12,7 +12,7 @@ use crate::cells::{fault, row_count};
 use crate::errors::VerifyError;
 use crate::lists::ScopeList;
 use crate::owners::owner_of;
-use crate::seen::{Texts, note_slot};
+use crate::seen::{Texts, enter_slot};
 use ppdb_base::{Code, Fault, Steps};
 use ppdb_tables::{LOCAL_SCOPE, LOCAL_VARIABLE, Tables, VariableRow};
 use std::alloc::Global;
@@ -43,12 +43,14 @@ fn judge_slot(
     requires there { row_at (raw_of tables.now).variables row ≡ Some variable.now }
     requires judged { ToCell (raw_of tables.now) 0x33 row 1 }
     requires owns { Owns (λ s. s.variables) (raw_of tables.now).scopes owner row }
-    requires seen { AreSlots (raw_of tables.now).scopes (raw_of tables.now).variables row owner slots.old.items }
+    requires seen { AreSlots (raw_of tables.now).scopes
+        (raw_of tables.now).variables row owner slots.old.items }
     ensures ok { OnOk result (ToCell (raw_of tables.now) 0x33 row 2) }
-    ensures seen { OnOk result (AreSlots (raw_of tables.now).scopes (raw_of tables.now).variables (row + 1) owner slots.new.items) }
+    ensures seen { OnOk result (AreSlots (raw_of tables.now).scopes (raw_of tables.now).variables
+        (row + 1) owner slots.new.items) }
     ensures err { IfErr result (FaultIs (IsFirstOf (raw_of tables.now))) }
 {
-    let is_new = note_slot(slots, variable.slot, owner)?;
+    let is_new = enter_slot(slots, variable.slot, owner)?;
     if !is_new {
         return Err(VerifyError::Fault(fault(Code::SlotRepeated, LOCAL_VARIABLE, row, 1)));
     }
@@ -74,7 +76,7 @@ fn judge_name<'a>(
     let Some(name) = tables.strings().get(variable.name) else {
         return Err(VerifyError::Fault(fault(Code::StringIndex, LOCAL_VARIABLE, row, 2)));
     };
-    let is_new = names.note(name)?;
+    let is_new = names.enter(name)?;
     if !is_new {
         return Err(VerifyError::Fault(fault(Code::NameRepeated, LOCAL_VARIABLE, row, 2)));
     }
@@ -110,12 +112,16 @@ fn judge_variable<'a, L: Ledger>(
     requires lists { HaveLists (raw_of tables.now) Variables }
     requires judged { ToCell (raw_of tables.now) 0x33 row 0 }
     requires before { OwnsBefore (λ s. s.variables) (raw_of tables.now).scopes before row }
-    requires slots { AreSlots (raw_of tables.now).scopes (raw_of tables.now).variables row before slots.old.items }
+    requires slots { AreSlots (raw_of tables.now).scopes
+        (raw_of tables.now).variables row before slots.old.items }
     requires names { AreVariableNames (raw_of tables.now) row before names.old }
     ensures ok { OnOk result (ToRow (raw_of tables.now) 0x33 (row + 1)) }
-    ensures owner { IfOk result (λ owner. OwnsBefore (λ s. s.variables) (raw_of tables.now).scopes owner (row + 1)) }
-    ensures slots { IfOk result (λ owner. AreSlots (raw_of tables.now).scopes (raw_of tables.now).variables (row + 1) owner slots.new.items) }
-    ensures names { IfOk result (λ owner. AreVariableNames (raw_of tables.now) (row + 1) owner names.new) }
+    ensures owner { IfOk result
+        (λ owner. OwnsBefore (λ s. s.variables) (raw_of tables.now).scopes owner (row + 1)) }
+    ensures slots { IfOk result (λ owner. AreSlots (raw_of tables.now).scopes
+        (raw_of tables.now).variables (row + 1) owner slots.new.items) }
+    ensures names { IfOk result
+        (λ owner. AreVariableNames (raw_of tables.now) (row + 1) owner names.new) }
     ensures err { IfErr result (FaultIs (IsFirstOf (raw_of tables.now))) }
 {
     judge_attributes(tables, row, variable)?;

@@ -24,29 +24,29 @@ pub each_once : (indexes : List PlacedIndex) → flat_map (λ x. x ∷ []) index
 each_once [] = refl
 each_once (x ∷ xs) = ap (λ l. x ∷ l) (each_once xs)
 
-module _ {X : Type 0} (told : X → List PlacedIndex) (blobs : List ℕ) (table row column start sum : ℕ) (all : List PlacedIndex) (left : Left X) where
+module _ {X : Type 0} (reported : X → List PlacedIndex) (blobs : List ℕ) (table row column start sum : ℕ) (all : List PlacedIndex) (left : Left X) where
   abbrev inside : List PlacedIndex → List HeapUse
   inside indexes = named_inside blobs table row column indexes
 
   -- what is left is still to be added
   abbrev pub GoesOn : Type 0
-  GoesOn = spanned start (inside all) ≡ spanned sum (inside (flat_map told left.items))
+  GoesOn = spanned start (inside all) ≡ spanned sum (inside (flat_map reported left.items))
 
   pub walk-done : GoesOn → left.items ≡ [] → Ok sum ≡ spanned start (inside all)
-  walk-done rest none = sum-none start sum (inside all) (inside (flat_map told left.items)) rest (ap (λ items. inside (flat_map told items)) none)
+  walk-done rest none = sum-none start sum (inside all) (inside (flat_map reported left.items)) rest (ap (λ items. inside (flat_map reported items)) none)
 
-  cut_off : (x : X) → Ok (Some x) ≡ answer left → inside (flat_map told left.items) ≡ inside (told x) ++ inside (flat_map told (tail left.items))
+  cut_off : (x : X) → Ok (Some x) ≡ answer left → inside (flat_map reported left.items) ≡ inside (reported x) ++ inside (flat_map reported (tail left.items))
   cut_off x next =
-      ap (λ items. inside (flat_map told items)) (next_items left.items left.fault x next)
-      ∙ map-append (λ (i : PlacedIndex). record { at = in_blob table row column i.byte; len = len_of (blob_at blobs i.index) }) (told x)
-      (flat_map told (tail left.items))
+      ap (λ items. inside (flat_map reported items)) (next_items left.items left.fault x next)
+      ∙ map-append (λ (i : PlacedIndex). record { at = in_blob table row column i.byte; len = len_of (blob_at blobs i.index) }) (reported x)
+      (flat_map reported (tail left.items))
 
-  pub walk-next : GoesOn → (x : X) → Ok (Some x) ≡ answer left → (after : ℕ) → Ok after ≡ spanned sum (inside (told x))
-      → spanned start (inside all) ≡ spanned after (inside (flat_map told (tail left.items)))
+  pub walk-next : GoesOn → (x : X) → Ok (Some x) ≡ answer left → (after : ℕ) → Ok after ≡ spanned sum (inside (reported x))
+      → spanned start (inside all) ≡ spanned after (inside (flat_map reported (tail left.items)))
   walk-next rest x next after one =
-      sum-few start sum (inside all) (inside (told x)) (inside (flat_map told (tail left.items))) after (rest ∙ ap (spanned sum) (cut_off x next)) one
+      sum-few start sum (inside all) (inside (reported x)) (inside (flat_map reported (tail left.items))) after (rest ∙ ap (spanned sum) (cut_off x next)) one
 
-  pub walk-over : GoesOn → (x : X) → Ok (Some x) ≡ answer left → (fault : Fault) → Err fault ≡ spanned sum (inside (told x))
+  pub walk-over : GoesOn → (x : X) → Ok (Some x) ≡ answer left → (fault : Fault) → Err fault ≡ spanned sum (inside (reported x))
       → Err fault ≡ spanned start (inside all)
   walk-over rest x next fault one =
-      sum-past start sum (inside all) (inside (told x)) (inside (flat_map told (tail left.items))) fault (rest ∙ ap (spanned sum) (cut_off x next)) one
+      sum-past start sum (inside all) (inside (reported x)) (inside (flat_map reported (tail left.items))) fault (rest ∙ ap (spanned sum) (cut_off x next)) one

@@ -1,8 +1,11 @@
 -- The references table by table and row by row.
 use Rattle.std.specs.Prelude.{ℕ, List, map, flat_map}
 use Rattle.ppdb_tables.specs.RawTables.{RawTables, numbered}
-use Rattle.ppdb_verify_total.specs.HeapUses.{HeapUse, of_document, of_method, of_variable, of_constant, of_import, of_custom}
-use Rattle.ppdb_verify_total.specs.declared.rows.Table.TheVariants.{Document, MethodDebug, LocalVariable, LocalConstant, ImportScope, Custom}
+use Rattle.ppdb_verify_total.specs.HeapUses.{HeapUse, of_document, of_method, of_variable}
+use Rattle.ppdb_verify_total.specs.HeapUses.{of_constant, of_import, of_custom}
+use Rattle.ppdb_verify_total.specs.declared.rows.Table.TheVariants.{Document, MethodDebug}
+use Rattle.ppdb_verify_total.specs.declared.rows.Table.TheVariants.{LocalVariable, LocalConstant}
+use Rattle.ppdb_verify_total.specs.declared.rows.Table.TheVariants.{ImportScope, Custom}
 use Rattle.ppdb_verify_total.specs.declared.rows.Table as table
 
 abbrev pub number_of : table.Table → ℕ

@@ -25,7 +25,8 @@ fn add_index(
     total: u64,
 ) -> Result<u64, Fault>
     requires within { total ≤ MAX_SPAN }
-    ensures sum { result ≡ spanned total (named_inside (blobs_of blobs.entry) table row column (at ∷ [])) }
+    ensures sum { result
+        ≡ spanned total (named_inside (blobs_of blobs.entry) table row column (at ∷ [])) }
     ensures within { IfOk result (λ after. after ≤ MAX_SPAN) }
 {
     match blobs.get(at.index) {
@@ -34,7 +35,8 @@ fn add_index(
     }
 }
 
-/// Adds the parts of a document's name, each at its byte, up to the end of the longest valid prefix.
+/// Adds the parts of a document's name, each at its byte, up to the end of the longest valid
+/// prefix.
 pub(crate) fn add_parts(
     content: &[u8],
     blobs: Blobs<'_>,
@@ -43,7 +45,8 @@ pub(crate) fn add_parts(
 ) -> Result<u64, Fault>
     requires short { length content.now < 2 ^ 32 }
     requires within { total ≤ MAX_SPAN }
-    ensures sum { result ≡ spanned total (named_inside (blobs_of blobs.entry) 0x30 row 0 (name_indexes (blobs_of blobs.entry) content.now)) }
+    ensures sum { result ≡ spanned total (named_inside (blobs_of blobs.entry) 0x30 row 0
+        (name_indexes (blobs_of blobs.entry) content.now)) }
     ensures within { IfOk result (λ after. after ≤ MAX_SPAN) }
 {
     let Ok(mut indexes) = NameIndexes::new(content, blobs) else {
@@ -65,7 +68,8 @@ pub(crate) fn add_parts(
 /// Adds the text that a field of an import names, where it names one.
 fn add_field(blobs: Blobs<'_>, row: u32, field: ImportField, total: u64) -> Result<u64, Fault>
     requires within { total ≤ MAX_SPAN }
-    ensures sum { result ≡ spanned total (named_inside (blobs_of blobs.entry) 0x35 row 1 (text_index field)) }
+    ensures sum { result
+        ≡ spanned total (named_inside (blobs_of blobs.entry) 0x35 row 1 (text_index field)) }
     ensures within { IfOk result (λ after. after ≤ MAX_SPAN) }
 {
     if !field.part.names_text() {
@@ -88,7 +92,8 @@ pub(crate) fn add_imports(
 ) -> Result<u64, Fault>
     requires short { length content.now < 2 ^ 32 }
     requires within { total ≤ MAX_SPAN }
-    ensures sum { result ≡ spanned total (named_inside (blobs_of blobs.entry) 0x35 row 1 (import_indexes limits (blob_at (blobs_of blobs.entry)) content.now)) }
+    ensures sum { result ≡ spanned total (named_inside (blobs_of blobs.entry) 0x35 row 1
+        (import_indexes limits (blob_at (blobs_of blobs.entry)) content.now)) }
     ensures within { IfOk result (λ after. after ≤ MAX_SPAN) }
 {
     let mut fields = ImportFields::new(content, blobs, limits);

@@ -1,4 +1,5 @@
-//! How many bytes the texts and blobs of a Portable PDB file have in total, and which of them is the first past the limit.
+//! How many bytes the texts and blobs of a Portable PDB file have in total, and which of them is
+//! the first past the limit.
 #![tactic(auto)]
 
 mod inside;

@@ -4,7 +4,8 @@ ghost use Rattle.ppdb_base.specs.declared.limits.TheConstants.{MAX_SPAN};
 ghost use Rattle.ppdb_heaps.specs.Heaps.{blob_at};
 ghost use Rattle.ppdb_tables.specs.RawTables.{count, row_at};
 ghost use Rattle.ppdb_tables.specs.RawOf.{raw_of};
-ghost use Rattle.ppdb_verify_total.specs.HeapUses.{HeapUse, blob_in, named_inside, in_name, in_imports};
+ghost use Rattle.ppdb_verify_total.specs.HeapUses.{HeapUse, blob_in, named_inside, in_name};
+ghost use Rattle.ppdb_verify_total.specs.HeapUses.{in_imports};
 ghost use Rattle.ppdb_verify_total.specs.Spans.{spanned};
 ghost use Rattle.ppdb_verify_total.specs.TableRows.{number_of, rows_of};
 
@@ -45,7 +46,8 @@ pub(crate) fn number_of(table: Table) -> u8
 /// Adds a document's name and the parts in it.
 fn add_name(tables: &Tables<'_>, row: u32, index: u32, total: u64) -> Result<u64, Fault>
     requires within { total ≤ MAX_SPAN }
-    ensures sum { result ≡ spanned total (blob_in (raw_of tables.now) 0x30 row 0 index ∷ named_inside (raw_of tables.now).blobs 0x30 row 0 (in_name (raw_of tables.now)
+    ensures sum { result ≡ spanned total (blob_in (raw_of tables.now) 0x30 row 0 index
+        ∷ named_inside (raw_of tables.now).blobs 0x30 row 0 (in_name (raw_of tables.now)
         (blob_at (raw_of tables.now).blobs index))) }
     ensures within { IfOk result (λ after. after ≤ MAX_SPAN) }
 {
@@ -62,7 +64,8 @@ fn add_name(tables: &Tables<'_>, row: u32, index: u32, total: u64) -> Result<u64
 /// Adds the list of an import scope and the texts that are named in it.
 fn add_list(tables: &Tables<'_>, row: u32, index: u32, total: u64) -> Result<u64, Fault>
     requires within { total ≤ MAX_SPAN }
-    ensures sum { result ≡ spanned total (blob_in (raw_of tables.now) 0x35 row 1 index ∷ named_inside (raw_of tables.now).blobs 0x35 row 1 (in_imports (raw_of tables.now)
+    ensures sum { result ≡ spanned total (blob_in (raw_of tables.now) 0x35 row 1 index
+        ∷ named_inside (raw_of tables.now).blobs 0x35 row 1 (in_imports (raw_of tables.now)
         (blob_at (raw_of tables.now).blobs index))) }
     ensures within { IfOk result (λ after. after ≤ MAX_SPAN) }
 {
@@ -87,7 +90,8 @@ pub(crate) fn add_row<L: Ledger>(
 ) -> Result<u64, Fault>
     requires there { (1 ≤ row) × (row ≤ count (raw_of tables.now) (number_of table)) }
     requires within { total ≤ MAX_SPAN }
-    ensures sum { (names : List HeapUse) → row_at (rows_of (raw_of tables.now) table) row ≡ Some names → result ≡ spanned total names }
+    ensures sum { (names : List HeapUse) → row_at (rows_of (raw_of tables.now) table) row
+        ≡ Some names → result ≡ spanned total names }
     ensures within { IfOk result (λ after. after ≤ MAX_SPAN) }
 {
     match table {

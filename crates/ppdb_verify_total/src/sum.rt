@@ -8,7 +8,8 @@ ghost use Rattle.ppdb_verify_total.specs.Spans.{spanned};
 use ppdb_base::{Code, Fault, MAX_SPAN, Place};
 use ppdb_tables::Tables;
 
-/// Adds the length of an item that is named at a byte of a cell, and stops where the sum passes the limit.
+/// Adds the length of an item that is named at a byte of a cell, and stops where the sum passes the
+/// limit.
 pub(crate) fn add(
     total: u64,
     len: usize,
@@ -18,7 +19,8 @@ pub(crate) fn add(
     byte: u32,
 ) -> Result<u64, Fault>
     requires within { total ≤ MAX_SPAN }
-    ensures sum { result ≡ spanned total (record { at = in_blob table row column byte; len = len } ∷ []) }
+    ensures sum { result
+        ≡ spanned total (record { at = in_blob table row column byte; len = len } ∷ []) }
     ensures within { IfOk result (λ after. after ≤ MAX_SPAN) }
 {
     let len = len as u64;

@@ -62,7 +62,8 @@ fn add_tables<L: Ledger>(tables: &Tables<'_>, steps: &mut Steps<L>) -> Result<u6
     add_table(tables, Table::Custom, imports, steps)
 }
 
-/// Says whether the texts and blobs that the rows name are few enough bytes in all, and names the first that is too many.
+/// Says whether the texts and blobs that the rows name are few enough bytes in all, and names the
+/// first that is too many.
 pub fn judge_spans<L: Ledger>(tables: &Tables<'_>, steps: &mut Steps<L>) -> Result<(), Fault>
     ensures accepted { OnOk result (IsAccepted (SpanFaults (raw_of tables.now))) }
     ensures first { IfErr result (IsFirst (SpanFaults (raw_of tables.now))) }

@@ -3,7 +3,7 @@ use Rattle.std.proofs.Common.{◌≡◌, ◌≢◌, ◌⊎◌, List, [], length,
 use Rattle.ppdb_tables.specs.{declared.rows.MethodDebugRow.{MethodDebugRow}, RawTables.{RawTables, count}}
 use Rattle.ppdb_verify_accepted_laws.{specs.Accepted.{HasGoodRows}, proofs.Files.{rules_kept}}
 use Rattle.ppdb_values.specs.{RawFile.{RawFile}, Rules.{KeepsRules}}
-use Rattle.ppdb_verify_kept_laws.proofs.Files.{none_invalid}
+use Rattle.ppdb_verify_faultless_laws.proofs.Files.{none_invalid}
 use Rattle.ppdb_verify_valid_laws.specs.GoodRows.{GoodRowsAreKeptRules}
 
 -- debug information of methods has no rows, or one for each

@@ -100,7 +100,8 @@ module _ (file : List ℕ) (accepted : IsAccepted (FileFaults file)) (streams : 
       let same : slice_index head.rows table ≡ pdb_rows pdb table = get_or-map-range_with_len (pdb_rows pdb) 0 64 table table 0 low (omega arith) in
       let first = pdb_small pdb pdb_fields_good table low in
       one_of (nat_lt table 0x2D) (nat_lt table 0x30) (nat_lt table 0x38) (slice_index head.rows table) (table_rows (bytes_of streams Tables) table) 16777215
-      (omega (arith, same, first)) (tables_small (slice_index head.rows 6) (bytes_of streams Tables) (λ code at invalid. good_tables code at (inl invalid)) table low)
+      (omega (arith, same, first))
+      (tables_small (slice_index head.rows 6) (bytes_of streams Tables) (λ code at invalid. good_tables code at (inl invalid)) table low)
 
   small : (table : ℕ) → count (raw_in streams).tables table ≤ 16777215
   small table = elim (cases_lt table 64) [

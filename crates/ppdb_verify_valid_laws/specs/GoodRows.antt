@@ -1,4 +1,5 @@
--- The list of the faults of rows and the list of their rules say the same (Portable PDB v1.0, "Metadata Tables"; ECMA-335 II.22).
+-- The list of the faults of rows and the list of their rules say the same (Portable PDB v1.0,
+-- "Metadata Tables"; ECMA-335 II.22).
 use Rattle.std.specs.Prelude.{◌↔◌}
 use Rattle.ppdb_verify_accepted_laws.specs.Accepted.{HasGoodRows}
 use Rattle.ppdb_values.specs.{RawFile.RawFile, Rules.KeepsRules}

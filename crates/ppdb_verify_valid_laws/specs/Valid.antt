@@ -2,7 +2,7 @@
 use Rattle.std.specs.Prelude.{ℕ, ◌≤◌, ◌<◌, ◌^◌, List, length, All}
 use Rattle.ppdb_values.specs.Names.{IsAccepted, MAX_FILE_BYTES}
 use Rattle.ppdb_values.specs.{RawFile.RawFile, Rules.KeepsRules, Types.HasTypes, Value.value_of}
-use Rattle.ppdb_values_sound_laws.specs.Sound.{IsSound}
+use Rattle.ppdb_values_sound.specs.Sound.{IsSound}
 use Rattle.ppdb_verify.specs.Files.{FileFaults, IsRawOf}
 
 -- A file of bytes, of at most 128 MiB, that breaks none of the rules F1 to F40.
@@ -18,4 +18,5 @@ pub record IsSoundFile (raw : RawFile) : Type 0 where
   pub types : HasTypes (value_of raw)
 
 abbrev pub ValidFilesAreSound : Type 0
-ValidFilesAreSound = (file : List ℕ) (raw : RawFile) → IsValid file → IsRawOf file raw → IsSoundFile raw
+ValidFilesAreSound =
+    (file : List ℕ) (raw : RawFile) → IsValid file → IsRawOf file raw → IsSoundFile raw

@@ -1,5 +1,7 @@
--- A row as its cells, by the widths of the columns (ECMA-335 II.24.2.6): one after another, each little-endian.
-use Rattle.std.specs.{Prelude.{◌≡◌, ℕ, ◌+◌, ◌<◌, ◌^◌, List, [], ◌∷◌, ◌++◌, ◌⊎◌, take, drop, sum, slice_index}, List.AllZip}
+-- A row as its cells, by the widths of the columns (ECMA-335 II.24.2.6): one after another, each
+-- little-endian.
+use Rattle.std.specs.Prelude.{◌≡◌, ℕ, ◌+◌, ◌<◌, ◌^◌, List, [], ◌∷◌, ◌++◌, ◌⊎◌, take, drop, sum}
+use Rattle.std.specs.{Prelude.slice_index, List.AllZip}
 use Rattle.byteorder.specs.Endian.{little_number, little_bytes}
 
 -- where a cell begins: the sum of the widths before it
@@ -13,7 +15,8 @@ places_from at (width ∷ widths) = at ∷ places_from (at + width) widths
 
 -- the number in a cell, the lowest byte first (II.24.2)
 abbrev pub cell_in : List ℕ → List ℕ → ℕ → ℕ
-cell_in widths row column = little_number (slice_index widths column) (drop (cell_place widths column) row)
+cell_in widths row column =
+    little_number (slice_index widths column) (drop (cell_place widths column) row)
 
 -- each cell is a number of so many bytes
 abbrev pub Fit : List ℕ → List ℕ → Type 0

@@ -26,7 +26,8 @@ pub enum Column {
     Guid,
     /// A row of this table.
     Row(u8),
-    /// A row of one of the tables that custom debug information may belong to, with a tag of five bits.
+    /// A row of one of the tables that custom debug information may belong to, with a tag of five
+    /// bits.
     Parent,
 }
 

@@ -1,4 +1,5 @@
-ghost use Rattle.std.specs.Prelude.{◌≡◌, ◌≤◌, ◌<◌, ◌+◌, ◌++◌, ◌↔◌, ℕ, ◌*◌, ◌^◌, sum, map, length, All, slice_index, IsTrue, OnOk, OnErr};
+ghost use Rattle.std.specs.Prelude.{◌≡◌, ◌≤◌, ◌<◌, ◌+◌, ◌++◌, ◌↔◌, ℕ, ◌*◌, ◌^◌, sum, map, length};
+ghost use Rattle.std.specs.Prelude.{All, slice_index, IsTrue, OnOk, OnErr};
 ghost use Rattle.std.specs.Prelude.{List as Seq};
 ghost use Rattle.row_layout.specs.Columns.{width_of};
 ghost use Rattle.row_layout.specs.Rows.{cell_place, cell_in, Fit, IsWidth, places_from, row_bytes};
@@ -8,7 +9,8 @@ use byteorder::{ByteOrder, LittleEndian};
 use ppdb_base::{Bytes, Memory};
 use std::marker::Model;
 
-/// Where the cells of a row of N columns are. Contracts see it as the widths of the cells, in bytes.
+/// Where the cells of a row of N columns are. Contracts see it as the widths of the cells, in
+/// bytes.
 #[derive(Clone, Copy, Debug)]
 pub struct RowLayout<const N: usize> {
     widths: [u8; N],
@@ -25,9 +27,11 @@ impl<const N: usize> Model for RowLayout<N> {
 
     ghost view = { λ s. s.widths };
 
-    ghost invariant = { λ s. (N ≤ 64) × All IsWidth s.widths × (s.places ≡ places_from 0 s.widths) × (s.len ≡ sum s.widths) };
+    ghost invariant = { λ s. (N ≤ 64) × All IsWidth s.widths × (s.places ≡ places_from 0 s.widths)
+        × (s.len ≡ sum s.widths) };
 
-    ghost inverse = { λ widths. record { widths = widths; places = places_from 0 widths; len = sum widths } };
+    ghost inverse = { λ widths.
+        record { widths = widths; places = places_from 0 widths; len = sum widths } };
 }
 
 impl<const N: usize> RowLayout<N> {
@@ -101,7 +105,8 @@ impl<const N: usize> RowLayout<N> {
         ensures ok { OnOk result (into.new ≡ into.old ++ row_bytes self.now cells.now) }
         ensures err { OnErr result (into.new ≡ into.old) }
     {
-        // A cell is written in four bytes; the next one overwrites those beyond its width. No row has more than 64 cells.
+        // A cell is written in four bytes; the next one overwrites those beyond its width. No row
+        // has more than 64 cells.
         let mut row = [0; 256];
         let mut len = 0;
         for (i, width) in self.widths.iter().enumerate() {

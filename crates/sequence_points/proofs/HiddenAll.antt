@@ -1,10 +1,9 @@
 -- What holds of the points that have moved holds of those at the stretches, where a mark and a resumption take it over.
-use Rattle.std.{proofs.Common.{ℕ, Bool, true, false, List, [], ◌∷◌, ◌++◌, map, filter}, specs.Prelude.{All, cond, not}}
-use Rattle.std.proofs.lemmas.List.Elements.{All-nil, All-cons, All-head, All-tail, All-append}
-use Rattle.ppdb_base.specs.Offsets.{Offsets}
-use Rattle.ppdb_base.specs.Offsets.{is_image_between}
-use Rattle.sequence_points.specs.{declared.point.Point.{Point}, MovedPoints.{first_offset}}
-use Rattle.sequence_points.specs.HiddenPoints.{and_hidden, first_start, hidden_after, hidden_before, mark_at, no_offset, stretches_between, with_hidden}
+use Rattle.std.{proofs.Common.{ℕ, Bool, true, false, List, [], ◌∷◌, ◌++◌, map, filter}, specs.Prelude.{All, cond, not}, proofs.lemmas.List.Elements.{All-nil}}
+use Rattle.std.proofs.lemmas.List.Elements.{All-cons, All-head, All-tail, All-append}
+use Rattle.ppdb_base.specs.Offsets.{Offsets, is_image_between}
+use Rattle.sequence_points.specs.{declared.point.Point.{Point}, MovedPoints.{first_offset}, HiddenPoints.{and_hidden, first_start, hidden_after, hidden_before}}
+use Rattle.sequence_points.specs.HiddenPoints.{mark_at, no_offset, stretches_between, with_hidden}
 
 module _ (o : Offsets) (Q : Point → Type 0) (marks : (p : Point) (s : ℕ × ℕ) → Q p → Q (mark_at p.document s))
     (resumes : (p : Point) (n : ℕ) → Q p → Q (record p { offset = n })) where

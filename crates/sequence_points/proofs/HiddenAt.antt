@@ -1,14 +1,13 @@
 -- At the image of a kept offset the last point that is not after it is that of the points that have moved.
-use Rattle.std.proofs.Common.{◌≡◌, ℕ, suc, ◌+◌, ◌<◌, ◌≤◌, ◌⊎◌, Bool, true, false, List, [], ◌∷◌, ◌++◌, max, map, filter, Option, Some, None, refl, sym, ap, ◌∙◌, subst, arith, inl, inr}
-use Rattle.std.specs.{Prelude.{All, AllPairs, cond, fold, nat_le, nat_lt, not, ◌&&◌}, Option.{option_map}}
-use Rattle.std.proofs.lemmas.{Bool.{cases_lt, lt-ltb, le-ltb, le-leb, lt-leb, and_right}, List.{append-nil}, List.Elements.{All-cons, All-filter, All-head, All-tail, filter-append}}
-use Rattle.ppdb_base.specs.Offsets.{Offsets, Rise, Kept}
-use Rattle.ppdb_base.specs.Offsets.{AreApart, is_image_between}
-use Rattle.sequence_points.specs.{declared.point.Point.{Point}, MovedPoints.{PointsRise, first_offset}, Written.{last_of}}
-use Rattle.sequence_points.proofs.Follows.{pairs-head, pairs-tail}
-use Rattle.sequence_points.specs.HiddenPoints.{and_hidden, first_start, hidden_after, hidden_before, mark_at, no_offset, said_from, stretches_between, with_hidden}
-use Rattle.sequence_points.proofs.HiddenRise.{Between, IsFree, Placed, after_placed, and_placed, before_placed, between, from_start, others_between}
-use Rattle.ppdb_base.proofs.Images.{is_image}
+use Rattle.std.proofs.Common.{◌≡◌, ℕ, suc, ◌+◌, ◌<◌, ◌≤◌, ◌⊎◌, Bool, true, false, List, [], ◌∷◌, ◌++◌, max, map, filter, Option, Some, None, refl, sym, ap, ◌∙◌}
+use Rattle.std.{proofs.Common.{subst, arith, inl, inr}, specs.Prelude.{All, AllPairs, cond, fold, nat_le, nat_lt, not, ◌&&◌}, specs.Option.{option_map}}
+use Rattle.std.proofs.lemmas.{Bool.{cases_lt, lt-ltb, le-ltb, le-leb, lt-leb, and_right}, List.{append-nil}, List.Elements.{All-cons, All-filter, All-head}}
+use Rattle.std.proofs.lemmas.List.Elements.{All-tail, filter-append}
+use Rattle.ppdb_base.{specs.Offsets.{Offsets, Rise, Kept, AreApart, is_image_between}, proofs.Images.{is_image}}
+use Rattle.sequence_points.{specs.declared.point.Point.{Point}, specs.MovedPoints.{PointsRise, first_offset}, specs.Written.{last_of}, proofs.Follows.{pairs-head}}
+use Rattle.sequence_points.{proofs.Follows.{pairs-tail}, specs.HiddenPoints.{and_hidden, first_start, hidden_after, hidden_before, mark_at, no_offset, said_from}}
+use Rattle.sequence_points.{specs.HiddenPoints.{stretches_between, with_hidden}, proofs.HiddenRise.{Between, IsFree, Placed, after_placed, and_placed}}
+use Rattle.sequence_points.proofs.HiddenRise.{before_placed, between, from_start, others_between}
 
 -- the points that are not after an offset
 abbrev pub upto : ℕ → List Point → List Point
@@ -63,7 +62,8 @@ after_at o rise x y kept p from low end (s ∷ ss) h before at within outside =
           ∙ resumed le (is_image_between o s.1 (first_start end ss)) refl
           (after_at o rise x y kept p s.1 (s.1 + 1) end ss others (omega arith) le within (All-tail (λ (t : ℕ × ℕ). (y < t.0) ⊎ (t.1 ≤ y)) s ss outside))
           ∙ ap (λ n. Some (record p { offset = fold max n (ends_upto y ss) })) (sym greater)
-          ∙ ap (λ b. Some (record p { offset = fold max from (map (λ (t : ℕ × ℕ). t.1) (cond b (s ∷ filter (λ t. nat_le t.1 y) ss) (filter (λ t. nat_le t.1 y) ss))) }))
+          ∙ ap (λ b.
+          Some (record p { offset = fold max from (map (λ (t : ℕ × ℕ). t.1) (cond b (s ∷ filter (λ t. nat_le t.1 y) ss) (filter (λ t. nat_le t.1 y) ss))) }))
           (sym (le-leb s.1 y le))
     ]
   where
@@ -100,7 +100,8 @@ after_at o rise x y kept p from low end (s ∷ ss) h before at within outside =
     -- where there is no resumption another stretch begins before the image
     no_resumption : (ts : List (ℕ × ℕ)) → s.1 ≤ y → is_image_between o s.1 (first_start end ts) ≡ false → (r : Point)
         → last_of (r ∷ upto y (hidden_after o p end ts)) ≡ last_of (mark ∷ upto y (hidden_after o p end ts))
-    no_resumption [] le is r = absurd (let there : is_image_between o s.1 end ≡ true = is_image o rise s.1 end x y kept le within in let no : true ≡ false = sym there ∙ is in cc)
+    no_resumption [] le is r =
+        absurd (let there : is_image_between o s.1 end ≡ true = is_image o rise s.1 end x y kept le within in let no : true ≡ false = sym there ∙ is in cc)
     no_resumption (t ∷ ts) le is r = elim (cases_lt y t.0) [
       | inl less ↦ absurd (let there : is_image_between o s.1 t.0 ≡ true = is_image o rise s.1 t.0 x y kept le less in let no : true ≡ false = sym there ∙ is in cc)
       | inr begun ↦ rw (le-leb t.0 y begun) refl
@@ -126,7 +127,8 @@ before_at o rise x y kept p less (s ∷ ss) outside =
     by_test true is rest = rest
     by_test false is rest = elim (All-head (λ (t : ℕ × ℕ). (y < t.0) ⊎ (t.1 ≤ y)) s ss outside) [
       | inl after ↦ ap (λ b. cond b (mark_at p.document s ∷ upto y (hidden_before o p ss)) (upto y (hidden_before o p ss))) (lt-leb s.0 y after) ∙ rest
-      | inr le ↦ absurd (let there : is_image_between o s.1 p.offset ≡ true = is_image o rise s.1 p.offset x y kept le less in let no : true ≡ false = sym there ∙ is in cc)
+      | inr le ↦ absurd
+          (let there : is_image_between o s.1 p.offset ≡ true = is_image o rise s.1 p.offset x y kept le less in let no : true ≡ false = sym there ∙ is in cc)
     ]
 
 -- the ends among the stretches after a point are those among all
@@ -137,7 +139,8 @@ same_ends from to y within (s ∷ ss) free some =
     elim (All-head (λ (t : ℕ × ℕ). (from < t.0) ⊎ (t.1 ≤ from)) s ss free) [
       | inl after ↦ elim (cases_lt y s.1) [
         | inl less ↦
-            by_test (nat_lt from s.1 && nat_lt s.0 to) (nat_lt from s.0 && nat_le s.1 y) (ap (λ b. nat_lt from s.0 && b) (lt-leb s.1 y less) ∙ and_right (nat_lt from s.0) false refl) (lt-leb s.1 y less)
+            by_test (nat_lt from s.1 && nat_lt s.0 to) (nat_lt from s.0 && nat_le s.1 y)
+            (ap (λ b. nat_lt from s.0 && b) (lt-leb s.1 y less) ∙ and_right (nat_lt from s.0) false refl) (lt-leb s.1 y less)
             (same_ends from to y within ss others_free others_some)
         | inr le ↦ rw (lt-ltb from s.1 (omega (arith, nonempty)), lt-ltb s.0 to (omega (arith, nonempty)), le-leb s.1 y le, lt-ltb from s.0 after)
             (ap (λ es. s.1 ∷ es) (same_ends from to y within ss others_free others_some))
@@ -160,7 +163,8 @@ same_ends from to y within (s ∷ ss) free some =
         ≡ map (λ t. t.1) (cond b (s ∷ filter (λ t. nat_lt from t.0 && nat_le t.1 y) ss) (filter (λ t. nat_lt from t.0 && nat_le t.1 y) ss))
     by_test false false e out rest = rest
     by_test true false e out rest =
-        ap (λ b. map (λ (t : ℕ × ℕ). t.1) (cond b (s ∷ filter (λ t. nat_le t.1 y) (stretches_between from to ss)) (filter (λ t. nat_le t.1 y) (stretches_between from to ss)))) out ∙ rest
+        ap (λ b. map (λ (t : ℕ × ℕ). t.1)
+        (cond b (s ∷ filter (λ t. nat_le t.1 y) (stretches_between from to ss)) (filter (λ t. nat_le t.1 y) (stretches_between from to ss)))) out ∙ rest
     by_test a true e out rest = absurd cc
 
 -- a point before those from another on, which is not after the image, does not count
@@ -181,7 +185,8 @@ and_at : (o : Offsets) → Rise o → (x y : ℕ) → Kept o x y → (ss : List 
 and_at o rise x y kept ss apart [] up free small within = refl
 and_at o rise x y kept ss apart (p ∷ ps) up free small within = elim (cases_lt y p.offset) [
   | inl less ↦
-      ap last_of (none_upto y (and_hidden o ss (p ∷ ps)) (above y p.offset (and_hidden o ss (p ∷ ps)) less (and_placed o rise ss apart (p ∷ ps) up free small).least))
+      ap last_of
+      (none_upto y (and_hidden o ss (p ∷ ps)) (above y p.offset (and_hidden o ss (p ∷ ps)) less (and_placed o rise ss apart (p ∷ ps) up free small).least))
       ∙ ap (λ qs. option_map (said ss y) (last_of qs)) (sym (none_upto y (p ∷ ps) (first_after less)))
   | inr le ↦
       ap (λ b. last_of (cond b (p ∷ upto y (gap ++ and_hidden o ss ps)) (upto y (gap ++ and_hidden o ss ps)))) (le-leb p.offset y le)

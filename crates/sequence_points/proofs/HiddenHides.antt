@@ -1,14 +1,12 @@
 -- At an offset that a stretch holds, the last point that is not after it is hidden, or there is none.
-use Rattle.std.proofs.Common.{◌≡◌, ℕ, ◌+◌, ◌<◌, ◌≤◌, ◌⊎◌, Bool, true, false, List, [], ◌∷◌, ◌++◌, map, filter, Option, Some, None, refl, sym, ap, ◌∙◌, subst, arith, inl, inr}
-use Rattle.std.specs.{Prelude.{All, IfSome, cond, nat_le, nat_lt, not, ◌&&◌}}
-use Rattle.std.proofs.lemmas.{Bool.{cases_lt, lt-ltb, le-ltb, le-leb, lt-leb}, List.{append-nil}, List.Elements.{All-nil, All-cons, All-head, All-tail, filter-append}}
-use Rattle.ppdb_base.specs.Offsets.{Offsets, Rise}
-use Rattle.ppdb_base.specs.Offsets.{AreApart, is_image_between}
+use Rattle.std.proofs.Common.{◌≡◌, ℕ, ◌+◌, ◌<◌, ◌≤◌, ◌⊎◌, Bool, true, false, List, [], ◌∷◌, ◌++◌, map, filter, Option, Some, None, refl, sym, ap, ◌∙◌, subst, arith}
+use Rattle.std.{proofs.Common.{inl, inr}, specs.Prelude.{All, IfSome, cond, nat_le, nat_lt, not, ◌&&◌}, proofs.lemmas.Bool.{cases_lt, lt-ltb, le-ltb, le-leb}}
+use Rattle.std.proofs.lemmas.{Bool.{lt-leb}, List.{append-nil}, List.Elements.{All-nil, All-cons, All-head, All-tail, filter-append}}
+use Rattle.ppdb_base.specs.Offsets.{Offsets, Rise, AreApart, is_image_between}
 use Rattle.sequence_points.specs.{declared.point.Point.{Point}, declared.point.Span.TheVariants.{Hidden}, MovedPoints.{PointsRise, first_offset}, Written.{last_of}}
-use Rattle.sequence_points.proofs.Follows.{pairs-head, pairs-tail}
-use Rattle.sequence_points.specs.HiddenPoints.{HidesAt, and_hidden, first_start, hidden_after, hidden_before, mark_at, no_offset, stretches_between, with_hidden}
-use Rattle.sequence_points.proofs.HiddenRise.{Between, IsFree, Placed, after_placed, and_placed, between, others_between}
-use Rattle.sequence_points.proofs.HiddenAt.{upto, none_upto, above, last-append, before_last}
+use Rattle.sequence_points.{proofs.Follows.{pairs-head, pairs-tail}, specs.HiddenPoints.{HidesAt, and_hidden, first_start, hidden_after, hidden_before, mark_at}}
+use Rattle.sequence_points.{specs.HiddenPoints.{no_offset, stretches_between, with_hidden}, proofs.HiddenRise.{Between, IsFree, Placed, after_placed, and_placed}}
+use Rattle.sequence_points.proofs.{HiddenRise.{between, others_between}, HiddenAt.{upto, none_upto, above, last-append, before_last}}
 
 abbrev LastHidden : List Point → Type 0
 LastHidden ps = IfSome (last_of ps) (λ p. p.span ≡ Hidden)
@@ -164,5 +162,6 @@ hidden_hides o rise ss apart z within (p ∷ ps) up free small = λ k d there fr
         subst (λ qs. LastHidden (upto z before ++ qs)) (sym (none_upto z (and_hidden o ss (p ∷ ps)) (above z p.offset (and_hidden o ss (p ∷ ps)) less
         (and_placed o rise ss apart (p ∷ ps) up free small).least)))
         (subst LastHidden (sym (append-nil (upto z before))) (all_last (upto z before) (all_marks o p z (stretches_between 0 p.offset ss))))
-    by_first (inr le) later = rw (le-leb p.offset z le) (subst (λ (r : Option Point). IfSome r (λ (x : Point). x.span ≡ Hidden)) (sym (last-append (upto z before) p (upto z after)))
+    by_first (inr le) later =
+        rw (le-leb p.offset z le) (subst (λ (r : Option Point). IfSome r (λ (x : Point). x.span ≡ Hidden)) (sym (last-append (upto z before) p (upto z after)))
         (subst LastHidden (ap (λ b. cond b (p ∷ upto z after) (upto z after)) (le-leb p.offset z le)) later))

@@ -1,13 +1,10 @@
 -- The points that have moved and those at the stretches rise together.
 use Rattle.std.proofs.Common.{◌≡◌, ℕ, suc, ◌+◌, ◌<◌, ◌≤◌, ◌⊎◌, Bool, true, false, List, [], ◌∷◌, ◌++◌, map, filter, refl, sym, ap, ◌∙◌, arith, inl, inr}
-use Rattle.std.{specs.Prelude.{All, AllPairs, cond, nat_lt, not, ◌&&◌}, proofs.lemmas.Bool.{ltb-true, and_parts}, proofs.lemmas.List.Kept.{AllPairs-cons, AllPairs-filter}}
-use Rattle.std.proofs.lemmas.List.Elements.{All-nil, All-cons, All-head, All-tail, All-filter}
-use Rattle.ppdb_base.specs.Offsets.{Offsets, Rise, Kept}
-use Rattle.ppdb_base.proofs.Images.{has_image}
-use Rattle.ppdb_base.specs.Offsets.{AreApart, is_image_between}
-use Rattle.sequence_points.specs.{declared.point.Point.{Point}, MovedPoints.{PointsRise, first_offset}}
-use Rattle.sequence_points.specs.HiddenPoints.{and_hidden, first_start, hidden_after, hidden_before, mark_at, no_offset, stretches_between, with_hidden}
-use Rattle.sequence_points.proofs.Follows.{pairs-head, pairs-tail}
+use Rattle.std.{specs.Prelude.{All, AllPairs, cond, nat_lt, not, ◌&&◌}, proofs.lemmas.Bool.{ltb-true, and_parts}, proofs.lemmas.List.Kept.{AllPairs-cons}}
+use Rattle.std.proofs.lemmas.List.{Kept.{AllPairs-filter}, Elements.{All-nil, All-cons, All-head, All-tail, All-filter}}
+use Rattle.ppdb_base.{specs.Offsets.{Offsets, Rise, Kept, AreApart, is_image_between}, proofs.Images.{has_image}}
+use Rattle.sequence_points.specs.{declared.point.Point.{Point}, MovedPoints.{PointsRise, first_offset}, HiddenPoints.{and_hidden, first_start, hidden_after}}
+use Rattle.sequence_points.{specs.HiddenPoints.{hidden_before, mark_at, no_offset, stretches_between, with_hidden}, proofs.Follows.{pairs-head, pairs-tail}}
 use Rattle.sequence_points.proofs.Stretches.{stretches-head, stretches-tail}
 
 -- the points rise, from an offset on and before another
@@ -188,7 +185,8 @@ pub and_placed : (o : Offsets) → Rise o → (ss : List (ℕ × ℕ)) → AreAp
 and_placed o rise ss apart [] above free small = none_placed no_offset no_offset
 and_placed o rise ss apart (p ∷ ps) above free small =
     placed_cons p.offset no_offset p _ (omega arith) first_small
-    (placed_append (p.offset + 1) (first_offset no_offset ps) no_offset (hidden_after o p (first_offset no_offset ps) (stretches_between p.offset (first_offset no_offset ps) ss))
+    (placed_append (p.offset + 1) (first_offset no_offset ps) no_offset
+    (hidden_after o p (first_offset no_offset ps) (stretches_between p.offset (first_offset no_offset ps) ss))
     (and_hidden o ss ps) (next ps (pairs-head p ps above)) (within ps others_small)
     (after_placed o rise p (p.offset + 1) (first_offset no_offset ps) (stretches_between p.offset (first_offset no_offset ps) ss)
     (between o ss p.offset (first_offset no_offset ps) apart (All-head (IsFree ss) p ps free)))

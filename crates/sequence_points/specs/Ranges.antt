@@ -1,8 +1,11 @@
--- The ranges of a point's numbers (Portable PDB v1.0, "Sequence Points Blob"), each as a statement and as the test of the grammar. Documents
--- have no test here: the grammar asks for a row that is there.
-use Rattle.std.specs.Prelude.{◌≢◌, ℕ, ◌<◌, ◌≤◌, ℤ, pos, negsuc, Bool, false, not, ◌&&◌, nat_lt, ◌==◌}
+-- The ranges of a point's numbers (Portable PDB v1.0, "Sequence Points Blob"), each as a statement
+-- and as the test of the grammar. Documents have no test here: the grammar asks for a row that is
+-- there.
+use Rattle.std.specs.Prelude.{◌≢◌, ℕ, ◌<◌, ◌≤◌, ℤ, pos, negsuc, Bool, false, not, ◌&&◌, nat_lt}
+use Rattle.std.specs.Prelude.{◌==◌}
 
--- the first number that is no offset and no line, and that no compressed number says (ECMA-335 II.23.2)
+-- the first number that is no offset and no line, and that no compressed number says (ECMA-335
+-- II.23.2)
 abbrev pub number_limit : ℕ
 number_limit = 0x2000_0000
 

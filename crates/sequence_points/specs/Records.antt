@@ -1,10 +1,15 @@
--- Sequence points (Portable PDB v1.0, "Sequence Points Blob"): which field may follow the fields before it.
-use Rattle.std.specs.Prelude.{ℕ, zero, suc, ◌+◌, List, [], ◌∷◌, Option, Some, None, Bool, true, false, ◌&&◌, nat_le, if◌then◌else◌, ℤ, pos, ◌+ℤ◌, fold}
-use Rattle.blob_grammar.specs.{Grammar.{Value, number, integer, Form, unsigned, signed, Grammar}, Allowed.{is_row, is_number}}
-use Rattle.sequence_points.specs.{declared.point.PointLimits.PointLimits, Ranges.{is_point_offset, is_line, is_column}}
+-- Sequence points (Portable PDB v1.0, "Sequence Points Blob"): which field may follow the fields
+-- before it.
+use Rattle.std.specs.Prelude.{ℕ, zero, suc, ◌+◌, List, [], ◌∷◌, Option, Some, None, Bool, true}
+use Rattle.std.specs.Prelude.{false, ◌&&◌, nat_le, if◌then◌else◌, ℤ, pos, ◌+ℤ◌, fold}
+use Rattle.blob_grammar.specs.Grammar.{Value, number, integer, Form, unsigned, signed, Grammar}
+use Rattle.blob_grammar.specs.Allowed.{is_row, is_number}
+use Rattle.sequence_points.specs.{declared.point.PointLimits.PointLimits, Ranges.is_point_offset}
+use Rattle.sequence_points.specs.Ranges.{is_line, is_column}
 
--- A record of the blob, its numbers as they are stored: the offset is the difference from the last point, start line and start column are those
--- from the last point that is not hidden; from 0 where there is none.
+-- A record of the blob, its numbers as they are stored: the offset is the difference from the last
+-- point, start line and start column are those from the last point that is not hidden; from 0 where
+-- there is none.
 pub data Entry : Type 0 where
   header : (signature row : ℕ) → Entry
   hidden : (offset : ℕ) → Entry
@@ -13,8 +18,8 @@ pub data Entry : Type 0 where
 
 -- ---- sums over the records before
 
--- What the records so far add up to: whether there was a point, and one that is not hidden; the IL offset of the last
--- point; the start of the last point that is not hidden.
+-- What the records so far add up to: whether there was a point, and one that is not hidden; the IL
+-- offset of the last point; the start of the last point that is not hidden.
 pub record Sums : Type 0 where
   pub has_point : Bool
   pub has_visible : Bool
@@ -24,7 +29,8 @@ pub record Sums : Type 0 where
 
 -- the sums with one more record
 abbrev pub with_entry : Sums → Entry → Sums
-with_entry before (hidden offset) = record before { has_point = true; offset = before.offset + offset }
+with_entry before (hidden offset) =
+    record before { has_point = true; offset = before.offset + offset }
 with_entry before (visible offset lines columns line column) = record {
   has_point = true;
   has_visible = true;
@@ -35,7 +41,8 @@ with_entry before (visible offset lines columns line column) = record {
 with_entry before _ = before
 
 abbrev pub sums : List Entry → Sums
-sums entries = fold with_entry (record { has_point = false; has_visible = false; offset = 0; line = pos 0; column = pos 0 }) entries
+sums entries = fold with_entry (record
+    { has_point = false; has_visible = false; offset = 0; line = pos 0; column = pos 0 }) entries
 
 -- ---- ranges
 
@@ -74,9 +81,11 @@ point_form before (offset ∷ lines ∷ columns ∷ []) = Some (start_form befor
 point_form before (offset ∷ lines ∷ columns ∷ line ∷ []) = Some (start_form before)
 point_form before _ = None
 
--- After a first field: the row of a document record, which is known by its 0 and is not the first record; or the lines of a point.
+-- After a first field: the row of a document record, which is known by its 0 and is not the first
+-- record; or the lines of a point.
 abbrev pub second_allows : PointLimits → Sums → Value → Value → Bool
-second_allows limits before (number zero) value = if before.has_point then is_number (is_row limits.documents) value else true
+second_allows limits before (number zero) value =
+    if before.has_point then is_number (is_row limits.documents) value else true
 second_allows limits before _ value = true
 
 abbrev pub point_allows : PointLimits → Sums → List Value → Value → Bool
@@ -86,7 +95,8 @@ point_allows limits before (offset ∷ lines ∷ []) columns = true
 point_allows limits before (offset ∷ lines ∷ columns ∷ []) line =
     is_line (before.line +ℤ int_of line) && is_line ((before.line +ℤ int_of line) +ℤ int_of lines)
 point_allows limits before (offset ∷ lines ∷ columns ∷ line ∷ []) column =
-    is_column (before.column +ℤ int_of column) && is_column ((before.column +ℤ int_of column) +ℤ int_of columns)
+    is_column (before.column +ℤ int_of column)
+    && is_column ((before.column +ℤ int_of column) +ℤ int_of columns)
 point_allows limits before _ value = false
 
 -- Two fields are a document record where the first is 0 and there was a point.
@@ -101,13 +111,15 @@ hidden_point offset lines columns = None
 
 -- Five fields are a point.
 abbrev pub visible_point : Value → Value → Value → Value → Value → Option Entry
-visible_point (number offset) (number lines) columns line column = Some (visible offset lines (int_of columns) (int_of line) (int_of column))
+visible_point (number offset) (number lines) columns line column =
+    Some (visible offset lines (int_of columns) (int_of line) (int_of column))
 visible_point offset lines columns line column = None
 
 abbrev pub point_of_fields : Sums → List Value → Option Entry
 point_of_fields before (first ∷ second ∷ []) = document_record before.has_point first second
 point_of_fields before (offset ∷ lines ∷ columns ∷ []) = hidden_point offset lines columns
-point_of_fields before (offset ∷ lines ∷ columns ∷ line ∷ column ∷ []) = visible_point offset lines columns line column
+point_of_fields before (offset ∷ lines ∷ columns ∷ line ∷ column ∷ []) =
+    visible_point offset lines columns line column
 point_of_fields before _ = None
 
 -- ---- the whole blob: a header, a point, and any mix of points and document records
@@ -133,4 +145,9 @@ may_stop before _ = false
 
 abbrev pub sequence_points : ℕ → PointLimits → Grammar Entry
 sequence_points column limits =
-    record { form = form; allows = allows limits; record_of = record_of column; may_stop = may_stop }
+    record {
+      form = form;
+      allows = allows limits;
+      record_of = record_of column;
+      may_stop = may_stop;
+    }

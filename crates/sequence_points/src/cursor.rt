@@ -27,9 +27,11 @@ pub struct PointCursor<'a> {
 impl<'a> Model for PointCursor<'a> {
     ghost Value = { Shown };
 
-    ghost view = { λ s. record { signature = s.signature; left = points_left s.limits s.blob.now s.place } };
+    ghost view = { λ s.
+        record { signature = s.signature; left = points_left s.limits s.blob.now s.place } };
 
-    ghost invariant = { λ s. (s.place.at ≤ length s.blob.now) × (length s.blob.now < 2 ^ 32) × ((sums (entries_of s.place)).offset < 536870912) };
+    ghost invariant = { λ s. (s.place.at ≤ length s.blob.now) × (length s.blob.now < 2 ^ 32)
+        × ((sums (entries_of s.place)).offset < 536870912) };
 }
 
 impl<'a> PointCursor<'a> {
@@ -42,8 +44,10 @@ impl<'a> PointCursor<'a> {
         requires some { 0 < length blob.now }
         requires short { length blob.now < 2 ^ 32 }
         requires column { column ≤ limits.documents }
-        ensures ok { IfOk result (λ c. PointsReading column limits blob.now c.signature c.left.items c.left.fault) }
-        ensures err { IfErr result (λ fault. Reading (sequence_points column limits) blob.now [] (Some fault)) }
+        ensures ok { IfOk result
+            (λ c. PointsReading column limits blob.now c.signature c.left.items c.left.fault) }
+        ensures err { IfErr result
+            (λ fault. Reading (sequence_points column limits) blob.now [] (Some fault)) }
     {
         let (signature, len) = unsigned_field(blob, 0)?;
         if limits.signatures < signature {
@@ -108,7 +112,8 @@ pub fn blob_fault(blob: &[u8], column: u32, limits: PointLimits) -> Option<BlobF
     requires some { 0 < length blob.now }
     requires short { length blob.now < 2 ^ 32 }
     requires column { column ≤ limits.documents }
-    ensures { (entries : List Entry) × Reading (sequence_points column limits) blob.now entries result }
+    ensures { (entries : List Entry)
+        × Reading (sequence_points column limits) blob.now entries result }
 {
     match PointCursor::new(blob, column, limits) {
         Ok(mut cursor) => fault_after(&mut cursor),

@@ -8,12 +8,14 @@ ghost use Rattle.sequence_points.specs.MovedPoints.{MovedPointsRise, MovedPoints
 
 /// Points move to where the offsets that they hold at are kept, and in the same order.
 pub fn points_move_in_order()
-    ensures rise { (offsets : Offsets) (points : List Point) → Rise offsets → MovedPointsRise offsets points }
+    ensures rise { (offsets : Offsets) (points : List Point) → Rise offsets
+        → MovedPointsRise offsets points }
     ensures worked { MovedPointsWorked }
 {}
 
 /// What the points at hidden stretches do beside those that moved.
 pub fn hidden_points_are_right()
-    ensures { (offsets : Offsets) (stretches : List (ℕ × ℕ)) (points : List Point) → Rise offsets → AreApart offsets stretches → AreFree stretches points
+    ensures { (offsets : Offsets) (stretches : List (ℕ × ℕ)) (points : List Point) → Rise offsets
+        → AreApart offsets stretches → AreFree stretches points
         → HiddenPointsAreRight offsets stretches points }
 {}

@@ -3,7 +3,8 @@
 ghost use Rattle.std.specs.Prelude.{◌≡◌};
 ghost use Rattle.sequence_points.specs.Points.{IsSingleDocument, common_document};
 
-/// A sequence point: from this IL offset on, the code comes from these lines (Portable PDB v1.0, "Sequence Points Blob").
+/// A sequence point: from this IL offset on, the code comes from these lines (Portable PDB v1.0,
+/// "Sequence Points Blob").
 #[derive(Clone, Copy, Debug, PartialEq, Eq)]
 pub struct Point {
     /// The IL offset; in a blob it is below 0x20000000.

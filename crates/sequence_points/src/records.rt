@@ -1,11 +1,13 @@
 //! The records of a blob: points, and document records between them.
 
-ghost use Rattle.std.specs.Prelude.{◌≡◌, ◌+◌, ◌<◌, ◌≤◌, ◌^◌, ◌≤ℤ◌, neg_ℤ, pos, length, drop, IfOk, if◌then◌else◌, [], ◌∷◌, true, Some};
+ghost use Rattle.std.specs.Prelude.{◌≡◌, ◌+◌, ◌<◌, ◌≤◌, ◌^◌, ◌≤ℤ◌, neg_ℤ, pos, length, drop, IfOk};
+ghost use Rattle.std.specs.Prelude.{if◌then◌else◌, [], ◌∷◌, true, Some};
 ghost use Rattle.blob_grammar.specs.Grammar.{Value, number, unsigned, signed};
 ghost use Rattle.blob_grammar.specs.Reader.{field_at};
 ghost use Rattle.sequence_points.specs.declared.point.PointLimits.{PointLimits};
 ghost use Rattle.sequence_points.specs.Records.{sums, int_of};
-ghost use Rattle.sequence_points.specs.Places.{int_placed, entries_of, points_at, PointIs, OffsetIs, DocumentIs, place_after};
+ghost use Rattle.sequence_points.specs.Places.{int_placed, entries_of, points_at, PointIs};
+ghost use Rattle.sequence_points.specs.Places.{OffsetIs, DocumentIs, place_after};
 
 use crate::place::{Place, Start};
 use crate::point::{Point, PointLimits, Span};
@@ -13,13 +15,14 @@ use crate::ranges::{column_range, line_range};
 use blob_grammar::{is_row, out_of_range, signed_field, unsigned_field};
 use ppdb_base::BlobFault;
 
-/// A number at a place, signed or not. Callers match on the answer where `?` would do: that would copy it once
-/// more, at half the speed of the cursor.
+/// A number at a place, signed or not. Callers match on the answer where `?` would do: that would
+/// copy it once more, at half the speed of the cursor.
 #[inline(always)]
 pub(crate) fn int_field(blob: &[u8], at: usize, is_signed: bool) -> Result<(i64, usize), BlobFault>
     requires within { at ≤ length blob.now }
     requires short { length blob.now < 2 ^ 32 }
-    ensures found { result ≡ int_placed at (field_at (if is_signed then signed else unsigned) (drop at blob.now)) }
+    ensures found { result
+        ≡ int_placed at (field_at (if is_signed then signed else unsigned) (drop at blob.now)) }
     ensures within { IfOk result (λ x. at + x.1 ≤ length blob.now) }
     ensures low { IfOk result (λ x. neg_ℤ (pos 4294967296) ≤ℤ x.0) }
     ensures high { IfOk result (λ x. x.0 ≤ℤ pos 4294967296) }
@@ -33,7 +36,8 @@ pub(crate) fn int_field(blob: &[u8], at: usize, is_signed: bool) -> Result<(i64,
     }
 }
 
-/// A point that is not hidden, its start and its end each with line and column; and the place after it.
+/// A point that is not hidden, its start and its end each with line and column; and the place after
+/// it.
 #[inline(always)]
 fn seen_point(
     place: Place,
@@ -42,8 +46,13 @@ fn seen_point(
     start: (u32, u32),
     end: (u32, u32),
 ) -> (Point, Place)
-    ensures point { result.0 ≡ record { offset = offset; document = place.document; span = Span.Lines start.0 start.1 end.0 end.1 } }
-    ensures place { result.1 ≡ place_after at place.document offset (Some (record { line = start.0; column = start.1 })) }
+    ensures point { result.0 ≡ record {
+      offset = offset;
+      document = place.document;
+      span = Span.Lines start.0 start.1 end.0 end.1;
+    } }
+    ensures place { result.1 ≡ place_after at place.document offset
+        (Some (record { line = start.0; column = start.1 })) }
 {
     let point = Point {
         offset,
@@ -78,7 +87,8 @@ pub(crate) fn visible_point(
     requires low { neg_ℤ (pos 4294967296) ≤ℤ columns }
     requires high { columns ≤ℤ pos 4294967296 }
     ensures { (limits : PointLimits) (value : Value) → int_of value ≡ columns
-        → PointIs limits blob.now (points_at limits blob.now place (number step ∷ number lines ∷ value ∷ []) at) result }
+        → PointIs limits blob.now
+        (points_at limits blob.now place (number step ∷ number lines ∷ value ∷ []) at) result }
 {
     let is_signed = place.has_visible();
     let (line_step, len) = match int_field(blob, at, is_signed) {
@@ -119,7 +129,8 @@ pub(crate) fn point_after_offset(
     requires short { length blob.now < 2 ^ 32 }
     requires offset { (sums (entries_of place)).offset + step < 536870912 }
     requires point { (sums (entries_of place)).has_point ≡ true → 0 < step }
-    ensures { (limits : PointLimits) → PointIs limits blob.now (points_at limits blob.now place (number step ∷ []) at) result }
+    ensures { (limits : PointLimits)
+        → PointIs limits blob.now (points_at limits blob.now place (number step ∷ []) at) result }
 {
     let (lines, len) = unsigned_field(blob, at)?;
     let columns_at = at + len;

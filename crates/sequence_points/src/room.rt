@@ -1,13 +1,14 @@
 //! Room for the bytes of a point.
 
-ghost use Rattle.std.specs.Prelude.{◌≡◌, ◌+◌, ◌<◌, ◌≤◌, ◌++◌, ◌≤ℤ◌, ◌<ℤ◌, ◌-ℤ◌, neg_ℤ, pos, [], ◌∷◌, ℕ, List, length, take};
+ghost use Rattle.std.specs.Prelude.{◌≡◌, ◌+◌, ◌<◌, ◌≤◌, ◌++◌, ◌≤ℤ◌, ◌<ℤ◌, ◌-ℤ◌, neg_ℤ, pos, []};
+ghost use Rattle.std.specs.Prelude.{◌∷◌, ℕ, List, length, take};
 ghost use Rattle.cli_ints.specs.Shortest.{short_unsigned, short_signed};
 
 use cli_ints::{spell_signed, spell_unsigned};
 use std::marker::Model;
 
-/// Room for the bytes of a point, of which there are at most 25: five of a document record, and five numbers of at most four.
-/// Contracts see it as the bytes that it holds.
+/// Room for the bytes of a point, of which there are at most 25: five of a document record, and
+/// five numbers of at most four. Contracts see it as the bytes that it holds.
 #[derive(Drop)]
 pub(crate) struct Room {
     bytes: [u8; 32],

@@ -33,7 +33,8 @@ pub fn start_after(start: Option<Start>, span: Span) -> Option<Start>
     }
 }
 
-/// The difference of a start line to that of the last point that is not hidden, where no signed number says it.
+/// The difference of a start line to that of the last point that is not hidden, where no signed
+/// number says it.
 pub fn large_step(start: Option<Start>, span: Span) -> Option<i64>
     ensures { result ≡ large_step start span }
 {

@@ -1,8 +1,11 @@
 //! Writes points.
 
-ghost use Rattle.std.specs.Prelude.{◌≡◌, ◌+◌, ◌-◌, ◌<◌, ◌≤◌, ◌++◌, ◌-ℤ◌, pos, [], length, All, OnOk, OnErr, IfErr, IfSome, None};
-ghost use Rattle.sequence_points.specs.Written.{IsSpan, CanBeWritten, document_bytes, columns_bytes, start_bytes, span_bytes};
-ghost use Rattle.sequence_points.specs.Written.{bytes_after, header_bytes, points_blob, if_large, large_step, large_steps, IsRefused};
+ghost use Rattle.std.specs.Prelude.{◌≡◌, ◌+◌, ◌-◌, ◌<◌, ◌≤◌, ◌++◌, ◌-ℤ◌, pos, [], length, All};
+ghost use Rattle.std.specs.Prelude.{OnOk, OnErr, IfErr, IfSome, None};
+ghost use Rattle.sequence_points.specs.Written.{IsSpan, CanBeWritten, document_bytes};
+ghost use Rattle.sequence_points.specs.Written.{columns_bytes, start_bytes, span_bytes};
+ghost use Rattle.sequence_points.specs.Written.{bytes_after, header_bytes, points_blob, if_large};
+ghost use Rattle.sequence_points.specs.Written.{large_step, large_steps, IsRefused};
 ghost use Rattle.ppdb_base.specs.Written.{BeginsWith};
 ghost use Rattle.sequence_points.specs.Ranges.{IsDocument};
 ghost use Rattle.sequence_points.specs.Following.{IsStart, MayFollow, EachMayFollow};
@@ -17,8 +20,9 @@ use ppdb_base::{Bytes, Memory};
 /// Why points were not written.
 #[derive(Clone, Copy, Debug, PartialEq, Eq)]
 pub enum PointError {
-    /// The start line of the point with this number, counted from 1, differs by `step` from that of the
-    /// last earlier point that is not hidden, which is outside -2^28 to 2^28-1. It is the first such point.
+    /// The start line of the point with this number, counted from 1, differs by `step` from that of
+    /// the last earlier point that is not hidden, which is outside -2^28 to 2^28-1. It is the first
+    /// such point.
     Step { index: u32, step: i64 },
     /// There was no memory left.
     Memory,
@@ -102,8 +106,8 @@ fn put_span(start: Option<Start>, span: Span, room: &mut Room)
     }
 }
 
-/// Appends a point, and a document record before it where one is needed. `last` is the point before it, and `start` the start of the
-/// last one before it that is not hidden.
+/// Appends a point, and a document record before it where one is needed. `last` is the point before
+/// it, and `start` the start of the last one before it that is not hidden.
 pub fn point_into(
     last: Option<Point>,
     start: Option<Start>,

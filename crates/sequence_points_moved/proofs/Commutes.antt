@@ -1,10 +1,9 @@
 -- The points at the stretches lie in the new documents of the points that they follow.
 use Rattle.std.{proofs.Common.{◌≡◌, ℕ, Bool, true, false, List, [], ◌∷◌, ◌++◌, map, filter, refl, sym, ap, ◌∙◌}, specs.Prelude.{cond, not}}
 use Rattle.std.proofs.lemmas.List.{map-append}
-use Rattle.ppdb_base.specs.Offsets.{Offsets}
-use Rattle.ppdb_base.specs.Offsets.{is_image_between}
-use Rattle.sequence_points.specs.{declared.point.Point.{Point}, MovedPoints.{first_offset}}
-use Rattle.sequence_points.specs.HiddenPoints.{and_hidden, first_start, hidden_after, hidden_before, mark_at, no_offset, stretches_between, with_hidden}
+use Rattle.ppdb_base.specs.Offsets.{Offsets, is_image_between}
+use Rattle.sequence_points.specs.{declared.point.Point.{Point}, MovedPoints.{first_offset}, HiddenPoints.{and_hidden, first_start, hidden_after, hidden_before}}
+use Rattle.sequence_points.specs.HiddenPoints.{mark_at, no_offset, stretches_between, with_hidden}
 use Rattle.sequence_points_moved.specs.MovedBlob.{in_new_document}
 
 module _ (o : Offsets) (documents : List ℕ) where
@@ -25,7 +24,8 @@ module _ (o : Offsets) (documents : List ℕ) where
       by_test true rest = ap (λ qs. record (in_new_document documents p) { offset = s.1 } ∷ qs) rest
       by_test false rest = rest
 
-  marks_same : (p : Point) (ss : List (ℕ × ℕ)) → map (mark_at (in_new_document documents p).document) ss ≡ map (in_new_document documents) (map (mark_at p.document) ss)
+  marks_same : (p : Point) (ss : List (ℕ × ℕ))
+      → map (mark_at (in_new_document documents p).document) ss ≡ map (in_new_document documents) (map (mark_at p.document) ss)
   marks_same p [] = refl
   marks_same p (s ∷ ss) = ap (λ qs. mark_at (in_new_document documents p).document s ∷ qs) (marks_same p ss)
 

@@ -1,10 +1,9 @@
 -- The next point among those that moved and those at the stretches.
-use Rattle.std.proofs.Common.{◌≡◌, ℕ, Bool, true, false, List, [], ◌∷◌, ◌++◌, map, filter, Option, Some, None, refl, sym, ap, ◌∙◌}
-use Rattle.std.{specs.Prelude.{cond, not}, specs.Option.{option_to_list}}
-use Rattle.ppdb_base.specs.Offsets.{Offsets}
-use Rattle.ppdb_base.specs.Offsets.{is_image_between}
-use Rattle.sequence_points.specs.{declared.point.Point.{Point}, MovedPoints.{first_offset}}
-use Rattle.sequence_points.specs.HiddenPoints.{and_hidden, first_start, hidden_after, hidden_before, mark_at, no_offset, stretches_between, with_hidden}
+use Rattle.std.{proofs.Common.{◌≡◌, ℕ, Bool, true, false, List, [], ◌∷◌, ◌++◌, map, filter, Option, Some, None, refl, sym, ap, ◌∙◌}, specs.Prelude.{cond, not}}
+use Rattle.std.specs.Option.{option_to_list}
+use Rattle.ppdb_base.specs.Offsets.{Offsets, is_image_between}
+use Rattle.sequence_points.specs.{declared.point.Point.{Point}, MovedPoints.{first_offset}, HiddenPoints.{and_hidden, first_start, hidden_after, hidden_before}}
+use Rattle.sequence_points.specs.HiddenPoints.{mark_at, no_offset, stretches_between, with_hidden}
 use Rattle.sequence_points_moved.specs.{declared.shown.Shown.{Shown}, Coming.{after_last, moved_left, shown_left}, MovedBlob.{moved_in}, Writing.{coming}}
 
 -- all points that are left at the beginning

@@ -74,7 +74,8 @@ pub record Ready (o : Offsets) (stretches : List (ℕ × ℕ)) (documents : List
   pub all : CanAllMove o documents points
   pub writable : IsWritable (shown_in o stretches documents points)
 
-pub ready : (o : Offsets) → Rise o → (stretches : List (ℕ × ℕ)) → AreApart o stretches → (column : ℕ) (limits : PointLimits) (blob documents : List ℕ) (points : List Point) → column ≤ limits.documents
+pub ready : (o : Offsets) → Rise o → (stretches : List (ℕ × ℕ)) → AreApart o stretches
+    → (column : ℕ) (limits : PointLimits) (blob documents : List ℕ) (points : List Point) → column ≤ limits.documents
     → IsWhole column limits blob
     → length documents ≡ limits.documents → All IsDocument documents
     → EachPoint (λ p. p.offset < old_size o) column limits blob → EachPoint (λ p. HasImage o p.offset) column limits blob

@@ -1,11 +1,15 @@
--- The points of a method at new offsets and in new documents, and their one canonical blob (Portable PDB v1.0, "Sequence Points Blob").
+-- The points of a method at new offsets and in new documents, and their one canonical blob
+-- (Portable PDB v1.0, "Sequence Points Blob").
 use Rattle.std.specs.Prelude.{◌≡◌, ℕ, ◌-◌, ◌≤◌, List, [], ◌∷◌, map, get_or, Some}
 use Rattle.ppdb_base.specs.Offsets.{Offsets, Rise, old_size, is_kept_between}
-use Rattle.sequence_points.specs.{declared.point.Point.Point, declared.writer.PointError.{PointError, TheVariants.{Step, Memory}}, MovedPoints.moved_points}
+use Rattle.sequence_points.specs.declared.{point.Point.Point, writer.PointError.PointError}
+use Rattle.sequence_points.specs.declared.writer.PointError.TheVariants.{Step, Memory}
+use Rattle.sequence_points.specs.MovedPoints.{moved_points}
 use Rattle.sequence_points.specs.HiddenPoints.{with_hidden}
 use Rattle.sequence_points.specs.Written.{points_blob, large_steps, numbered, first_of}
 
--- the point in the new row of its document: `documents` has the new row of each old one, and rows count from 1
+-- the point in the new row of its document: `documents` has the new row of each old one, and rows
+-- count from 1
 abbrev pub in_new_document : List ℕ → Point → Point
 in_new_document documents p = record p { document = get_or documents (p.document - 1) 0 }
 
@@ -13,9 +17,11 @@ in_new_document documents p = record p { document = get_or documents (p.document
 abbrev pub moved_in : Offsets → List ℕ → List Point → List Point
 moved_in offsets documents points = map (in_new_document documents) (moved_points offsets points)
 
--- the points that are written: those that are kept, and those at the stretches, each in its new document
+-- the points that are written: those that are kept, and those at the stretches, each in its new
+-- document
 abbrev pub shown_in : Offsets → List (ℕ × ℕ) → List ℕ → List Point → List Point
-shown_in offsets stretches documents points = map (in_new_document documents) (with_hidden offsets stretches (moved_points offsets points))
+shown_in offsets stretches documents points =
+    map (in_new_document documents) (with_hidden offsets stretches (moved_points offsets points))
 
 -- the canonical blob of some points; nothing where there is none
 abbrev pub moved_blob : ℕ → List Point → List ℕ

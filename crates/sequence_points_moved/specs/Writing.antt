@@ -1,10 +1,16 @@
 -- What the writer has come to: the points that it wrote, and what is asked of the next one.
-use Rattle.std.specs.Prelude.{◌≡◌, ◌≢◌, ℕ, ◌+◌, ◌<◌, ◌≤◌, ◌++◌, List, [], ◌∷◌, length, All, Option, Some, None, Bool, true, false, cond}
-use Rattle.sequence_points.specs.{declared.point.Point.Point, declared.writer.PointError.{PointError, TheVariants.{Step, Memory}}, Points.common_document, Ranges.{IsOffset, IsDocument}}
-use Rattle.sequence_points.specs.{MovedPoints.PointsRise, Following.{IsStart, IsBehind}, Written.{CanBeWritten, IsSpan, last_of, last_start, large_step, large_steps, points_bytes}}
+use Rattle.std.specs.Prelude.{◌≡◌, ◌≢◌, ℕ, ◌+◌, ◌<◌, ◌≤◌, ◌++◌, List, [], ◌∷◌, length, All, Option}
+use Rattle.std.specs.Prelude.{Some, None, Bool, true, false, cond}
+use Rattle.sequence_points.specs.declared.{point.Point.Point, writer.PointError.PointError}
+use Rattle.sequence_points.specs.declared.writer.PointError.TheVariants.{Step, Memory}
+use Rattle.sequence_points.specs.{Points.common_document, Ranges.{IsOffset, IsDocument}}
+use Rattle.sequence_points.specs.{MovedPoints.PointsRise, Following.{IsStart, IsBehind}}
+use Rattle.sequence_points.specs.Written.{CanBeWritten, IsSpan, last_of, last_start, large_step}
+use Rattle.sequence_points.specs.Written.{large_steps, points_bytes}
 use Rattle.cli_ints.specs.Shortest.{short_unsigned}
 use Rattle.ppdb_base.specs.Offsets.{Offsets, old_size, moved, is_kept_between}
-use Rattle.sequence_points_moved.specs.{MovedBlob.moved_blob, declared.writer.Written.Written, Conditions.HasImage}
+use Rattle.sequence_points_moved.specs.{MovedBlob.moved_blob, declared.writer.Written.Written}
+use Rattle.sequence_points_moved.specs.Conditions.{HasImage}
 
 -- The writer has written these points.
 pub record HasWritten (before : List Point) (w : Written) : Type 0 where
@@ -26,7 +32,8 @@ abbrev pub IsStepOf : Written → Point → PointError → Type 0
 IsStepOf w p (Step index step) = (index ≡ w.count + 1) × (large_step w.start p.span ≡ Some step)
 IsStepOf w p Memory = Unit {0}
 
--- The point lies below the old size, its offset has an image that can be written, and its document has a new row.
+-- The point lies below the old size, its offset has an image that can be written, and its document
+-- has a new row.
 pub record CanMove (offsets : Offsets) (documents : List ℕ) (p : Point) : Type 0 where
   pub below : p.offset < old_size offsets
   pub image : HasImage offsets p.offset
@@ -38,18 +45,22 @@ pub record CanAllMove (offsets : Offsets) (documents : List ℕ) (points : List 
   pub rise : PointsRise points
   pub each : All (CanMove offsets documents) points
 
--- the new offset of a point that holds up to this end; None if no offset is kept that it holds at, so that it is removed
+-- the new offset of a point that holds up to this end; None if no offset is kept that it holds at,
+-- so that it is removed
 abbrev pub image_until : Offsets → ℕ → ℕ → Option ℕ
-image_until offsets offset end = cond (is_kept_between offsets offset end) (Some (moved offsets offset)) None
+image_until offsets offset end =
+    cond (is_kept_between offsets offset end) (Some (moved offsets offset)) None
 
 -- the next point, and then the others
 abbrev pub coming : Option Point → List Point → List Point
 coming None points = []
 coming (Some p) points = p ∷ points
 
--- All points of one document are written; or, where only those of one document were to be written, they have several.
+-- All points of one document are written; or, where only those of one document were to be written,
+-- they have several.
 abbrev pub IsWalked : Bool → List Point → List ℕ → List ℕ → Bool → Type 0
-IsWalked in_one points old new true = (new ≡ old ++ points_bytes [] points) × (large_steps [] points ≡ []) × (in_one ≡ true → common_document points ≢ 0)
+IsWalked in_one points old new true = (new ≡ old ++ points_bytes [] points)
+    × (large_steps [] points ≡ []) × (in_one ≡ true → common_document points ≢ 0)
 IsWalked in_one points old new false = (in_one ≡ true) × (common_document points ≡ 0)
 
 -- the header: LocalSignature, and InitialDocument where there are several documents
@@ -61,7 +72,9 @@ header_in false signature first = short_unsigned signature ++ short_unsigned fir
 abbrev pub IsWritable : List Point → Type 0
 IsWritable points = points ≢ [] → CanBeWritten 0 points
 
--- The blob is written, and this is its Document column; or, where only points of one document were to be written, they have several.
+-- The blob is written, and this is its Document column; or, where only points of one document were
+-- to be written, they have several.
 abbrev pub IsBlobIn : Bool → ℕ → List Point → List ℕ → List ℕ → Option ℕ → Type 0
-IsBlobIn in_one signature points old new (Some row) = (new ≡ old ++ moved_blob signature points) × (row ≡ common_document points) × (large_steps [] points ≡ [])
+IsBlobIn in_one signature points old new (Some row) = (new ≡ old ++ moved_blob signature points)
+    × (row ≡ common_document points) × (large_steps [] points ≡ [])
 IsBlobIn in_one signature points old new None = (in_one ≡ true) × (common_document points ≡ 0)

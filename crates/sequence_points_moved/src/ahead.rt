@@ -6,7 +6,8 @@ ghost use Rattle.sequence_points.specs.MovedPoints.{first_offset};
 use sequence_points::{Point, PointCursor};
 use std::marker::Model;
 
-/// The points of a whole blob that are left: the one that was read ahead, if one was, and those after it.
+/// The points of a whole blob that are left: the one that was read ahead, if one was, and those
+/// after it.
 #[derive(Drop)]
 pub(crate) struct Ahead<'a> {
     held: Option<Point>,
@@ -36,7 +37,8 @@ impl<'a> Ahead<'a> {
     /// Takes the next point.
     #[inline(always)]
     pub(crate) fn pop(&mut self) -> Option<Point>
-        ensures { MatchOption result ((self.old ≡ []) × (self.new ≡ [])) (λ point. self.old ≡ point ∷ self.new) }
+        ensures { MatchOption result ((self.old ≡ [])
+            × (self.new ≡ [])) (λ point. self.old ≡ point ∷ self.new) }
     {
         if let Some(point) = self.held {
             self.held = None;

@@ -1,5 +1,5 @@
-//! The sequence points of a method moved to new offsets and documents, from blob to blob (Portable PDB v1.0, "Sequence Points
-//! Blob"). No list of points is kept.
+//! The sequence points of a method moved to new offsets and documents, from blob to blob (Portable
+//! PDB v1.0, "Sequence Points Blob"). No list of points is kept.
 #![tactic(auto)]
 
 mod ahead;

@@ -1,6 +1,7 @@
 //! Moves the points of a blob, from blob to blob.
 
-ghost use Rattle.std.specs.Prelude.{◌≡◌, ◌<◌, ◌≤◌, ◌^◌, ◌++◌, ℕ, false, cond, List, [], ◌∷◌, length, All, IfNone, IfOk, IfErr, OnOk, OnErr};
+ghost use Rattle.std.specs.Prelude.{◌≡◌, ◌<◌, ◌≤◌, ◌^◌, ◌++◌, ℕ, false, cond, List, [], ◌∷◌};
+ghost use Rattle.std.specs.Prelude.{length, All, IfNone, IfOk, IfErr, OnOk, OnErr};
 ghost use Rattle.ppdb_base.specs.Offsets.{old_size};
 ghost use Rattle.sequence_points.specs.declared.point.Point.{Point};
 ghost use Rattle.sequence_points.specs.Points.{common_document};
@@ -8,9 +9,11 @@ ghost use Rattle.sequence_points.specs.Ranges.{IsDocument, IsOffset};
 ghost use Rattle.sequence_points.specs.Written.{CanBeWritten, large_steps};
 ghost use Rattle.ppdb_base.specs.Written.{BeginsWith};
 ghost use Rattle.sequence_points_moved.specs.MovedBlob.{shown_in, moved_blob, IsFirstStep};
-ghost use Rattle.sequence_points_moved.specs.Conditions.{ReadsAs, IsWhole, EachPoint, EachShown, HasImage};
+ghost use Rattle.sequence_points_moved.specs.Conditions.{ReadsAs, IsWhole, EachPoint, EachShown};
+ghost use Rattle.sequence_points_moved.specs.Conditions.{HasImage};
 ghost use Rattle.sequence_points_moved.specs.Coming.{shown_left};
-ghost use Rattle.sequence_points_moved.specs.Writing.{CanAllMove, IsWalked, IsBlobIn, IsWritable, header_in};
+ghost use Rattle.sequence_points_moved.specs.Writing.{CanAllMove, IsWalked, IsBlobIn, IsWritable};
+ghost use Rattle.sequence_points_moved.specs.Writing.{header_in};
 
 use crate::ahead::Ahead;
 use crate::shown::Shown;
@@ -19,8 +22,8 @@ use blob_grammar::number_into;
 use ppdb_base::{Bytes, Memory, OffsetImage};
 use sequence_points::{Point, PointCursor, PointError, PointLimits};
 
-/// Appends the points that are kept, of which `first` is the first. Where they are to have one document (`in_one`), it stops before a
-/// point of another document, and answers false.
+/// Appends the points that are kept, of which `first` is the first. Where they are to have one
+/// document (`in_one`), it stops before a point of another document, and answers false.
 fn points_into<G: OffsetImage>(
     mut points: Shown<'_>,
     first: Point,
@@ -30,9 +33,12 @@ fn points_into<G: OffsetImage>(
     into: &mut Bytes,
 ) -> Result<bool, PointError>
     requires points { CanAllMove (G.offsets image.now) documents.now points.points }
-    requires written { CanBeWritten 0 (first ∷ shown_left (G.offsets image.now) (G.stretches image.now) documents.now points) }
-    ensures walked { IfOk result (IsWalked in_one (first ∷ shown_left (G.offsets image.now) (G.stretches image.now) documents.now points.entry) into.old into.new) }
-    ensures step { IfErr result (IsFirstStep (first ∷ shown_left (G.offsets image.now) (G.stretches image.now) documents.now points.entry)) }
+    requires written { CanBeWritten 0 (first
+        ∷ shown_left (G.offsets image.now) (G.stretches image.now) documents.now points) }
+    ensures walked { IfOk result (IsWalked in_one (first ∷ shown_left (G.offsets image.now)
+        (G.stretches image.now) documents.now points.entry) into.old into.new) }
+    ensures step { IfErr result (IsFirstStep (first
+        ∷ shown_left (G.offsets image.now) (G.stretches image.now) documents.now points.entry)) }
     ensures prefix { BeginsWith into.old into.new }
 {
     let mut written = Written::new();
@@ -69,8 +75,8 @@ fn column_of(first: Point, in_one: bool) -> u32
     if in_one { first.document } else { 0 }
 }
 
-/// Appends the header and the points that are kept, and answers their Document column. Where they are to have one document (`in_one`) and
-/// have several, it stops and answers None.
+/// Appends the header and the points that are kept, and answers their Document column. Where they
+/// are to have one document (`in_one`) and have several, it stops and answers None.
 fn begin_blob<G: OffsetImage>(
     mut points: Shown<'_>,
     in_one: bool,
@@ -80,11 +86,15 @@ fn begin_blob<G: OffsetImage>(
     into: &mut Bytes,
 ) -> Result<Option<u32>, PointError>
     requires points { CanAllMove (G.offsets image.now) documents.now points.points }
-    requires written { IsWritable (shown_left (G.offsets image.now) (G.stretches image.now) documents.now points) }
+    requires written { IsWritable
+        (shown_left (G.offsets image.now) (G.stretches image.now) documents.now points) }
     requires signature { signature < 536870912 }
-    requires several { in_one ≡ false → common_document (shown_left (G.offsets image.now) (G.stretches image.now) documents.now points) ≡ 0 }
-    ensures blob { IfOk result (IsBlobIn in_one signature (shown_left (G.offsets image.now) (G.stretches image.now) documents.now points.entry) into.old into.new) }
-    ensures step { IfErr result (IsFirstStep (shown_left (G.offsets image.now) (G.stretches image.now) documents.now points.entry)) }
+    requires several { in_one ≡ false → common_document
+        (shown_left (G.offsets image.now) (G.stretches image.now) documents.now points) ≡ 0 }
+    ensures blob { IfOk result (IsBlobIn in_one signature (shown_left (G.offsets image.now)
+        (G.stretches image.now) documents.now points.entry) into.old into.new) }
+    ensures step { IfErr result (IsFirstStep
+        (shown_left (G.offsets image.now) (G.stretches image.now) documents.now points.entry)) }
     ensures prefix { BeginsWith into.old into.new }
 {
     let Some(first) = points.pop(documents, image) else {
@@ -101,8 +111,9 @@ fn begin_blob<G: OffsetImage>(
     }
 }
 
-/// Appends the blob of the points that are kept, and answers their Document column. Where they are to have one document (`in_one`) and
-/// have several, it answers None; then, and after a refusal, `into` is unchanged.
+/// Appends the blob of the points that are kept, and answers their Document column. Where they are
+/// to have one document (`in_one`) and have several, it answers None; then, and after a refusal,
+/// `into` is unchanged.
 fn blob_into<G: OffsetImage>(
     points: Shown<'_>,
     in_one: bool,
@@ -112,12 +123,16 @@ fn blob_into<G: OffsetImage>(
     into: &mut Bytes,
 ) -> Result<Option<u32>, PointError>
     requires points { CanAllMove (G.offsets image.now) documents.now points.points }
-    requires written { IsWritable (shown_left (G.offsets image.now) (G.stretches image.now) documents.now points) }
+    requires written { IsWritable
+        (shown_left (G.offsets image.now) (G.stretches image.now) documents.now points) }
     requires signature { signature < 536870912 }
-    requires several { in_one ≡ false → common_document (shown_left (G.offsets image.now) (G.stretches image.now) documents.now points) ≡ 0 }
-    ensures blob { IfOk result (IsBlobIn in_one signature (shown_left (G.offsets image.now) (G.stretches image.now) documents.now points.entry) into.old into.new) }
+    requires several { in_one ≡ false → common_document
+        (shown_left (G.offsets image.now) (G.stretches image.now) documents.now points) ≡ 0 }
+    ensures blob { IfOk result (IsBlobIn in_one signature (shown_left (G.offsets image.now)
+        (G.stretches image.now) documents.now points.entry) into.old into.new) }
     ensures none { IfOk result (λ r. IfNone r (into.new ≡ into.old)) }
-    ensures step { IfErr result (IsFirstStep (shown_left (G.offsets image.now) (G.stretches image.now) documents.now points.entry)) }
+    ensures step { IfErr result (IsFirstStep
+        (shown_left (G.offsets image.now) (G.stretches image.now) documents.now points.entry)) }
     ensures unchanged { OnErr result (into.new ≡ into.old) }
 {
     let len = into.len();
@@ -140,7 +155,8 @@ fn points_of<'a>(blob: &'a [u8], column: u32, limits: PointLimits) -> Ahead<'a>
     requires short { length blob.now < 2 ^ 32 }
     requires column { column ≤ limits.documents }
     requires whole { IsWhole column limits blob.now }
-    ensures { (signature : ℕ) (points : List Point) → ReadsAs column limits blob.now signature points → result ≡ points }
+    ensures { (signature : ℕ) (points : List Point)
+        → ReadsAs column limits blob.now signature points → result ≡ points }
 {
     match PointCursor::new(blob, column, limits) {
         Ok(cursor) => Ahead::new(cursor),
@@ -148,9 +164,10 @@ fn points_of<'a>(blob: &'a [u8], column: u32, limits: PointLimits) -> Ahead<'a>
     }
 }
 
-/// Appends the canonical blob of the points of a blob that are kept, each where it moves to and in the new row of its document, and answers
-/// the new Document column. Where no point is kept it appends nothing. `documents` has the new row of each Document row. After a refusal
-/// `into` is unchanged.
+/// Appends the canonical blob of the points of a blob that are kept, each where it moves to and in
+/// the new row of its document, and answers the new Document column. Where no point is kept it
+/// appends nothing. `documents` has the new row of each Document row. After a refusal `into` is
+/// unchanged.
 ///
 /// # Errors
 ///
@@ -171,17 +188,28 @@ pub fn moved_points_into<G: OffsetImage>(
     requires documents { length documents.now ≡ limits.documents }
     requires rows { All IsDocument documents.now }
     requires signature { signature < 0x20000000 }
-    requires below { EachPoint (λ p. p.offset < old_size (G.offsets image.now)) column limits blob.now }
-    requires images { EachPoint (λ p. HasImage (G.offsets image.now) p.offset) column limits blob.now }
-    requires small { EachShown (G.offsets image.now) (G.stretches image.now) documents.now (λ p. IsOffset p.offset) column limits blob.now }
-    ensures moved { OnOk result ((old : ℕ) (points : List Point) → ReadsAs column limits blob.now old points
-        → into.new ≡ into.old ++ moved_blob signature (shown_in (G.offsets image.now) (G.stretches image.now) documents.now points)) }
-    ensures column { IfOk result (λ row. (old : ℕ) (points : List Point) → ReadsAs column limits blob.now old points
-        → row ≡ common_document (shown_in (G.offsets image.now) (G.stretches image.now) documents.now points)) }
-    ensures steps { OnOk result ((old : ℕ) (points : List Point) → ReadsAs column limits blob.now old points
-        → large_steps [] (shown_in (G.offsets image.now) (G.stretches image.now) documents.now points) ≡ []) }
-    ensures step { IfErr result (λ e. (old : ℕ) (points : List Point) → ReadsAs column limits blob.now old points
-        → IsFirstStep (shown_in (G.offsets image.now) (G.stretches image.now) documents.now points) e) }
+    requires below { EachPoint
+        (λ p. p.offset < old_size (G.offsets image.now)) column limits blob.now }
+    requires images { EachPoint
+        (λ p. HasImage (G.offsets image.now) p.offset) column limits blob.now }
+    requires small { EachShown (G.offsets image.now) (G.stretches image.now) documents.now
+        (λ p. IsOffset p.offset) column limits blob.now }
+    ensures moved { OnOk result ((old : ℕ) (points : List Point)
+        → ReadsAs column limits blob.now old points
+        → into.new ≡ into.old ++ moved_blob signature
+        (shown_in (G.offsets image.now) (G.stretches image.now) documents.now points)) }
+    ensures column { IfOk result (λ row. (old : ℕ) (points : List Point)
+        → ReadsAs column limits blob.now old points
+        → row ≡ common_document
+        (shown_in (G.offsets image.now) (G.stretches image.now) documents.now points)) }
+    ensures steps { OnOk result ((old : ℕ) (points : List Point)
+        → ReadsAs column limits blob.now old points
+        → large_steps []
+        (shown_in (G.offsets image.now) (G.stretches image.now) documents.now points) ≡ []) }
+    ensures step { IfErr result (λ e. (old : ℕ) (points : List Point)
+        → ReadsAs column limits blob.now old points
+        → IsFirstStep
+        (shown_in (G.offsets image.now) (G.stretches image.now) documents.now points) e) }
     ensures unchanged { OnErr result (into.new ≡ into.old) }
 {
     let points = Shown::new(points_of(blob, column, limits), documents, image);

@@ -10,11 +10,13 @@ use crate::ahead::Ahead;
 use ppdb_base::OffsetImage;
 use sequence_points::Point;
 
-/// The new offset of a point before the points that are left, or None if it is removed. Most are at kept offsets: one search finds these.
+/// The new offset of a point before the points that are left, or None if it is removed. Most are at
+/// kept offsets: one search finds these.
 fn image_before<G: OffsetImage>(offset: u32, points: &mut Ahead<'_>, image: &G) -> Option<u32>
     requires below { offset < old_size (G.offsets image.now) }
     requires holds { offset < first_offset 4294967295 points.old }
-    ensures image { result ≡ image_until (G.offsets image.now) offset (first_offset 4294967295 points.old) }
+    ensures image { result
+        ≡ image_until (G.offsets image.now) offset (first_offset 4294967295 points.old) }
     ensures points { points.new ≡ points.old }
 {
     if let Some(found) = image.image(offset) {
@@ -48,7 +50,8 @@ pub(crate) fn next_moved<G: OffsetImage>(
     image: &G,
 ) -> Option<Point>
     requires points { CanAllMove (G.offsets image.now) documents.now points.old }
-    ensures next { moved_in (G.offsets image.now) documents.now points.old ≡ coming result (moved_in (G.offsets image.now) documents.now points.new) }
+    ensures next { moved_in (G.offsets image.now) documents.now points.old
+        ≡ coming result (moved_in (G.offsets image.now) documents.now points.new) }
     ensures points { CanAllMove (G.offsets image.now) documents.now points.new }
 {
     'points: while let Some(point) = points.pop() {

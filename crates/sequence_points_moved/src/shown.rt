@@ -1,10 +1,12 @@
-//! The points of a method in the order in which they are written: those that moved, and those at hidden stretches.
+//! The points of a method in the order in which they are written: those that moved, and those at
+//! hidden stretches.
 
 ghost use Rattle.std.specs.Prelude.{◌≡◌, ◌++◌, ℕ, List, [], ◌∷◌, None, Some, IfNone, IfSome};
 ghost use Rattle.ppdb_base.specs.Offsets.{is_image_between};
 ghost use Rattle.sequence_points.specs.declared.point.Point.{Point};
 ghost use Rattle.sequence_points.specs.MovedPoints.{first_offset};
-ghost use Rattle.sequence_points.specs.HiddenPoints.{and_hidden, first_start, mark_at, no_offset, stretches_between};
+ghost use Rattle.sequence_points.specs.HiddenPoints.{and_hidden, first_start, mark_at, no_offset};
+ghost use Rattle.sequence_points.specs.HiddenPoints.{stretches_between};
 ghost use Rattle.sequence_points_moved.specs.Coming.{moved_left, shown_left};
 ghost use Rattle.sequence_points_moved.specs.MovedBlob.{shown_in};
 ghost use Rattle.sequence_points_moved.specs.Writing.{CanAllMove, coming};
@@ -73,7 +75,8 @@ impl<'a> Shown<'a> {
 
     /// The offset of the moved point that comes next, or the greatest number if there is none.
     fn end(&self) -> u32
-        ensures { (points : List Point) → result ≡ first_offset no_offset (coming self.now.next points) }
+        ensures { (points : List Point)
+            → result ≡ first_offset no_offset (coming self.now.next points) }
     {
         match self.next {
             Some(point) => point.offset,
@@ -84,10 +87,13 @@ impl<'a> Shown<'a> {
     /// The first stretch that ends above a new offset and begins before the next moved point.
     fn stretch<G: OffsetImage>(&self, from: u32, image: &G) -> Option<(u32, u32)>
         ensures some { IfSome result (λ s. (points : List Point)
-            → stretches_between from (first_offset no_offset (coming self.now.next points)) (G.stretches image.now)
-            ≡ s ∷ stretches_between s.1 (first_offset no_offset (coming self.now.next points)) (G.stretches image.now)) }
+            → stretches_between from (first_offset no_offset (coming self.now.next points))
+            (G.stretches image.now)
+            ≡ s ∷ stretches_between s.1 (first_offset no_offset (coming self.now.next points))
+            (G.stretches image.now)) }
         ensures none { IfNone result ((points : List Point)
-            → stretches_between from (first_offset no_offset (coming self.now.next points)) (G.stretches image.now) ≡ []) }
+            → stretches_between from (first_offset no_offset (coming self.now.next points))
+            (G.stretches image.now) ≡ []) }
     {
         match image.hidden(from) {
             Some(stretch) => {
@@ -101,11 +107,13 @@ impl<'a> Shown<'a> {
         }
     }
 
-    /// Whether some kept offset has its image from a new offset on, before the next stretch and the next moved point.
+    /// Whether some kept offset has its image from a new offset on, before the next stretch and the
+    /// next moved point.
     fn resumes<G: OffsetImage>(&self, from: u32, image: &G) -> bool
         ensures { (points : List Point) → result ≡ is_image_between (G.offsets image.now) from
             (first_start (first_offset no_offset (coming self.now.next points))
-            (stretches_between from (first_offset no_offset (coming self.now.next points)) (G.stretches image.now))) }
+            (stretches_between from (first_offset no_offset (coming self.now.next points))
+            (G.stretches image.now))) }
     {
         match self.stretch(from, image) {
             Some(next) => is_image_between(from, next.0, image),
@@ -122,10 +130,14 @@ impl<'a> Shown<'a> {
     ) -> Option<Point>
         requires last { self.old.last ≡ Some last }
         requires none { self.old.resumed ≡ None }
-        ensures some { IfSome result (λ point. shown_left (G.offsets image.now) (G.stretches image.now) documents.now self.old
-            ≡ point ∷ shown_left (G.offsets image.now) (G.stretches image.now) documents.now self.new) }
-        ensures none { IfNone result (shown_left (G.offsets image.now) (G.stretches image.now) documents.now self.old
-            ≡ and_hidden (G.offsets image.now) (G.stretches image.now) (moved_left (G.offsets image.now) documents.now self.new)) }
+        ensures some { IfSome result (λ point.
+            shown_left (G.offsets image.now) (G.stretches image.now) documents.now self.old
+            ≡ point
+            ∷ shown_left (G.offsets image.now) (G.stretches image.now) documents.now self.new) }
+        ensures none { IfNone result
+            (shown_left (G.offsets image.now) (G.stretches image.now) documents.now self.old
+            ≡ and_hidden (G.offsets image.now) (G.stretches image.now)
+            (moved_left (G.offsets image.now) documents.now self.new)) }
         ensures resumed { IfNone result (self.new.resumed ≡ None) }
         ensures points { self.new.points ≡ self.old.points }
         ensures next { self.new.next ≡ self.old.next }
@@ -154,10 +166,14 @@ impl<'a> Shown<'a> {
         requires first { self.old.next ≡ Some first }
         requires last { self.old.last ≡ None }
         requires none { self.old.resumed ≡ None }
-        ensures some { IfSome result (λ point. shown_left (G.offsets image.now) (G.stretches image.now) documents.now self.old
-            ≡ point ∷ shown_left (G.offsets image.now) (G.stretches image.now) documents.now self.new) }
-        ensures none { IfNone result (shown_left (G.offsets image.now) (G.stretches image.now) documents.now self.old
-            ≡ and_hidden (G.offsets image.now) (G.stretches image.now) (moved_left (G.offsets image.now) documents.now self.new)) }
+        ensures some { IfSome result (λ point.
+            shown_left (G.offsets image.now) (G.stretches image.now) documents.now self.old
+            ≡ point
+            ∷ shown_left (G.offsets image.now) (G.stretches image.now) documents.now self.new) }
+        ensures none { IfNone result
+            (shown_left (G.offsets image.now) (G.stretches image.now) documents.now self.old
+            ≡ and_hidden (G.offsets image.now) (G.stretches image.now)
+            (moved_left (G.offsets image.now) documents.now self.new)) }
         ensures resumed { IfNone result (self.new.resumed ≡ None) }
         ensures points { self.new.points ≡ self.old.points }
         ensures next { self.new.next ≡ self.old.next }
@@ -174,10 +190,14 @@ impl<'a> Shown<'a> {
     /// The mark at the next stretch before the next moved point that has one.
     fn mark<G: OffsetImage>(&mut self, documents: &[u32], image: &G) -> Option<Point>
         requires { self.old.resumed ≡ None }
-        ensures some { IfSome result (λ point. shown_left (G.offsets image.now) (G.stretches image.now) documents.now self.old
-            ≡ point ∷ shown_left (G.offsets image.now) (G.stretches image.now) documents.now self.new) }
-        ensures none { IfNone result (shown_left (G.offsets image.now) (G.stretches image.now) documents.now self.old
-            ≡ and_hidden (G.offsets image.now) (G.stretches image.now) (moved_left (G.offsets image.now) documents.now self.new)) }
+        ensures some { IfSome result (λ point.
+            shown_left (G.offsets image.now) (G.stretches image.now) documents.now self.old
+            ≡ point
+            ∷ shown_left (G.offsets image.now) (G.stretches image.now) documents.now self.new) }
+        ensures none { IfNone result
+            (shown_left (G.offsets image.now) (G.stretches image.now) documents.now self.old
+            ≡ and_hidden (G.offsets image.now) (G.stretches image.now)
+            (moved_left (G.offsets image.now) documents.now self.new)) }
         ensures resumed { IfNone result (self.new.resumed ≡ None) }
         ensures points { self.new.points ≡ self.old.points }
         ensures next { self.new.next ≡ self.old.next }
@@ -194,8 +214,10 @@ impl<'a> Shown<'a> {
     /// The next point.
     pub(crate) fn pop<G: OffsetImage>(&mut self, documents: &[u32], image: &G) -> Option<Point>
         requires { CanAllMove (G.offsets image.now) documents.now self.old.points }
-        ensures left { shown_left (G.offsets image.now) (G.stretches image.now) documents.now self.old
-            ≡ coming result (shown_left (G.offsets image.now) (G.stretches image.now) documents.now self.new) }
+        ensures left { shown_left (G.offsets image.now)
+            (G.stretches image.now) documents.now self.old
+            ≡ coming result
+            (shown_left (G.offsets image.now) (G.stretches image.now) documents.now self.new) }
         ensures can { CanAllMove (G.offsets image.now) documents.now self.new.points }
     {
         if let Some(point) = self.resumed {

@@ -9,7 +9,8 @@ ghost use Rattle.sequence_points_moved.specs.Writing.{HasWritten, MayCome, IsSte
 use ppdb_base::Bytes;
 use sequence_points::{Point, PointError, Start, large_step, point_into, start_after};
 
-/// What was written: how many points, the last one, and the start of the last one that is not hidden.
+/// What was written: how many points, the last one, and the start of the last one that is not
+/// hidden.
 #[derive(Clone, Copy)]
 pub(crate) struct Written {
     pub(crate) count: u32,
@@ -32,7 +33,8 @@ impl Written {
     /// Appends the next point, where a number says the step to its start line.
     pub(crate) fn push(&mut self, point: Point, into: &mut Bytes) -> Result<(), PointError>
         requires { MayCome self.old point }
-        ensures bytes { OnOk result (into.new ≡ into.old ++ bytes_after self.old.last self.old.start point) }
+        ensures bytes { OnOk result (into.new ≡ into.old
+            ++ bytes_after self.old.last self.old.start point) }
         ensures small { OnOk result (large_step self.old.start point.span ≡ None) }
         ensures count { OnOk result (self.new.count ≡ self.old.count + 1) }
         ensures last { OnOk result (self.new.last ≡ Some point) }

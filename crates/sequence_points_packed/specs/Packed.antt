@@ -1,7 +1,9 @@
 -- What packed points are seen as (Portable PDB v1.0, "Sequence Points Blob").
 use Rattle.std.specs.Prelude.{◌≡◌, ℕ, ◌<◌, ◌≤◌, ◌^◌, List, [], length, None, All}
 use Rattle.blob_grammar.specs.Reader.{read_from}
-use Rattle.sequence_points.specs.{declared.point.{Point.Point, PointLimits.PointLimits}, Points.{PointsReading, points_after}, Ranges.IsOffset, Records.sequence_points, Written.CanBeWritten}
+use Rattle.sequence_points.specs.declared.point.{Point.Point, PointLimits.PointLimits}
+use Rattle.sequence_points.specs.{Points.{PointsReading, points_after}, Ranges.IsOffset}
+use Rattle.sequence_points.specs.{Records.sequence_points, Written.CanBeWritten}
 use Rattle.sequence_points_packed.specs.declared.packed.Kept.{Kept, TheVariants.{Blob, Listed}}
 
 -- any row of a document, and no local signature
@@ -10,7 +12,8 @@ packed_limits = record { documents = 0x1fffffff; signatures = 0 }
 
 -- the points of a blob, as the plain reader reads them
 unfoldable pub points_in : ℕ → List ℕ → List Point
-points_in column blob = points_after [] (read_from (sequence_points column packed_limits) [] [] 0 blob).items
+points_in column blob =
+    points_after [] (read_from (sequence_points column packed_limits) [] [] 0 blob).items
 
 -- A blob that reads whole, as so many points without a local signature.
 pub record IsPacked (column count : ℕ) (blob : List ℕ) : Type 0 where

@@ -1,4 +1,5 @@
-//! Sequence points that are kept for later in the bytes of their blob, about five bytes a point where a list takes 28.
+//! Sequence points that are kept for later in the bytes of their blob, about five bytes a point
+//! where a list takes 28.
 #![tactic(auto)]
 
 mod packed;

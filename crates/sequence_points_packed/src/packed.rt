@@ -16,7 +16,8 @@ const BLOB_OFFSET_LIMIT: u32 = 0x2000_0000;
 /// How points are kept.
 #[derive(Drop)]
 enum Kept {
-    /// As their canonical blob without a local signature, with its Document column and the number of points.
+    /// As their canonical blob without a local signature, with its Document column and the number
+    /// of points.
     Blob {
         column: u32,
         count: u32,
@@ -77,7 +78,8 @@ fn blob_of(alloc: Global, points: &[Point], scratch: &mut Bytes) -> Result<Optio
 }
 
 impl PackedPoints {
-    /// Keeps points: as their blob, where one says them, and else as they are. What `scratch` holds is given up.
+    /// Keeps points: as their blob, where one says them, and else as they are. What `scratch` holds
+    /// is given up.
     pub fn pack(
         alloc: Global,
         points: List<Point>,

@@ -10,7 +10,11 @@ use std::process::Abort;
 
 /// A point on one line.
 fn on_line(offset: u32, line: u32, start_column: u32, end_column: u32) -> Point
-    ensures { result ≡ record { offset = offset; document = 1; span = Span.Lines line start_column line end_column } }
+    ensures { result ≡ record {
+      offset = offset;
+      document = 1;
+      span = Span.Lines line start_column line end_column;
+    } }
 {
     Point {
         offset,

@@ -1,6 +1,7 @@
--- The pairs of a Source Link record: keys and addresses (this project's rules, docs/FORMAT.md, "Blobs"; the JSON schema of Source Link
--- is stricter, and asks for a member of `documents`).
-use Rattle.std.specs.{Prelude.{ℕ, ◌-◌, ◌||◌, ◌&&◌, not, Bool, cond, nat_eq, List, [], ◌∷◌, length, take, Option, Some, None, count_by}, List.{list_any, ends_with}}
+-- The pairs of a Source Link record: keys and addresses (this project's rules, docs/FORMAT.md,
+-- "Blobs"; the JSON schema of Source Link is stricter, and asks for a member of `documents`).
+use Rattle.std.specs.Prelude.{ℕ, ◌-◌, ◌||◌, ◌&&◌, not, Bool, cond, nat_eq, List, [], ◌∷◌, length}
+use Rattle.std.specs.{Prelude.{take, Option, Some, None, count_by}, List.{list_any, ends_with}}
 use Rattle.source_link.specs.declared.pair.Pair.{Pair}
 
 -- `*`
@@ -25,4 +26,5 @@ fits_key key address = not (is_pattern key) || nat_eq (count_by (λ b. nat_eq b 
 
 -- a key and an address that make a pair
 abbrev pub pair_of : List ℕ → List ℕ → Option Pair
-pair_of key address = cond (is_key key && fits_key key address) (Some (record { key = key; address = address })) None
+pair_of key address =
+    cond (is_key key && fits_key key address) (Some (record { key = key; address = address })) None

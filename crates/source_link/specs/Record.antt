@@ -1,13 +1,18 @@
--- The pairs that a Source Link record says, or why it says none (this project's rules, docs/FORMAT.md, "Blobs"; RFC 8259).
-use Rattle.std.specs.{Prelude.{◌≡◌, ℕ, ◌⊎◌, cond, List, [], ◌∷◌, Option, Some, None, Result, Err, IfErr, codes, ok_or, option_map, option_and_then}, Str.is_utf8}
-use Rattle.serde_json.specs.{Data.{Data, Members, no_members, member}, Read.read, Find.{get_member, as_object, as_str}}
-use Rattle.ppdb_base.specs.declared.link_error.LinkError.{LinkError, TheVariants.{NotJson, Shape, Memory}}
+-- The pairs that a Source Link record says, or why it says none (this project's rules,
+-- docs/FORMAT.md, "Blobs"; RFC 8259).
+use Rattle.std.specs.Prelude.{◌≡◌, ℕ, ◌⊎◌, cond, List, [], ◌∷◌, Option, Some, None, Result, Err}
+use Rattle.std.specs.{Prelude.{IfErr, codes, ok_or, option_map, option_and_then}, Str.is_utf8}
+use Rattle.serde_json.specs.{Data.{Data, Members, no_members, member}, Read.read, Find.get_member}
+use Rattle.serde_json.specs.Find.{as_object, as_str}
+use Rattle.ppdb_base.specs.declared.link_error.{LinkError.LinkError, LinkError.TheVariants.NotJson}
+use Rattle.ppdb_base.specs.declared.link_error.LinkError.TheVariants.{Shape, Memory}
 use Rattle.source_link.specs.{declared.pair.Pair.Pair, Pairs.pair_of}
 
 -- the members of `documents` by key, of which each is a pair: its key and a text
 abbrev pub pairs_in : Members → Option (List Pair)
 pairs_in no_members = Some []
-pairs_in (member key d more) = option_and_then (λ pair. option_map (λ pairs. pair ∷ pairs) (pairs_in more)) (option_and_then (pair_of key) (as_str d))
+pairs_in (member key d more) = option_and_then (λ pair.
+    option_map (λ pairs. pair ∷ pairs) (pairs_in more)) (option_and_then (pair_of key) (as_str d))
 
 -- without a member `documents` there are none
 abbrev pub documents_in : Option Data → Option (List Pair)
@@ -15,7 +20,8 @@ documents_in None = Some []
 documents_in (Some d) = option_and_then pairs_in (as_object d)
 
 abbrev pub pairs_of : Data → Option (List Pair)
-pairs_of d = option_and_then (λ members. documents_in (get_member (codes "documents") members)) (as_object d)
+pairs_of d =
+    option_and_then (λ members. documents_in (get_member (codes "documents") members)) (as_object d)
 
 abbrev pub judged : Option Data → Result (List Pair) LinkError
 judged None = Err NotJson

@@ -1,7 +1,10 @@
 -- How pairs are sorted, so that a name finds its best pair while it is read once from the left.
-use Rattle.std.specs.{Prelude.{◌≡◌, ℕ, ◌+◌, ◌≤◌, List, length, slice_get, take, Bool, Option, Some, None, cond, IsSortedByKey}, Char.to_ascii_lowercase, Ordering.{nat_cmp, bool_cmp, ordering_then}}
+use Rattle.std.specs.Prelude.{◌≡◌, ℕ, ◌+◌, ◌≤◌, List, length, slice_get, take, Bool, Option, Some}
+use Rattle.std.specs.{Prelude.{None, cond, IsSortedByKey}, Char.to_ascii_lowercase}
+use Rattle.std.specs.Ordering.{nat_cmp, bool_cmp, ordering_then}
 use Rattle.std.specs.{Cmp.Lexicographic.slice_cmp, declared.cmp.Ordering.Ordering}
-use Rattle.source_link.specs.{declared.pair.Pair.Pair, Pairs.{is_pattern, fixed_part}, Address.lower, Laws.KeysDiffer}
+use Rattle.source_link.specs.{declared.pair.Pair.Pair, Pairs.{is_pattern, fixed_part}}
+use Rattle.source_link.specs.{Address.lower, Laws.KeysDiffer}
 
 -- the key without its star and without case, then a name before a pattern, then the key
 abbrev pub place_cmp : List ℕ → List ℕ → Ordering
@@ -16,7 +19,8 @@ AreInOrder pairs = IsSortedByKey (λ (pair : Pair). pair.key) place_cmp pairs
 abbrev pub AreSearchable : List Pair → Type 0
 AreSearchable pairs = AreInOrder pairs × KeysDiffer pairs
 
--- how a key goes on at a byte of its fixed part: names that have ended, patterns that have ended, and then by the byte
+-- how a key goes on at a byte of its fixed part: names that have ended, patterns that have ended,
+-- and then by the byte
 abbrev pub rank_of : Bool → Option ℕ → ℕ
 rank_of pattern None = cond pattern 1 0
 rank_of pattern (Some byte) = 2 + to_ascii_lowercase byte
@@ -26,4 +30,5 @@ rank_at at pair = rank_of (is_pattern pair.key) (slice_get (fixed_part pair.key)
 
 -- the fixed part of the key has so many bytes at least, and begins with these, without case
 abbrev pub BeginsWith : List ℕ → Pair → Type 0
-BeginsWith prefix pair = (length prefix ≤ length (fixed_part pair.key)) × (take (length prefix) (lower (fixed_part pair.key)) ≡ lower prefix)
+BeginsWith prefix pair = (length prefix ≤ length (fixed_part pair.key))
+    × (take (length prefix) (lower (fixed_part pair.key)) ≡ lower prefix)

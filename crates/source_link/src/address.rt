@@ -1,5 +1,6 @@
 // The address of a name, by the pair that matches it.
-ghost use Rattle.std.specs.Prelude.{◌≡◌, ◌++◌, ◌<◌, ℕ, List, length, nat_eq, position, IfSome, MatchOption, OnOk};
+ghost use Rattle.std.specs.Prelude.{◌≡◌, ◌++◌, ◌<◌, ℕ, List, length, nat_eq, position, IfSome};
+ghost use Rattle.std.specs.Prelude.{MatchOption, OnOk};
 ghost use Rattle.source_link.specs.Pairs.{star};
 ghost use Rattle.source_link.specs.Address.{filled, turned, with_rest};
 
@@ -28,7 +29,8 @@ fn first_star(address: &[u8]) -> Option<usize>
 /// What stands before and after the first `*` of an address; None where there is none.
 fn cut_at_star(address: &[u8]) -> Option<(&[u8], &[u8])>
     ensures cut { MatchOption result ((rest : List ℕ) → with_rest rest address.now ≡ address.now)
-        (λ cut. (rest : List ℕ) → with_rest rest address.now ≡ cut.0.now ++ (rest ++ with_rest rest cut.1.now)) }
+        (λ cut. (rest : List ℕ)
+        → with_rest rest address.now ≡ cut.0.now ++ (rest ++ with_rest rest cut.1.now)) }
     ensures shorter { IfSome result (λ cut. length cut.1.now < length address.now) }
 {
     let star = first_star(address)?;

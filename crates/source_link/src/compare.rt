@@ -28,7 +28,8 @@ fn compare_lower(a: &[u8], b: &[u8]) -> Ordering
     }
 }
 
-/// How two keys compare: by their fixed parts without case, a name before a pattern, and then by their bytes.
+/// How two keys compare: by their fixed parts without case, a name before a pattern, and then by
+/// their bytes.
 pub(crate) fn compare_places(a: &[u8], b: &[u8]) -> Ordering
     ensures { result ≡ place_cmp a.now b.now }
 {

@@ -1,5 +1,6 @@
-//! Where the sources of documents are found, by the Source Link record that a compiler left in the file: the record of a verified
-//! file, the pairs of names and addresses that it says, and the address of a name.
+//! Where the sources of documents are found, by the Source Link record that a compiler left in the
+//! file: the record of a verified file, the pairs of names and addresses that it says, and the
+//! address of a name.
 #![tactic(auto)]
 
 mod address;

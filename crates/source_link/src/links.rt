@@ -1,5 +1,6 @@
 // The links of a record: its pairs, sorted for a search.
-ghost use Rattle.std.specs.Prelude.{◌≡◌, ◌++◌, ℕ, List, [], Ok, Some, None, true, false, IfOk, OnOk};
+ghost use Rattle.std.specs.Prelude.{◌≡◌, ◌++◌, ℕ, List, [], Ok, Some, None, true, false, IfOk};
+ghost use Rattle.std.specs.Prelude.{OnOk};
 ghost use Rattle.source_link.specs.Address.{address_of};
 ghost use Rattle.source_link.specs.Laws.{AreLinks};
 ghost use Rattle.source_link.specs.Record.{IsRefusedBy, links_of};
@@ -42,7 +43,8 @@ impl Links {
         }
     }
 
-    /// Appends the address of a document name, and answers whether it has one. Where it has none nothing is appended.
+    /// Appends the address of a document name, and answers whether it has one. Where it has none
+    /// nothing is appended.
     ///
     /// # Errors
     ///
@@ -50,7 +52,8 @@ impl Links {
     pub fn address(&self, name: &[u8], into: &mut Bytes) -> Result<bool, Memory>
         ensures found { (address : List ℕ) → address_of name.now self.now ≡ Some address
             → OnOk result ((result ≡ Ok true) × (into.new ≡ into.old ++ address)) }
-        ensures none { address_of name.now self.now ≡ None → (result ≡ Ok false) × (into.new ≡ into.old) }
+        ensures none { address_of name.now self.now ≡ None
+            → (result ≡ Ok false) × (into.new ≡ into.old) }
         ensures prefix { (more : List ℕ) × (into.new ≡ into.old ++ more) }
     {
         let Some(pair) = best(self.pairs.as_slice(), name) else {
@@ -65,8 +68,8 @@ impl Links {
 ///
 /// # Errors
 ///
-/// `NotJson` exactly where the bytes are no JSON text in UTF-8, `Shape` exactly where that is no object with an object `documents`
-/// of pairs or none.
+/// `NotJson` exactly where the bytes are no JSON text in UTF-8, `Shape` exactly where that is no
+/// object with an object `documents` of pairs or none.
 pub fn read_links(alloc: Global, bytes: &[u8]) -> Result<Links, LinkError>
     ensures pairs { IfOk result (AreLinks bytes.now) }
     ensures refused { IsRefusedBy result (links_of bytes.now) }

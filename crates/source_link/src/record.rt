@@ -3,7 +3,8 @@ ghost use Rattle.std.specs.Prelude.{◌≡◌, Ok, Some, IfOk, ok_or, option_map
 ghost use Rattle.ppdb_base.specs.declared.link_error.LinkError.TheVariants.{Shape};
 ghost use Rattle.serde_json.specs.Find.{as_object};
 ghost use Rattle.serde_json.specs.View.{view, members_view};
-ghost use Rattle.source_link.specs.Record.{IsRefusedBy, links_of, pairs_in as the_pairs, pairs_of as pairs_said};
+ghost use Rattle.source_link.specs.Record.{IsRefusedBy, links_of, pairs_in as the_pairs};
+ghost use Rattle.source_link.specs.Record.{pairs_of as pairs_said};
 
 use crate::pair::{Pair, pair_of};
 use ppdb_base::{LinkError, List};
@@ -13,7 +14,8 @@ use std::alloc::Global;
 /// The pairs of the members of `documents`.
 fn pairs_in(alloc: Global, documents: Map<String, Value>) -> Result<List<Pair>, LinkError>
     ensures pairs { IfOk result (λ pairs. the_pairs (members_view documents.entries) ≡ Some pairs) }
-    ensures refused { IsRefusedBy result (ok_or (the_pairs (members_view documents.entries)) Shape) }
+    ensures refused { IsRefusedBy result
+        (ok_or (the_pairs (members_view documents.entries)) Shape) }
 {
     let mut pairs = List::with_capacity(alloc, documents.len())?;
     for (key, value) in documents {

@@ -11,8 +11,8 @@ ghost use Rattle.source_link.specs.Search.{AreInOrder, place_cmp, rank_at};
 
 use crate::pair::{Pair, fixed_part, is_pattern};
 
-/// How a key goes on at a byte of its fixed part: 0 a name that has ended, 1 a pattern that has ended, and from 2 on by the byte
-/// without case.
+/// How a key goes on at a byte of its fixed part: 0 a name that has ended, 1 a pattern that has
+/// ended, and from 2 on by the byte without case.
 fn rank(pair: &Pair, at: usize) -> u16
     ensures { result ≡ rank_at at pair.now }
 {
@@ -39,7 +39,8 @@ fn ended(part: &[Pair], at: usize) -> Option<&Pair>
     requires rising { IsNonDecreasingBy (rank_at at) part.now }
     ensures { MatchOption result ((pair : Pair) → Contains part.now pair → rank_at at pair ≢ 1)
         (λ first. Contains part.now first.now × (rank_at at first.now ≡ 1)
-        × ((pair : Pair) → Contains part.now pair → rank_at at pair ≡ 1 → is_le (place_cmp first.now.key pair.key) ≡ true)) }
+        × ((pair : Pair) → Contains part.now pair → rank_at at pair ≡ 1
+        → is_le (place_cmp first.now.key pair.key) ≡ true)) }
 {
     let first = part.get(first_not_below(part, at, 1))?;
     if rank(first, at) == 1 {
@@ -54,8 +55,10 @@ fn going_on(part: &[Pair], at: usize, byte: u8) -> &[Pair]
     requires order { AreInOrder part.now }
     requires rising { IsNonDecreasingBy (rank_at at) part.now }
     ensures order { AreInOrder result.now }
-    ensures those { (pair : Pair) → Contains result.now pair → Contains part.now pair × (rank_at at pair ≡ 2 + to_ascii_lowercase byte) }
-    ensures all { (pair : Pair) → Contains part.now pair → rank_at at pair ≡ 2 + to_ascii_lowercase byte → Contains result.now pair }
+    ensures those { (pair : Pair) → Contains result.now pair
+        → Contains part.now pair × (rank_at at pair ≡ 2 + to_ascii_lowercase byte) }
+    ensures all { (pair : Pair) → Contains part.now pair
+        → rank_at at pair ≡ 2 + to_ascii_lowercase byte → Contains result.now pair }
 {
     let rank = u16::from(byte.to_ascii_lowercase()) + 2;
     let rest = &part[first_not_below(part, at, rank)..];
@@ -65,7 +68,8 @@ fn going_on(part: &[Pair], at: usize, byte: u8) -> &[Pair]
 /// The best of the pairs that match a name.
 pub(crate) fn best<'a>(pairs: &'a [Pair], name: &[u8]) -> Option<&'a Pair>
     requires { AreInOrder pairs.now }
-    ensures { MatchOption result ((pair : Pair) → Contains pairs.now pair → matches name.now pair ≡ true → ⊥)
+    ensures { MatchOption result ((pair : Pair) → Contains pairs.now pair
+        → matches name.now pair ≡ true → ⊥)
         (λ best. IsBest name.now pairs.now best.now) }
 {
     let mut part = pairs;

@@ -1,7 +1,7 @@
 // The rows that written-out blobs name.
 use ppdb_heaps::Blobs;
 use type_blobs::TypeLimits;
-use type_blobs_rows::{ConstantTypes, ImportRows, ResumeMethods, RowWalk};
+use type_blobs_references::{ConstantTypes, ImportRows, ResumeMethods, RowWalk};
 
 /// The row counts of a file.
 const LIMITS: TypeLimits = TypeLimits {

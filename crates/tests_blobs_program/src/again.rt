@@ -43,7 +43,8 @@ fn have_rows<L: Ledger>(
     Ok(are_same(&again, rows))
 }
 
-/// Whether a file that is laid out from the head, the rows and the heaps of a root is read as these.
+/// Whether a file that is laid out from the head, the rows and the heaps of a root is read as
+/// these.
 fn is_same_again<L: Ledger>(
     alloc: Global,
     head: &PdbHead,
@@ -70,7 +71,8 @@ fn is_same_again<L: Ledger>(
     Ok(same_rows && same_head && heaps_of(&root) == heaps && counts_of(&tables) == *counts)
 }
 
-/// Whether the file, laid out again with its own rows and heaps, is read as the same head, rows and heaps.
+/// Whether the file, laid out again with its own rows and heaps, is read as the same head, rows and
+/// heaps.
 pub fn is_read_again<L: Ledger>(
     alloc: Global,
     file: &[u8],

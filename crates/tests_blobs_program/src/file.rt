@@ -21,7 +21,8 @@ pub fn read_file<R: Files>(files: &R, name: &str, into: &mut Bytes) -> Result<()
     }
 }
 
-/// Reads to the end of a file, and at most one byte past the greatest length. A read of no bytes is the end.
+/// Reads to the end of a file, and at most one byte past the greatest length. A read of no bytes is
+/// the end.
 fn read_to_end<R: Read>(file: &mut R, into: &mut Bytes) -> Result<(), Stop>
     requires { into.old ≡ [] }
     ensures within { OnOk result (length into.new ≤ MAX_FILE_BYTES) }

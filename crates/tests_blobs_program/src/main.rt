@@ -1,6 +1,7 @@
-//! A check of a debug file: it reads every blob that has points, imports, a constant, async steps or hoisted slots, prints the
-//! points and the imports, and says how many of them it has read and written again; and it lays the file out again with its own
-//! rows and heaps, and says whether that is read as the same.
+//! A check of a debug file: it reads every blob that has points, imports, a constant, async steps
+//! or hoisted slots, prints the points and the imports, and says how many of them it has read and
+//! written again; and it lays the file out again with its own rows and heaps, and says whether that
+//! is read as the same.
 #![tactic(auto)]
 
 ghost use Rattle.std.specs.Prelude.{◌≡◌, ◌≤◌, ◌<◌, length};

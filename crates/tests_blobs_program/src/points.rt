@@ -37,7 +37,8 @@ pub fn read_points(
     requires short { length blob.now < 2 ^ 32 }
     requires column { column ≤ limits.documents }
     requires empty { points.old ≡ [] }
-    ensures { IfOk result (λ signature. PointsReading column limits blob.now signature points.new None) }
+    ensures { IfOk result
+        (λ signature. PointsReading column limits blob.now signature points.new None) }
 {
     let mut cursor = PointCursor::new(blob, column, limits)?;
     'points: loop {

@@ -12,7 +12,8 @@ enum Form {
     Letters,
 }
 
-/// A form of a number, which is multiplied and has a number added. A byte that does not count is multiplied by 0.
+/// A form of a number, which is multiplied and has a number added. A byte that does not count is
+/// multiplied by 0.
 #[derive(Clone, Copy)]
 struct Field {
     form: Form,

@@ -119,7 +119,8 @@ impl<'a> DebugFile<'a> {
         Ok(stream)
     }
 
-    /// The bytes of the file. A heap of texts or blobs of which nothing is said has the empty item alone.
+    /// The bytes of the file. A heap of texts or blobs of which nothing is said has the empty item
+    /// alone.
     pub fn bytes(&self, alloc: Global) -> Result<Vec<u8>, AllocError> {
         let (texts, blobs) = (or_empty_item(&self.texts), or_empty_item(&self.blobs));
         let pdb = self.pdb_stream(alloc)?;

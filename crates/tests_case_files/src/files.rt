@@ -9,8 +9,8 @@ pub struct NamedBytes {
     pub bytes: Vec<u8>,
 }
 
-/// Files in the order in which they stand: first those of another case file, which can only be copied, then those of all cases, and
-/// then those of one case.
+/// Files in the order in which they stand: first those of another case file, which can only be
+/// copied, then those of all cases, and then those of one case.
 #[derive(Drop)]
 pub struct Files {
     list: Vec<NamedBytes>,

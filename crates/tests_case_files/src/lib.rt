@@ -1,4 +1,5 @@
-//! Case files: the bytes and files that they describe, and the lines of each case. docs/TESTING.md describes the format.
+//! Case files: the bytes and files that they describe, and the lines of each case. docs/TESTING.md
+//! describes the format.
 #![tactic(auto)]
 
 mod bytes;

@@ -15,7 +15,8 @@ pub struct Block<'a> {
     pub bytes: Vec<u8>,
 }
 
-/// What was read so far: the block that the last lines belong to, and a debug file that is not whole yet.
+/// What was read so far: the block that the last lines belong to, and a debug file that is not
+/// whole yet.
 #[derive(Drop)]
 pub struct Reader<'a> {
     alloc: Global,
@@ -65,7 +66,8 @@ impl<'a> Reader<'a> {
         self.files.into_copied()
     }
 
-    /// Reads the line of this number, and answers the block before if the line ends it. A file is not answered.
+    /// Reads the line of this number, and answers the block before if the line ends it. A file is
+    /// not answered.
     pub fn put_line(&mut self, number: usize, line: &'a str) -> Result<Option<Block<'a>>, Wrong> {
         self.line = number;
         let text = line.trim_start();

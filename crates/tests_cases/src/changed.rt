@@ -1,4 +1,5 @@
-// The small worked file with one byte changed: verified with each value of each byte, and rebuilt with some.
+// The small worked file with one byte changed: verified with each value of each byte, and rebuilt
+// with some.
 use crate::command::ran;
 use crate::place::found;
 use ppdb_base::{SteadyFolder, SteadySink};
@@ -20,8 +21,9 @@ fn asked(
     Ok((status, out))
 }
 
-/// Whether the file with another byte at a place is accepted or refused by one line. If it is also to be rebuilt, it is, to a file that is
-/// rebuilt to itself, or it is refused by the same line, and nothing is written.
+/// Whether the file with another byte at a place is accepted or refused by one line. If it is also
+/// to be rebuilt, it is, to a file that is rebuilt to itself, or it is refused by the same line,
+/// and nothing is written.
 fn is_answered(rt: &HostRuntime, at: usize, value: u8, rebuilds: bool) -> Result<bool, Wrong> {
     let mut file = SMALL;
     if let Some(byte) = file.get_mut(at) {

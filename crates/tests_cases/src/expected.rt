@@ -119,7 +119,8 @@ fn are_so(place: &Place, names: &str, same: bool) -> Result<bool, Wrong> {
     })
 }
 
-/// Whether a file has these bytes at its offset, as `2 B` says, or, where none are given, this size.
+/// Whether a file has these bytes at its offset, as `2 B` says, or, where none are given, this
+/// size.
 fn has_at(place: &Place, text: &str, bytes: &[u8]) -> Result<bool, Wrong> {
     let (number, name) = number_and_rest(text)?;
     Ok(match place.get(name) {

@@ -1,5 +1,6 @@
-//! Runs of commands that case files describe, each over a folder and a sink in memory. It prints what differs, and how many were run. It ends
-//! with status 1 if something differs, and with 2 if a case file cannot be read.
+//! Runs of commands that case files describe, each over a folder and a sink in memory. It prints
+//! what differs, and how many were run. It ends with status 1 if something differs, and with 2 if a
+//! case file cannot be read.
 #![tactic(auto)]
 
 mod changed;
@@ -29,8 +30,8 @@ fn main(rt: HostRuntime) -> ExitCode {
     }
 }
 
-/// Runs the case files that the words after the program's name name, and, for the word `--changed-bytes`, tries files with changed bytes.
-/// Answers how much differs.
+/// Runs the case files that the words after the program's name name, and, for the word
+/// `--changed-bytes`, tries files with changed bytes. Answers how much differs.
 fn run_all(rt: &HostRuntime) -> Result<usize, Wrong> {
     let mut args = env::args(rt)?;
     let _program = args.next();
@@ -51,7 +52,8 @@ fn run_all(rt: &HostRuntime) -> Result<usize, Wrong> {
     Ok(differences)
 }
 
-/// Runs a case file, prints how many cases and runs it has, and answers the runs and how much differs.
+/// Runs a case file, prints how many cases and runs it has, and answers the runs and how much
+/// differs.
 fn run_file(rt: &HostRuntime, name: &str) -> Result<(usize, usize), Wrong> {
     let text = text_of(rt, name)?;
     let files = match used_file(text.as_str()) {

@@ -11,8 +11,8 @@ pub struct Ended {
     pub text: Vec<u8>,
 }
 
-/// A folder that never fails, whose commands print to a sink that does not, and one whose calls fail where they are asked to, with such a
-/// sink.
+/// A folder that never fails, whose commands print to a sink that does not, and one whose calls
+/// fail where they are asked to, with such a sink.
 #[derive(Drop)]
 pub enum Place {
     Steady(SteadyFolder),
@@ -28,7 +28,8 @@ pub fn found<T: Drop>(done: Result<T, Memory>) -> Result<T, Wrong> {
 }
 
 impl Place {
-    /// Has the call of this number fail. A folder that never fails becomes one without files that can.
+    /// Has the call of this number fail. A folder that never fails becomes one without files that
+    /// can.
     pub fn fail(&mut self, alloc: Global, call: u32) -> Result<(), Wrong> {
         if let Place::Failing(folder) = self {
             return found(folder.fail(call));
@@ -55,7 +56,8 @@ impl Place {
         }
     }
 
-    /// Runs a command. Of a folder whose calls can fail the put of this number fails too; no put has the number 0.
+    /// Runs a command. Of a folder whose calls can fail the put of this number fails too; no put
+    /// has the number 0.
     pub fn run(&mut self, rt: &HostRuntime, words: &[String], put: u32) -> Result<Ended, Wrong> {
         let alloc = rt.alloc();
         match self {

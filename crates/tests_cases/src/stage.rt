@@ -96,7 +96,8 @@ impl<'a> Stage<'a> {
         Ok(())
     }
 
-    /// Runs the command before, and takes the next. The files are in the folder from the first one on.
+    /// Runs the command before, and takes the next. The files are in the folder from the first one
+    /// on.
     fn begin_command(&mut self, files: &[NamedBytes], block: Block<'a>) -> Result<(), Wrong> {
         if self.cases == 0 {
             return Err(Wrong("no case"));
@@ -156,8 +157,9 @@ impl<'a> Stage<'a> {
         Ok(())
     }
 
-    /// Runs a command again until none of its puts fails, each time with the next put failing. It then says that a write failed, and has
-    /// printed the start of the text, and not all. The first put fails.
+    /// Runs a command again until none of its puts fails, each time with the next put failing. It
+    /// then says that a write failed, and has printed the start of the text, and not all. The first
+    /// put fails.
     fn fail_puts(&mut self, command: &Expected<'a>) -> Result<(), Wrong> {
         let (rt, whole) = (self.rt, command.text.as_slice());
         for put in 1..10_000 {

@@ -38,7 +38,8 @@ fn written<L: Ledger>(
     }
 }
 
-/// Runs a command, and says whether a file that it rebuilds is what its value is written as. No kind may be marked as free.
+/// Runs a command, and says whether a file that it rebuilds is what its value is written as. No
+/// kind may be marked as free.
 pub fn run_by_value(
     rt: &HostRuntime,
     words: &[String],

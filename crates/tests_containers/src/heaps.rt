@@ -35,7 +35,8 @@ fn guids_are_counted_from_one(rt: HostRuntime) {
     assert!(rt; guids.get(3) == None);
 }
 
-// The other faults of names are cases. This one no file can have that is read so far: its name would be missing.
+// The other faults of names are cases. This one no file can have that is read so far: its name
+// would be missing.
 #[test]
 fn a_name_without_bytes_is_refused(rt: HostRuntime) {
     let mut into: Bytes = List::new(rt.alloc());

@@ -1,5 +1,5 @@
-// Texts of two maps that are too long to be kept, and are counted on. The lengths are those that another program counts, offset by
-// offset and slot by slot.
+// Texts of two maps that are too long to be kept, and are counted on. The lengths are those that
+// another program counts, offset by offset and slot by slot.
 use crate::maps::read;
 use map_compose::{ComposeError, compose_maps};
 use std::alloc::{AllocError, Global};

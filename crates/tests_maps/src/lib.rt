@@ -1,4 +1,5 @@
-//! Tests over several crates: what maps say that are read, how they are spelled and counted, and points that they move.
+//! Tests over several crates: what maps say that are read, how they are spelled and counted, and
+//! points that they move.
 #![tactic(auto)]
 
 #[cfg(test)]

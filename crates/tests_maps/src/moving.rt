@@ -11,7 +11,8 @@ use sequence_points::{Point, PointCursor, PointError, PointLimits};
 use sequence_points_moved::moved_points_into;
 use std::alloc::Global;
 
-/// Method 1 as a weaver leaves it, 2 without the offsets 2 and 3, 3 without its second point, 4 without any offset; 5 has no line.
+/// Method 1 as a weaver leaves it, 2 without the offsets 2 and 3, 3 without its second point, 4
+/// without any offset; 5 has no line.
 const MAP: &[u8] =
     b"ppdbmap 1\nmethod 1 9 12\nrun 0 0 1\nrun 5 6 4\nmethod 2 6 6\nrun 0 0 2\nrun 4 4 2\n\
     method 3 3 3\nrun 0 0 1\nrun 2 2 1\nmethod 4 9 9\n";
@@ -140,7 +141,8 @@ fn are_movable(map: &MethodMap<'_>, blob: &[u8], column: u32, limits: PointLimit
     requires short { length blob.now < 2 ^ 32 }
     requires column { column ≤ limits.documents }
     ensures whole { IsTrue result → IsWhole column limits blob.now }
-    ensures points { IsTrue result → EachPoint (IsMovable (offsets_of map.now.says)) column limits blob.now }
+    ensures points { IsTrue result
+        → EachPoint (IsMovable (offsets_of map.now.says)) column limits blob.now }
 {
     let Ok(mut cursor) = PointCursor::new(blob, column, limits) else {
         return false;
@@ -165,7 +167,8 @@ fn are_documents(rows: &[u32]) -> bool
     rows.iter().all(|row| 1 <= *row && *row < 0x2000_0000)
 }
 
-/// The answer for a row, and what is written after "ab", with the signature 2; None where it may not be asked for.
+/// The answer for a row, and what is written after "ab", with the signature 2; None where it may
+/// not be asked for.
 fn moved_by(
     alloc: Global,
     map: &MethodMap<'_>,

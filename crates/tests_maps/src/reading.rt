@@ -5,7 +5,8 @@ use ppdb_maps::{MapText, RowImage};
 use std::alloc::{AllocError, Global};
 use std::test::Fail;
 
-/// Whether these are the images, the next images and what is kept among two offsets, at the offsets 0 to 13.
+/// Whether these are the images, the next images and what is kept among two offsets, at the offsets
+/// 0 to 13.
 fn offsets_are(
     map: &impl OffsetImage,
     images: [Option<u32>; 14],

@@ -26,8 +26,9 @@ fn add_in<L: Ledger>(
     blank: Blank,
 ) -> Result<Result<(), MergeError>, Fail>
     requires ledger { (blank.name ≡ L.name) × (blank.parts ≡ L.parts) × (0 < L.parts) }
-    requires few { length merger.now.traces < 256 }
-    ensures { IfOk result (λ answer. OnOk answer (length merger.new.traces ≡ length merger.old.traces + 1)) }
+    requires few { length merger.now.summaries < 256 }
+    ensures { IfOk result
+        (λ answer. OnOk answer (length merger.new.summaries ≡ length merger.old.summaries + 1)) }
 {
     if bytes.len() > 0x0800_0000 {
         return Err(Fail::from("too long"));
@@ -44,8 +45,9 @@ fn add(
     merger: &mut Merger,
     input: Input<'_>,
 ) -> Result<Result<(), MergeError>, Fail>
-    requires { length merger.now.traces < 256 }
-    ensures { IfOk result (λ answer. OnOk answer (length merger.new.traces ≡ length merger.old.traces + 1)) }
+    requires { length merger.now.summaries < 256 }
+    ensures { IfOk result
+        (λ answer. OnOk answer (length merger.new.summaries ≡ length merger.old.summaries + 1)) }
 {
     let Input(bytes, lines) = input;
     let map = map_of(rt.alloc(), lines)?;
@@ -59,11 +61,12 @@ fn add_both(
     first: Input<'_>,
     second: Input<'_>,
 ) -> Result<Result<(), MergeError>, Fail>
-    requires { length merger.now.traces < 255 }
-    ensures { IfOk result (λ answer. OnOk answer (length merger.new.traces ≡ length merger.old.traces + 2)) }
+    requires { length merger.now.summaries < 255 }
+    ensures { IfOk result
+        (λ answer. OnOk answer (length merger.new.summaries ≡ length merger.old.summaries + 2)) }
 {
-    if let Err(told) = add(rt, merger, first)? {
-        return Ok(Err(told));
+    if let Err(reported) = add(rt, merger, first)? {
+        return Ok(Err(reported));
     }
     add(rt, merger, second)
 }
@@ -77,30 +80,30 @@ fn merged(
     let mut merger = Merger::new(rt.alloc(), Marks::new(rt.alloc()));
     match add_both(rt, &mut merger, first, second) {
         Ok(Ok(())) => Ok(merger.finish()),
-        Ok(Err(told)) => Ok(Err(told)),
+        Ok(Err(reported)) => Ok(Err(reported)),
         Err(fail) => Err(fail),
     }
 }
 
 /// Two files are not merged, for this reason.
-fn is_told(
+fn is_reported(
     rt: &HostRuntime,
     first: Input<'static>,
     second: Input<'static>,
     error: MergeError,
 ) -> Result<(), Fail> {
-    let told = match merged(rt, first, second) {
+    let reported = match merged(rt, first, second) {
         Ok(answer) => answer.err(),
         Err(fail) => return Err(fail),
     };
-    match told {
-        Some(told) if told == error => Ok(()),
+    match reported {
+        Some(reported) if reported == error => Ok(()),
         _ => Err(Fail::from(second.1)),
     }
 }
 
 #[test]
-fn an_image_above_the_rows_is_told(rt: HostRuntime) -> Result<(), Fail> {
+fn an_image_above_the_rows_is_reported(rt: HostRuntime) -> Result<(), Fail> {
     let above = MergeError::ImageRange {
         input: 1,
         table: 6,
@@ -110,7 +113,7 @@ fn an_image_above_the_rows_is_told(rt: HostRuntime) -> Result<(), Fail> {
     };
     let past_one = Input(&SMALL, "ppdbmap 1/rows 06 1/row 06 1 2");
     let one = Input(&SMALL, "ppdbmap 1/rows 06 1/row 06 1 1");
-    is_told(&rt, past_one, one, above)
+    is_reported(&rt, past_one, one, above)
 }
 
 /// The document is one, and the methods stand by their images.

@@ -1,4 +1,5 @@
-//! Tests over several crates: what values are written as, the limits that they pass, and values that no file says.
+//! Tests over several crates: what values are written as, the limits that they pass, and values
+//! that no file says.
 #![tactic(auto)]
 
 #[cfg(test)]

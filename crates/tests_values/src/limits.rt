@@ -8,7 +8,8 @@ use ppdb_build::{
 use sequence_points::Point;
 use std::alloc::Global;
 
-/// How long the file of a sound value is, or the limit that the value passes; of another value nothing.
+/// How long the file of a sound value is, or the limit that the value passes; of another value
+/// nothing.
 fn written(alloc: Global, value: &FileValue) -> Result<Option<Result<usize, Limit>>, Memory> {
     let is_sound = sound(alloc, value)?;
     if !is_sound {

@@ -12,8 +12,8 @@ use sequence_points::{Point, Span};
 use std::alloc::Global;
 use type_blobs::TypeToken;
 
-/// What a value has: points of a method, how often the method, the names of a variable and a constant, the table of an import, and the
-/// kind of a record whose bytes are not read.
+/// What a value has: points of a method, how often the method, the names of a variable and a
+/// constant, the table of an import, and the kind of a record whose bytes are not read.
 type Row<'a> = ([Point; 2], usize, &'a [u8], &'a [u8], u8, [u8; 16]);
 
 fn add_methods(

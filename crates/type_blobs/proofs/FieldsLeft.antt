@@ -137,7 +137,7 @@ module _ (limits : TypeLimits) (heap : ℕ → Option (List ℕ)) where
       let same : f.n ≡ n = f.means_it in
       let end : place.at + f.len ≡ next.at = f.next_is in
       let bytes : drop f.len (drop place.at blob) ≡ drop next.at blob = drop-drop f.len place.at blob ∙ ap (λ m. drop m blob) end in
-      let told = ap (λ p. field_of p place.at (number n)) is in
+      let reported = ap (λ p. field_of p place.at (number n)) is in
       fields_left-step g import_field (cut_at place) place.at (drop place.at blob)
       ∙ ap (after_step g import_field (cut_at place) place.at (drop place.at blob)) (step-number g [] begun blob place.at (part_allows limits heap part)
       (λ n. n) n next.at refl (allows_it begun part is) f)

@@ -71,7 +71,8 @@ module _ (limits : TypeLimits) where
 
   modifiers_spelled : (whole ms : List Modifier) → bytes_of (fields_after modifier_fields whole ms) ≡ flat_map modifier_spelling ms
   modifiers_spelled whole [] = refl
-  modifiers_spelled whole (m ∷ ms) = ap (λ bs. (if m.required then 0x1f else 0x20) ∷ (short_unsigned (number_of m.target) ++ bs)) (modifiers_spelled (whole ++ m ∷ []) ms)
+  modifiers_spelled whole (m ∷ ms) =
+      ap (λ bs. (if m.required then 0x1f else 0x20) ∷ (short_unsigned (number_of m.target) ++ bs)) (modifiers_spelled (whole ++ m ∷ []) ms)
 
   -- ---- the body
 

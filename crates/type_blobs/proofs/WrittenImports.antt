@@ -46,8 +46,8 @@ module _ (limits : TypeLimits) (heap : ℕ → Option (List ℕ)) where
   there_is o h = h
 
   -- what a walk reports of fields that are written
-  abbrev told : Cut ImportItem → ℕ → List Field → List ImportField
-  told place at fields = flat_map import_field (placed_from (imports limits heap) place at fields)
+  abbrev reported : Cut ImportItem → ℕ → List Field → List ImportField
+  reported place at fields = flat_map import_field (placed_from (imports limits heap) place at fields)
 
   -- an import of a kind is allowed, and makes the item that the numbers stand for
   record IsWritten (kind : ℕ) (numbers : ImportNumbers) : Type 0 where
@@ -55,7 +55,7 @@ module _ (limits : TypeLimits) (heap : ℕ → Option (List ℕ)) where
     pub stands_for : item_of heap kind (map (part_number numbers) (parts_of kind)) ≡ Some item
     pub follow : (whole : List ImportItem) (left : List ℕ) → FollowFrom (imports limits heap) (after whole) (fields_of kind numbers) left
     pub makes : (whole : List ImportItem) → cut_from (imports limits heap) (after whole) (fields_of kind numbers) ≡ after (whole ++ item ∷ [])
-    pub tells : (whole : List ImportItem) (at : ℕ) → told (after whole) at (fields_of kind numbers) ≡ record {
+    pub tells : (whole : List ImportItem) (at : ℕ) → reported (after whole) at (fields_of kind numbers) ≡ record {
       byte = at;
       part = Kind;
       number = kind;
@@ -258,11 +258,11 @@ module _ (limits : TypeLimits) (heap : ℕ → Option (List ℕ)) where
         cut_from-append g (after whole) fs gs ∙ ap (λ c. cut_from g c gs) made_one ∙ again.1 ∙ ap after (append_assoc whole (item ∷ []) items),
       )
 
-  all_told : (whole : List ImportItem) (at : ℕ) (all : List ImportNumbers) (items : List ImportItem) → All IsImport all → AllThere all → StandFor heap all items
-      → told (after whole) at (fields_of_all all) ≡ fields_at at all
-  all_told whole at [] items h there e = refl
-  all_told whole at (numbers ∷ all) [] h there e = absurd cc
-  all_told whole at (numbers ∷ all) (item ∷ items) h there e =
+  all_reported : (whole : List ImportItem) (at : ℕ) (all : List ImportNumbers) (items : List ImportItem) → All IsImport all → AllThere all → StandFor heap all items
+      → reported (after whole) at (fields_of_all all) ≡ fields_at at all
+  all_reported whole at [] items h there e = refl
+  all_reported whole at (numbers ∷ all) [] h there e = absurd cc
+  all_reported whole at (numbers ∷ all) (item ∷ items) h there e =
       let one_h : IsImport numbers = All-head IsImport numbers all h in
       let w = one numbers.kind numbers one_h.from one_h.to one_h (All-head (λ n. All (IsPartThere limits heap n) (parts_of n.kind)) numbers all there) in
       let rest_of_them : StandFor heap all items = cc in
@@ -270,14 +270,14 @@ module _ (limits : TypeLimits) (heap : ℕ → Option (List ℕ)) where
       let fs = fields_of numbers.kind numbers in
       let gs = fields_of_all all in
       let len : length (bytes_of fs) ≡ length (import_spelling numbers) = ap length (one_spelled numbers) in
-      let later = all_told (whole ++ w.item ∷ []) (at + length (import_spelling numbers)) all items (All-tail IsImport numbers all h)
+      let later = all_reported (whole ++ w.item ∷ []) (at + length (import_spelling numbers)) all items (All-tail IsImport numbers all h)
       (All-tail (λ n. All (IsPartThere limits heap n) (parts_of n.kind)) numbers all there) rest_of_them in
       ap (flat_map import_field) (placed_from-append g (after whole) at fs gs) ∙ flat_map-append import_field (placed_from g (after whole) at fs)
       (placed_from g (cut_from g (after whole) fs) (at + length (bytes_of fs)) gs)
-      ∙ ap (λ (l : List ImportField). l ++ told (cut_from g (after whole) fs) (at + length (bytes_of fs)) gs) (w.tells whole at)
+      ∙ ap (λ (l : List ImportField). l ++ reported (cut_from g (after whole) fs) (at + length (bytes_of fs)) gs) (w.tells whole at)
       ∙ ap (λ (l : List ImportField). parts_at numbers at (Kind ∷ parts_of numbers.kind) ++ l)
-      (ap (λ (c : Cut ImportItem). told c (at + length (bytes_of fs)) gs) (w.makes whole)
-      ∙ ap (λ (n : ℕ). told (after (whole ++ w.item ∷ [])) (at + n) gs) len ∙ later)
+      (ap (λ (c : Cut ImportItem). reported c (at + length (bytes_of fs)) gs) (w.makes whole)
+      ∙ ap (λ (n : ℕ). reported (after (whole ++ w.item ∷ [])) (at + n) gs) len ∙ later)
 
   module _ (all : List ImportNumbers) (items : List ImportItem) (h : All IsImport all) (there : AllThere all) (e : StandFor heap all items) where
     done : Made [] all items
@@ -297,7 +297,7 @@ module _ (limits : TypeLimits) (heap : ℕ → Option (List ℕ)) where
         let g = imports limits heap in
         let fs = fields_of_all all in
         ap (import_fields limits heap) (sym (spelled all))
-        ∙ sym (fields-are g import_field (bytes_of fs) (told (after []) 0 fs) (written_fields g import_field fs done.0)) ∙ all_told [] 0 all items h there e
+        ∙ sym (fields-are g import_field (bytes_of fs) (reported (after []) 0 fs) (written_fields g import_field fs done.0)) ∙ all_reported [] 0 all items h there e
 
     pub written_indexes : import_indexes limits heap (flat_map import_spelling all) ≡ flat_map text_index (fields_at 0 all)
     unfolding import_indexes

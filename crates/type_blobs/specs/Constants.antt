@@ -1,10 +1,14 @@
--- The signature of a local constant (Portable PDB v1.0, "LocalConstantSig Blob"; codes of ECMA-335 II.23.1.16).
-use Rattle.std.specs.Prelude.{ℕ, ◌%◌, List, [], ◌∷◌, length, Option, Some, None, Bool, true, false, is_some, ◌&&◌, ◌||◌, ◌==◌, nat_le, if◌then◌else◌}
-use Rattle.blob_grammar.specs.{Grammar.{Value, number, octets, Form, unsigned, byte, fixed, rest, Grammar}, Allowed.is_number}
-use Rattle.type_blobs.specs.{declared.types.{TypeToken.TypeToken, TypeLimits.TypeLimits, Modifier.Modifier}, Types.{is_type, token_of}}
+-- The signature of a local constant (Portable PDB v1.0, "LocalConstantSig Blob"; codes of ECMA-335
+-- II.23.1.16).
+use Rattle.std.specs.Prelude.{ℕ, ◌%◌, List, [], ◌∷◌, length, Option, Some, None, Bool, true, false}
+use Rattle.std.specs.Prelude.{is_some, ◌&&◌, ◌||◌, ◌==◌, nat_le, if◌then◌else◌}
+use Rattle.blob_grammar.specs.Grammar.{Value, number, octets, Form, unsigned, byte, fixed, rest}
+use Rattle.blob_grammar.specs.{Grammar.Grammar, Allowed.is_number}
+use Rattle.type_blobs.specs.declared.types.{TypeToken.TypeToken, TypeLimits.TypeLimits}
+use Rattle.type_blobs.specs.{declared.types.Modifier.Modifier, Types.{is_type, token_of}}
 
--- The body of a constant, after its modifiers: a value of a primitive type or a text; a value of an enumeration; a value of
--- a class or a value type; or the null reference of type object.
+-- The body of a constant, after its modifiers: a value of a primitive type or a text; a value of an
+-- enumeration; a value of a class or a value type; or the null reference of type object.
 pub data ConstantBody : Type 0 where
   primitive : (code : ℕ) (value : List ℕ) → ConstantBody
   enumerated : (code : ℕ) (value : List ℕ) (target : TypeToken) → ConstantBody
@@ -37,7 +41,8 @@ abbrev pub is_object : ℕ → Bool
 is_object code = code == 0x1c
 
 abbrev pub is_code : ℕ → Bool
-is_code code = is_modifier code || (is_primitive code || (is_general code || (is_string code || is_object code)))
+is_code code = is_modifier code
+    || (is_primitive code || (is_general code || (is_string code || is_object code)))
 
 -- the bytes of a value of a primitive type, by its code: 1, 2, 1, 1, 2, 2, 4, 4, 8, 8, 4, 8
 abbrev pub size_of : ℕ → ℕ
@@ -62,7 +67,8 @@ after_code code =
 
 -- what follows a code and a value or a type
 abbrev pub after_two : ℕ → Option Form
-after_two code = if is_enumerable code then Some unsigned else (if is_general code then Some rest else None)
+after_two code =
+    if is_enumerable code then Some unsigned else (if is_general code then Some rest else None)
 
 abbrev pub form : List Value → Option Form
 form [] = Some byte
@@ -70,8 +76,8 @@ form (number code ∷ []) = after_code code
 form (number code ∷ second ∷ []) = after_two code
 form _ = None
 
--- The first field is a code. The second is a type that is there, a value or a text. The third is, after a value, a type that is there,
--- and after a type any bytes.
+-- The first field is a code. The second is a type that is there, a value or a text. The third is,
+-- after a value, a type that is there, and after a type any bytes.
 abbrev pub allows : TypeLimits → List Value → Value → Bool
 allows limits [] (number code) = is_code code
 allows limits (number code ∷ []) (octets xs) = if is_string code then is_text xs else true
@@ -83,17 +89,21 @@ allows limits _ value = false
 -- A modifier: its code says whether it is required.
 abbrev pub modifier_of : List Value → Option Modifier
 modifier_of (number code ∷ number target ∷ []) =
-    if is_modifier code then Some (record { required = code == 0x1f; target = token_of target }) else None
+    if is_modifier code then Some (record { required = code == 0x1f; target = token_of target })
+    else None
 modifier_of _ = None
 
--- The body that these values are: OBJECT alone; STRING, whose rest may be empty; a value, and a type for an enumeration;
--- a type of CLASS or VALUETYPE, whose rest may be empty.
+-- The body that these values are: OBJECT alone; STRING, whose rest may be empty; a value, and a
+-- type for an enumeration; a type of CLASS or VALUETYPE, whose rest may be empty.
 abbrev pub body_of : List Value → Option ConstantBody
-body_of (number code ∷ []) = if is_object code then Some object else (if is_string code then Some (primitive code []) else None)
+body_of (number code ∷ []) = if is_object code then Some object
+    else (if is_string code then Some (primitive code []) else None)
 body_of (number code ∷ octets value ∷ []) = Some (primitive code value)
-body_of (number code ∷ octets value ∷ number target ∷ []) = Some (enumerated code value (token_of target))
+body_of (number code ∷ octets value ∷ number target ∷ []) =
+    Some (enumerated code value (token_of target))
 body_of (number code ∷ number target ∷ []) = Some (general code (token_of target) [])
-body_of (number code ∷ number target ∷ octets more ∷ []) = Some (general code (token_of target) more)
+body_of (number code ∷ number target ∷ octets more ∷ []) =
+    Some (general code (token_of target) more)
 body_of _ = None
 
 -- Modifiers are the records; the body is what has begun where the blob ends.

@@ -1,8 +1,17 @@
--- The imports of an import scope (Portable PDB v1.0, "Imports Blob"): each is a kind, and the fields of that kind.
-use Rattle.std.specs.Prelude.{ℕ, zero, suc, List, [], ◌∷◌, length, Option, Some, None, Bool, true, false, is_some, ◌&&◌, nat_le, ◌==◌, slice_get, slice_index, if◌then◌else◌, unwrap_or, option_map}
+-- The imports of an import scope (Portable PDB v1.0, "Imports Blob"): each is a kind, and the
+-- fields of that kind.
+use Rattle.std.specs.Prelude.{ℕ, zero, suc, List, [], ◌∷◌, length, Option, Some, None, Bool, true}
+use Rattle.std.specs.Prelude.{false, is_some, ◌&&◌, nat_le, ◌==◌, slice_get, slice_index}
+use Rattle.std.specs.Prelude.{if◌then◌else◌, unwrap_or, option_map}
 use Rattle.std.specs.Prelude.{flat_map}
-use Rattle.blob_grammar.specs.{Grammar.{Value, number, unsigned, Grammar}, declared.places.PlacedIndex.PlacedIndex, Places.{PlacedField, placed_of}, Reader.prefix_of, Allowed.{is_row, is_between}}
-use Rattle.type_blobs.specs.{declared.import_part.{ImportPart.{ImportPart, TheVariants.{Kind, Alias, Assembly, Namespace, Target}}, ImportField.ImportField}, declared.types.TypeToken.TypeToken}
+use Rattle.blob_grammar.specs.Grammar.{Value, number, unsigned, Grammar}
+use Rattle.blob_grammar.specs.{declared.places.PlacedIndex.PlacedIndex, Places.PlacedField}
+use Rattle.blob_grammar.specs.{Places.placed_of, Reader.prefix_of, Allowed.{is_row, is_between}}
+use Rattle.type_blobs.specs.declared.import_part.ImportPart.{ImportPart}
+use Rattle.type_blobs.specs.declared.import_part.ImportPart.TheVariants.{Kind, Alias, Assembly}
+use Rattle.type_blobs.specs.declared.import_part.ImportPart.TheVariants.{Namespace, Target}
+use Rattle.type_blobs.specs.declared.import_part.ImportField.{ImportField}
+use Rattle.type_blobs.specs.declared.types.TypeToken.{TypeToken}
 use Rattle.type_blobs.specs.{declared.types.TypeLimits.TypeLimits, Types.{is_type, token_of}}
 
 -- The fields of the kinds 1 to 9.
@@ -39,7 +48,8 @@ pub data ImportItem : Type 0 where
   assembly_namespace_alias : (alias : List ℕ) (assembly : ℕ) (namespace : List ℕ) → ImportItem
   target_alias : (alias : List ℕ) (target : TypeToken) → ImportItem
 
--- the content at an index of a heap, a heap being a partial function from indexes to contents; no bytes where there is none
+-- the content at an index of a heap, a heap being a partial function from indexes to contents; no
+-- bytes where there is none
 abbrev pub text_of : (ℕ → Option (List ℕ)) → ℕ → List ℕ
 text_of heap index = unwrap_or (heap index) []
 
@@ -53,7 +63,8 @@ items_by_kind heap =
     ∷ (λ ns. alias (text_of heap (slice_index ns 0)))
     ∷ (λ ns. assembly_alias (text_of heap (slice_index ns 0)) (slice_index ns 1))
     ∷ (λ ns. namespace_alias (text_of heap (slice_index ns 0)) (text_of heap (slice_index ns 1)))
-    ∷ (λ ns. assembly_namespace_alias (text_of heap (slice_index ns 0)) (slice_index ns 1) (text_of heap (slice_index ns 2)))
+    ∷ (λ ns. assembly_namespace_alias (text_of heap (slice_index ns 0)) (slice_index ns 1)
+    (text_of heap (slice_index ns 2)))
     ∷ (λ ns. target_alias (text_of heap (slice_index ns 0)) (token_of (slice_index ns 1)))
     ∷ []
 
@@ -83,7 +94,8 @@ numbers_of (number n ∷ values) = n ∷ numbers_of values
 numbers_of (_ ∷ values) = 0 ∷ numbers_of values
 
 abbrev pub import_of : (ℕ → Option (List ℕ)) → List Value → Option ImportItem
-import_of heap (number kind ∷ fields) = if length fields == length (parts_of kind) then item_of heap kind (numbers_of fields) else None
+import_of heap (number kind ∷ fields) =
+    if length fields == length (parts_of kind) then item_of heap kind (numbers_of fields) else None
 import_of heap _ = None
 
 -- Any number of imports; all fields are compressed unsigned numbers.
@@ -107,7 +119,8 @@ import_field field = field_of (next_part field.before) field.byte field.value
 
 -- The fields of the longest valid prefix of some imports, in order.
 abbrev pub import_fields : TypeLimits → (ℕ → Option (List ℕ)) → List ℕ → List ImportField
-import_fields limits heap blob = flat_map import_field (placed_of (imports limits heap) (prefix_of (imports limits heap) blob))
+import_fields limits heap blob =
+    flat_map import_field (placed_of (imports limits heap) (prefix_of (imports limits heap) blob))
 
 abbrev pub names_text : ImportPart → Bool
 names_text Alias = true
@@ -115,8 +128,10 @@ names_text Namespace = true
 names_text _ = false
 
 abbrev pub text_index : ImportField → List PlacedIndex
-text_index field = if names_text field.part then record { byte = field.byte; index = field.number } ∷ [] else []
+text_index field =
+    if names_text field.part then record { byte = field.byte; index = field.number } ∷ [] else []
 
--- The indexes of texts that the longest valid prefix of some imports names, each with the byte at which it stands.
+-- The indexes of texts that the longest valid prefix of some imports names, each with the byte at
+-- which it stands.
 unfoldable pub import_indexes : TypeLimits → (ℕ → Option (List ℕ)) → List ℕ → List PlacedIndex
 import_indexes limits heap blob = flat_map text_index (import_fields limits heap blob)

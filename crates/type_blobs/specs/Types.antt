@@ -1,9 +1,12 @@
--- Type references (ECMA-335 II.23.2.8, TypeDefOrRefOrSpecEncoded): a compressed number, a row times four and a tag.
-use Rattle.std.specs.Prelude.{◌≡◌, ℕ, zero, suc, ◌+◌, ◌*◌, ◌/◌, ◌%◌, ◌≤◌, Bool, ◌==◌, if◌then◌else◌, ◌⊎◌}
+-- Type references (ECMA-335 II.23.2.8, TypeDefOrRefOrSpecEncoded): a compressed number, a row times
+-- four and a tag.
+use Rattle.std.specs.Prelude.{◌≡◌, ℕ, zero, suc, ◌+◌, ◌*◌, ◌/◌, ◌%◌, ◌≤◌, Bool, ◌==◌, if◌then◌else◌}
+use Rattle.std.specs.Prelude.{◌⊎◌}
 use Rattle.blob_grammar.specs.Allowed.{is_row}
 use Rattle.type_blobs.specs.declared.types.{TypeToken.TypeToken, TypeLimits.TypeLimits}
 
--- The table of a tag: 0 TypeDef, 1 TypeRef, 2 TypeSpec. No type has the tag 3 (`is_type`), and what stands for it is never read.
+-- The table of a tag: 0 TypeDef, 1 TypeRef, 2 TypeSpec. No type has the tag 3 (`is_type`), and what
+-- stands for it is never read.
 abbrev pub table_of : ℕ → ℕ
 table_of zero = 0x02
 table_of (suc zero) = 0x01
@@ -32,7 +35,8 @@ number_of token = 4 * token.row + tag_of token.table
 
 -- A type that has a number: its table has a tag, and its row fits three bytes.
 abbrev pub IsToken : TypeToken → Type 0
-IsToken token = ((token.table ≡ 0x02) ⊎ ((token.table ≡ 0x01) ⊎ (token.table ≡ 0x1b))) × (token.row ≤ 0xffffff)
+IsToken token =
+    ((token.table ≡ 0x02) ⊎ ((token.table ≡ 0x01) ⊎ (token.table ≡ 0x1b))) × (token.row ≤ 0xffffff)
 
 -- A type whose row is there.
 abbrev pub IsThere : TypeLimits → TypeToken → Type 0

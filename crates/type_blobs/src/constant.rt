@@ -1,7 +1,9 @@
 ghost use Rattle.std.specs.Prelude.{◌≡◌, ◌≤◌, ◌<◌, ◌^◌, length, true, [], ◌∷◌, Ok, None};
 ghost use Rattle.blob_grammar.specs.Grammar.{number};
-ghost use Rattle.type_blobs.specs.Constants.{is_modifier, is_enumerable, is_general, is_text, size_of};
-ghost use Rattle.type_blobs.specs.ConstantReading.{ConstantLeft, ConstantReading, constant_left, modifier_answer, body_answer, rest_of};
+ghost use Rattle.type_blobs.specs.Constants.{is_modifier, is_enumerable, is_general, is_text};
+ghost use Rattle.type_blobs.specs.Constants.{size_of};
+ghost use Rattle.type_blobs.specs.ConstantReading.{ConstantLeft, ConstantReading, constant_left};
+ghost use Rattle.type_blobs.specs.ConstantReading.{modifier_answer, body_answer, rest_of};
 ghost use Rattle.type_blobs.specs.ConstantReading.{shown_body, NextModifierIs, BodyIs};
 
 use crate::types::{Modifier, TypeLimits, TypeToken, type_at};
@@ -12,7 +14,8 @@ use std::marker::Model;
 /// The value of a local constant, after its modifiers (Portable PDB v1.0, "LocalConstantSig Blob").
 #[derive(Clone, Copy, Debug, PartialEq, Eq)]
 pub enum Constant<'a> {
-    /// A value of a primitive type, as stored, or a text with the code 0e: the byte ff for null, else UTF-16.
+    /// A value of a primitive type, as stored, or a text with the code 0e: the byte ff for null,
+    /// else UTF-16.
     Primitive {
         code: u8,
         value: &'a [u8],
@@ -212,7 +215,8 @@ impl<'a> ConstantCursor<'a> {
         }
     }
 
-    /// The next modifier; None where the body comes. After None or a fault the answer stays the same.
+    /// The next modifier; None where the body comes. After None or a fault the answer stays the
+    /// same.
     pub fn next_modifier(&mut self) -> Result<Option<Modifier>, BlobFault>
         ensures answer { result ≡ modifier_answer self.old }
         ensures left { self.new ≡ rest_of self.old }

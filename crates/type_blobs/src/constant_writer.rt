@@ -1,7 +1,8 @@
 ghost use Rattle.std.specs.Prelude.{◌≡◌, ◌++◌, All, OnOk, OnErr};
 ghost use Rattle.type_blobs.specs.Types.{IsToken};
 ghost use Rattle.type_blobs.specs.ConstantReading.{shown};
-ghost use Rattle.type_blobs.specs.Spelling.{IsBody, modifier_spelling, body_spelling, constant_spelling};
+ghost use Rattle.type_blobs.specs.Spelling.{IsBody, modifier_spelling, body_spelling};
+ghost use Rattle.type_blobs.specs.Spelling.{constant_spelling};
 ghost use Rattle.ppdb_base.specs.Written.{BeginsWith};
 
 use crate::constant::Constant;
@@ -53,7 +54,8 @@ fn body_into(body: &Constant<'_>, into: &mut Bytes) -> Result<(), Memory>
 fn fields_into(modifiers: &[Modifier], body: &Constant<'_>, into: &mut Bytes) -> Result<(), Memory>
     requires modifiers { All (λ m. IsToken m.target) modifiers.now }
     requires body { IsBody (shown body.now) }
-    ensures ok { OnOk result (into.new ≡ into.old ++ constant_spelling modifiers.now (shown body.now)) }
+    ensures ok { OnOk result (into.new ≡ into.old
+        ++ constant_spelling modifiers.now (shown body.now)) }
     ensures err { OnErr result (BeginsWith into.old into.new) }
 {
     for modifier in modifiers {
@@ -62,8 +64,8 @@ fn fields_into(modifiers: &[Modifier], body: &Constant<'_>, into: &mut Bytes) ->
     body_into(body, into)
 }
 
-/// Appends the signature of a local constant: its modifiers in order and its body, each number in its shortest form. After
-/// a refusal the bytes are unchanged.
+/// Appends the signature of a local constant: its modifiers in order and its body, each number in
+/// its shortest form. After a refusal the bytes are unchanged.
 pub fn constant_into(
     modifiers: &[Modifier],
     body: &Constant<'_>,
@@ -71,7 +73,8 @@ pub fn constant_into(
 ) -> Result<(), Memory>
     requires modifiers { All (λ m. IsToken m.target) modifiers.now }
     requires body { IsBody (shown body.now) }
-    ensures ok { OnOk result (into.new ≡ into.old ++ constant_spelling modifiers.now (shown body.now)) }
+    ensures ok { OnOk result (into.new ≡ into.old
+        ++ constant_spelling modifiers.now (shown body.now)) }
     ensures err { OnErr result (into.new ≡ into.old) }
 {
     let len = into.len();

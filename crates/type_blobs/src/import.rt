@@ -3,7 +3,9 @@ ghost use Rattle.blob_grammar.specs.Reading.{Reading};
 ghost use Rattle.blob_grammar.specs.Reader.{Left, answer, rest_of};
 ghost use Rattle.type_blobs.specs.Imports.{imports, ImportItem, part_allows};
 ghost use Rattle.type_blobs.specs.Numbers.{number_at, shown_at};
-ghost use Rattle.type_blobs.specs.ImportReading.{heap_of, shown_answer, imports_left, fields_left, text_at, assembly_at, target_at, FieldsAre, NextImportIs};
+ghost use Rattle.type_blobs.specs.ImportReading.{heap_of, shown_answer, imports_left, fields_left};
+ghost use Rattle.type_blobs.specs.ImportReading.{text_at, assembly_at, target_at, FieldsAre};
+ghost use Rattle.type_blobs.specs.ImportReading.{NextImportIs};
 
 use crate::import_part::ImportPart;
 use crate::types::{TypeLimits, TypeToken, is_type, type_at};
@@ -12,7 +14,8 @@ use ppdb_base::{BlobFault, Code};
 use ppdb_heaps::Blobs;
 use std::marker::Model;
 
-/// An import: what the names of a scope are looked up in (Portable PDB v1.0, "Imports Blob"). Texts are UTF-8, as stored.
+/// An import: what the names of a scope are looked up in (Portable PDB v1.0, "Imports Blob"). Texts
+/// are UTF-8, as stored.
 #[derive(Clone, Copy, Debug, PartialEq, Eq)]
 pub enum Import<'a> {
     /// Kind 1: the types of a namespace.
@@ -98,7 +101,8 @@ impl<'a> Source<'a> {
     /// The number of a field at a place, and the place after it.
     pub(crate) fn field(&self, part: ImportPart, at: usize) -> Result<(u32, usize), BlobFault>
         requires { at ≤ length self.now.blob.now }
-        ensures found { result ≡ number_at (part_allows self.now.limits (heap_of self.now.blobs) part) (λ n. n) self.now.blob.now at }
+        ensures found { result ≡ number_at (part_allows self.now.limits
+            (heap_of self.now.blobs) part) (λ n. n) self.now.blob.now at }
         ensures within { IfOk result (λ x. x.1 ≤ length self.now.blob.now) }
     {
         let (number, len) = unsigned_field(self.blob, at)?;
@@ -132,8 +136,10 @@ impl<'a> Source<'a> {
         requires within { at ≤ length self.now.blob.now }
         requires from { 1 ≤ kind }
         requires to { kind ≤ 3 }
-        ensures { FieldsAre (imports_left self.now.limits (heap_of self.now.blobs) self.now.blob.now) (length self.now.blob.now)
-            (fields_left self.now.limits (heap_of self.now.blobs) self.now.blob.now kind at) result }
+        ensures { FieldsAre (imports_left self.now.limits
+            (heap_of self.now.blobs) self.now.blob.now) (length self.now.blob.now)
+            (fields_left self.now.limits (heap_of self.now.blobs) self.now.blob.now kind at)
+            result }
     {
         match kind {
             1 => {
@@ -161,8 +167,10 @@ impl<'a> Source<'a> {
         requires within { at ≤ length self.now.blob.now }
         requires from { 4 ≤ kind }
         requires to { kind ≤ 9 }
-        ensures { FieldsAre (imports_left self.now.limits (heap_of self.now.blobs) self.now.blob.now) (length self.now.blob.now)
-            (fields_left self.now.limits (heap_of self.now.blobs) self.now.blob.now kind at) result }
+        ensures { FieldsAre (imports_left self.now.limits
+            (heap_of self.now.blobs) self.now.blob.now) (length self.now.blob.now)
+            (fields_left self.now.limits (heap_of self.now.blobs) self.now.blob.now kind at)
+            result }
     {
         let (alias, next) = self.text(at)?;
         match kind {
@@ -199,7 +207,8 @@ impl<'a> Source<'a> {
     /// The import that begins at a place, and the place after it; None at the blob's end.
     fn import(&self, at: usize) -> Result<Option<(Import<'a>, usize)>, BlobFault>
         requires { at ≤ length self.now.blob.now }
-        ensures { NextImportIs (imports_left self.now.limits (heap_of self.now.blobs) self.now.blob.now) (length self.now.blob.now) at result }
+        ensures { NextImportIs (imports_left self.now.limits
+            (heap_of self.now.blobs) self.now.blob.now) (length self.now.blob.now) at result }
     {
         if at == self.blob.len() {
             return Ok(None);
@@ -223,7 +232,8 @@ pub struct ImportCursor<'a> {
 impl<'a> Model for ImportCursor<'a> {
     ghost Value = { Left ImportItem };
 
-    ghost view = { λ s. imports_left s.source.limits (heap_of s.source.blobs) s.source.blob.now s.at };
+    ghost view = { λ s.
+        imports_left s.source.limits (heap_of s.source.blobs) s.source.blob.now s.at };
 
     ghost invariant = { λ s. s.at ≤ length s.source.blob.now };
 }
@@ -232,7 +242,8 @@ impl<'a> ImportCursor<'a> {
     /// The imports of a blob of `#Blob`, by the row counts of the file.
     pub fn new(blob: &'a [u8], blobs: Blobs<'a>, limits: TypeLimits) -> ImportCursor<'a>
         requires { length blob.now < 2 ^ 32 }
-        ensures { Reading (imports limits (heap_of blobs.entry)) blob.now result.items result.fault }
+        ensures { Reading
+            (imports limits (heap_of blobs.entry)) blob.now result.items result.fault }
     {
         ImportCursor {
             source: Source {
@@ -244,7 +255,8 @@ impl<'a> ImportCursor<'a> {
         }
     }
 
-    /// The next import; None at the end of a whole blob. After None or a fault the answer stays the same.
+    /// The next import; None at the end of a whole blob. After None or a fault the answer stays the
+    /// same.
     pub fn next(&mut self) -> Result<Option<Import<'a>>, BlobFault>
         ensures answer { shown_answer result ≡ answer self.old }
         ensures left { self.new ≡ rest_of self.old }

@@ -5,7 +5,8 @@ ghost use Rattle.blob_grammar.specs.Places.{HasFields, HasEnd};
 ghost use Rattle.blob_grammar.specs.Reader.{Left, answer, rest_of};
 ghost use Rattle.type_blobs.specs.declared.import_part.ImportField.{ImportField};
 ghost use Rattle.type_blobs.specs.Imports.{imports, import_field, next_part};
-ghost use Rattle.type_blobs.specs.ImportReading.{heap_of, begun_of, IsBegun, IsPlace, SameShape, NextFieldIs, import_fields_left};
+ghost use Rattle.type_blobs.specs.ImportReading.{heap_of, begun_of, IsBegun, IsPlace, SameShape};
+ghost use Rattle.type_blobs.specs.ImportReading.{NextFieldIs, import_fields_left};
 
 use crate::import::Source;
 use crate::import_part::{ImportField, ImportPart, parts_of};
@@ -41,7 +42,9 @@ fn begun_after(kind: u32, fields: usize, n: u32) -> (u32, usize)
     requires kind { fields ≡ 0 → (1 ≤ n) × (n ≤ 9) }
     ensures begun { IsBegun result.0 result.1 }
     ensures shape { (limits : TypeLimits) (heap : ℕ → Option (List ℕ))
-        → SameShape (with_value (imports limits heap) (record { whole = []; begun = begun_of kind fields }) (number n)).begun (begun_of result.0 result.1) }
+        → SameShape (with_value (imports limits heap)
+        (record { whole = []; begun = begun_of kind fields }) (number n)).begun
+        (begun_of result.0 result.1) }
 {
     if fields == 0 {
         (n, 1)
@@ -58,7 +61,8 @@ fn field_at(
     place: ImportPlace,
 ) -> Result<Option<(ImportField, ImportPlace)>, BlobFault>
     requires { IsPlace source.now.blob.now place }
-    ensures { NextFieldIs (import_fields_left source.now.limits (heap_of source.now.blobs) source.now.blob.now) source.now.blob.now place result }
+    ensures { NextFieldIs (import_fields_left source.now.limits
+        (heap_of source.now.blobs) source.now.blob.now) source.now.blob.now place result }
 {
     if place.fields == 0 && place.at == source.blob.len() {
         return Ok(None);
@@ -84,7 +88,8 @@ pub struct ImportFields<'a> {
 impl<'a> Model for ImportFields<'a> {
     ghost Value = { Left ImportField };
 
-    ghost view = { λ s. import_fields_left s.source.limits (heap_of s.source.blobs) s.source.blob.now s.place };
+    ghost view = { λ s.
+        import_fields_left s.source.limits (heap_of s.source.blobs) s.source.blob.now s.place };
 
     ghost invariant = { λ s. IsPlace s.source.blob.now s.place };
 }
@@ -93,7 +98,8 @@ impl<'a> ImportFields<'a> {
     /// The fields of a blob of `#Blob`, by the row counts of the file.
     pub fn new(blob: &'a [u8], blobs: Blobs<'a>, limits: TypeLimits) -> ImportFields<'a>
         requires { length blob.now < 2 ^ 32 }
-        ensures fields { HasFields (imports limits (heap_of blobs.entry)) import_field blob.now result.items }
+        ensures fields { HasFields
+            (imports limits (heap_of blobs.entry)) import_field blob.now result.items }
         ensures end { HasEnd (imports limits (heap_of blobs.entry)) blob.now result.fault }
     {
         ImportFields {
@@ -110,7 +116,8 @@ impl<'a> ImportFields<'a> {
         }
     }
 
-    /// The next field; None at the end of a whole blob. After None or a fault the answer stays the same.
+    /// The next field; None at the end of a whole blob. After None or a fault the answer stays the
+    /// same.
     pub fn next(&mut self) -> Result<Option<ImportField>, BlobFault>
         ensures answer { result ≡ answer self.old }
         ensures left { self.new ≡ rest_of self.old }

@@ -42,7 +42,8 @@ fn part_number(numbers: &ImportNumbers, part: ImportPart) -> u32
 /// Appends fields, each in its shortest form. After a refusal the bytes begin with what they were.
 fn parts_into(numbers: &ImportNumbers, parts: &[ImportPart], into: &mut Bytes) -> Result<(), Memory>
     requires { IsImport numbers.now }
-    ensures ok { OnOk result (into.new ≡ into.old ++ flat_map short_unsigned (map (part_number numbers.now) parts.now)) }
+    ensures ok { OnOk result (into.new ≡ into.old
+        ++ flat_map short_unsigned (map (part_number numbers.now) parts.now)) }
     ensures err { OnErr result (BeginsWith into.old into.new) }
 {
     for part in parts {
@@ -51,7 +52,8 @@ fn parts_into(numbers: &ImportNumbers, parts: &[ImportPart], into: &mut Bytes) -
     Ok(())
 }
 
-/// Appends the kind and the fields that it has. After a refusal the bytes begin with what they were.
+/// Appends the kind and the fields that it has. After a refusal the bytes begin with what they
+/// were.
 fn fields_into(numbers: &ImportNumbers, into: &mut Bytes) -> Result<(), Memory>
     requires { IsImport numbers.now }
     ensures ok { OnOk result (into.new ≡ into.old ++ import_spelling numbers.now) }
@@ -62,7 +64,8 @@ fn fields_into(numbers: &ImportNumbers, into: &mut Bytes) -> Result<(), Memory>
     parts_into(numbers, parts_of(kind), into)
 }
 
-/// Appends the kind and the fields that it has, each in its shortest form. After a refusal the bytes are unchanged.
+/// Appends the kind and the fields that it has, each in its shortest form. After a refusal the
+/// bytes are unchanged.
 pub fn import_into(numbers: &ImportNumbers, into: &mut Bytes) -> Result<(), Memory>
     requires { IsImport numbers.now }
     ensures ok { OnOk result (into.new ≡ into.old ++ import_spelling numbers.now) }

@@ -1,5 +1,5 @@
-//! The signatures of local constants and the imports of import scopes (Portable PDB v1.0, "LocalConstantSig Blob" and
-//! "Imports Blob"), read and written.
+//! The signatures of local constants and the imports of import scopes (Portable PDB v1.0,
+//! "LocalConstantSig Blob" and "Imports Blob"), read and written.
 #![tactic(auto)]
 
 mod constant;

@@ -15,7 +15,7 @@ use ppdb_show_lines::Part::Field;
 use ppdb_show_lines::{Key, Printer};
 use ppdb_tables::{CustomRow, Parent};
 use ppdb_verify::Verified;
-use ppdb_verify_rows::{blob, custom, guid};
+use ppdb_verify_readers::{blob, custom, guid};
 use std::sync::ledger::Ledger;
 
 /// Puts the line of a custom record.
@@ -25,7 +25,8 @@ pub(crate) fn put_custom(
     file: &Verified<'_>,
     custom: &CustomRow,
 ) -> Result<(), Memory>
-    ensures { OnOk result (Adds printer.entry.form text.old text.new (custom_found (raw_of (tables_of file.now)) custom.now ∷ [])) }
+    ensures { OnOk result (Adds printer.entry.form text.old text.new
+        (custom_found (raw_of (tables_of file.now)) custom.now ∷ [])) }
 {
     let parts = [
         Field(" ", Key::Kind, Guid(guid(file, custom.kind))),
@@ -44,12 +45,14 @@ pub(crate) fn put_customs<L: Ledger>(
 ) -> Result<(), Memory>
     requires tag { IsSome (coded_in parent) }
     requires there { HasRow (raw_of (tables_of file.now)) parent.table parent.row }
-    ensures ok { OnOk result (Adds printer.entry.form text.old text.new (customs_found (raw_of (tables_of file.now)) parent.table parent.row)) }
+    ensures ok { OnOk result (Adds printer.entry.form text.old text.new
+        (customs_found (raw_of (tables_of file.now)) parent.table parent.row)) }
     ensures later { steps.old ≤ steps.new }
-    ensures cost { steps.new ≤ steps.old + customs_reads (raw_of (tables_of file.now)) parent.table parent.row }
+    ensures cost { steps.new ≤ steps.old
+        + customs_reads (raw_of (tables_of file.now)) parent.table parent.row }
 {
     let run = customs_of(file, parent, steps);
-    let _ = file.keeps();
+    let _ = file.facts();
     let mut row = run.first;
     'customs: while row < run.end {
         let custom = custom(file, row, steps);

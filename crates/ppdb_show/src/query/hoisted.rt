@@ -26,7 +26,8 @@ pub(crate) fn put_hoisted<L: Ledger>(
     steps: &mut Steps<L>,
 ) -> Result<(), Memory>
     requires { HasRow (raw_of (tables_of file.now)) 0x06 method }
-    ensures ok { OnOk result (Adds printer.entry.form text.old text.new (map hoisted_line (all_hoisted (raw_of (tables_of file.now)) method offset))) }
+    ensures ok { OnOk result (Adds printer.entry.form text.old text.new
+        (map hoisted_line (all_hoisted (raw_of (tables_of file.now)) method offset))) }
     ensures cost { steps.new ≤ steps.old + customs_reads (raw_of (tables_of file.now)) 0x06 method }
 {
     let Ok(mut locals) = hoisted_at(file, method, offset, steps) else {

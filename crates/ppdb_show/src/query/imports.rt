@@ -7,12 +7,12 @@ ghost use Rattle.ppdb_values.specs.Imports.{import_value};
 ghost use Rattle.ppdb_values.specs.Rules.{HasRow, HasRowOrNone};
 ghost use Rattle.ppdb_verify.specs.Views.{tables_of};
 ghost use Rattle.ppdb_show_lines.specs.Uses.{use_line};
-ghost use Rattle.ppdb_show.specs.Noted.{IsNotedText};
+ghost use Rattle.ppdb_show.specs.Cached.{IsCachedText};
 ghost use Rattle.ppdb_show.specs.Query.{import_answer};
 ghost use Rattle.ppdb_show.specs.QueryWalk.{Adds, customs_reads, items_reads, lines_of_link};
 
+use crate::query::cache::CachedText;
 use crate::query::customs::put_customs;
-use crate::query::notes::NotedText;
 use crate::query::text::{put_import_line, put_line, put_text};
 use ppdb_base::{Memory, SteadySink, Steps};
 use ppdb_queries::{ImportLink, imports_of};
@@ -31,7 +31,8 @@ fn put_uses(
     imports: &mut ImportCursor<'_>,
 ) -> Result<(), Memory>
     requires { imports.old.fault ≡ None }
-    ensures { OnOk result (Adds printer.entry.form text.old text.new (map use_line (map import_value imports.old.items))) }
+    ensures { OnOk result (Adds printer.entry.form text.old text.new
+        (map use_line (map import_value imports.old.items))) }
 {
     'imports: loop {
         match imports.next() {
@@ -52,9 +53,11 @@ fn put_import<L: Ledger>(
 ) -> Result<(), Memory>
     requires there { HasRow (raw_of (tables_of file.now)) 0x35 link.row }
     requires whole { link.imports.fault ≡ None }
-    ensures ok { OnOk result (Adds printer.entry.form text.old text.new (lines_of_link (raw_of (tables_of file.now)) link.entry)) }
+    ensures ok { OnOk result (Adds printer.entry.form text.old text.new
+        (lines_of_link (raw_of (tables_of file.now)) link.entry)) }
     ensures later { steps.old ≤ steps.new }
-    ensures cost { steps.new ≤ steps.old + customs_reads (raw_of (tables_of file.now)) 0x35 link.entry.row }
+    ensures cost { steps.new ≤ steps.old
+        + customs_reads (raw_of (tables_of file.now)) 0x35 link.entry.row }
 {
     let row = link.row;
     put_line(
@@ -81,12 +84,14 @@ pub(crate) fn put_imports<L: Ledger>(
     steps: &mut Steps<L>,
 ) -> Result<(), Memory>
     requires { HasRowOrNone (raw_of (tables_of file.now)) 0x35 import }
-    ensures ok { OnOk result (Adds printer.entry.form text.old text.new (flat_map (import_answer (raw_of (tables_of file.now)))
+    ensures ok { OnOk result (Adds printer.entry.form text.old text.new
+        (flat_map (import_answer (raw_of (tables_of file.now)))
         (chain_of (λ scope. scope.parent) (raw_of (tables_of file.now)).imports import))) }
     ensures later { steps.old ≤ steps.new }
-    ensures cost { steps.new ≤ steps.old + items_reads (raw_of (tables_of file.now)) 0x35 (chain_of (λ scope. scope.parent) (raw_of (tables_of file.now)).imports import) }
+    ensures cost { steps.new ≤ steps.old + items_reads (raw_of (tables_of file.now)) 0x35
+        (chain_of (λ scope. scope.parent) (raw_of (tables_of file.now)).imports import) }
 {
-    let _ = file.keeps();
+    let _ = file.facts();
     let mut chain = imports_of(file, import);
     'chain: while let Some(link) = chain.next(steps) {
         put_import(printer, text, file, link, steps)?;
@@ -94,28 +99,31 @@ pub(crate) fn put_imports<L: Ledger>(
     Ok(())
 }
 
-/// Puts the lines of an import scope, of its parent, and so on: as they were put before, where they are noted.
-pub(crate) fn put_noted_imports<L: Ledger>(
+/// Puts the lines of an import scope, of its parent, and so on: as they were put before, where they
+/// are cached.
+pub(crate) fn put_cached_imports<L: Ledger>(
     printer: Printer<'_>,
     text: &mut SteadySink,
     file: &Verified<'_>,
     import: u32,
-    noted: &mut NotedText,
+    cached: &mut CachedText,
     steps: &mut Steps<L>,
 ) -> Result<(), Memory>
     requires there { HasRowOrNone (raw_of (tables_of file.now)) 0x35 import }
-    requires known { IsNotedText printer.form (raw_of (tables_of file.now)) noted.old }
-    ensures known { IsNotedText printer.entry.form (raw_of (tables_of file.now)) noted.new }
-    ensures ok { OnOk result (Adds printer.entry.form text.old text.new (flat_map (import_answer (raw_of (tables_of file.now)))
+    requires known { IsCachedText printer.form (raw_of (tables_of file.now)) cached.old }
+    ensures known { IsCachedText printer.entry.form (raw_of (tables_of file.now)) cached.new }
+    ensures ok { OnOk result (Adds printer.entry.form text.old text.new
+        (flat_map (import_answer (raw_of (tables_of file.now)))
         (chain_of (λ scope. scope.parent) (raw_of (tables_of file.now)).imports import))) }
     ensures later { steps.old ≤ steps.new }
-    ensures cost { steps.new ≤ steps.old + items_reads (raw_of (tables_of file.now)) 0x35 (chain_of (λ scope. scope.parent) (raw_of (tables_of file.now)).imports import) }
+    ensures cost { steps.new ≤ steps.old + items_reads (raw_of (tables_of file.now)) 0x35
+        (chain_of (λ scope. scope.parent) (raw_of (tables_of file.now)).imports import) }
 {
-    if noted.import == import {
-        return put_text(text, noted.text.as_slice());
+    if cached.import == import {
+        return put_text(text, cached.text.as_slice());
     }
     let start = text.as_slice().len();
     put_imports(printer, text, file, import, steps)?;
-    noted.note(printer.alloc, import, &text.as_slice()[start..]);
+    cached.store(printer.alloc, import, &text.as_slice()[start..]);
     Ok(())
 }

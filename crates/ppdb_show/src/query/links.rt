@@ -1,5 +1,6 @@
 // The lines of a method as a whole: whether the program starts there, and its state machines.
-ghost use Rattle.std.specs.Prelude.{◌+◌, ◌≤◌, ℕ, [], ◌∷◌, length, map, option_to_list, if◌then◌else◌, OnOk};
+ghost use Rattle.std.specs.Prelude.{◌+◌, ◌≤◌, ℕ, [], ◌∷◌, length, map, option_to_list};
+ghost use Rattle.std.specs.Prelude.{if◌then◌else◌, OnOk};
 ghost use Rattle.ppdb_show_lines.specs.Lines.{line_with};
 ghost use Rattle.ppdb_tables.specs.RawOf.{raw_of};
 ghost use Rattle.ppdb_values.specs.Rules.{HasRow};
@@ -21,7 +22,8 @@ use std::sync::ledger::Ledger;
 
 /// Puts the line of the entry point, where it is one.
 fn put_entry(printer: Printer<'_>, text: &mut SteadySink, is_entry: bool) -> Result<(), Memory>
-    ensures { OnOk result (Adds printer.entry.form text.old text.new (if is_entry then line_with "entry" [] ∷ [] else [])) }
+    ensures { OnOk result (Adds printer.entry.form text.old text.new (if is_entry
+        then line_with "entry" [] ∷ [] else [])) }
 {
     if !is_entry {
         return Ok(());
@@ -38,7 +40,8 @@ fn put_method(
     method: Option<u32>,
 ) -> Result<(), Memory>
     requires { (row : ℕ) → IsKeyOrder order.now (method_link_line word.now row) }
-    ensures { OnOk result (Adds printer.entry.form text.old text.new (map (method_link_line word.now) (option_to_list method))) }
+    ensures { OnOk result (Adds printer.entry.form text.old text.new
+        (map (method_link_line word.now) (option_to_list method))) }
 {
     match method {
         Some(row) => put_line(
@@ -64,9 +67,11 @@ pub(crate) fn put_links<L: Ledger>(
     requires there { HasRow (raw_of (tables_of file.now)) 0x06 method }
     requires known { IsOrderOf (raw_of (tables_of file.now)).machines kickoffs.old }
     ensures known { IsOrderOf (raw_of (tables_of file.now)).machines kickoffs.new }
-    ensures ok { OnOk result (Adds printer.entry.form text.old text.new (method_link_lines (raw_file file.now) method)) }
+    ensures ok { OnOk result
+        (Adds printer.entry.form text.old text.new (method_link_lines (raw_file file.now) method)) }
     ensures later { steps.old ≤ steps.new }
-    ensures cost { steps.new ≤ steps.old + (digits (length (raw_of (tables_of file.now)).machines) + length (raw_of (tables_of file.now)).machines) }
+    ensures cost { steps.new ≤ steps.old + (digits (length (raw_of (tables_of file.now)).machines)
+        + length (raw_of (tables_of file.now)).machines) }
 {
     put_entry(printer, text, file.head().entry == method)?;
     let Ok(kickoff) = kickoff_of(file, method, steps) else {

@@ -9,7 +9,7 @@ use ppdb_base::{Bytes, Memory, SteadySink};
 use ppdb_heaps::NameCursor;
 use ppdb_queries::PointAt;
 use ppdb_show_lines::Item::{Absent, Name, Number};
-use ppdb_show_lines::Part::{Field, Mark};
+use ppdb_show_lines::Part::{Field, Literal};
 use ppdb_show_lines::{Key, Printer};
 use sequence_points::{Point, Span};
 use std::alloc::Global;
@@ -17,7 +17,8 @@ use std::alloc::Global;
 /// The parts of a name, joined by its separator.
 fn joined(alloc: Global, mut name: NameCursor<'_>) -> Result<Bytes, Memory>
     requires { name.left.fault ≡ None }
-    ensures { IfOk result (λ joined. joined ≡ join_by (λ part. part) name.entry.separator name.entry.left.items) }
+    ensures { IfOk result
+        (λ joined. joined ≡ join_by (λ part. part) name.entry.separator name.entry.left.items) }
 {
     let mut joined = Bytes::new(alloc);
     let separator = name.separator();
@@ -38,7 +39,8 @@ fn put_point_line(
     signature: u32,
     document: &[u8],
 ) -> Result<(), Memory>
-    ensures { OnOk result (Adds printer.entry.form text.old text.new (point_found point signature document.now ∷ [])) }
+    ensures { OnOk result (Adds printer.entry.form text.old text.new
+        (point_found point signature document.now ∷ [])) }
 {
     let offset = Field(" ", Key::Offset, Number(point.offset));
     let row = Field(" ", Key::Document, Number(point.document));
@@ -50,7 +52,7 @@ fn put_point_line(
             text,
             "point",
             &[2, 0, 5, 1, 4],
-            &[offset, row, Mark(" hidden"), signature, name],
+            &[offset, row, Literal(" hidden"), signature, name],
         ),
         Span::Lines {
             start_line,
@@ -83,7 +85,8 @@ pub(crate) fn put_point(
     found: Option<PointAt<'_>>,
 ) -> Result<(), Memory>
     requires { HasWholeName found }
-    ensures { OnOk result (Adds printer.entry.form text.old text.new (found_line found.entry ∷ [])) }
+    ensures { OnOk result
+        (Adds printer.entry.form text.old text.new (found_line found.entry ∷ [])) }
 {
     let Some(at) = found else {
         let none = Field(" ", Key::Offset, Absent("none"));

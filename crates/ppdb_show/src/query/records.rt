@@ -1,10 +1,11 @@
 // The lines of the custom records on a method.
-ghost use Rattle.std.specs.Prelude.{◌≡◌, ◌+◌, ◌≤◌, ◌<◌, [], ◌∷◌, map, flat_map, OnOk, None, Some, codes, option_map, unwrap_or};
+ghost use Rattle.std.specs.Prelude.{◌≡◌, ◌+◌, ◌≤◌, ◌<◌, [], ◌∷◌, map, flat_map, OnOk, None, Some};
+ghost use Rattle.std.specs.Prelude.{codes, option_map, unwrap_or};
 ghost use Rattle.ppdb_tables.specs.RawOf.{raw_of};
 ghost use Rattle.ppdb_tables.specs.RawTables.{row_at};
 ghost use Rattle.ppdb_values.specs.Rules.{HasRow};
 ghost use Rattle.ppdb_verify.specs.Views.{tables_of};
-ghost use Rattle.ppdb_verify_rows.specs.Customs.{IsOfKind};
+ghost use Rattle.ppdb_verify_readers.specs.Customs.{IsOfKind};
 ghost use Rattle.ppdb_show_lines.specs.Views.{content_of};
 ghost use Rattle.ppdb_show_lines.specs.Lines.{number, absent};
 ghost use Rattle.ppdb_show.specs.Query.{async_line, step_line, lines_of_record};
@@ -21,7 +22,7 @@ use ppdb_show_lines::Part::Field;
 use ppdb_show_lines::{Item, Key, Printer};
 use ppdb_tables::{CustomRow, METHOD_DEF, Parent};
 use ppdb_verify::Verified;
-use ppdb_verify_rows::{custom, kind, stepping_of};
+use ppdb_verify_readers::{custom, kind, stepping_of};
 use std::sync::ledger::Ledger;
 
 /// The offset of a catch handler, or that there is none.
@@ -70,7 +71,8 @@ fn put_steps(
     cursor: &mut AsyncCursor<'_>,
 ) -> Result<(), Memory>
     requires { cursor.old.left.fault ≡ None }
-    ensures { OnOk result (Adds printer.entry.form text.old text.new (map step_line cursor.old.left.items)) }
+    ensures { OnOk result
+        (Adds printer.entry.form text.old text.new (map step_line cursor.old.left.items)) }
 {
     'steps: loop {
         match cursor.next() {
@@ -91,14 +93,16 @@ fn put_async(
 ) -> Result<(), Memory>
     requires there { row_at (raw_of (tables_of file.now)).customs row ≡ Some record.now }
     requires kind { IsOfKind (raw_of (tables_of file.now)) record.now Kind.Async }
-    ensures { OnOk result (Adds printer.entry.form text.old text.new (lines_of_record (raw_of (tables_of file.now)) (row, record.now))) }
+    ensures { OnOk result (Adds printer.entry.form text.old text.new
+        (lines_of_record (raw_of (tables_of file.now)) (row, record.now))) }
 {
     let mut cursor = stepping_of(file, row, record);
     put_handler(printer, text, cursor.handler())?;
     put_steps(printer, text, &mut cursor)
 }
 
-/// Puts the lines of a custom record on a method: stepping information is read, hoisted locals are left out.
+/// Puts the lines of a custom record on a method: stepping information is read, hoisted locals are
+/// left out.
 fn put_record(
     printer: Printer<'_>,
     text: &mut SteadySink,
@@ -107,9 +111,10 @@ fn put_record(
     record: &CustomRow,
 ) -> Result<(), Memory>
     requires { row_at (raw_of (tables_of file.now)).customs row ≡ Some record.now }
-    ensures { OnOk result (Adds printer.entry.form text.old text.new (lines_of_record (raw_of (tables_of file.now)) (row, record.now))) }
+    ensures { OnOk result (Adds printer.entry.form text.old text.new
+        (lines_of_record (raw_of (tables_of file.now)) (row, record.now))) }
 {
-    let _ = file.keeps();
+    let _ = file.facts();
     match kind(printer.alloc, file, row, record) {
         Kind::Async => put_async(printer, text, file, row, record),
         Kind::Hoisted => Ok(()),
@@ -127,7 +132,8 @@ pub(crate) fn put_records<L: Ledger>(
 ) -> Result<(), Memory>
     requires { HasRow (raw_of (tables_of file.now)) 0x06 method }
     ensures ok { OnOk result (Adds printer.entry.form text.old text.new
-        (flat_map (lines_of_record (raw_of (tables_of file.now))) (customs_at (raw_of (tables_of file.now)) 0x06 method))) }
+        (flat_map (lines_of_record (raw_of (tables_of file.now)))
+        (customs_at (raw_of (tables_of file.now)) 0x06 method))) }
     ensures later { steps.old ≤ steps.new }
     ensures cost { steps.new ≤ steps.old + customs_reads (raw_of (tables_of file.now)) 0x06 method }
 {
@@ -136,7 +142,7 @@ pub(crate) fn put_records<L: Ledger>(
         row: method,
     };
     let run = customs_of(file, parent, steps);
-    let _ = file.keeps();
+    let _ = file.facts();
     let mut row = run.first;
     'records: while row < run.end {
         let record = custom(file, row, steps);

@@ -11,7 +11,7 @@ use ppdb_base::{Memory, Sink, SteadySink};
 use ppdb_show_lines::{Part, Printer, put_use};
 use type_blobs::Import;
 
-/// Puts lines that are noted after the text.
+/// Puts lines that are cached after the text.
 pub(crate) fn put_text(text: &mut SteadySink, lines: &[u8]) -> Result<(), Memory>
     ensures { OnOk result (text.new ≡ text.old ++ lines.now) }
 {
@@ -30,7 +30,8 @@ pub(crate) fn put_line(
     parts: &[Part<'_>],
 ) -> Result<(), Memory>
     requires { IsKeyOrder order.now (line_of word.now parts.now) }
-    ensures { OnOk result (Adds printer.entry.form text.old text.new (line_of word.now parts.now ∷ [])) }
+    ensures { OnOk result
+        (Adds printer.entry.form text.old text.new (line_of word.now parts.now ∷ [])) }
 {
     if printer.put_line(text, word, order, parts).is_err() {
         return Err(Memory);
@@ -44,7 +45,8 @@ pub(crate) fn put_import_line(
     text: &mut SteadySink,
     import: &Import<'_>,
 ) -> Result<(), Memory>
-    ensures { OnOk result (Adds printer.entry.form text.old text.new (use_line (import_value (shown import.now)) ∷ [])) }
+    ensures { OnOk result (Adds printer.entry.form text.old text.new
+        (use_line (import_value (shown import.now)) ∷ [])) }
 {
     if put_use(printer, text, import).is_err() {
         return Err(Memory);

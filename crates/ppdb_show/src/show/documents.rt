@@ -16,7 +16,7 @@ use ppdb_show_lines::{Key, Printer};
 use ppdb_tables::DocumentRow;
 use ppdb_values::DocumentValue;
 use ppdb_verify::Verified;
-use ppdb_verify_rows::{blob, document, guid, joined_name};
+use ppdb_verify_readers::{blob, document, guid, joined_name};
 use std::alloc::Global;
 use std::sync::ledger::Ledger;
 
@@ -44,7 +44,8 @@ fn put_value<O: Sink>(
     document: &DocumentValue,
     out: &mut O,
 ) -> Result<(), WriteError>
-    ensures { PutsInto O.written O.faults result out.old out.new (lines_as printer.entry.form (document_line row document.now ∷ [])) }
+    ensures { PutsInto O.written O.faults result out.old out.new
+        (lines_as printer.entry.form (document_line row document.now ∷ [])) }
 {
     let parts = [
         Field(" ", Key::Row, Number(row)),

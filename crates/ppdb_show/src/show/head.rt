@@ -13,15 +13,17 @@ use ppdb_show_lines::{Key, Printer, put_entry_line, put_id_line};
 use ppdb_tables::{TYPE_TABLES, Tables};
 use ppdb_verify::Verified;
 
-/// Puts the lines of the identity, of the entry point, and of the tables of the type system that have rows.
+/// Puts the lines of the identity, of the entry point, and of the tables of the type system that
+/// have rows.
 pub(crate) fn put_head<O: Sink>(
     printer: Printer<'_>,
     file: &Verified<'_>,
     out: &mut O,
 ) -> Result<(), WriteError>
-    ensures { PutsInto O.written O.faults result out.old out.new (lines_as printer.entry.form (head_lines (raw_file file.now))) }
+    ensures { PutsInto O.written O.faults result out.old out.new
+        (lines_as printer.entry.form (head_lines (raw_file file.now))) }
 {
-    let _ = file.keeps();
+    let _ = file.facts();
     let head = file.head();
     put_id_line(printer, out, &head.id)?;
     put_entry_line(printer, out, head.entry)?;
@@ -34,7 +36,8 @@ fn put_counts<O: Sink>(
     tables: &Tables<'_>,
     out: &mut O,
 ) -> Result<(), WriteError>
-    ensures { PutsInto O.written O.faults result out.old out.new (lines_as printer.entry.form (count_lines (raw_of tables.now))) }
+    ensures { PutsInto O.written O.faults result out.old out.new
+        (lines_as printer.entry.form (count_lines (raw_of tables.now))) }
 {
     let mut table = 0;
     'counts: while table < TYPE_TABLES {

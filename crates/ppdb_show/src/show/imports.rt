@@ -13,7 +13,7 @@ use ppdb_show_lines::Item::Number;
 use ppdb_show_lines::Part::Field;
 use ppdb_show_lines::{Key, Printer, put_use};
 use ppdb_verify::Verified;
-use ppdb_verify_rows::{import, imports_of};
+use ppdb_verify_readers::{import, imports_of};
 use std::sync::ledger::Ledger;
 use type_blobs::ImportCursor;
 

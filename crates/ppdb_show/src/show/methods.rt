@@ -12,11 +12,11 @@ ghost use Rattle.ppdb_values.specs.Rules.{HasRow};
 
 use ppdb_base::{Sink, Steps, WriteError};
 use ppdb_show_lines::Item::Number;
-use ppdb_show_lines::Part::{Field, Mark};
+use ppdb_show_lines::Part::{Field, Literal};
 use ppdb_show_lines::{Key, Printer};
 use ppdb_tables::MethodDebugRow;
 use ppdb_verify::Verified;
-use ppdb_verify_rows::{blob, method_debug, point_limits};
+use ppdb_verify_readers::{blob, method_debug, point_limits};
 use sequence_points::{Point, PointCursor, Span};
 use std::sync::ledger::Ledger;
 
@@ -50,10 +50,12 @@ fn points_of<'a>(file: &Verified<'a>, row: u32, method: &MethodDebugRow) -> Poin
     requires row { row_at (raw_file file.now).tables.methods row ≡ Some method.now }
     requires some { blob (raw_file file.now).tables method.now.points ≢ [] }
     ensures whole { result.left.fault ≡ None }
-    ensures points { result.left.items ≡ points_in (raw_file file.now).tables method.now.document (blob (raw_file file.now).tables method.now.points) }
-    ensures signature { signature_in (raw_file file.now).tables method.now.document (blob (raw_file file.now).tables method.now.points) ≡ Some result.signature }
+    ensures points { result.left.items ≡ points_in (raw_file file.now).tables method.now.document
+        (blob (raw_file file.now).tables method.now.points) }
+    ensures signature { signature_in (raw_file file.now).tables method.now.document
+        (blob (raw_file file.now).tables method.now.points) ≡ Some result.signature }
 {
-    let _ = file.keeps();
+    let _ = file.facts();
     match PointCursor::new(
         blob(file, method.points),
         method.document,
@@ -71,7 +73,8 @@ fn put_points<O: Sink>(
     out: &mut O,
 ) -> Result<(), WriteError>
     requires { points.old.left.fault ≡ None }
-    ensures { PutsInto O.written O.faults result out.old out.new (lines_as printer.entry.form (map point_line points.old.left.items)) }
+    ensures { PutsInto O.written O.faults result out.old out.new
+        (lines_as printer.entry.form (map point_line points.old.left.items)) }
 {
     'points: loop {
         match points.next() {
@@ -84,13 +87,14 @@ fn put_points<O: Sink>(
 
 /// Puts the line of a point.
 fn put_point<O: Sink>(printer: Printer<'_>, point: Point, out: &mut O) -> Result<(), WriteError>
-    ensures { PutsInto O.written O.faults result out.old out.new (lines_as printer.entry.form (point_line point ∷ [])) }
+    ensures { PutsInto O.written O.faults result out.old out.new
+        (lines_as printer.entry.form (point_line point ∷ [])) }
 {
     let offset = Field(" ", Key::Offset, Number(point.offset));
     let document = Field(" ", Key::Document, Number(point.document));
     match point.span {
         Span::Hidden => {
-            let parts = [offset, document, Mark(" hidden")];
+            let parts = [offset, document, Literal(" hidden")];
             printer.put_line(out, "point", &[2, 0, 1], &parts)
         }
         Span::Lines {

@@ -5,7 +5,8 @@ ghost use Rattle.ppdb_tables.specs.RawOf.{raw_of};
 ghost use Rattle.ppdb_values.specs.Owners.{list_end};
 ghost use Rattle.ppdb_verify.specs.Views.{raw_file};
 ghost use Rattle.ppdb_show_lines.specs.Forms.{lines_as};
-ghost use Rattle.ppdb_show.specs.ShowWalk.{OwnsItem, item_table, items_of, list_by, lines_of_item, lines_between, lines_of_items};
+ghost use Rattle.ppdb_show.specs.ShowWalk.{OwnsItem, item_table, items_of, list_by, lines_of_item};
+ghost use Rattle.ppdb_show.specs.ShowWalk.{lines_between, lines_of_items};
 ghost use Rattle.ppdb_values.specs.Rules.{HasRow};
 
 use ppdb_base::{Sink, Steps, WriteError};
@@ -15,7 +16,7 @@ use ppdb_show_lines::Part::Field;
 use ppdb_show_lines::{Key, Printer};
 use ppdb_tables::{LOCAL_CONSTANT, LOCAL_SCOPE, LOCAL_VARIABLE, ScopeRow, Tables};
 use ppdb_verify::Verified;
-use ppdb_verify_rows::{blob, constant, text, variable};
+use ppdb_verify_readers::{blob, constant, text, variable};
 use std::sync::ledger::Ledger;
 
 /// The tables whose rows belong to scopes.
@@ -55,7 +56,8 @@ fn end_of_list<L: Ledger>(
     steps: &mut Steps<L>,
 ) -> u32
     requires { HasRow (raw_of tables.now) 0x32 scope }
-    ensures { result ≡ list_end (list_by owned) (raw_of tables.now).scopes scope (items_of (raw_of tables.now) owned) }
+    ensures { result ≡ list_end (list_by owned) (raw_of tables.now).scopes scope
+        (items_of (raw_of tables.now) owned) }
 {
     let _ = tables.shape();
     if scope < tables.rows(LOCAL_SCOPE) {
@@ -75,7 +77,7 @@ pub(crate) fn put_owned<O: Sink, L: Ledger>(
     ensures { PutsInto O.written O.faults result out.old out.new
         (lines_as printer.entry.form (lines_of_items (raw_file file.now).tables owned)) }
 {
-    let _ = file.keeps();
+    let _ = file.facts();
     let tables = file.tables();
     let scopes = tables.rows(LOCAL_SCOPE);
     let mut item = 1;
@@ -103,11 +105,13 @@ fn put_items<O: Sink, L: Ledger>(
     requires first { 1 ≤ items.first }
     requires forward { items.first ≤ items.end }
     requires last { items.end ≤ items_of (raw_file file.now).tables owned + 1 }
-    requires owner { (item : ℕ) → items.first ≤ item → item < items.end → OwnsItem (raw_file file.now).tables owned scope item }
+    requires owner { (item : ℕ) → items.first ≤ item → item < items.end
+        → OwnsItem (raw_file file.now).tables owned scope item }
     ensures { PutsInto O.written O.faults result out.old out.new
-        (lines_as printer.entry.form (lines_between (raw_file file.now).tables owned items.first items.end)) }
+        (lines_as printer.entry.form
+        (lines_between (raw_file file.now).tables owned items.first items.end)) }
 {
-    let _ = file.keeps();
+    let _ = file.facts();
     let mut item = items.first;
     'items: while item < items.end {
         put_item(printer, owned, file, scope, item, out, steps)?;
@@ -149,7 +153,8 @@ fn put_variable<O: Sink, L: Ledger>(
     requires there { HasRow (raw_file file.now).tables 0x33 row }
     requires owner { OwnsItem (raw_file file.now).tables Owned.Variables scope row }
     ensures { PutsInto O.written O.faults result out.old out.new
-        (lines_as printer.entry.form (lines_of_item (raw_file file.now).tables Owned.Variables row)) }
+        (lines_as printer.entry.form
+        (lines_of_item (raw_file file.now).tables Owned.Variables row)) }
 {
     let variable = variable(file, row, steps);
     let parts = [
@@ -178,7 +183,8 @@ fn put_constant<O: Sink, L: Ledger>(
     requires there { HasRow (raw_file file.now).tables 0x34 row }
     requires owner { OwnsItem (raw_file file.now).tables Owned.Constants scope row }
     ensures { PutsInto O.written O.faults result out.old out.new
-        (lines_as printer.entry.form (lines_of_item (raw_file file.now).tables Owned.Constants row)) }
+        (lines_as printer.entry.form
+        (lines_of_item (raw_file file.now).tables Owned.Constants row)) }
 {
     let constant = constant(file, row, steps);
     let parts = [

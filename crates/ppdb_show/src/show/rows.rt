@@ -3,7 +3,8 @@ ghost use Rattle.std.specs.Prelude.{◌≡◌, ◌<◌, ◌+◌, Some};
 ghost use Rattle.ppdb_base.specs.Written.{PutsInto};
 ghost use Rattle.ppdb_verify.specs.Views.{raw_file};
 ghost use Rattle.ppdb_show_lines.specs.Forms.{lines_as};
-ghost use Rattle.ppdb_show.specs.ShowWalk.{number_of, lines_of_row, lines_of_table, lines_of_scope, lines_of_machine, lines_of_custom};
+ghost use Rattle.ppdb_show.specs.ShowWalk.{number_of, lines_of_row, lines_of_table, lines_of_scope};
+ghost use Rattle.ppdb_show.specs.ShowWalk.{lines_of_machine, lines_of_custom};
 ghost use Rattle.ppdb_values.specs.Rules.{HasRow};
 
 use crate::show::documents::put_document;
@@ -17,7 +18,7 @@ use ppdb_tables::{
     CUSTOM, DOCUMENT, IMPORT_SCOPE, LOCAL_SCOPE, METHOD_DEBUG, STATE_MACHINE, parent_of,
 };
 use ppdb_verify::Verified;
-use ppdb_verify_rows::{blob, count, custom, guid, machine, scope};
+use ppdb_verify_readers::{blob, count, custom, guid, machine, scope};
 use std::sync::ledger::Ledger;
 
 /// The tables whose rows are shown each by itself.
@@ -62,7 +63,7 @@ pub(crate) fn put_rows<O: Sink, L: Ledger>(
     ensures { PutsInto O.written O.faults result out.old out.new
         (lines_as printer.entry.form (lines_of_table (raw_file file.now).tables rows)) }
 {
-    let _ = file.keeps();
+    let _ = file.facts();
     let count = count(file, table_of(rows));
     let mut row = 1;
     'rows: while row <= count {
@@ -107,7 +108,7 @@ fn put_scope<O: Sink, L: Ledger>(
     ensures { PutsInto O.written O.faults result out.old out.new
         (lines_as printer.entry.form (lines_of_scope (raw_file file.now).tables row)) }
 {
-    let _ = file.keeps();
+    let _ = file.facts();
     let scope = scope(file, row, steps);
     let parts = [
         Field(" ", Key::Row, Number(row)),
@@ -152,7 +153,7 @@ fn put_custom<O: Sink, L: Ledger>(
     ensures { PutsInto O.written O.faults result out.old out.new
         (lines_as printer.entry.form (lines_of_custom (raw_file file.now).tables row)) }
 {
-    let _ = file.keeps();
+    let _ = file.facts();
     let custom = custom(file, row, steps);
     let Some(parent) = parent_of(custom.parent) else {
         unreachable!()

@@ -26,5 +26,5 @@ rows-preserved g c =
 pub returns-clause-row : goal.returns-clause-row
 returns-clause-row g c =
     let raw = raw_file c.args.file.now in
-    let shape = c.keeps.ensures.rules.shape.documents in let count = c.count-row-end.ensures.rows in let end = c.rows-test.false in
+    let shape = c.facts.ensures.rules.shape.documents in let count = c.count-row-end.ensures.rows in let end = c.rows-test.false in
     named_nowhere raw c.args.name.now c.rows.row (omega (arith, shape, count, end)) c.rows.invariant.others

@@ -11,7 +11,7 @@ returns-then-bytes-clause-refused c =
       c.in_default.ensures,
       (
         map_text (composed c.args.first.now c.args.second.now),
-        text_of_both c.args.first.now c.args.second.now c.keeps.ensures c.keeps-2.ensures c.in_default.ensures,
+        text_of_both c.args.first.now c.args.second.now c.facts.ensures c.facts-2.ensures c.in_default.ensures,
         c.len-bytes.ensures ∙ counts.length,
       ),
       omega (arith, long),
@@ -24,7 +24,7 @@ returns-clause-read c =
     let is : c.into_text.result ≡ map_text (composed c.args.first.now c.args.second.now) = c.into_text.ensures ∙ counts.kept few in
     subst (λ text. IsMapOf text (composed c.args.first.now c.args.second.now)) (sym is)
     (c.texts_are_read.ensures (composed c.args.first.now c.args.second.now)
-    (composed_is_readable c.args.first.now c.args.second.now c.keeps.ensures c.keeps-2.ensures c.in_default.ensures))
+    (composed_is_readable c.args.first.now c.args.second.now c.facts.ensures c.facts-2.ensures c.in_default.ensures))
 
 pub returns-clause-both : goal.returns-clause-both
 returns-clause-both c =
@@ -32,7 +32,7 @@ returns-clause-both c =
     let few : c.in_ok-text.text.length ≤ 134217728 = (let test = c.if-bytes.false in let len = c.len-bytes.ensures in omega (arith, test, len)) in
     let is : c.into_text.result ≡ map_text (composed c.args.first.now c.args.second.now) = c.into_text.ensures ∙ counts.kept few in
     subst (IsTextOfBoth c.args.first.now c.args.second.now) (sym is)
-    (text_of_both c.args.first.now c.args.second.now c.keeps.ensures c.keeps-2.ensures c.in_default.ensures)
+    (text_of_both c.args.first.now c.args.second.now c.facts.ensures c.facts-2.ensures c.in_default.ensures)
 
 pub returns-clause-short : goal.returns-clause-short
 returns-clause-short c =

@@ -7,7 +7,7 @@ halves-preserved-in-Less c = record {
   order = let less = c.halves-test.true in omega (arith, less);
   within = c.halves.invariant.within;
   below = below_middle c.args.name.now c.in_ok-old.old.now (named c.args.map.now) (c.halves.low + (c.halves.high - c.halves.low) / 2)
-      c.keeps.ensures.ascends.documents (name_there c.args.map.now _ _ _ (sym c.in_ok-old.ensures)) (sym c.in-Less.ensures);
+      c.facts.ensures.ascends.documents (name_there c.args.map.now _ _ _ (sym c.in_ok-old.ensures)) (sym c.in-Less.ensures);
   beyond = c.halves.invariant.beyond;
 }
 
@@ -20,7 +20,7 @@ halves-preserved c = record {
   within = let less = c.halves-test.true in let within = c.halves.invariant.within in omega (arith, less, within);
   below = c.halves.invariant.below;
   beyond = beyond_middle c.args.name.now c.in_ok-old.old.now (named c.args.map.now) (c.halves.low + (c.halves.high - c.halves.low) / 2)
-      c.keeps.ensures.ascends.documents (name_there c.args.map.now _ _ _ (sym c.in_ok-old.ensures)) (sym c.in-Greater.ensures);
+      c.facts.ensures.ascends.documents (name_there c.args.map.now _ _ _ (sym c.in_ok-old.ensures)) (sym c.in-Greater.ensures);
 }
 
 pub returns : goal.returns

@@ -14,8 +14,8 @@ returns-in-None c = left_ended (map (λ (r : RowLine). r.old) (rows_of c.args.li
 pub returns-in-Some : goal.returns-in-Some
 returns-in-Some c = left_passed (map (λ (r : RowLine). r.old) (rows_of c.args.lines.now c.args.table))
     (map (λ (r : CrossLine). r.old) (crossed_of c.args.lines.now c.args.table)) (map (λ (r : GoneLine). r.old) (gone_of c.args.lines.now c.args.table))
-    (rows_rise c.args.lines.now c.keeps.ensures c.args.table) (crossed_rise c.args.lines.now c.keeps.ensures c.args.table)
-    (gone_rise c.args.lines.now c.keeps.ensures c.args.table)
+    (rows_rise c.args.lines.now c.facts.ensures c.args.table) (crossed_rise c.args.lines.now c.facts.ensures c.args.table)
+    (gone_rise c.args.lines.now c.facts.ensures c.args.table)
     c.args.passed.now.rows c.args.passed.now.crossed c.args.passed.now.gone
     c.in-Some.least c.after.result c.after-in-Some.result c.after-in-Some-2.result
     c.row_old-row.result c.cross_old-crossed.result c.gone_old-gone.result c.least_of.result
@@ -23,12 +23,12 @@ returns-in-Some c = left_passed (map (λ (r : RowLine). r.old) (rows_of c.args.l
     c.after.ensures c.after-in-Some.ensures c.after-in-Some-2.ensures
 
 pub after-requires : goal.after-requires
-after-requires c = λ some. rows_few c.args.lines.now c.keeps.ensures c.args.table c.args.passed.now.rows (sym (ap is_some c.row_old-row.ensures) ∙ some)
+after-requires c = λ some. rows_few c.args.lines.now c.facts.ensures c.args.table c.args.passed.now.rows (sym (ap is_some c.row_old-row.ensures) ∙ some)
 
 pub after-requires-in-Some : goal.after-requires-in-Some
-after-requires-in-Some c = λ some. crossed_few c.args.lines.now c.keeps.ensures c.args.table c.args.passed.now.crossed
+after-requires-in-Some c = λ some. crossed_few c.args.lines.now c.facts.ensures c.args.table c.args.passed.now.crossed
     (sym (ap is_some c.cross_old-crossed.ensures) ∙ some)
 
 pub after-requires-in-Some-2 : goal.after-requires-in-Some-2
-after-requires-in-Some-2 c = λ some. gone_few c.args.lines.now c.keeps.ensures c.args.table c.args.passed.now.gone
+after-requires-in-Some-2 c = λ some. gone_few c.args.lines.now c.facts.ensures c.args.table c.args.passed.now.gone
     (sym (ap is_some c.gone_old-gone.ensures) ∙ some)

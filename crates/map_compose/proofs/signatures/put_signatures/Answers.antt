@@ -5,5 +5,5 @@ use Rattle.map_compose.proofs.signatures.put_signatures.Goals as goal
 pub returns-then-version-eq3-clause-puts : goal.returns-then-version-eq3-clause-puts
 returns-then-version-eq3-clause-puts c =
     subst (PutsLines c.args.text.now c.args.text.now)
-    (sym (three_signed c.args.first.now c.args.second.now c.keeps.ensures c.keeps-2.ensures (sym c.requires.version ∙ c.if-version-eq3.true)))
+    (sym (three_signed c.args.first.now c.args.second.now c.facts.ensures c.facts-2.ensures (sym c.requires.version ∙ c.if-version-eq3.true)))
     (says_none c.args.text.now)

@@ -5,7 +5,7 @@ use Rattle.map_compose.proofs.signatures.signed_by_both.Goals as goal
 
 pub returns-then-is_none-2 : goal.returns-then-is_none-2
 returns-then-is_none-2 c =
-    sym (none_signed c.args.first.now c.args.second.now c.keeps.ensures c.keeps-2.ensures
+    sym (none_signed c.args.first.now c.args.second.now c.facts.ensures c.facts-2.ensures
     (none_made c.args.first.now c.args.second.now
     (empty_list _ c.args.first.now.signatures (sym (ap is_some c.signature_line.ensures) ∙ c.if-is_none.ensures))
     (empty_list _ c.args.second.now.signatures (sym (ap is_some c.signature_line-then-is_none.ensures) ∙ c.if-is_none-2.ensures))
@@ -13,10 +13,10 @@ returns-then-is_none-2 c =
 
 pub returns-then-is_some : goal.returns-then-is_some
 returns-then-is_some c =
-    sym (some_signed c.args.first.now c.args.second.now c.keeps.ensures c.keeps-2.ensures _ _ c.in-Some.method c.methods.invariant c.in-Some.ensures
+    sym (some_signed c.args.first.now c.args.second.now c.facts.ensures c.facts-2.ensures _ _ c.in-Some.method c.methods.invariant c.in-Some.ensures
     (sym (c.if-is_some.ensures ∙ ap is_some c.signature_by_both.ensures)))
 
 pub returns : goal.returns
 returns c =
-    sym (none_signed c.args.first.now c.args.second.now c.keeps.ensures c.keeps-2.ensures
+    sym (none_signed c.args.first.now c.args.second.now c.facts.ensures c.facts-2.ensures
     (c.methods.invariant ∙ ap (signed_lines c.args.first.now c.args.second.now) c.in_default.ensures))

@@ -10,7 +10,7 @@ pub overflow_add-index : goal.overflow_add-index
 overflow_add-index c =
     let inside : c.methods.index < length c.args.first.now.methods =
     line_inside c.args.first.now.methods c.methods.index c.in-Some.method (sym c.in-Some.ensures) in
-    let most = few_own Methods c.args.first.now c.keeps.ensures in
+    let most = few_own Methods c.args.first.now c.facts.ensures in
     let same = length-map c.args.first.now.methods (λ (l : MethodLine). l.method) in
     omega (arith, most, same)
 
@@ -31,7 +31,7 @@ methods-preserved c =
     }
 
 pub returns-in-Some-difference : goal.returns-in-Some-difference
-returns-in-Some-difference c = first_is c.args.first.now c.args.second.now c.methods.index c.in-Some.method _ _ c.keeps.ensures (sym c.in-Some.ensures)
+returns-in-Some-difference c = first_is c.args.first.now c.args.second.now c.methods.index c.in-Some.method _ _ c.facts.ensures (sym c.in-Some.ensures)
     c.in-Some-difference.ensures c.methods.invariant.none
 
 pub returns : goal.returns

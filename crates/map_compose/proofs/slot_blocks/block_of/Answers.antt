@@ -12,13 +12,13 @@ overflow_add-digits c =
     let two = c.digits_of-in-Some.ensures.few in
     let digits = c.slots.invariant.few in
     let within = c.slots.invariant.within in
-    let few = few_slots_of c.args.map.now c.args.method c.keeps.ensures in
+    let few = few_slots_of c.args.map.now c.args.method c.facts.ensures in
     omega (arith, one, two, digits, within, few)
 
 pub overflow_add-slots : goal.overflow_add-slots
 overflow_add-slots c =
     let within = c.slots.invariant.within in
-    let few = few_slots_of c.args.map.now c.args.method c.keeps.ensures in
+    let few = few_slots_of c.args.map.now c.args.method c.facts.ensures in
     omega (arith, within, few)
 
 pub slots-smaller : goal.slots-smaller

@@ -9,7 +9,7 @@ methods-init c = record { within = omega arith; blocks = c.requires }
 pub overflow_add-index : goal.overflow_add-index
 overflow_add-index c =
     let inside : c.methods.index < length c.args.map.now.slotted = within _ c.methods.index c.in-Some.method (sym c.in-Some.ensures) in
-    let most = few_own Slots c.args.map.now c.keeps.ensures in
+    let most = few_own Slots c.args.map.now c.facts.ensures in
     omega (arith, inside, most)
 
 pub methods-smaller : goal.methods-smaller

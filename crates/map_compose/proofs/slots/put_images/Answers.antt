@@ -9,7 +9,7 @@ slots-init c = record { within = omega arith; puts = says_none c.args.text.now }
 pub overflow_add-index : goal.overflow_add-index
 overflow_add-index c =
     let inside : c.slots.index < length (slot_sources c.args.first.now c.args.second.now c.args.method) = slot_within _ _ _ (sym c.in-Some.ensures) in
-    let most : length (slot_sources c.args.first.now c.args.second.now c.args.method) ≤ 65536 = few_slots _ _ _ c.keeps.ensures c.keeps-2.ensures in
+    let most : length (slot_sources c.args.first.now c.args.second.now c.args.method) ≤ 65536 = few_slots _ _ _ c.facts.ensures c.facts-2.ensures in
     omega arith
 
 pub slots-smaller : goal.slots-smaller

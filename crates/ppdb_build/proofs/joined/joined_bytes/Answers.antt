@@ -1,6 +1,6 @@
 use Rattle.std.proofs.Common.{sym}
 use Rattle.ppdb_merge_parts.specs.Flat.{joined_inputs}
-use Rattle.ppdb_merge_rows.specs.Inputs.{moved_inputs}
+use Rattle.ppdb_merge_moved_rows.specs.Inputs.{moved_inputs}
 use Rattle.ppdb_build.proofs.{Early.{drafted_from, is_draft_of}, Limits.{early_first}}
 use Rattle.ppdb_build.proofs.joined.joined_bytes.Goals as goal
 

@@ -8,7 +8,7 @@ loop-i-init c = c.debug_counts-counts.ensures ∙ ap debug_counts_of c.rows.ensu
 pub loop-i-preserved : goal.loop-i-preserved
 loop-i-preserved c =
     ap (λ counts. set counts c.loop-i.i (get_or c.args.system.now c.loop-i.i 0)) c.loop-i.invariant
-    ∙ put_at c.loop-i.i c.args.system.now (debug_counts_of c.args.draft.now.rows) (omega (arith, c.told-system))
+    ∙ put_at c.loop-i.i c.args.system.now (debug_counts_of c.args.draft.now.rows) (omega (arith, c.reported-system))
     (debug_long c.loop-i.i c.args.draft.now.rows (omega arith))
     ∙ ap (λ n. take n c.args.system.now ++ drop n (debug_counts_of c.args.draft.now.rows)) (sym (add-one c.loop-i.i))
 

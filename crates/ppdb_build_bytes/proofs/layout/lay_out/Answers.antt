@@ -5,7 +5,7 @@ use Rattle.ppdb_build_bytes.proofs.layout.lay_out.Goals as goal
 
 pub put_prefix-requires-clause-size : goal.put_prefix-requires-clause-size
 put_prefix-requires-clause-size c =
-    let facts = lay_facts c.args.id.now c.args.entry c.args.counts.now c.args.draft.now c.told-id c.requires in
+    let facts = lay_facts c.args.id.now c.args.entry c.args.counts.now c.args.draft.now c.reported-id c.requires in
     subst (λ (rows : Rows). length (prefix_bytes c.args.id.now c.args.entry c.args.counts.now rows c.heap_lens.result) + c.heap_lens.result.texts
     + c.heap_lens.result.guids + c.heap_lens.result.blobs ≤ 134217728) (sym c.rows.ensures)
     (subst (λ (lens : HeapLens). length (prefix_bytes c.args.id.now c.args.entry c.args.counts.now c.args.draft.now.rows lens) + lens.texts + lens.guids
@@ -13,7 +13,7 @@ put_prefix-requires-clause-size c =
 
 pub returns : goal.returns
 returns c =
-    let facts = lay_facts c.args.id.now c.args.entry c.args.counts.now c.args.draft.now c.told-id c.requires in
+    let facts = lay_facts c.args.id.now c.args.entry c.args.counts.now c.args.draft.now c.reported-id c.requires in
     all_put c.args.id.now c.args.entry c.args.counts.now c.args.draft.now c.in_ok-bytes.bytes c.put_prefix.new.into c.put_heaps.new.into facts.lens
     c.in_ok-bytes.ensures.empty
     (c.in_ok-put_prefix.ensures.ok ∙ ap (λ (rows : Rows). c.in_ok-bytes.bytes

@@ -1,5 +1,5 @@
 use Rattle.std.{proofs.Common.{◌≡◌, ap, sym, ◌∙◌, arith, Option}, specs.Option.{option_or}, proofs.lemmas.List.Concat.{length-flat_map}}
-use Rattle.ppdb_base.specs.{declared.limits.Limit.{Limit}, Told.{told}}
+use Rattle.ppdb_base.specs.{declared.limits.Limit.{Limit}, Reported.{reported}}
 use Rattle.ppdb_values.specs.declared.scope.ScopeValue.{ScopeValue}
 use Rattle.ppdb_build_canon.specs.Limits.{too_many_rows}
 use Rattle.ppdb_build_canon.proofs.Counts as known
@@ -12,13 +12,13 @@ returns c =
     let entries = c.requires.rows in
     let many = too_many_rows value in
     let a : c.rows_limit.result ≡ many 0x30 = c.rows_limit.ensures _ (omega (arith, known.counted_documents value entries)) in
-    let b : c.rows_limit-2.result ≡ many 0x31 = c.rows_limit-2.ensures _ (c.count_methods.ensures ∙ ap told (sym (known.counted_methods value entries))) in
+    let b : c.rows_limit-2.result ≡ many 0x31 = c.rows_limit-2.ensures _ (c.count_methods.ensures ∙ ap reported (sym (known.counted_methods value entries))) in
     let d : c.rows_limit-3.result ≡ many 0x32 = c.rows_limit-3.ensures _ (omega (arith, known.counted_scopes value entries)) in
     let e : c.rows_limit-4.result ≡ many 0x33 =
-    c.rows_limit-4.ensures _ (c.requires.variables ∙ ap told (sym (length-flat_map (λ (scope : ScopeValue). scope.variables) value.scopes)
+    c.rows_limit-4.ensures _ (c.requires.variables ∙ ap reported (sym (length-flat_map (λ (scope : ScopeValue). scope.variables) value.scopes)
     ∙ sym (known.counted_variables value entries))) in
     let f : c.rows_limit-5.result ≡ many 0x34 =
-    c.rows_limit-5.ensures _ (c.requires.constants ∙ ap told (sym (length-flat_map (λ (scope : ScopeValue). scope.constants) value.scopes)
+    c.rows_limit-5.ensures _ (c.requires.constants ∙ ap reported (sym (length-flat_map (λ (scope : ScopeValue). scope.constants) value.scopes)
     ∙ sym (known.counted_constants value entries))) in
     let g : c.rows_limit-6.result ≡ many 0x35 = c.rows_limit-6.ensures _ (omega (arith, known.counted_imports value entries)) in
     let h : c.rows_limit-7.result ≡ many 0x36 = c.rows_limit-7.ensures _ (omega (arith, known.counted_machines value entries)) in

@@ -7,7 +7,7 @@ returns-then-not-is_whole-clause-err c =
     inl (
       refl,
       not_ended c.args.words.now c.args.files.now c.args.pieces.now c.in-Ok.text.now c.in-Ok.ensures.cases.0
-          (λ whole. let told = c.if-not-is_whole.ensures.1 whole in absurd cc),
+          (λ whole. let reported = c.if-not-is_whole.ensures.1 whole in absurd cc),
     )
 
 pub returns-in_default-split_words-clause-err : goal.returns-in_default-split_words-clause-err

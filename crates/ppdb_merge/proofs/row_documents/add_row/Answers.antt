@@ -12,5 +12,6 @@ returns g c = λ all holds.
     let values = (value_of (raw_file c.args.input.now.file)).documents in
     let before = all ++ map (moved_document m) (take (c.args.row - 1) values) in
     subst (λ l. HoldsDocuments (firsts [] l) c.add_document.new.self)
-    (ap (λ d. before ++ d ∷ []) c.in_ok-document-2.ensures ∙ mapped_row (moved_document m) all values c.args.row c.in_ok-document.document c.in_ok-document.ensures.document)
+    (ap (λ d. before ++ d ∷ []) c.in_ok-document-2.ensures ∙ mapped_row
+    (moved_document m) all values c.args.row c.in_ok-document.document c.in_ok-document.ensures.document)
     (c.in_ok-add_document.ensures before holds)

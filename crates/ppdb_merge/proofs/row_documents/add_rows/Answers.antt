@@ -30,4 +30,4 @@ returns g c = λ all holds.
     let raw = raw_file c.args.input.now.file in
     let many = length-map raw.tables.documents (document_of raw.tables) in
     subst (λ l. HoldsDocuments (firsts [] (all ++ map (moved_document c.args.input.now.map) l)) c.rows.documents)
-    (take_all (c.rows.row - 1) (value_of raw).documents (omega (arith, many, c.keeps.ensures.rules.shape.documents))) (c.rows.invariant.holds all holds)
+    (take_all (c.rows.row - 1) (value_of raw).documents (omega (arith, many, c.facts.ensures.rules.shape.documents))) (c.rows.invariant.holds all holds)

@@ -19,7 +19,7 @@ rows-preserved g c =
     let m = c.args.input.now.map in
     let many = length-map raw.tables.customs (custom_of raw.tables) in
     let low : 1 ≤ c.rows.row = c.rows.invariant.from in
-    let high : c.rows.row ≤ length (value_of raw).customs = omega (arith, many, c.keeps.ensures.rules.shape.customs) in
+    let high : c.rows.row ≤ length (value_of raw).customs = omega (arith, many, c.facts.ensures.rules.shape.customs) in
     let at = row_there (value_of raw).customs c.rows.row low high in
     record {
       from = omega arith;
@@ -35,4 +35,4 @@ returns g c =
     let many = length-map raw.tables.customs (custom_of raw.tables) in
     c.rows.invariant.made
     ∙ ap (λ l. c.args.links.now ++ filter_map (link_after c.args.input.now.map) l)
-    (take_all (c.rows.row - 1) (value_of raw).customs (omega (arith, many, c.keeps.ensures.rules.shape.customs)))
+    (take_all (c.rows.row - 1) (value_of raw).customs (omega (arith, many, c.facts.ensures.rules.shape.customs)))

@@ -4,4 +4,5 @@ use Rattle.ppdb_merge.proofs.together.rows_differ.Given as goal
 
 abbrev pub invariant-loop-table : goal.invariant-loop-table
 invariant-loop-table g l =
-    flat_map (λ table. filter_map (differs (g.T.Counted.trace l.first) table) (enumerate_from 2 (map g.T.Counted.trace l.others))) (range_with_len 0 l.table) ≡ []
+    flat_map (λ table. filter_map (differs (g.T.Counted.summary l.first) table) (enumerate_from 2 (map g.T.Counted.summary l.others))) (range_with_len 0 l.table)
+    ≡ []

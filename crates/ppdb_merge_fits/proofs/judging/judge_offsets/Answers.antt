@@ -1,7 +1,7 @@
 use Rattle.std.proofs.{Common.{◌++◌}, lemmas.Result.{err_from_is_err_and}}
 use Rattle.ppdb_values.specs.Value.{value_of}
 use Rattle.ppdb_verify.specs.Views.{raw_file}
-use Rattle.ppdb_merge_fits.{specs.Clashes.{unknown_kinds}, specs.Offsets.{beyond, lost}, proofs.Told.{then_fine, refused}}
+use Rattle.ppdb_merge_fits.{specs.Clashes.{unknown_kinds}, specs.Offsets.{beyond, lost}, proofs.Reported.{then_fine, refused}}
 use Rattle.ppdb_merge_fits.proofs.judging.judge_offsets.Goals as goal
 
 pub returns-in_err-refuse : goal.returns-in_err-refuse

@@ -8,12 +8,12 @@ pub returns-in-Ok-clause-rows : goal.returns-in-Ok-clause-rows
 returns-in-Ok-clause-rows g c =
     c.into_vec.ensures ∙ images_are c.args.map.now (references c.args.first c.args.map.now (raw_file c.args.file.now)) c.in-Ok.rows c.in-Ok.ensures.images
 
-pub returns-in-Ok-clause-told : goal.returns-in-Ok-clause-told
-returns-in-Ok-clause-told g c =
+pub returns-in-Ok-clause-reported : goal.returns-in-Ok-clause-reported
+returns-in-Ok-clause-reported g c =
     none_unmapped c.args.map.now (references c.args.first c.args.map.now (raw_file c.args.file.now)) c.in-Ok.rows c.in-Ok.ensures.images
 
-pub returns-in-Err-Unmapped-clause-told : goal.returns-in-Err-Unmapped-clause-told
-returns-in-Err-Unmapped-clause-told g c =
+pub returns-in-Err-Unmapped-clause-reported : goal.returns-in-Err-Unmapped-clause-reported
+returns-in-Err-Unmapped-clause-reported g c =
     let all = references c.args.first c.args.map.now (raw_file c.args.file.now) in
     let r = names c.in-Err-Unmapped.place c.in-Err-Unmapped.table c.in-Err-Unmapped.row in
     let first : IsFirstUnmapped c.args.map.now all r = subst (IsRefusedBy c.args.map.now all) c.in-Err-Unmapped.field-0-is c.in-Err-Unmapped.ensures.unmapped in

@@ -3,7 +3,7 @@ use Rattle.type_blobs.specs.{declared.types.Modifier.{Modifier}, ConstantReading
 use Rattle.ppdb_values.specs.Constants.{body_value}
 use Rattle.ppdb_verify.specs.Views.{raw_file}
 use Rattle.ppdb_values_reading.specs.Lent.{constant_value_shown, constants_of}
-use Rattle.ppdb_merge_items.specs.NamedRows.{goes_constant, is_gone_type, names_gone_class}
+use Rattle.ppdb_merge_annotated.specs.NamedRows.{goes_constant, is_gone_type, names_gone_class}
 use Rattle.ppdb_merge_fits.{specs.declared.used.OwnedConstant.{OwnedConstant}, specs.Owned.{owned_by}, proofs.ScopeLists.{list_none, list_more, list_all}}
 use Rattle.ppdb_merge_fits.proofs.kinds.add_constants.Goals as goal
 

@@ -25,4 +25,4 @@ pub returns : goal.returns
 returns g c =
     let raw = raw_file c.args.file.now in
     sym (any_none (λ (x : CustomValue). is_unknown (kind_of c.args.marks.now x.kind)) (value_of raw).customs c.rows.row c.rows.invariant
-    (omega (arith, customs_many raw, c.keeps.ensures.rules.shape.customs)))
+    (omega (arith, customs_many raw, c.facts.ensures.rules.shape.customs)))

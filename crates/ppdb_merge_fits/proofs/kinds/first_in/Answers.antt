@@ -31,4 +31,4 @@ returns g c =
     let value = c.args.rows.now.1 in
     let many = ap (λ (v : FileValue). length v.customs) c.requires ∙ customs_many (raw_file c.args.file.now) in
     sym (none_left (if_unknown c.args.marks.now c.args.rows.now.0 value) (numbered value.customs) c.customs.row c.customs.invariant
-    (omega (arith, many, length-enumerate_from 1 value.customs, c.keeps.ensures.rules.shape.customs)))
+    (omega (arith, many, length-enumerate_from 1 value.customs, c.facts.ensures.rules.shape.customs)))

@@ -14,7 +14,7 @@ returns-then-row-eq0 g c =
     (no_row scopes c.args.row (elim c.then-row-eq0.branch [
       | then-row-eq0-via-then-row-eq0 w ↦ inl w.if-row-eq0.true
       | then-row-eq0-via-else-row-eq0+then-row-count w ↦
-          let past = w.if-row-count.true in inr (omega (arith, past, scopes_many raw, c.keeps.ensures.rules.shape.scopes))
+          let past = w.if-row-count.true in inr (omega (arith, past, scopes_many raw, c.facts.ensures.rules.shape.scopes))
     ])))
 
 pub returns : goal.returns

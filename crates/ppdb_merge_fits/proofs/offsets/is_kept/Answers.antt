@@ -12,5 +12,5 @@ returns c =
 
 pub returns-then-offset-eq4294967295 : goal.returns-then-offset-eq4294967295
 returns-then-offset-eq4294967295 c =
-    c.keeps_all.ensures ∙ sym (far_is c.args.map.now c.keeps.ensures c.args.method)
+    c.keeps_all.ensures ∙ sym (far_is c.args.map.now c.facts.ensures c.args.method)
     ∙ ap (λ n. is_kept_between (offsets_in c.args.map.now c.args.method) n (n + 1)) (sym c.if-offset-eq4294967295.true)

@@ -5,7 +5,7 @@ use Rattle.ppdb_merge_fits.proofs.points.first_past.Given as goal
 abbrev pub invariant-points : goal.invariant-points
 invariant-points l = record {
   whole : l.cursor.left.fault ≡ None;
-  told : slice_get (points_past l.method l.size l.cursor.left.items) 0
+  reported : slice_get (points_past l.method l.size l.cursor.left.items) 0
       ≡ slice_get (points_past l.method l.size l.fn.cursor.left.items) 0;
 }
 

@@ -5,7 +5,7 @@ use Rattle.ppdb_merge_fits.proofs.records.first_of_hoisted.Given as goal
 abbrev pub invariant-slots : goal.invariant-slots
 invariant-slots l = record {
   whole : l.cursor.fault ≡ None;
-  told : slice_get (flat_map (slot_beyond l.map l.method) l.cursor.items) 0
+  reported : slice_get (flat_map (slot_beyond l.map l.method) l.cursor.items) 0
       ≡ slice_get (flat_map (slot_beyond l.map l.method) l.fn.cursor.items) 0;
 }
 

@@ -5,7 +5,7 @@ use Rattle.ppdb_merge_fits.proofs.records.first_of_steps.Given as goal
 abbrev pub invariant-steps : goal.invariant-steps
 invariant-steps g l = record {
   whole : l.cursor.left.fault ≡ None;
-  told : slice_get (flat_map (λ step. flat_map (g.Q.AsksOffset.tells l.question) (step_offsets l.method step)) l.cursor.left.items) 0
+  reported : slice_get (flat_map (λ step. flat_map (g.Q.AsksOffset.tells l.question) (step_offsets l.method step)) l.cursor.left.items) 0
       ≡ slice_get (flat_map (λ step. flat_map (g.Q.AsksOffset.tells l.question) (step_offsets l.method step)) l.fn.cursor.left.items) 0;
 }
 

@@ -14,9 +14,9 @@ returns-then-is_none g c =
 pub rows-preserved : goal.rows-preserved
 rows-preserved g c =
     given_more (raw_file c.args.file.now) (given_signature c.args.map.now) c.rows.row c.values_are_rows.ensures
-    (omega (arith, c.keeps.ensures.rules.shape.methods)) c.rows.all.items _ c.rows.invariant c.in_ok-add_given.ensures
+    (omega (arith, c.facts.ensures.rules.shape.methods)) c.rows.all.items _ c.rows.invariant c.in_ok-add_given.ensures
 
 pub returns : goal.returns
 returns g c =
     given_all (raw_file c.args.file.now) (given_signature c.args.map.now) c.rows.row c.rows.all.items
-    (omega (arith, c.keeps.ensures.rules.shape.methods)) c.rows.invariant
+    (omega (arith, c.facts.ensures.rules.shape.methods)) c.rows.invariant

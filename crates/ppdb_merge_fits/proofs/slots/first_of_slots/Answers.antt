@@ -14,7 +14,7 @@ returns-then-is_none g c =
 pub first_unmapped-requires : goal.first_unmapped-requires
 first_unmapped-requires g c =
     subst (λ (l : List MethodSlot). length l ≤ 16777215) (sym (c.as_slice.ensures ∙ c.in_ok-slots.ensures))
-    (few_slots (raw_file c.args.file.now) c.keeps.ensures.rules)
+    (few_slots (raw_file c.args.file.now) c.facts.ensures.rules)
 
 pub returns-in-Some : goal.returns-in-Some
 returns-in-Some g c =
@@ -30,7 +30,7 @@ returns g c =
     let value = value_of (raw_file c.args.file.now) in
     let unmapped = c.first_unmapped.ensures
     ∙ ap (λ (l : List MethodSlot). slice_get (flat_map (if_slot_unmapped m) (numbered l)) 0) (c.as_slice.ensures ∙ c.in_ok-slots.ensures) in
-    subst (λ n. IfOk c.first_slot_twice.result (λ told. told ≡ n))
+    subst (λ n. IfOk c.first_slot_twice.result (λ reported. reported ≡ n))
     (ap (λ (l : List MethodSlot). slice_get (slots_twice m l) 0) (c.as_slice-2.ensures ∙ c.in_ok-slots.ensures)
     ∙ sym (first_back (slots_unmapped m value) (slots_twice m (variable_slots value)) (sym unmapped ∙ c.in_default.is)))
     c.first_slot_twice.ensures

@@ -10,10 +10,11 @@ use Rattle.ppdb_merge_fits.proofs.slots.variable_slots.Goals as goal
 pub scopes-init : goal.scopes-init
 scopes-init g c =
     let raw = raw_file c.args.file.now in
-    let own = c.scopes_own_their_lists.ensures raw c.keeps.ensures.rules in
+    let own = c.scopes_own_their_lists.ensures raw c.facts.ensures.rules in
     record {
       within = subst (λ (scopes : List Scope). All (HasLists raw.tables) scopes) (sym c.new-scopes.ensures.scopes) own.within;
-      made = scopes_begun scope_slots (scope_with raw.tables) c.new-slots.result c.new-scopes.result _ (value_of raw).scopes c.new-slots.ensures c.new-scopes.ensures.scopes own.owned;
+      made = scopes_begun scope_slots (scope_with raw.tables) c.new-slots.result c.new-scopes.result _
+          (value_of raw).scopes c.new-slots.ensures c.new-scopes.ensures.scopes own.owned;
     }
 
 pub add_slots-requires : goal.add_slots-requires

@@ -1,5 +1,5 @@
 use Rattle.std.proofs.{Common.{rules, of_calls}, lemmas.Fn.{always_returns_same}}
-use Rattle.ppdb_merge_items.proofs.StableSort.{sorted_is_in_order}
+use Rattle.ppdb_merge_annotated.proofs.StableSort.{sorted_is_in_order}
 use Rattle.ppdb_merge_fits.proofs.twice.by_number.Goals as goal
 
 pub returns : goal.returns

@@ -1,5 +1,5 @@
 use Rattle.std.{proofs.Common.{rules, ◌∙◌, ap}, specs.List.{dedup}, proofs.lemmas.Fn.{dedup_same}}
-use Rattle.ppdb_merge_items.specs.Sorted.{in_order}
+use Rattle.ppdb_merge_annotated.specs.Sorted.{in_order}
 use Rattle.ppdb_merge_fits.specs.Twice.{is_same}
 use Rattle.ppdb_merge_fits.proofs.twice.leave_once.Goals as goal
 

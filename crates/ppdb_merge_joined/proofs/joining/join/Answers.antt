@@ -1,7 +1,7 @@
 use Rattle.std.proofs.Common.{◌≡◌, [], map, ap, ◌∙◌, get_or}
 use Rattle.ppdb_tables.specs.{declared.rows.MachineRow.{MachineRow}, Parents.{coded_of}}
 use Rattle.ppdb_values.specs.declared.{file.MethodValue.{MethodValue}, custom.CustomValue.{CustomValue}}
-use Rattle.ppdb_merge_items.specs.{declared.file.AnnotatedFile.{AnnotatedFile}, declared.file.AnnotatedScope.{AnnotatedScope}, Sorted.{in_order}}
+use Rattle.ppdb_merge_annotated.specs.{declared.file.AnnotatedFile.{AnnotatedFile}, declared.file.AnnotatedScope.{AnnotatedScope}, Sorted.{in_order}}
 use Rattle.ppdb_merge_joined.{specs.declared.joining.Parts.{Parts}, specs.Parts.{finished}, specs.Repeats.{unrepeated}, proofs.Whole.{itself, made_is, joined_is}}
 use Rattle.ppdb_merge_joined.proofs.joining.join.Goals as goal
 

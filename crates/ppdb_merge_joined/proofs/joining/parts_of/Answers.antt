@@ -1,5 +1,5 @@
 use Rattle.std.proofs.{Common.{length, arith}, lemmas.List.Sums.{sum_by_push}}
-use Rattle.ppdb_merge_items.specs.declared.file.AnnotatedFile.{AnnotatedFile}
+use Rattle.ppdb_merge_annotated.specs.declared.file.AnnotatedFile.{AnnotatedFile}
 use Rattle.ppdb_merge_joined.proofs.joining.parts_of.Goals as goal
 
 pub loop-file-preserved : goal.loop-file-preserved

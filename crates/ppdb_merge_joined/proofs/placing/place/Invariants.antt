@@ -1,5 +1,5 @@
 use Rattle.std.proofs.Common.{◌≡◌, ◌++◌, map}
-use Rattle.ppdb_merge_items.specs.Annotated.{on_row}
+use Rattle.ppdb_merge_annotated.specs.Annotated.{on_row}
 use Rattle.ppdb_merge_joined.proofs.placing.place.Given as goal
 
 abbrev pub invariant-loop-note : goal.invariant-loop-note

@@ -1,5 +1,5 @@
 use Rattle.std.proofs.Common.{◌≡◌, ◌+◌, ◌++◌, length}
-use Rattle.ppdb_merge_items.specs.Annotated.{items_of, customs_of, placed}
+use Rattle.ppdb_merge_annotated.specs.Annotated.{items_of, customs_of, placed}
 use Rattle.ppdb_merge_joined.proofs.placing.take_apart.Given as goal
 
 abbrev pub invariant-loop-item : goal.invariant-loop-item

@@ -12,10 +12,10 @@ loop-input-preserved g c =
     let less : i < length inputs = omega arith in
     let one_more = take_more inputs i input less ∙ ap (λ l. take i inputs ++ l ∷ []) (sym c.input-item.is) in
     record {
-      seen = subst (λ l. IsSeen l c.note.new.seen) (sym (ap (keys_of as_record) one_more ∙ keys_snoc as_record (take i inputs) input))
-          (subst (λ l. IsSeen (keys_of as_record (take i inputs) ++ filter_map (λ item. plain (as_record item)) l) c.note.new.seen)
+      seen = subst (λ l. IsSeen l c.see.new.seen) (sym (ap (keys_of as_record) one_more ∙ keys_snoc as_record (take i inputs) input))
+          (subst (λ l. IsSeen (keys_of as_record (take i inputs) ++ filter_map (λ item. plain (as_record item)) l) c.see.new.seen)
           c.as_slice-in-loop-input.ensures
-          (c.in_ok-note.ensures (keys_of as_record (take i inputs)) c.loop-input.invariant.seen));
+          (c.in_ok-see.ensures (keys_of as_record (take i inputs)) c.loop-input.invariant.seen));
       marks = c.in_ok-mark.ensures (keys_of as_record (take i inputs)) c.loop-input.invariant.seen
           ∙ ap (λ l. l ++ map (λ item. not (key_among (keys_of as_record (take i inputs)) (plain (as_record item)))) c.as_slice.result.now)
           c.loop-input.invariant.marks

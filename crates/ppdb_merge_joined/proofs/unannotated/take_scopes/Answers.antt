@@ -1,5 +1,5 @@
 use Rattle.std.proofs.Common.{refl, length}
-use Rattle.ppdb_merge_items.specs.{declared.file.AnnotatedScope.{AnnotatedScope}, Annotated.{scope_of}}
+use Rattle.ppdb_merge_annotated.specs.{declared.file.AnnotatedScope.{AnnotatedScope}, Annotated.{scope_of}}
 use Rattle.ppdb_merge_joined.proofs.Placed.{mapped_more, rows_more, owned_more, sum_more, count_more}
 use Rattle.ppdb_merge_joined.proofs.unannotated.take_scopes.Goals as goal
 

@@ -1,5 +1,5 @@
 use Rattle.std.{proofs.Common.{◌≡◌, ◌+◌, length, map}, specs.Prelude.{flat_map, sum_by}}
-use Rattle.ppdb_merge_items.specs.Annotated.{placed, scope_of, customs_of}
+use Rattle.ppdb_merge_annotated.specs.Annotated.{placed, scope_of, customs_of}
 use Rattle.ppdb_merge_joined.proofs.unannotated.take_scopes.Given as goal
 
 abbrev pub invariant-loop-scope : goal.invariant-loop-scope

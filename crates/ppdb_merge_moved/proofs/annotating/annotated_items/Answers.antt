@@ -12,7 +12,8 @@ loop-item-preserved g c =
     let back : at ≡ at + 1 - 1 = omega arith in
     record {
       at = omega (arith, placed, length-append c.loop-item.yielded (c.in-Some.item ∷ []));
-      annotated = c.in_ok-push.ensures.ok ∙ ap (λ xs. xs ++ record { item = c.in-Some.item; customs = c.take_at-customs.result } ∷ []) c.loop-item.invariant.annotated
+      annotated =
+          c.in_ok-push.ensures.ok ∙ ap (λ xs. xs ++ record { item = c.in-Some.item; customs = c.take_at-customs.result } ∷ []) c.loop-item.invariant.annotated
           ∙ annotated_more (in_lists lists) (first + 1) c.loop-item.yielded c.in-Some.item c.take_at-customs.result (at + 1) row
           (c.take_at-customs.ensures.taken ∙ c.loop-item.invariant.others at (omega arith) ∙ ap (λ (k : ℕ). get_or lists k []) back);
       others = λ k le. c.take_at-customs.ensures.others k (omega arith) ∙ c.loop-item.invariant.others k (omega arith);

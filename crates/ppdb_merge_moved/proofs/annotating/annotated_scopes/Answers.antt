@@ -1,7 +1,7 @@
 use Rattle.std.{proofs.Common.{◌≡◌, ℕ, ◌+◌, ◌-◌, ◌++◌, ◌∷◌, [], List, length, get_or, sym, ap, ◌∙◌, arith}, specs.List.{sum_by}, proofs.lemmas.List.{length-append}}
 use Rattle.std.proofs.lemmas.List.Sums.{sum_by_push}
 use Rattle.ppdb_values.specs.declared.scope.ScopeValue.{ScopeValue}
-use Rattle.ppdb_merge_items.specs.declared.file.AnnotatedScope.{AnnotatedScope}
+use Rattle.ppdb_merge_annotated.specs.declared.file.AnnotatedScope.{AnnotatedScope}
 use Rattle.ppdb_merge_moved.{specs.OnRows.{in_lists, annotated_by, annotated_scopes_by}, proofs.ScopesAtRows.{scopes_more, scope_is, annotated_same}}
 use Rattle.ppdb_merge_moved.proofs.annotating.annotated_scopes.Goals as goal
 

@@ -1,5 +1,5 @@
 use Rattle.std.proofs.{Common.{◌<◌, length, set, sym, ap, ◌∙◌, arith}, lemmas.List.Edits.{map_over_more}}
-use Rattle.ppdb_merge_items.specs.Annotated.{with_item}
+use Rattle.ppdb_merge_annotated.specs.Annotated.{with_item}
 use Rattle.ppdb_merge_moved.specs.Moved.{moved_document}
 use Rattle.ppdb_merge_moved.proofs.named.name_documents.Goals as goal
 

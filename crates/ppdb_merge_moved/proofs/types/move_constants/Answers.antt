@@ -1,8 +1,8 @@
 use Rattle.std.{proofs.Common.{◌≡◌, length, map, sym, ap, ◌∙◌}, specs.List.{filter}, proofs.lemmas.List.{length-map}}
-use Rattle.ppdb_merge_items.{specs.Annotated.{with_item}, specs.NamedRows.{with_live_body}, proofs.Mapped.{map_map_both}}
+use Rattle.ppdb_merge_annotated.{specs.Annotated.{with_item}, specs.NamedRows.{with_live_body}, proofs.Mapped.{map_map_both}}
 use Rattle.ppdb_merge_moved.{specs.Moved.{moved_constant}, proofs.Lists.{refill_all}}
 use Rattle.ppdb_merge_moved.proofs.types.move_constants.Goals as goal
-use Rattle.ppdb_merge_items.proofs.Parts.{live_constant}
+use Rattle.ppdb_merge_annotated.proofs.Parts.{live_constant}
 
 pub returns : goal.returns
 returns c =

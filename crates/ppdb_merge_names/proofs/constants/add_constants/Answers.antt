@@ -11,12 +11,12 @@ use Rattle.ppdb_merge_names.proofs.constants.add_constants.Goals as goal
 pub scopes-init : goal.scopes-init
 scopes-init g c =
     let raw = raw_file c.args.file.now in
-    let own = c.scopes_own_their_lists.ensures raw c.keeps.ensures.rules in
+    let own = c.scopes_own_their_lists.ensures raw c.facts.ensures.rules in
     record {
       within = subst (λ (scopes : List Scope). All (HasLists raw.tables) scopes) (sym c.new-scopes.ensures.scopes) own.within;
       same_map = refl;
       leads = ap (imaged_on c.args.imager.now)
-          (all-scopes c.args.imager.now.map raw.tables c.lists_are_owned.ensures c.keeps.ensures.rules.constants.lists
+          (all-scopes c.args.imager.now.map raw.tables c.lists_are_owned.ensures c.facts.ensures.rules.constants.lists
           ∙ ap (λ (scopes : List Scope). flat_map (of_scope_constants c.args.imager.now.map raw.tables) scopes) (sym c.new-scopes.ensures.scopes));
     }
 

@@ -1,7 +1,7 @@
 use Rattle.std.proofs.{Common.{◌≡◌, ◌+◌, ap, sym, ◌∙◌, arith, Ok, Err}, lemmas.Result.{err_from_is_err_and}}
 use Rattle.ppdb_maps.specs.Map.{Map}
 use Rattle.ppdb_verify.specs.Views.{raw_file}
-use Rattle.type_blobs_rows.specs.Rows.{constant_types}
+use Rattle.type_blobs_references.specs.Rows.{constant_types}
 use Rattle.ppdb_merge_names.{specs.References.{inside, live_types, types_of}, specs.Imaging.{imaged_on}, specs.Lists.{of_list}, proofs.Going.{leads-few, leads-end}}
 use Rattle.ppdb_merge_names.proofs.{Going.{goes-stop, goes-as, map-stays}, ConstantLists.{list_first, list_over}}
 use Rattle.ppdb_merge_names.proofs.constants.add_list.Goals as goal

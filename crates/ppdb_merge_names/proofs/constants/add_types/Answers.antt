@@ -1,5 +1,5 @@
 use Rattle.std.proofs.Common.{sym, ◌∙◌}
-use Rattle.type_blobs_rows.specs.Rows.{constant_types}
+use Rattle.type_blobs_references.specs.Rows.{constant_types}
 use Rattle.ppdb_merge_names.{specs.References.{inside, live_types}, proofs.Going.{goes-none}, proofs.Walked.{types_gone}}
 use Rattle.ppdb_merge_names.proofs.constants.add_types.Goals as goal
 

@@ -1,5 +1,5 @@
 use Rattle.std.proofs.Common.{sym, ◌∙◌}
-use Rattle.type_blobs_rows.specs.Rows.{constant_types}
+use Rattle.type_blobs_references.specs.Rows.{constant_types}
 use Rattle.ppdb_merge_names.proofs.Walked.{none_goes}
 use Rattle.ppdb_merge_names.proofs.constants.constant_goes.Goals as goal
 

@@ -20,7 +20,7 @@ rows-preserved g c =
     let start = c.args.imager.now in
     let now = c.rows.imager in
     let rows = row_references start.map raw c.args.table in
-    let len : length rows ≡ c.count-count.result = rows_are start.map raw c.keeps.ensures.rules.shape c.args.table
+    let len : length rows ≡ c.count-count.result = rows_are start.map raw c.facts.ensures.rules.shape c.args.table
     ∙ sym (c.count-count.ensures.rows ∙ ap (count raw) c.table_number.ensures) in
     let low = c.rows.invariant.low in
     let here = row_there rows c.rows.row low (omega (arith, len)) in
@@ -41,7 +41,7 @@ returns-in_err-add_row g c =
     let start = c.args.imager.now in
     let now = c.rows.imager in
     let rows = row_references start.map raw c.args.table in
-    let len : length rows ≡ c.count-count.result = rows_are start.map raw c.keeps.ensures.rules.shape c.args.table
+    let len : length rows ≡ c.count-count.result = rows_are start.map raw c.facts.ensures.rules.shape c.args.table
     ∙ sym (c.count-count.ensures.rows ∙ ap (count raw) c.table_number.ensures) in
     let low = c.rows.invariant.low in
     let here = row_there rows c.rows.row low (omega (arith, len)) in
@@ -57,7 +57,7 @@ returns g c =
     let raw = (raw_file c.args.file.now).tables in
     let start = c.args.imager.now in
     let rows = row_references start.map raw c.args.table in
-    let len : length rows ≡ c.count-count.result = rows_are start.map raw c.keeps.ensures.rules.shape c.args.table
+    let len : length rows ≡ c.count-count.result = rows_are start.map raw c.facts.ensures.rules.shape c.args.table
     ∙ sym (c.count-count.ensures.rows ∙ ap (count raw) c.table_number.ensures) in
     leads-end start c.rows.imager (of_table start.map raw c.args.table) (from_row c.rows.row rows) c.rows.invariant.leads
     (no_rest c.rows.row rows (omega (arith, len)))

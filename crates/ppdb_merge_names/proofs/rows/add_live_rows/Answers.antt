@@ -1,6 +1,6 @@
 use Rattle.std.proofs.{Common.{◌≡◌, ◌∙◌, sym, ap, [], ◌∷◌, List, Ok, Err}, lemmas.Result.{err_from_is_err_and}}
 use Rattle.ppdb_maps.specs.Map.{Map}
-use Rattle.type_blobs_rows.specs.declared.row.PlacedRow.{PlacedRow}
+use Rattle.type_blobs_references.specs.declared.row.PlacedRow.{PlacedRow}
 use Rattle.blob_grammar.specs.Reader.{tail}
 use Rattle.ppdb_merge_names.{specs.Imaging.{imaged_on}, proofs.Going.{leads-few, leads-end, goes-stop, goes-as, map-stays}, proofs.Walked.{first_is, none_is}}
 use Rattle.ppdb_merge_names.proofs.Walked.{live_inside, live_first}

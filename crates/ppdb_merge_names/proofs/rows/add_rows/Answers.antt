@@ -1,6 +1,6 @@
 use Rattle.std.proofs.{Common.{Err, ◌≡◌, ◌∙◌, sym, ap, [], ◌∷◌, List}, lemmas.Result.{err_from_is_err_and}}
 use Rattle.ppdb_base.specs.Place.{cell}
-use Rattle.type_blobs_rows.specs.declared.row.PlacedRow.{PlacedRow}
+use Rattle.type_blobs_references.specs.declared.row.PlacedRow.{PlacedRow}
 use Rattle.blob_grammar.specs.Reader.{tail}
 use Rattle.ppdb_merge_names.{specs.References.{inside}, specs.Imaging.{imaged_on}, proofs.Going.{leads-few, leads-end, goes-stop, goes-at}, proofs.Walked.{first_is}}
 use Rattle.ppdb_merge_names.proofs.Walked.{none_is}

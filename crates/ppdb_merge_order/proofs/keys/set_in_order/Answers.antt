@@ -1,5 +1,5 @@
 use Rattle.std.proofs.{Common.{rules, of_calls}, lemmas.Fn.{always_returns_same}}
-use Rattle.ppdb_merge_items.proofs.StableSort.{sorted_is_in_order}
+use Rattle.ppdb_merge_annotated.proofs.StableSort.{sorted_is_in_order}
 use Rattle.ppdb_merge_joined.proofs.Adjacent.{in_order_already}
 use Rattle.ppdb_merge_order.specs.declared.keys.Key.{Key}
 use Rattle.ppdb_merge_order.proofs.keys.set_in_order.Goals as goal

@@ -2,7 +2,7 @@ use Rattle.std.{proofs.Common.{sym, ap, ◌∙◌, List, [], arith}, specs.Prelu
 use Rattle.blob_grammar.specs.Reader.{Left}
 use Rattle.custom_info.specs.{HoistedScopes.{hoisted_scopes}, declared.slots.Slot.{Slot}}
 use Rattle.ppdb_verify.specs.Views.{raw_file}
-use Rattle.ppdb_verify_rows.proofs.Whole.{whole_left, left_of}
+use Rattle.ppdb_verify_readers.proofs.Whole.{whole_left, left_of}
 use Rattle.ppdb_queries.proofs.Records.{slots_none, slots_are, hoisted_kind, nothing_whole, nothing_read}
 use Rattle.ppdb_queries.proofs.hoisted.slots_at.Goals as goal
 

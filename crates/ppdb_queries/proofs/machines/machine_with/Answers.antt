@@ -7,7 +7,7 @@ use Rattle.ppdb_queries.proofs.machines.machine_with.Goals as goal
 
 pub halves-init : goal.halves-init
 halves-init g c =
-    let shape = c.keeps.ensures.rules.shape.machines in
+    let shape = c.facts.ensures.rules.shape.machines in
     let len = length-map (raw_of (tables_of c.args.file.now)).machines (cell_of c.args.column) in
     let rows = c.count-end.ensures.rows in
     record {
@@ -70,7 +70,8 @@ halves-preserved g c =
     }
 
 pub returns-clause-found : goal.returns-clause-found
-returns-clause-found g c = rising_none (cell_of c.args.column) (raw_of (tables_of c.args.file.now)).machines c.args.method c.halves.first c.halves.end c.halves-test.false
+returns-clause-found g c =
+    rising_none (cell_of c.args.column) (raw_of (tables_of c.args.file.now)).machines c.args.method c.halves.first c.halves.end c.halves-test.false
     c.halves.invariant.below c.halves.invariant.above
 
 pub returns-clause-cost : goal.returns-clause-cost

@@ -19,5 +19,5 @@ loop-row-preserved g c = record {
 
 pub returns-clause-found : goal.returns-clause-found
 returns-clause-found g c =
-    let shape = c.keeps.ensures.rules.shape.machines in
+    let shape = c.facts.ensures.rules.shape.machines in
     move_next_none (raw_of (tables_of c.args.file.now)).machines c.args.method (λ j inside. c.loop-row.invariant.apart j (omega (arith, shape)))

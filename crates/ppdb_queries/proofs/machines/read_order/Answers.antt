@@ -30,17 +30,17 @@ loop-row-preserved g c =
 
 pub returns-then-rises-clause-found : goal.returns-then-rises-clause-found
 returns-then-rises-clause-found g c =
-    let shape = c.keeps.ensures.rules.shape.machines in
+    let shape = c.facts.ensures.rules.shape.machines in
     found_all (raw_of (tables_of c.args.file.now)).machines c.args.method c.loop-row.row c.loop-row.found c.loop-row.invariant.found (omega (arith, shape))
 
 pub returns-then-rises-clause-order : goal.returns-then-rises-clause-order
 returns-then-rises-clause-order g c =
-    let shape = c.keeps.ensures.rules.shape.machines in
+    let shape = c.facts.ensures.rules.shape.machines in
     let rises : OnTrue true (RisesBefore (map (λ machine. machine.kickoff) (raw_of (tables_of c.args.file.now)).machines) c.loop-row.row) =
     rw c.if-rises.true at c.loop-row.invariant.rising in
     all_rise (raw_of (tables_of c.args.file.now)).machines c.loop-row.row rises (omega (arith, shape))
 
 pub returns-else-rises-clause-found : goal.returns-else-rises-clause-found
 returns-else-rises-clause-found g c =
-    let shape = c.keeps.ensures.rules.shape.machines in
+    let shape = c.facts.ensures.rules.shape.machines in
     found_all (raw_of (tables_of c.args.file.now)).machines c.args.method c.loop-row.row c.loop-row.found c.loop-row.invariant.found (omega (arith, shape))

@@ -7,4 +7,4 @@ pub returns-clause-rise : goal.returns-clause-rise
 returns-clause-rise g c =
     let raw = raw_file c.args.file.now in
     cursor_rises raw c.args.method c.points_of.result
-    (λ k d within. (each_all _ (value_of raw).methods c.keeps.ensures.sound.methods.each k d within).rise) c.points_of.ensures
+    (λ k d within. (each_all _ (value_of raw).methods c.facts.ensures.sound.methods.each k d within).rise) c.points_of.ensures

@@ -9,12 +9,12 @@ use Rattle.ppdb_run.proofs.answer.answer.Goals as goal
 pub returns-in-Err-clause-found : goal.returns-in-Err-clause-found
 returns-in-Err-clause-found g c =
     stop_found (Unit {0}) (Ask (question_of c.args.question) c.args.file.now) (g.F.Folder.files c.args.folder.now) (λ (o : Outcome). o) c.in-Err.stop
-    (no_answer raw_file (question_of c.args.question) c.args.file.now (g.F.Folder.files c.args.folder.now) c.in-Err.stop c.in-Err.ensures.told)
+    (no_answer raw_file (question_of c.args.question) c.args.file.now (g.F.Folder.files c.args.folder.now) c.in-Err.stop c.in-Err.ensures.reported)
 
-pub returns-in-Err-clause-told : goal.returns-in-Err-clause-told
-returns-in-Err-clause-told g c =
+pub returns-in-Err-clause-reported : goal.returns-in-Err-clause-reported
+returns-in-Err-clause-reported g c =
     stop_settles (Unit {0}) (Ask (question_of c.args.question) c.args.file.now) (g.F.Folder.files c.args.folder.now) (λ (o : Outcome). o) c.in-Err.stop
-    (no_answer raw_file (question_of c.args.question) c.args.file.now (g.F.Folder.files c.args.folder.now) c.in-Err.stop c.in-Err.ensures.told)
+    (no_answer raw_file (question_of c.args.question) c.args.file.now (g.F.Folder.files c.args.folder.now) c.in-Err.stop c.in-Err.ensures.reported)
 
 pub returns-in-Err-clause-cut : goal.returns-in-Err-clause-cut
 returns-in-Err-clause-cut g c =
@@ -31,22 +31,22 @@ returns-in-Err-clause-causes g c =
 pub returns-clause-found : goal.returns-clause-found
 returns-clause-found g c =
     answer_found (Unit {0}) (question_of c.args.question) c.args.file.now (g.F.Folder.files c.args.folder.now) (raw_file c.in-Ok.verified) c.put_answer.result
-    c.in-Ok.ensures.told c.put_answer.ensures.told
+    c.in-Ok.ensures.reported c.put_answer.ensures.reported
 
-pub returns-clause-told : goal.returns-clause-told
-returns-clause-told g c =
+pub returns-clause-reported : goal.returns-clause-reported
+returns-clause-reported g c =
     on_answer (Settles c.put_answer.result) (question_of c.args.question) c.args.file.now (g.F.Folder.files c.args.folder.now) (raw_file c.in-Ok.verified)
-    c.in-Ok.ensures.told c.put_answer.ensures.told
+    c.in-Ok.ensures.reported c.put_answer.ensures.reported
 
 pub returns-clause-text : goal.returns-clause-text
 returns-clause-text g c =
     on_answer _ (question_of c.args.question) c.args.file.now (g.F.Folder.files c.args.folder.now) (raw_file c.in-Ok.verified)
-    c.in-Ok.ensures.told c.put_answer.ensures.text
+    c.in-Ok.ensures.reported c.put_answer.ensures.text
 
 pub returns-clause-cut : goal.returns-clause-cut
 returns-clause-cut g c =
     on_answer _ (question_of c.args.question) c.args.file.now (g.F.Folder.files c.args.folder.now) (raw_file c.in-Ok.verified)
-    c.in-Ok.ensures.told c.put_answer.ensures.cut
+    c.in-Ok.ensures.reported c.put_answer.ensures.cut
 
 pub returns-clause-causes : goal.returns-clause-causes
 returns-clause-causes g c =
@@ -58,6 +58,6 @@ returns-clause-rows g c = record {
   none = c.put_answer.ensures.none;
   bound =
       on_read (λ question raw. IsWithinBound question raw c.args.steps.now c.put_answer.new.steps) (question_of c.args.question) c.args.file.now
-      (g.F.Folder.files c.args.folder.now) (raw_file c.in-Ok.verified) c.in-Ok.ensures.told c.put_answer.ensures.bound;
+      (g.F.Folder.files c.args.folder.now) (raw_file c.in-Ok.verified) c.in-Ok.ensures.reported c.put_answer.ensures.bound;
   listed = tt;
 }

@@ -1,7 +1,7 @@
 use Rattle.std.{proofs.Common.{◌≡◌, refl, subst, sym, Some}, specs.Prelude.{IfErr, IfSome, OnOk}}
 use Rattle.ppdb_run.{specs.Outcome.{IsOutcome}, specs.Stops.{Finds, Settles}, specs.Ends.{IsValid, WritesAgain, WritesValid}, proofs.Cuts.{nothing_cut}}
-use Rattle.ppdb_run.proofs.{Kept.{is_unread, is_input, is_output, leaves_all, nothing_to_judge}, Lookups.{leaves_looked_up, on_none}, Outcomes.{of_told, of_task}}
-use Rattle.ppdb_run.proofs.{Outcomes.{of_rows}, Sampling.{of_sampled, sampled_again, sampled_found, sampled_leaves, sampled_valid}, Writing.{nothing_put}}
+use Rattle.ppdb_run.proofs.{Kept.{is_unread, is_input, is_output, leaves_all, nothing_to_judge}, Lookups.{leaves_looked_up, on_none}, Outcomes.{of_reported}}
+use Rattle.ppdb_run.proofs.{Outcomes.{of_task, of_rows}, Sampling.{of_sampled, sampled_again, sampled_found, sampled_leaves, sampled_valid}, Writing.{nothing_put}}
 use Rattle.ppdb_run.{proofs.Writing.{nothing_due, on_asked, on_done, on_then, writes_file}, specs.Means.{WritesMeaning}, proofs.Means.{nothing_means}}
 use Rattle.ppdb_run_stops.{specs.Causes.{cause_of, OnCut}, proofs.Causes.{widened_stop}}
 use Rattle.ppdb_base.specs.Written.{appended, AppendsPrefix}
@@ -12,13 +12,13 @@ use Rattle.ppdb_run.proofs.commands.carry_out.Goals as goal
 pub returns-in-Ask-clause-found : goal.returns-in-Ask-clause-found
 returns-in-Ask-clause-found g c =
     let words = subst (λ task. Words task (texts c.args.words.now)) (sym c.in-Ask.ensures) c.in-Ok.ensures.command in
-    of_told (λ asked all. Finds c.answer.result (IsOutcome asked all)) (texts c.args.words.now)
+    of_reported (λ asked all. Finds c.answer.result (IsOutcome asked all)) (texts c.args.words.now)
     (Ask (question_of c.in-Ask.question) c.in-Ask.file.now) (g.F.Folder.files c.args.folder.now) c.answer.ensures.found words (λ a. a)
 
-pub returns-in-Ask-clause-told : goal.returns-in-Ask-clause-told
-returns-in-Ask-clause-told g c =
+pub returns-in-Ask-clause-reported : goal.returns-in-Ask-clause-reported
+returns-in-Ask-clause-reported g c =
     let words = subst (λ task. Words task (texts c.args.words.now)) (sym c.in-Ask.ensures) c.in-Ok.ensures.command in
-    of_task _ _ _ c.answer.ensures.told words (λ a. a)
+    of_task _ _ _ c.answer.ensures.reported words (λ a. a)
 
 pub returns-in-Ask-clause-text : goal.returns-in-Ask-clause-text
 returns-in-Ask-clause-text g c =
@@ -69,13 +69,13 @@ returns-in-Ask-clause-again g c =
 pub returns-in-Lookup-clause-found : goal.returns-in-Lookup-clause-found
 returns-in-Lookup-clause-found g c =
     let words = subst (λ task. Words task (texts c.args.words.now)) (sym c.in-Lookup.ensures) c.in-Ok.ensures.command in
-    of_told (λ asked all. Finds c.lookup.result (IsOutcome asked all)) (texts c.args.words.now)
+    of_reported (λ asked all. Finds c.lookup.result (IsOutcome asked all)) (texts c.args.words.now)
     (Lookup c.in-Lookup.file.now c.in-Lookup.list.now c.in-Lookup.json) (g.F.Folder.files c.args.folder.now) c.lookup.ensures.found words (λ a. a)
 
-pub returns-in-Lookup-clause-told : goal.returns-in-Lookup-clause-told
-returns-in-Lookup-clause-told g c =
+pub returns-in-Lookup-clause-reported : goal.returns-in-Lookup-clause-reported
+returns-in-Lookup-clause-reported g c =
     let words = subst (λ task. Words task (texts c.args.words.now)) (sym c.in-Lookup.ensures) c.in-Ok.ensures.command in
-    of_task _ _ _ c.lookup.ensures.told words (λ a. a)
+    of_task _ _ _ c.lookup.ensures.reported words (λ a. a)
 
 pub returns-in-Lookup-clause-text : goal.returns-in-Lookup-clause-text
 returns-in-Lookup-clause-text g c =
@@ -131,14 +131,14 @@ returns-in-Lookup-clause-means g c =
 pub returns-in-Rebuild-clause-found : goal.returns-in-Rebuild-clause-found
 returns-in-Rebuild-clause-found g c =
     let words = subst (λ task. Words task (texts c.args.words.now)) (sym c.in-Rebuild.ensures) c.in-Ok.ensures.command in
-    of_told (λ asked all. Finds c.rebuild.result (IsOutcome asked all)) (texts c.args.words.now)
+    of_reported (λ asked all. Finds c.rebuild.result (IsOutcome asked all)) (texts c.args.words.now)
     (Rebuild c.in-Rebuild.input.now c.in-Rebuild.output.now (options_of c.in-Rebuild.options))
     (g.F.Folder.files c.args.folder.now) c.rebuild.ensures.comes.found words (λ a. a)
 
-pub returns-in-Rebuild-clause-told : goal.returns-in-Rebuild-clause-told
-returns-in-Rebuild-clause-told g c =
+pub returns-in-Rebuild-clause-reported : goal.returns-in-Rebuild-clause-reported
+returns-in-Rebuild-clause-reported g c =
     let words = subst (λ task. Words task (texts c.args.words.now)) (sym c.in-Rebuild.ensures) c.in-Ok.ensures.command in
-    of_task _ _ _ c.rebuild.ensures.comes.told words (λ a. a)
+    of_task _ _ _ c.rebuild.ensures.comes.reported words (λ a. a)
 
 pub returns-in-Rebuild-clause-text : goal.returns-in-Rebuild-clause-text
 returns-in-Rebuild-clause-text g c =
@@ -192,13 +192,14 @@ returns-in-Rebuild-clause-read_only g c =
 pub returns-in-Compose-clause-found : goal.returns-in-Compose-clause-found
 returns-in-Compose-clause-found g c =
     let words = subst (λ task. Words task (texts c.args.words.now)) (sym c.in-Compose.ensures) c.in-Ok.ensures.command in
-    of_told (λ asked all. Finds c.compose.result (IsOutcome asked all)) (texts c.args.words.now)
-    (Compose c.in-Compose.first.now c.in-Compose.second.now c.in-Compose.output.now) (g.F.Folder.files c.args.folder.now) c.compose.ensures.comes.found words (λ a. a)
+    of_reported (λ asked all. Finds c.compose.result (IsOutcome asked all)) (texts c.args.words.now)
+    (Compose c.in-Compose.first.now c.in-Compose.second.now c.in-Compose.output.now) (g.F.Folder.files c.args.folder.now) c.compose.ensures.comes.found words
+    (λ a. a)
 
-pub returns-in-Compose-clause-told : goal.returns-in-Compose-clause-told
-returns-in-Compose-clause-told g c =
+pub returns-in-Compose-clause-reported : goal.returns-in-Compose-clause-reported
+returns-in-Compose-clause-reported g c =
     let words = subst (λ task. Words task (texts c.args.words.now)) (sym c.in-Compose.ensures) c.in-Ok.ensures.command in
-    of_task _ _ _ c.compose.ensures.comes.told words (λ a. a)
+    of_task _ _ _ c.compose.ensures.comes.reported words (λ a. a)
 
 pub returns-in-Compose-clause-text : goal.returns-in-Compose-clause-text
 returns-in-Compose-clause-text g c =
@@ -247,14 +248,14 @@ returns-in-Compose-clause-read_only g c =
 pub returns-in-Merge-clause-found : goal.returns-in-Merge-clause-found
 returns-in-Merge-clause-found g c =
     let words = subst (λ task. Words task (texts c.args.words.now)) (sym c.in-Merge.ensures) c.in-Ok.ensures.command in
-    of_told (λ asked all. Finds c.merge.result (IsOutcome asked all)) (texts c.args.words.now)
+    of_reported (λ asked all. Finds c.merge.result (IsOutcome asked all)) (texts c.args.words.now)
     (Merge (inputs_of c.in-Merge.inputs) c.in-Merge.output.now (options_of c.in-Merge.options)) (g.F.Folder.files c.args.folder.now)
     c.merge.ensures.comes.found words (λ a. a)
 
-pub returns-in-Merge-clause-told : goal.returns-in-Merge-clause-told
-returns-in-Merge-clause-told g c =
+pub returns-in-Merge-clause-reported : goal.returns-in-Merge-clause-reported
+returns-in-Merge-clause-reported g c =
     let words = subst (λ task. Words task (texts c.args.words.now)) (sym c.in-Merge.ensures) c.in-Ok.ensures.command in
-    of_task _ _ _ c.merge.ensures.comes.told words (λ a. a)
+    of_task _ _ _ c.merge.ensures.comes.reported words (λ a. a)
 
 pub returns-in-Merge-clause-text : goal.returns-in-Merge-clause-text
 returns-in-Merge-clause-text g c =
@@ -318,12 +319,12 @@ merge-requires-clause-most g c =
 pub returns-in-Sample-clause-found : goal.returns-in-Sample-clause-found
 returns-in-Sample-clause-found g c =
     let words = subst (λ task. Words task (texts c.args.words.now)) (sym c.in-Sample.ensures) c.in-Ok.ensures.command in
-    sampled_found (texts c.args.words.now) c.in-Sample.n words (g.F.Folder.files c.args.folder.now) c.sample.result c.sample.ensures.told
+    sampled_found (texts c.args.words.now) c.in-Sample.n words (g.F.Folder.files c.args.folder.now) c.sample.result c.sample.ensures.reported
 
-pub returns-in-Sample-clause-told : goal.returns-in-Sample-clause-told
-returns-in-Sample-clause-told g c =
+pub returns-in-Sample-clause-reported : goal.returns-in-Sample-clause-reported
+returns-in-Sample-clause-reported g c =
     let words = subst (λ task. Words task (texts c.args.words.now)) (sym c.in-Sample.ensures) c.in-Ok.ensures.command in
-    of_sampled (texts c.args.words.now) c.in-Sample.n words (g.F.Folder.files c.args.folder.now) (Settles c.sample.result) c.sample.ensures.told
+    of_sampled (texts c.args.words.now) c.in-Sample.n words (g.F.Folder.files c.args.folder.now) (Settles c.sample.result) c.sample.ensures.reported
 
 pub returns-in-Sample-clause-text : goal.returns-in-Sample-clause-text
 returns-in-Sample-clause-text g c =

@@ -8,7 +8,7 @@ use Rattle.ppdb_run.proofs.compose.compose.Goals as goal
 pub returns-in-Err-clause-comes : goal.returns-in-Err-clause-comes
 returns-in-Err-clause-comes g c =
     stopped (Unit {0}) (Compose c.args.first.now c.args.second.now c.args.output.now) c.args.output.now (g.F.Folder.files c.args.folder.now) _ c.in-Err.stop
-    (c.in-Err.ensures.told c.args.output.now) c.in-Err.ensures.files
+    (c.in-Err.ensures.reported c.args.output.now) c.in-Err.ensures.files
 
 pub returns-in-Err-clause-causes : goal.returns-in-Err-clause-causes
 returns-in-Err-clause-causes g c =
@@ -19,8 +19,8 @@ pub returns-clause-comes : goal.returns-clause-comes
 returns-clause-comes g c =
     let task : Task = Compose c.args.first.now c.args.second.now c.args.output.now in
     let files = g.F.Folder.files c.args.folder.now in
-    let told = c.in-Ok.ensures.told c.args.output.now in
-    wrote task c.args.output.now files _ _ c.write_output.result _ c.write_output.ensures.no_refusal told c.in-Ok.ensures.files
+    let reported = c.in-Ok.ensures.reported c.args.output.now in
+    wrote task c.args.output.now files _ _ c.write_output.result _ c.write_output.ensures.no_refusal reported c.in-Ok.ensures.files
     (rw c.as_slice.ensures at c.write_output.ensures.files) c.in-Ok.ensures.read (nothing_due task files) (nothing_due task files)
 
 pub returns-clause-causes : goal.returns-clause-causes

@@ -1,11 +1,11 @@
 use Rattle.ppdb_merge_meaning_laws.specs.Kept.{joined_inputs}
 use Rattle.ppdb_build.specs.Joining.{moved_inputs}
-use Rattle.ppdb_run.proofs.Merging.{some_again, some_says, some_told}
+use Rattle.ppdb_run.proofs.Merging.{some_again, some_says, some_reported}
 use Rattle.ppdb_run.proofs.joined.rows_bytes.Goals as goal
 
-pub returns-in-Ok-clause-told : goal.returns-in-Ok-clause-told
-returns-in-Ok-clause-told g c = λ output marks.
-    some_told output (record { keep_id = c.args.keep_id; marks = marks }) (joined_inputs (moved_inputs c.args.inputs.now)) c.in-Ok.file
+pub returns-in-Ok-clause-reported : goal.returns-in-Ok-clause-reported
+returns-in-Ok-clause-reported g c = λ output marks.
+    some_reported output (record { keep_id = c.args.keep_id; marks = marks }) (joined_inputs (moved_inputs c.args.inputs.now)) c.in-Ok.file
     (rw c.choice.ensures at c.in-Ok.ensures.written) c.in-Ok.ensures.within
 
 pub returns-in-Ok-clause-says : goal.returns-in-Ok-clause-says

@@ -10,12 +10,12 @@ use Rattle.ppdb_run.proofs.lookup.lookup.Goals as goal
 pub returns-in-Err-clause-found : goal.returns-in-Err-clause-found
 returns-in-Err-clause-found g c =
     stop_found (Unit {0}) (Lookup c.args.file.now c.args.list.now c.args.json) (g.F.Folder.files c.args.folder.now) (λ (o : Outcome). o) c.in-Err.stop
-    (file_stops c.args.file.now c.args.list.now c.args.json (g.F.Folder.files c.args.folder.now) c.in-Err.stop c.in-Err.ensures.told)
+    (file_stops c.args.file.now c.args.list.now c.args.json (g.F.Folder.files c.args.folder.now) c.in-Err.stop c.in-Err.ensures.reported)
 
-pub returns-in-Err-clause-told : goal.returns-in-Err-clause-told
-returns-in-Err-clause-told g c =
+pub returns-in-Err-clause-reported : goal.returns-in-Err-clause-reported
+returns-in-Err-clause-reported g c =
     stop_settles (Unit {0}) (Lookup c.args.file.now c.args.list.now c.args.json) (g.F.Folder.files c.args.folder.now) (λ (o : Outcome). o) c.in-Err.stop
-    (file_stops c.args.file.now c.args.list.now c.args.json (g.F.Folder.files c.args.folder.now) c.in-Err.stop c.in-Err.ensures.told)
+    (file_stops c.args.file.now c.args.list.now c.args.json (g.F.Folder.files c.args.folder.now) c.in-Err.stop c.in-Err.ensures.reported)
 
 pub returns-in-Err-clause-cut : goal.returns-in-Err-clause-cut
 returns-in-Err-clause-cut g c = cut_nothing (Unit {0}) (Lookup c.args.file.now c.args.list.now c.args.json) (g.F.Folder.files c.args.folder.now) c.in-Err.stop
@@ -27,14 +27,14 @@ returns-in-Err-clause-rows g c = nothing_looked_up c.args.file.now c.args.list.n
 pub returns-in-Err-read_input-clause-found : goal.returns-in-Err-read_input-clause-found
 returns-in-Err-read_input-clause-found g c =
     stop_found (Unit {0}) (Lookup c.args.file.now c.args.list.now c.args.json) (g.F.Folder.files c.args.folder.now) (λ (o : Outcome). o) c.in-Err-read_input.stop
-    (list_stops c.args.file.now c.args.list.now c.args.json (g.F.Folder.files c.args.folder.now) c.in-Ok.bytes c.in-Ok.ensures.told c.in-Err-read_input.stop
-    (rw c.in-Ok.ensures.files at c.in-Err-read_input.ensures.told))
+    (list_stops c.args.file.now c.args.list.now c.args.json (g.F.Folder.files c.args.folder.now) c.in-Ok.bytes c.in-Ok.ensures.reported c.in-Err-read_input.stop
+    (rw c.in-Ok.ensures.files at c.in-Err-read_input.ensures.reported))
 
-pub returns-in-Err-read_input-clause-told : goal.returns-in-Err-read_input-clause-told
-returns-in-Err-read_input-clause-told g c =
+pub returns-in-Err-read_input-clause-reported : goal.returns-in-Err-read_input-clause-reported
+returns-in-Err-read_input-clause-reported g c =
     stop_settles (Unit {0}) (Lookup c.args.file.now c.args.list.now c.args.json) (g.F.Folder.files c.args.folder.now) (λ (o : Outcome). o) c.in-Err-read_input.stop
-    (list_stops c.args.file.now c.args.list.now c.args.json (g.F.Folder.files c.args.folder.now) c.in-Ok.bytes c.in-Ok.ensures.told c.in-Err-read_input.stop
-    (rw c.in-Ok.ensures.files at c.in-Err-read_input.ensures.told))
+    (list_stops c.args.file.now c.args.list.now c.args.json (g.F.Folder.files c.args.folder.now) c.in-Ok.bytes c.in-Ok.ensures.reported c.in-Err-read_input.stop
+    (rw c.in-Ok.ensures.files at c.in-Err-read_input.ensures.reported))
 
 pub returns-in-Err-read_input-clause-cut : goal.returns-in-Err-read_input-clause-cut
 returns-in-Err-read_input-clause-cut g c = cut_nothing (Unit {0}) (Lookup c.args.file.now c.args.list.now c.args.json)
@@ -47,16 +47,16 @@ returns-in-Err-read_input-clause-rows g c = nothing_looked_up c.args.file.now c.
 pub returns-in-Err-verify_bytes-clause-found : goal.returns-in-Err-verify_bytes-clause-found
 returns-in-Err-verify_bytes-clause-found g c =
     stop_found (Unit {0}) (Lookup c.args.file.now c.args.list.now c.args.json) (g.F.Folder.files c.args.folder.now) (λ (o : Outcome). o) c.in-Err-verify_bytes.stop
-    (fault_stops c.args.file.now c.args.list.now c.args.json (g.F.Folder.files c.args.folder.now) c.in-Ok.bytes c.in-Ok.ensures.told
-    c.in-Ok-read_input.text (rw c.in-Ok.ensures.files at c.in-Ok-read_input.ensures.told)
-    c.in-Err-verify_bytes.stop (rw c.as_slice.ensures at c.in-Err-verify_bytes.ensures.told))
+    (fault_stops c.args.file.now c.args.list.now c.args.json (g.F.Folder.files c.args.folder.now) c.in-Ok.bytes c.in-Ok.ensures.reported
+    c.in-Ok-read_input.text (rw c.in-Ok.ensures.files at c.in-Ok-read_input.ensures.reported)
+    c.in-Err-verify_bytes.stop (rw c.as_slice.ensures at c.in-Err-verify_bytes.ensures.reported))
 
-pub returns-in-Err-verify_bytes-clause-told : goal.returns-in-Err-verify_bytes-clause-told
-returns-in-Err-verify_bytes-clause-told g c =
+pub returns-in-Err-verify_bytes-clause-reported : goal.returns-in-Err-verify_bytes-clause-reported
+returns-in-Err-verify_bytes-clause-reported g c =
     stop_settles (Unit {0}) (Lookup c.args.file.now c.args.list.now c.args.json) (g.F.Folder.files c.args.folder.now) (λ (o : Outcome). o) c.in-Err-verify_bytes.stop
-    (fault_stops c.args.file.now c.args.list.now c.args.json (g.F.Folder.files c.args.folder.now) c.in-Ok.bytes c.in-Ok.ensures.told
-    c.in-Ok-read_input.text (rw c.in-Ok.ensures.files at c.in-Ok-read_input.ensures.told)
-    c.in-Err-verify_bytes.stop (rw c.as_slice.ensures at c.in-Err-verify_bytes.ensures.told))
+    (fault_stops c.args.file.now c.args.list.now c.args.json (g.F.Folder.files c.args.folder.now) c.in-Ok.bytes c.in-Ok.ensures.reported
+    c.in-Ok-read_input.text (rw c.in-Ok.ensures.files at c.in-Ok-read_input.ensures.reported)
+    c.in-Err-verify_bytes.stop (rw c.as_slice.ensures at c.in-Err-verify_bytes.ensures.reported))
 
 pub returns-in-Err-verify_bytes-clause-cut : goal.returns-in-Err-verify_bytes-clause-cut
 returns-in-Err-verify_bytes-clause-cut g c = cut_nothing (Unit {0}) (Lookup c.args.file.now c.args.list.now c.args.json)
@@ -75,7 +75,7 @@ pub returns-in-Err-read_input-clause-causes : goal.returns-in-Err-read_input-cla
 returns-in-Err-read_input-clause-causes g c =
     widened (cause_of c.in-Err-read_input.stop) (λ m. m)
     (λ name r. is_list c.args.file.now c.args.list.now c.args.json (g.F.Folder.files c.args.folder.now) _ _ name c.in-Ok.bytes r.0 (r.1 ∙ c.in-Ok.ensures.reads)
-    c.in-Ok.ensures.told)
+    c.in-Ok.ensures.reported)
     (λ name w. w) (λ e. c.in-Ok.ensures.files ∙ e) (λ a. rose_before _ _ _ c.in-Ok.ensures.later a) (λ b. absurd b) (λ p. absurd p)
     c.in-Err-read_input.ensures.causes
 
@@ -91,49 +91,49 @@ returns-clause-causes g c =
 
 pub returns-clause-found : goal.returns-clause-found
 returns-clause-found g c =
-    let accepted : IsAccepted (FileFaults c.in-Ok.bytes) = rw c.as_slice.ensures at c.in-Ok-verify_bytes.ensures.told.0 in
-    let is : IsRawOf c.in-Ok.bytes (raw_file c.in-Ok-verify_bytes.verified) = rw c.as_slice.ensures at c.in-Ok-verify_bytes.ensures.told.1 in
-    found c.args.file.now c.args.list.now c.args.json (g.F.Folder.files c.args.folder.now) c.in-Ok.bytes c.in-Ok.ensures.told
-    c.in-Ok-read_input.text (rw c.in-Ok.ensures.files at c.in-Ok-read_input.ensures.told)
+    let accepted : IsAccepted (FileFaults c.in-Ok.bytes) = rw c.as_slice.ensures at c.in-Ok-verify_bytes.ensures.reported.0 in
+    let is : IsRawOf c.in-Ok.bytes (raw_file c.in-Ok-verify_bytes.verified) = rw c.as_slice.ensures at c.in-Ok-verify_bytes.ensures.reported.1 in
+    found c.args.file.now c.args.list.now c.args.json (g.F.Folder.files c.args.folder.now) c.in-Ok.bytes c.in-Ok.ensures.reported
+    c.in-Ok-read_input.text (rw c.in-Ok.ensures.files at c.in-Ok-read_input.ensures.reported)
     (raw_file c.in-Ok-verify_bytes.verified) accepted is c.answer_list.result _ _
     (rw c.as_slice-2.ensures at c.answer_list.ensures.answered)
 
-pub returns-clause-told : goal.returns-clause-told
-returns-clause-told g c =
-    let accepted : IsAccepted (FileFaults c.in-Ok.bytes) = rw c.as_slice.ensures at c.in-Ok-verify_bytes.ensures.told.0 in
-    let is : IsRawOf c.in-Ok.bytes (raw_file c.in-Ok-verify_bytes.verified) = rw c.as_slice.ensures at c.in-Ok-verify_bytes.ensures.told.1 in
+pub returns-clause-reported : goal.returns-clause-reported
+returns-clause-reported g c =
+    let accepted : IsAccepted (FileFaults c.in-Ok.bytes) = rw c.as_slice.ensures at c.in-Ok-verify_bytes.ensures.reported.0 in
+    let is : IsRawOf c.in-Ok.bytes (raw_file c.in-Ok-verify_bytes.verified) = rw c.as_slice.ensures at c.in-Ok-verify_bytes.ensures.reported.1 in
     let answered = rw c.as_slice-2.ensures at c.answer_list.ensures.answered in
-    on_delivered c.args.file.now c.args.list.now c.args.json (g.F.Folder.files c.args.folder.now) c.in-Ok.bytes c.in-Ok.ensures.told
-    c.in-Ok-read_input.text (rw c.in-Ok.ensures.files at c.in-Ok-read_input.ensures.told)
-    (raw_file c.in-Ok-verify_bytes.verified) accepted is (Settles c.answer_list.result) answered.due answered.is answered.told
+    on_delivered c.args.file.now c.args.list.now c.args.json (g.F.Folder.files c.args.folder.now) c.in-Ok.bytes c.in-Ok.ensures.reported
+    c.in-Ok-read_input.text (rw c.in-Ok.ensures.files at c.in-Ok-read_input.ensures.reported)
+    (raw_file c.in-Ok-verify_bytes.verified) accepted is (Settles c.answer_list.result) answered.due answered.is answered.reported
 
 pub returns-clause-text : goal.returns-clause-text
 returns-clause-text g c =
-    let accepted : IsAccepted (FileFaults c.in-Ok.bytes) = rw c.as_slice.ensures at c.in-Ok-verify_bytes.ensures.told.0 in
-    let is : IsRawOf c.in-Ok.bytes (raw_file c.in-Ok-verify_bytes.verified) = rw c.as_slice.ensures at c.in-Ok-verify_bytes.ensures.told.1 in
+    let accepted : IsAccepted (FileFaults c.in-Ok.bytes) = rw c.as_slice.ensures at c.in-Ok-verify_bytes.ensures.reported.0 in
+    let is : IsRawOf c.in-Ok.bytes (raw_file c.in-Ok-verify_bytes.verified) = rw c.as_slice.ensures at c.in-Ok-verify_bytes.ensures.reported.1 in
     let answered = rw c.as_slice-2.ensures at c.answer_list.ensures.answered in
-    on_delivered c.args.file.now c.args.list.now c.args.json (g.F.Folder.files c.args.folder.now) c.in-Ok.bytes c.in-Ok.ensures.told
-    c.in-Ok-read_input.text (rw c.in-Ok.ensures.files at c.in-Ok-read_input.ensures.told)
+    on_delivered c.args.file.now c.args.list.now c.args.json (g.F.Folder.files c.args.folder.now) c.in-Ok.bytes c.in-Ok.ensures.reported
+    c.in-Ok-read_input.text (rw c.in-Ok.ensures.files at c.in-Ok-read_input.ensures.reported)
     (raw_file c.in-Ok-verify_bytes.verified) accepted is
     (λ due. OnOk c.answer_list.result (g.O.Sink.written c.answer_list.new.out ≡ appended (g.O.Sink.written c.args.out.now) due.text)) answered.due answered.is
     answered.text
 
 pub returns-clause-cut : goal.returns-clause-cut
 returns-clause-cut g c =
-    let accepted : IsAccepted (FileFaults c.in-Ok.bytes) = rw c.as_slice.ensures at c.in-Ok-verify_bytes.ensures.told.0 in
-    let is : IsRawOf c.in-Ok.bytes (raw_file c.in-Ok-verify_bytes.verified) = rw c.as_slice.ensures at c.in-Ok-verify_bytes.ensures.told.1 in
+    let accepted : IsAccepted (FileFaults c.in-Ok.bytes) = rw c.as_slice.ensures at c.in-Ok-verify_bytes.ensures.reported.0 in
+    let is : IsRawOf c.in-Ok.bytes (raw_file c.in-Ok-verify_bytes.verified) = rw c.as_slice.ensures at c.in-Ok-verify_bytes.ensures.reported.1 in
     let answered = rw c.as_slice-2.ensures at c.answer_list.ensures.answered in
-    on_delivered c.args.file.now c.args.list.now c.args.json (g.F.Folder.files c.args.folder.now) c.in-Ok.bytes c.in-Ok.ensures.told
-    c.in-Ok-read_input.text (rw c.in-Ok.ensures.files at c.in-Ok-read_input.ensures.told)
+    on_delivered c.args.file.now c.args.list.now c.args.json (g.F.Folder.files c.args.folder.now) c.in-Ok.bytes c.in-Ok.ensures.reported
+    c.in-Ok-read_input.text (rw c.in-Ok.ensures.files at c.in-Ok-read_input.ensures.reported)
     (raw_file c.in-Ok-verify_bytes.verified) accepted is
     (λ due. IfErr c.answer_list.result (λ stop. OnCut (cause_of stop)
     (AppendsPrefix (g.O.Sink.written c.args.out.now) (g.O.Sink.written c.answer_list.new.out) due.text))) answered.due answered.is answered.cut
 
 pub returns-clause-rows : goal.returns-clause-rows
 returns-clause-rows g c =
-    let accepted : IsAccepted (FileFaults c.in-Ok.bytes) = rw c.as_slice.ensures at c.in-Ok-verify_bytes.ensures.told.0 in
-    let is : IsRawOf c.in-Ok.bytes (raw_file c.in-Ok-verify_bytes.verified) = rw c.as_slice.ensures at c.in-Ok-verify_bytes.ensures.told.1 in
-    within_rows c.args.file.now c.args.list.now c.args.json (g.F.Folder.files c.args.folder.now) c.in-Ok.bytes c.in-Ok.ensures.told
-    c.in-Ok-read_input.text (rw c.in-Ok.ensures.files at c.in-Ok-read_input.ensures.told)
+    let accepted : IsAccepted (FileFaults c.in-Ok.bytes) = rw c.as_slice.ensures at c.in-Ok-verify_bytes.ensures.reported.0 in
+    let is : IsRawOf c.in-Ok.bytes (raw_file c.in-Ok-verify_bytes.verified) = rw c.as_slice.ensures at c.in-Ok-verify_bytes.ensures.reported.1 in
+    within_rows c.args.file.now c.args.list.now c.args.json (g.F.Folder.files c.args.folder.now) c.in-Ok.bytes c.in-Ok.ensures.reported
+    c.in-Ok-read_input.text (rw c.in-Ok.ensures.files at c.in-Ok-read_input.ensures.reported)
     (raw_file c.in-Ok-verify_bytes.verified) accepted is _ _
     (rw c.as_slice-2.ensures at c.answer_list.ensures.bound)

@@ -7,8 +7,9 @@ use Rattle.ppdb_run.proofs.merge.merge.Goals as goal
 
 pub returns-in-Err-clause-comes : goal.returns-in-Err-clause-comes
 returns-in-Err-clause-comes g c =
-    stopped (Unit {0}) (Merge (inputs_of c.args.inputs) c.args.output.now (options_of c.args.options)) c.args.output.now (g.F.Folder.files c.args.folder.now) _ c.in-Err.stop
-    (c.in-Err.ensures.told c.args.output.now) c.in-Err.ensures.files
+    stopped (Unit {0}) (Merge (inputs_of c.args.inputs) c.args.output.now (options_of c.args.options)) c.args.output.now
+    (g.F.Folder.files c.args.folder.now) _ c.in-Err.stop
+    (c.in-Err.ensures.reported c.args.output.now) c.in-Err.ensures.files
 
 pub returns-in-Err-clause-causes : goal.returns-in-Err-clause-causes
 returns-in-Err-clause-causes g c =
@@ -19,12 +20,12 @@ pub returns-clause-comes : goal.returns-clause-comes
 returns-clause-comes g c =
     let task : Task = Merge (inputs_of c.args.inputs) c.args.output.now (options_of c.args.options) in
     let files = g.F.Folder.files c.args.folder.now in
-    let told = c.in-Ok.ensures.told c.args.output.now in
+    let reported = c.in-Ok.ensures.reported c.args.output.now in
     let means = c.in-Ok.ensures.means c.args.output.now in
-    wrote task c.args.output.now files _ _ c.write_output.result _ c.write_output.ensures.no_refusal told c.in-Ok.ensures.files
+    wrote task c.args.output.now files _ _ c.write_output.result _ c.write_output.ensures.no_refusal reported c.in-Ok.ensures.files
     (rw c.as_slice.ensures at c.write_output.ensures.files) c.in-Ok.ensures.accepted
-    (means_again files (inputs_of c.args.inputs) c.args.output.now (options_of c.args.options) _ told means)
-    (means_written task c.args.output.now (options_of c.args.options) files _ told means)
+    (means_again files (inputs_of c.args.inputs) c.args.output.now (options_of c.args.options) _ reported means)
+    (means_written task c.args.output.now (options_of c.args.options) files _ reported means)
 
 pub returns-clause-causes : goal.returns-clause-causes
 returns-clause-causes g c =

@@ -8,11 +8,11 @@ abbrev pub invariant-loop-rest : goal.invariant-loop-rest
 invariant-loop-rest g l =
     let folder = g.F.Folder in
     record {
-      goes : Goes (folder.files l.fn.folder) l.fn.merger.marks l.merger.traces (pairs_of (texts l.rest)) (pairs_of (texts l.words));
+      goes : Goes (folder.files l.fn.folder) l.fn.merger.marks l.merger.summaries (pairs_of (texts l.rest)) (pairs_of (texts l.words));
       marks : l.merger.marks ≡ l.fn.merger.marks;
-      reads : folder.reads l.folder < 18446744073709551615 → folder.reads l.folder ≡ folder.reads l.fn.folder + reads_of l.merger.traces;
+      reads : folder.reads l.folder < 18446744073709551615 → folder.reads l.folder ≡ folder.reads l.fn.folder + reads_of l.merger.summaries;
       later : folder.read_faults l.fn.folder ≤ folder.read_faults l.folder;
-      room : length l.free + length l.merger.traces ≡ length l.fn.cells;
+      room : length l.free + length l.merger.summaries ≡ length l.fn.cells;
       files : folder.files l.folder ≡ folder.files l.fn.folder;
       write_faults : folder.write_faults l.folder ≡ folder.write_faults l.fn.folder;
     }

@@ -9,5 +9,5 @@ use Rattle.ppdb_run.proofs.rebuild.unknown.Goals as goal
 pub returns : goal.returns
 returns g c =
     let value = value_of (raw_file c.args.input.now.file) in
-    subst (λ n. IfOk c.first_unknown.result (λ told. told ≡ n))
+    subst (λ n. IfOk c.first_unknown.result (λ reported. reported ≡ n))
     (ap (λ (m : Map). slice_get (unknown_kinds c.args.marks.now m value) 0) c.requires ∙ unmoved_unknown c.args.marks.now value) c.first_unknown.ensures

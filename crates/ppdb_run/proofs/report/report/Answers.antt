@@ -16,8 +16,8 @@ id_in-remapped_id-requires c =
     (hashed_long c.canonical_files_forget_ids.ensures c.ids_stand_after_the_root.ensures c.args.value.now c.value_has_types.ensures.id
     c.in-Ok.file c.in-Ok.ensures.written)
 
-pub returns-in-Ok-clause-told : goal.returns-in-Ok-clause-told
-returns-in-Ok-clause-told c =
+pub returns-in-Ok-clause-reported : goal.returns-in-Ok-clause-reported
+returns-in-Ok-clause-reported c =
     let id = rw c.as_slice.ensures at c.id_in-remapped_id.ensures in
     report_is c.args.methods c.args.bytes c.len-remapped_bytes.result c.id_in-remapped_id.result c.requires.bytes
     (c.len-remapped_bytes.ensures ∙ ap length c.in-Ok.ensures.written ∙ ap (λ v. length (canon v Hash)) c.requires.value)

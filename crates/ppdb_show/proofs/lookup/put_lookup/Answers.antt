@@ -1,15 +1,15 @@
 use Rattle.std.{proofs.Common.{◌<◌, length, arith, sym, ◌∙◌}, specs.Str.Lines.{lines}, proofs.lemmas.Grind.{common_steps}}
 use Rattle.ppdb_queries_list.proofs.Checking.{first_of, nothing_left}
 use Rattle.ppdb_verify.specs.Views.{raw_file}
-use Rattle.ppdb_show.proofs.{Notes.{new_notes}, Looked.{left_all, left_cost, left_cut, left_listed, left_next, left_none, left_read, left_silent, said_asks}}
+use Rattle.ppdb_show.proofs.{Cache.{new_cache}, Looked.{left_all, left_cost, left_cut, left_listed, left_next, left_none, left_read, left_silent, said_asks}}
 use Rattle.ppdb_show.proofs.Looked.{said_nothing}
 use Rattle.ppdb_show.proofs.lookup.put_lookup.Goals as goal
 
 pub lines-init : goal.lines-init
 lines-init g c = record {
   left = λ all lists. left_all c.args.printer.form (raw_file c.args.file.now) all (lines c.args.list.now) _ _ _ lists;
-  known = new_notes c.args.printer.form (raw_file c.args.file.now) c.new-notes.result c.new-notes.ensures.points c.new-notes.ensures.kickoffs
-      c.new-notes.ensures.import c.new-notes.ensures.text;
+  known = new_cache c.args.printer.form (raw_file c.args.file.now) c.new-cache.result c.new-cache.ensures.points c.new-cache.ensures.kickoffs
+      c.new-cache.ensures.import c.new-cache.ensures.text;
 }
 
 pub returns-in_err-put_one-in-Some-Asks-clause-puts : goal.returns-in_err-put_one-in-Some-Asks-clause-puts

@@ -2,7 +2,7 @@
 use Rattle.std.{proofs.Common.{List, length}, specs.Str.Lines.{lines}}
 use Rattle.ppdb_queries_list.specs.{Lists.{Lists}, declared.line.MethodOffset.{MethodOffset}}
 use Rattle.ppdb_verify.specs.Views.{raw_file}
-use Rattle.ppdb_show.{specs.Noted.{AreNotes}, proofs.Looked.{Left}}
+use Rattle.ppdb_show.{specs.Cached.{IsCacheOf}, proofs.Looked.{Left}}
 use Rattle.ppdb_show.proofs.lookup.put_lookup.Given as goal
 
 abbrev pub invariant-lines : goal.invariant-lines
@@ -12,7 +12,7 @@ invariant-lines g l =
       left : (all : List MethodOffset) → Lists (lines l.list) all
           → Left l.printer.form (raw_file l.file) all (lines l.rest) (sink.written l.fn.out) (sink.written l.out) (sink.faults l.fn.out) (sink.faults l.out)
           l.fn.steps l.steps;
-      known : AreNotes l.printer.form (raw_file l.file) l.notes;
+      known : IsCacheOf l.printer.form (raw_file l.file) l.cache;
     }
 
 abbrev pub decreases-lines : goal.decreases-lines

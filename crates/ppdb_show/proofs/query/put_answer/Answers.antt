@@ -28,4 +28,5 @@ returns-clause-ok g c =
     let point = adds_same c.args.printer.form _ _ _ _ (ap (λ (line : Line). line ∷ [])
     (found_is (raw_file c.args.file.now) c.args.method c.args.offset c.args.found c.requires.point)) c.in_ok-put_point.ensures in
     then_ok c.args.printer.form _ _ _ _ _ _ point (then_ok c.args.printer.form _ _ _ _ _ _ c.in_ok-put_scopes.ensures.ok
-    (then_ok c.args.printer.form _ _ _ _ _ _ c.in_ok-put_hoisted.ensures.ok (then_ok c.args.printer.form _ _ _ _ _ _ c.in_ok-put_links.ensures.ok c.put_records.ensures.ok)))
+    (then_ok c.args.printer.form _ _ _ _ _ _ c.in_ok-put_hoisted.ensures.ok
+    (then_ok c.args.printer.form _ _ _ _ _ _ c.in_ok-put_links.ensures.ok c.put_records.ensures.ok)))

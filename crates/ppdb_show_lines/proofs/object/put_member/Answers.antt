@@ -11,13 +11,13 @@ returns-in_ok-put_key-in-Some-Field-clause-ok c =
     (part_there c.args.word.now c.args.parts.now c.args.place c.in-Some-Field.field-0.now c.if-place-eq0.false (ltb-true _ _ (sym there)) (sym here)
     ∙ ap (λ (part : Part). field_tokens (Some (field_of part))) c.in-Some-Field.field-0-is)
 
-pub returns-in-Some-Mark-clause-ok : goal.returns-in-Some-Mark-clause-ok
-returns-in-Some-Mark-clause-ok c =
-    let here = rw c.in-Some-Mark.is at c.get.ensures.lookup.1 in
-    let there = rw c.in-Some-Mark.is at c.get.ensures.lookup.0 in
+pub returns-in-Some-Literal-clause-ok : goal.returns-in-Some-Literal-clause-ok
+returns-in-Some-Literal-clause-ok c =
+    let here = rw c.in-Some-Literal.is at c.get.ensures.lookup.1 in
+    let there = rw c.in-Some-Literal.is at c.get.ensures.lookup.0 in
     no_tokens _ _
-    (part_there c.args.word.now c.args.parts.now c.args.place c.in-Some-Mark.field-0.now c.if-place-eq0.false (ltb-true _ _ (sym there)) (sym here)
-    ∙ ap (λ (part : Part). field_tokens (Some (field_of part))) c.in-Some-Mark.field-0-is)
+    (part_there c.args.word.now c.args.parts.now c.args.place c.in-Some-Literal.field-0.now c.if-place-eq0.false (ltb-true _ _ (sym there)) (sym here)
+    ∙ ap (λ (part : Part). field_tokens (Some (field_of part))) c.in-Some-Literal.field-0-is)
 
 pub returns-in-None-clause-ok : goal.returns-in-None-clause-ok
 returns-in-None-clause-ok c =

@@ -1,6 +1,6 @@
 use Rattle.std.proofs.Common.{arith}
 use Rattle.ppdb_show_lines.proofs.Putting.{put_piece, put_prefix, put_whole}
-use Rattle.ppdb_show_sources.proofs.Told.{rest_is, next_text, no_text}
+use Rattle.ppdb_show_sources.proofs.Reported.{rest_is, next_text, no_text}
 use Rattle.ppdb_show_sources.proofs.breaks.put_breaks.Goals as goal
 
 pub breaks-preserved : goal.breaks-preserved

@@ -1,6 +1,6 @@
 use Rattle.ppdb_values.specs.Value.{value_of}
 use Rattle.ppdb_verify.specs.Views.{raw_file}
-use Rattle.ppdb_show_sources.proofs.Told.{links_ok}
+use Rattle.ppdb_show_sources.proofs.Reported.{links_ok}
 use Rattle.ppdb_show_sources.proofs.links.file_links.Goals as goal
 
 pub returns-in-Some-clause-links : goal.returns-in-Some-clause-links

@@ -4,7 +4,7 @@ use Rattle.ppdb_tables.{proofs.NumberedRows.{same_row}, specs.declared.rows.Docu
 use Rattle.ppdb_values.specs.Documents.{document_of}
 use Rattle.ppdb_verify.specs.Views.{raw_file}
 use Rattle.source_link.specs.Address.{address_of}
-use Rattle.ppdb_show_sources.{specs.Links.{link_line}, proofs.Told.{puts_as, told, untold}}
+use Rattle.ppdb_show_sources.{specs.Links.{link_line}, proofs.Reported.{puts_as, reported, unreported}}
 use Rattle.ppdb_show_sources.proofs.links.put_link.Goals as goal
 
 pub returns-in_err-name-clause-puts : goal.returns-in_err-name-clause-puts
@@ -19,11 +19,11 @@ returns-then-branch-clause-puts g c cells there =
     let same = same_row raw.documents c.args.row c.document-cells.result cells c.document-cells.ensures.row there in
     let named : c.as_slice.result.now ≡ (document_of raw cells).name =
     c.as_slice.ensures ∙ c.in_ok-name.ensures ∙ ap (λ (row : DocumentRow). (document_of raw row).name) same in
-    let told_it = told (address_of c.as_slice.result.now c.args.links.now) c.address.result _ c.address.new.into c.address.ensures.found
+    let reported_it = reported (address_of c.as_slice.result.now c.args.links.now) c.address.result _ c.address.new.into c.address.ensures.found
     c.address.ensures.none
     c.clear.ensures (c.in_ok-address.was ∙ ap Ok c.if-branch.true) in
     puts_as _ _ _ _ _ _ _ (ap (λ (address : Option (List ℕ)). lines_as c.args.printer.form (link_line c.args.row address ∷ []))
-    (ap Some c.as_slice-then-branch.ensures ∙ sym told_it ∙ ap (λ name. address_of name c.args.links.now) named)) c.put_address.ensures
+    (ap Some c.as_slice-then-branch.ensures ∙ sym reported_it ∙ ap (λ name. address_of name c.args.links.now) named)) c.put_address.ensures
 
 pub returns-clause-puts : goal.returns-clause-puts
 returns-clause-puts g c cells there =
@@ -31,7 +31,7 @@ returns-clause-puts g c cells there =
     let same = same_row raw.documents c.args.row c.document-cells.result cells c.document-cells.ensures.row there in
     let named : c.as_slice.result.now ≡ (document_of raw cells).name =
     c.as_slice.ensures ∙ c.in_ok-name.ensures ∙ ap (λ (row : DocumentRow). (document_of raw row).name) same in
-    let not_told = untold (address_of c.as_slice.result.now c.args.links.now) c.address.result _ c.address.new.into c.address.ensures.found
+    let not_reported = unreported (address_of c.as_slice.result.now c.args.links.now) c.address.result _ c.address.new.into c.address.ensures.found
     (c.in_ok-address.was ∙ ap Ok c.if-branch.false) in
     puts_as _ _ _ _ _ _ _ (ap (λ (address : Option (List ℕ)). lines_as c.args.printer.form (link_line c.args.row address ∷ []))
-    (sym not_told ∙ ap (λ name. address_of name c.args.links.now) named)) c.put_address-else-branch.ensures
+    (sym not_reported ∙ ap (λ name. address_of name c.args.links.now) named)) c.put_address-else-branch.ensures

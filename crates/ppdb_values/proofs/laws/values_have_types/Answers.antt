@@ -18,7 +18,8 @@ returns c = λ raw keeps id narrow. record {
   variables = All-map (λ scope. All IsNarrow scope.variables) (scope_of raw.tables) (numbered raw.tables.scopes)
       (any_all (λ row. All IsNarrow (scope_of raw.tables row).variables) (numbered raw.tables.scopes) (λ row.
       All-map IsNarrow (λ item. variable_of raw.tables item.1) _
-      (All-filter (λ item. option_map_or (nat_eq row.0) (owner_of (λ scope. scope.variables) raw.tables.scopes item.0) false) (λ item. IsNarrow (variable_of raw.tables item.1))
+      (All-filter (λ item. option_map_or (nat_eq row.0) (owner_of (λ scope. scope.variables) raw.tables.scopes item.0) false)
+      (λ item. IsNarrow (variable_of raw.tables item.1))
       (numbered raw.tables.variables)
       (numbered_all IsNarrowRow 1 raw.tables.variables narrow))));
   kinds = All-map (λ custom. IsGuid custom.kind) (custom_of raw.tables) raw.tables.customs

@@ -1,5 +1,5 @@
 use Rattle.std.proofs.{Common.{refl}, lemmas.List.Elements.{All-more}}
-use Rattle.ppdb_values_sound_laws.specs.Named.{HasRow}
+use Rattle.ppdb_values_sound.specs.Named.{HasRow}
 use Rattle.ppdb_values_check.proofs.Listed.{all_taken}
 use Rattle.ppdb_values_check.proofs.customs.are_documents.Goals as goal
 

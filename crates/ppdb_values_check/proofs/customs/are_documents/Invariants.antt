@@ -1,5 +1,5 @@
 use Rattle.std.{proofs.Common.{take}, specs.Prelude.{All}}
-use Rattle.ppdb_values_sound_laws.specs.Named.{HasRow}
+use Rattle.ppdb_values_sound.specs.Named.{HasRow}
 use Rattle.ppdb_values_check.proofs.customs.are_documents.Given as goal
 
 abbrev pub invariant-loop-row : goal.invariant-loop-row

@@ -1,6 +1,6 @@
 use Rattle.std.proofs.Common.{IsTrue, subst, ◌↔◌}
 use Rattle.ppdb_values.specs.Ordered.{EachRow}
-use Rattle.ppdb_values_sound_laws.specs.Scopes.{SoundConstant, SoundVariable}
+use Rattle.ppdb_values_sound.specs.Scopes.{SoundConstant, SoundVariable}
 use Rattle.ppdb_values_check.proofs.Joined.{beside}
 use Rattle.ppdb_values_check.proofs.scopes.has_sound_items.Goals as goal
 

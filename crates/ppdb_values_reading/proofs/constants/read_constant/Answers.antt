@@ -10,7 +10,7 @@ fill-requires g c =
     let raw = (raw_file c.args.file.now).tables in
     no_invalid_modifier c.new-cursor.result.end
     (whole_constant raw c.constant-cells.result c.new-cursor.result
-    (c.keeps.ensures.rules.constants.each c.args.row c.constant-cells.result c.constant-cells.ensures.row)
+    (c.facts.ensures.rules.constants.each c.args.row c.constant-cells.result c.constant-cells.ensures.row)
     (rw c.type_limits.ensures at (rw c.blob.ensures.content at c.new-cursor.ensures)))
 
 pub unreachable-requires : goal.unreachable-requires
@@ -18,7 +18,7 @@ unreachable-requires g c =
     let raw = (raw_file c.args.file.now).tables in
     no_invalid_body c.new-cursor.result.end c.body.result c.in-Err.field-0
     (whole_constant raw c.constant-cells.result c.new-cursor.result
-    (c.keeps.ensures.rules.constants.each c.args.row c.constant-cells.result c.constant-cells.ensures.row)
+    (c.facts.ensures.rules.constants.each c.args.row c.constant-cells.result c.constant-cells.ensures.row)
     (rw c.type_limits.ensures at (rw c.blob.ensures.content at c.new-cursor.ensures)))
     (c.body.ensures ∙ ap body_answer c.in_ok-fill.ensures.kept) c.in-Err.is
 
@@ -27,7 +27,7 @@ returns-clause-constant g c =
     let raw = (raw_file c.args.file.now).tables in
     let modifiers = sym (map-id c.fill.new.into) ∙ c.in_ok-fill.ensures.items in
     let read = constant_read raw c.constant-cells.result c.new-cursor.result c.fill.new.into c.body.result c.in-Ok.body c.constants_are_read.ensures
-    (c.keeps.ensures.rules.constants.each c.args.row c.constant-cells.result c.constant-cells.ensures.row)
+    (c.facts.ensures.rules.constants.each c.args.row c.constant-cells.result c.constant-cells.ensures.row)
     (rw c.type_limits.ensures at (rw c.blob.ensures.content at c.new-cursor.ensures)) modifiers
     (c.body.ensures ∙ ap body_answer c.in_ok-fill.ensures.kept) c.in-Ok.is in
     rw c.text.ensures (row_made (constant_of raw) raw.constants c.args.row c.constant-cells.result c.constant-cells.ensures.row

@@ -10,5 +10,5 @@ returns-clause-body c =
 pub returns-clause-whole : goal.returns-clause-whole
 returns-clause-whole c =
     documents_whole (raw_file c.args.file.now).tables c.args.cells.now c.new.result
-    (c.keeps.ensures.rules.customs.each c.args.row c.args.cells.now c.requires.there) c.requires.kind
+    (c.facts.ensures.rules.customs.each c.args.row c.args.cells.now c.requires.there) c.requires.kind
     (rw c.count.ensures.rows at (rw c.blob.ensures.content at c.new.ensures))

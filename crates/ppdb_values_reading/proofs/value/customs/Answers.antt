@@ -18,4 +18,4 @@ pub returns-clause-customs : goal.returns-clause-customs
 returns-clause-customs g c =
     let raw = raw_file c.args.file.now in
     let many = length-map raw.tables.customs (custom_of raw.tables) in
-    made_all (value_of raw).customs c.rows.customs c.rows.row (omega (arith, many, c.keeps.ensures.rules.shape.customs)) c.rows.invariant.made
+    made_all (value_of raw).customs c.rows.customs c.rows.row (omega (arith, many, c.facts.ensures.rules.shape.customs)) c.rows.invariant.made

@@ -18,4 +18,4 @@ pub returns-clause-documents : goal.returns-clause-documents
 returns-clause-documents g c =
     let raw = raw_file c.args.file.now in
     let many = length-map raw.tables.documents (document_of raw.tables) in
-    made_all (value_of raw).documents c.rows.documents c.rows.row (omega (arith, many, c.keeps.ensures.rules.shape.documents)) c.rows.invariant.made
+    made_all (value_of raw).documents c.rows.documents c.rows.row (omega (arith, many, c.facts.ensures.rules.shape.documents)) c.rows.invariant.made

@@ -18,4 +18,4 @@ pub returns-clause-imports : goal.returns-clause-imports
 returns-clause-imports g c =
     let raw = raw_file c.args.file.now in
     let many = length-map raw.tables.imports (import_scope_of raw.tables) in
-    made_all (value_of raw).imports c.rows.imports c.rows.row (omega (arith, many, c.keeps.ensures.rules.shape.imports)) c.rows.invariant.made
+    made_all (value_of raw).imports c.rows.imports c.rows.row (omega (arith, many, c.facts.ensures.rules.shape.imports)) c.rows.invariant.made

@@ -8,7 +8,7 @@ use Rattle.ppdb_values_reading.proofs.value.methods.Goals.{in-Some+in_ok-push, i
 pub rows-preserved : goal.rows-preserved
 rows-preserved g c =
     let raw = raw_file c.args.file.now in
-    let high : c.rows.row ≤ length raw.tables.methods = omega (arith, c.keeps.ensures.rules.shape.methods) in
+    let high : c.rows.row ≤ length raw.tables.methods = omega (arith, c.facts.ensures.rules.shape.methods) in
     record {
       from = omega arith;
       to = omega arith;
@@ -25,5 +25,5 @@ rows-preserved g c =
 pub returns-clause-methods : goal.returns-clause-methods
 returns-clause-methods g c =
     let raw = raw_file c.args.file.now in
-    c.fitted.ensures ∙ given_all (method_of raw.tables) raw.tables.methods c.rows.methods c.rows.row (omega (arith, c.keeps.ensures.rules.shape.methods))
+    c.fitted.ensures ∙ given_all (method_of raw.tables) raw.tables.methods c.rows.methods c.rows.row (omega (arith, c.facts.ensures.rules.shape.methods))
     c.rows.invariant.made

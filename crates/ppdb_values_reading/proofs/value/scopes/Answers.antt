@@ -9,7 +9,7 @@ use Rattle.ppdb_values_reading.proofs.value.scopes.Goals as goal
 pub scopes-init : goal.scopes-init
 scopes-init g c =
     let raw = raw_file c.args.file.now in
-    let own = c.scopes_own_their_lists.ensures raw c.keeps.ensures.rules in
+    let own = c.scopes_own_their_lists.ensures raw c.facts.ensures.rules in
     let sum = ap (λ (scopes : List Scope). sum_by rows_of scopes) c.new-cursor.ensures.scopes ∙ own.rows in
     record {
       within = subst (λ (scopes : List Scope). All (HasLists raw.tables) scopes) (sym c.new-cursor.ensures.scopes) own.within;

@@ -12,5 +12,5 @@ tables-preserved c =
     c.count.ensures.rows
 
 pub returns : goal.returns
-returns c = filled (raw_file c.args.file.now).tables.counts c.tables.rows c.tables.table c.keeps.ensures.rules.shape.entries c.tables-test.false
+returns c = filled (raw_file c.args.file.now).tables.counts c.tables.rows c.tables.table c.facts.ensures.rules.shape.entries c.tables-test.false
     c.tables.invariant

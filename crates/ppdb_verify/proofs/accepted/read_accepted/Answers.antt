@@ -25,7 +25,8 @@ invariant_of-result c =
     let is = c.in-Ok-read_head.ensures.head in
     let raw_is = c.in-Ok-read_tables.ensures.tables in
     record {
-      accepted = rows_kept c.args.bytes.now c.in-Ok.root c.in-Ok.ensures.accepted c.in-Ok.ensures.streams c.in-Ok-read_head.head c.in-Ok-read_head.ensures.accepted is
+      accepted =
+          rows_kept c.args.bytes.now c.in-Ok.root c.in-Ok.ensures.accepted c.in-Ok.ensures.streams c.in-Ok-read_head.head c.in-Ok-read_head.ensures.accepted is
           (raw_of c.in-Ok-read_tables.tables) c.in-Ok-read_tables.ensures.accepted raw_is c.requires.accepted;
       entry = subst (λ (r : RawTables). c.in-Ok-read_head.head.entry ≤ count r 0x06) (sym raw_is)
           (entry_within pdb c.in-Ok-read_head.head is c.in-Ok.root c.in-Ok-read_head.ensures.accepted);

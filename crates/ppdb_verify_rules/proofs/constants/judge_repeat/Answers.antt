@@ -23,5 +23,5 @@ returns-clause-ok c =
 
 pub returns-clause-names : goal.returns-clause-names
 returns-clause-names c = texts_after (λ s. s.constants) (raw_of c.args.tables.now).scopes (raw_of c.args.tables.now).texts (λ (v : ConstantRow). v.name)
-    (raw_of c.args.tables.now).constants c.args.row c.args.owner c.args.constant.now c.args.name.now c.args.names.now c.note.new.self
+    (raw_of c.args.tables.now).constants c.args.row c.args.owner c.args.constant.now c.args.name.now c.args.names.now c.enter.new.self
     c.requires.names c.requires.there c.requires.owns c.requires.text c.in_ok-is_new.ensures.kept c.in_ok-is_new.ensures.added c.in_ok-is_new.ensures.only

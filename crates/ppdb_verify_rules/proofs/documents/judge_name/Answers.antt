@@ -24,7 +24,7 @@ returns-clause-ok c =
 
 pub returns-clause-seen : goal.returns-clause-seen
 returns-clause-seen c = names_after (raw_of c.args.tables.now).blobs (raw_of c.args.tables.now).documents c.args.row c.args.document.now c.requires.there
-    c.in_ok-name.name c.args.seen.now c.note_name.new.seen
+    c.in_ok-name.name c.args.seen.now c.enter_name.new.seen
     c.args.longest.now c.at_least.result c.requires.seen c.in_ok-name.ensures.name c.in_ok-is_new.ensures.kept c.in_ok-is_new.ensures.added
     c.in_ok-is_new.ensures.only
     c.at_least.ensures.first (rw c.as_slice.ensures.value at c.at_least.ensures.second)

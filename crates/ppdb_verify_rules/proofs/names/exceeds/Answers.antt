@@ -7,10 +7,10 @@ use Rattle.ppdb_verify_rules.proofs.names.exceeds.Goals as goal
 -- where there is no room, there are more bytes
 room_tells : (most : ℕ) (into name : List ℕ) (room : Option ℕ) (longer : Bool) → is_some room ≡ not longer → HasRoom most into room → into ≡ name
     → IsTrue longer ↔ (most < length name)
-room_tells most into name (Some room) true told has same = absurd cc
-room_tells most into name (Some room) false told has same = ((λ yes. absurd cc), (λ more. absurd (omega (arith, has, more, ap length same))))
-room_tells most into name None true told has same = ((λ yes. omega (arith, has, ap length same)), (λ more. refl))
-room_tells most into name None false told has same = absurd cc
+room_tells most into name (Some room) true reported has same = absurd cc
+room_tells most into name (Some room) false reported has same = ((λ yes. absurd cc), (λ more. absurd (omega (arith, has, more, ap length same))))
+room_tells most into name None true reported has same = ((λ yes. omega (arith, has, ap length same)), (λ more. refl))
+room_tells most into name None false reported has same = absurd cc
 
 pub loop-part-init : goal.loop-part-init
 loop-part-init c =

@@ -32,5 +32,5 @@ pub returns-clause-seen : goal.returns-clause-seen
 returns-clause-seen c =
     let there : text_at (raw_of c.args.tables.now).texts c.args.variable.now.name ≡ Some c.in-Some.name.now = sym (rw c.strings.ensures at c.in-Some.ensures) in
     texts_after (λ s. s.variables) (raw_of c.args.tables.now).scopes (raw_of c.args.tables.now).texts (λ (v : VariableRow). v.name)
-    (raw_of c.args.tables.now).variables c.args.row c.args.owner c.args.variable.now c.in-Some.name.now c.args.names.now c.note.new.self
+    (raw_of c.args.tables.now).variables c.args.row c.args.owner c.args.variable.now c.in-Some.name.now c.args.names.now c.enter.new.self
     c.requires.seen c.requires.there c.requires.owns there c.in_ok-is_new.ensures.kept c.in_ok-is_new.ensures.added c.in_ok-is_new.ensures.only

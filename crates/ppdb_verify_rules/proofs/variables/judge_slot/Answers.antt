@@ -21,5 +21,5 @@ returns-clause-ok c =
 
 pub returns-clause-seen : goal.returns-clause-seen
 returns-clause-seen c = slots_after (raw_of c.args.tables.now).scopes (raw_of c.args.tables.now).variables c.args.row c.args.owner c.args.variable.now
-    c.args.slots.now.items c.note_slot.new.marks.items
+    c.args.slots.now.items c.enter_slot.new.marks.items
     c.requires.seen c.requires.there c.requires.owns c.in_ok-is_new.ensures.marked c.in_ok-is_new.ensures.others

@@ -8,11 +8,11 @@ loop-i-preserved g c =
     let places = c.loop-i.places in
     let i = c.loop-i.i in
     let inv = c.loop-i.invariant in
-    let there : i < length widths = omega (arith, c.loop-i-test.true, c.told-widths) in
+    let there : i < length widths = omega (arith, c.loop-i-test.true, c.reported-widths) in
     let more = sum_more widths i there in
     let four = width_below widths i there c.requires.narrow in
     record {
-      so_far = take_more_set places i c.loop-i.place (omega (arith, inv.count, there, c.told-widths))
+      so_far = take_more_set places i c.loop-i.place (omega (arith, inv.count, there, c.reported-widths))
           ∙ ap (λ prefix. prefix ++ c.loop-i.place ∷ []) inv.so_far ∙ ap (λ n. places_from 0 (take i widths) ++ n ∷ []) inv.sum
           ∙ sym (places_more widths i there);
       sum = omega (arith, inv.sum, more);

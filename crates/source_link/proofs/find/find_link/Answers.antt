@@ -6,7 +6,7 @@ use Rattle.source_link.proofs.Records.{no_module, link_all}
 use Rattle.source_link.proofs.find.find_link.Goals as goal
 
 pub returns-then-count-eq0-clause-record : goal.returns-then-count-eq0-clause-record
-returns-then-count-eq0-clause-record g c = sym (no_module (raw_file c.args.file.now) c.keeps.ensures.rules.customs
+returns-then-count-eq0-clause-record g c = sym (no_module (raw_file c.args.file.now) c.facts.ensures.rules.customs
     (sym c.count.ensures.rows ∙ c.if-count-eq0.true))
 
 pub link_between-requires-clause-forward : goal.link_between-requires-clause-forward

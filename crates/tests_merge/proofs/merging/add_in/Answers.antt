@@ -4,5 +4,5 @@ use Rattle.ppdb_verify.specs.Views.{raw_file}
 
 pub returns : goal.returns
 returns g c =
-    one_more c.add.result c.args.merger.now.marks c.args.merger.now.traces c.add.new.self.traces c.args.map.now (raw_file c.in-Ok.file)
+    one_more c.add.result c.args.merger.now.marks c.args.merger.now.summaries c.add.new.self.summaries c.args.map.now (raw_file c.in-Ok.file)
     c.add.ensures.added c.add.ensures.fits

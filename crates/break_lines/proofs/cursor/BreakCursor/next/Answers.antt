@@ -10,7 +10,7 @@ pub methods-preserved : goal.methods-preserved
 methods-preserved g c =
     let s = c.methods.self-inside in
     let raw = raw_of (tables_of s.file) in
-    let shape = c.keeps.ensures.rules.shape.methods in
+    let shape = c.facts.ensures.rules.shape.methods in
     let count = c.count.ensures.rows in
     let less : s.done < length raw.methods = omega arith in
     let within = c.methods.invariant.within in
@@ -30,7 +30,7 @@ pub returns-then-self-count-clause-answer : goal.returns-then-self-count-clause-
 returns-then-self-count-clause-answer g c =
     let s = c.methods.self-inside in
     let raw = raw_of (tables_of s.file) in
-    let shape = c.keeps.ensures.rules.shape.methods in let count = c.count.ensures.rows in let all = c.if-self-count.true in
+    let shape = c.facts.ensures.rules.shape.methods in let count = c.count.ensures.rows in let all = c.if-self-count.true in
     let past : length raw.methods ≤ s.done = omega (arith, shape, count, all) in
     let none = none_left (breaks_now s.current) c.next_now.result c.next_now.ensures.answer c.in_default.not-Some in
     let items : c.args.self.now.items ≡ [] = sym c.methods.invariant.same ∙ none_after raw s.document s.line s.done s.current past none in
@@ -40,7 +40,7 @@ pub returns-then-self-count-clause-left : goal.returns-then-self-count-clause-le
 returns-then-self-count-clause-left g c =
     let s = c.methods.self-inside in
     let raw = raw_of (tables_of s.file) in
-    let shape = c.keeps.ensures.rules.shape.methods in let count = c.count.ensures.rows in let all = c.if-self-count.true in
+    let shape = c.facts.ensures.rules.shape.methods in let count = c.count.ensures.rows in let all = c.if-self-count.true in
     let past : length raw.methods ≤ s.done = omega (arith, shape, count, all) in
     let none = none_left (breaks_now s.current) c.next_now.result c.next_now.ensures.answer c.in_default.not-Some in
     let items : c.args.self.now.items ≡ [] = sym c.methods.invariant.same ∙ none_after raw s.document s.line s.done s.current past none in

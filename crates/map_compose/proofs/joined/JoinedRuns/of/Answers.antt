@@ -5,12 +5,12 @@ use Rattle.map_compose.proofs.{Merging.{few_own}, Places.{long, offset_runs, own
 use Rattle.map_compose.proofs.joined.JoinedRuns.of.Goals as goal
 
 pub push_joined-requires : goal.push_joined-requires
-push_joined-requires c = subst (λ o. AreRuns (lined_runs o)) (sym c.method.ensures) (offset_runs c.args.map.now c.in-Some.method c.keeps.ensures)
+push_joined-requires c = subst (λ o. AreRuns (lined_runs o)) (sym c.method.ensures) (offset_runs c.args.map.now c.in-Some.method c.facts.ensures)
 
 pub overflow_add-index : goal.overflow_add-index
 overflow_add-index c =
     let inside : c.lines.index < length c.args.map.now.methods = line_inside c.args.map.now.methods c.lines.index c.in-Some.method (sym c.in-Some.ensures) in
-    let most = few_own Methods c.args.map.now c.keeps.ensures in
+    let most = few_own Methods c.args.map.now c.facts.ensures in
     let same = length-map c.args.map.now.methods (λ (l : MethodLine). l.method) in
     omega (arith, most, same)
 
@@ -22,7 +22,7 @@ lines-smaller c =
 pub lines-preserved : goal.lines-preserved
 lines-preserved c =
     let inside : c.lines.index < length c.args.map.now.methods = line_inside c.args.map.now.methods c.lines.index c.in-Some.method (sym c.in-Some.ensures) in
-    let own = own_runs c.args.map.now c.lines.index c.in-Some.method c.keeps.ensures (sym c.in-Some.ensures) in
+    let own = own_runs c.args.map.now c.lines.index c.in-Some.method c.facts.ensures (sym c.in-Some.ensures) in
     let are : c.push_joined.new.runs.items ≡ c.lines.runs.items ++ long own.0 =
     c.in_ok-push_joined.ensures ∙ ap (λ o. c.lines.runs.items ++ longest (lined_runs o)) c.method.ensures
     ∙ ap (λ rs. c.lines.runs.items ++ longest rs) own.1.2 in

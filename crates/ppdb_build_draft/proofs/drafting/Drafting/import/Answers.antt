@@ -1,7 +1,7 @@
 use Rattle.std.proofs.Common.{ℕ, List, ap, ◌∙◌}
 use Rattle.ppdb_tables.specs.declared.rows.ImportRow.{ImportRow}
 use Rattle.ppdb_values.specs.declared.import.ImportScopeValue.{ImportScopeValue}
-use Rattle.ppdb_build_items.specs.Making.{interned_of}
+use Rattle.ppdb_build_interning.specs.Making.{interned_of}
 use Rattle.ppdb_build_draft.{specs.Draft.{Draft, with_import}, proofs.Added.{import_added}}
 use Rattle.ppdb_build_draft.proofs.drafting.Drafting.import.Goals as goal
 
@@ -16,8 +16,8 @@ returns c =
     } in
     let scope : ImportScopeValue = record { parent = c.args.parent; imports = c.args.imports.now } in
     let row : ImportRow = record { parent = c.args.parent; imports = c.in_ok-imports.imports } in
-    ap (λ (rows : List ImportRow). record before { blobs = interned_of c.note_imports.new.self; rows = record before.rows { imports = rows } })
+    ap (λ (rows : List ImportRow). record before { blobs = interned_of c.intern_imports.new.self; rows = record before.rows { imports = rows } })
     c.in_ok-push.ensures.ok
-    ∙ import_added before scope (interned_of c.note_imports.new.self) row c.in_ok-imports.ensures.interned
+    ∙ import_added before scope (interned_of c.intern_imports.new.self) row c.in_ok-imports.ensures.interned
     (ap (λ (n : ℕ). record { parent = c.args.parent; imports = n }) c.in_ok-imports.ensures.index)
     ∙ ap (λ (draft : Draft). with_import draft scope) c.self.view_is

@@ -1,9 +1,9 @@
 use Rattle.std.{proofs.Common.{cond, bytes_eq, Option, Some, None, ℕ, [], ◌∷◌, ◌++◌, ap, sym, ◌∙◌}, proofs.lemmas.Map.Text.{is_eq-slice_cmp}, specs.List.{list_any}}
 use Rattle.std.specs.{Prelude.{is_some}, BTreeMap.{BTreeMap, get}, Cmp.Lexicographic.{slice_cmp}, Ordering.{nat_cmp}, declared.vec.Vec.{Vec}}
 use Rattle.std.specs.declared.alloc.Global.{Global}
-use Rattle.ppdb_base.specs.Told.{told}
-use Rattle.ppdb_build_heaps.{specs.Interned.{Contents, length_of}, specs.Marks.{mark, has_mark, first_with, is_first, other_index}, proofs.Interned.{index_new}}
-use Rattle.ppdb_build_heaps.proofs.{Marks.{others_more, firsts_stay, some_found, undone, none_there, new_used}, Spellings.{on_ok, on_err}}
+use Rattle.ppdb_base.specs.Reported.{reported}
+use Rattle.ppdb_build_heaps.{specs.Interned.{Contents, length_of}, specs.Hashes.{hash, has_hash, first_with, is_first, other_index}, proofs.Interned.{index_new}}
+use Rattle.ppdb_build_heaps.proofs.{Hashes.{others_more, firsts_stay, some_found, undone, none_there, new_used}, Spellings.{on_ok, on_err}}
 use Rattle.ppdb_build_heaps.proofs.ordered.Ordered.add_other.Goals as goal
 
 abbrev index_at : BTreeMap (Vec ℕ Global) ℕ → Vec ℕ Global → Option ℕ
@@ -38,8 +38,8 @@ invariant_of-self-else-is_err c =
     let item = c.args.item.now in
     let index = c.len-index.result in
     let none = ap (λ (heap : Contents). list_any (bytes_eq item) heap.items) c.self.view_is ∙ c.requires.new in
-    let less = some_found (has_mark (mark item)) items
-    (ap (λ (heap : Contents). is_some (first_with heap.items (mark item))) c.self.view_is ∙ c.requires.some) in
+    let less = some_found (has_hash (hash item)) items
+    (ap (λ (heap : Contents). is_some (first_with heap.items (hash item))) c.self.view_is ∙ c.requires.some) in
     let other = ap (λ (heap : Contents). is_first heap.items item) c.self.view_is ∙ c.requires.other in
     let pushed = on_ok c.push.result (sym c.is_err.ensures.value ∙ c.if-is_err.false) c.push.ensures.ok in (
       λ number.
@@ -65,5 +65,5 @@ returns-clause-items c =
 pub returns-clause-index : goal.returns-clause-index
 returns-clause-index c =
     c.len-index.ensures
-    ∙ ap (λ (heap : Contents). told (length_of heap.kind heap.items)) c.self.view_is
+    ∙ ap (λ (heap : Contents). reported (length_of heap.kind heap.items)) c.self.view_is
     ∙ index_new c.args.self.now.kind c.args.self.now.items c.args.item.now c.requires.new

@@ -1,5 +1,5 @@
 use Rattle.std.proofs.Common.{◌++◌, take}
-use Rattle.ppdb_merge_items.specs.Annotated.{items_of}
+use Rattle.ppdb_merge_annotated.specs.Annotated.{items_of}
 use Rattle.ppdb_merge.proofs.Names.{documents_next, documents_all}
 use Rattle.ppdb_merge.proofs.documents.Documents.add.Goals as goal
 

@@ -1,5 +1,5 @@
 use Rattle.std.{proofs.Common.{sym, ap, ◌∙◌, ◌≡◌, arith}, specs.Option.{option_and_then}}
-use Rattle.ppdb_merge.{specs.Indexes.{lesser}, specs.Refusals.{taken}, proofs.Taken.{least_next, told_least}}
+use Rattle.ppdb_merge.{specs.Indexes.{lesser}, specs.Refusals.{taken}, proofs.Taken.{least_next, reported_least}}
 use Rattle.ppdb_merge.proofs.methods.Methods.first_taken.Goals as goal
 
 pub rows-preserved : goal.rows-preserved
@@ -13,12 +13,12 @@ pub returns-in_err-found : goal.returns-in_err-found
 returns-in_err-found c = λ claimed holds.
     let end : c.rows.place ≡ 0 = let test = c.rows-test.false in omega (arith, test) in
     c.from_residual.ensures
-    ∙ sym (told_least claimed c.args.rows.now c.rows.place c.rows.found end (c.rows.invariant.found claimed holds)
+    ∙ sym (reported_least claimed c.args.rows.now c.rows.place c.rows.found end (c.rows.invariant.found claimed holds)
     ∙ ap (option_and_then (taken claimed)) c.in_err-found.was)
 
 pub returns : goal.returns
 returns c = λ claimed holds.
     let end : c.rows.place ≡ 0 = let test = c.rows-test.false in omega (arith, test) in
     c.taken.ensures claimed holds
-    ∙ sym (told_least claimed c.args.rows.now c.rows.place c.rows.found end (c.rows.invariant.found claimed holds)
+    ∙ sym (reported_least claimed c.args.rows.now c.rows.place c.rows.found end (c.rows.invariant.found claimed holds)
     ∙ ap (option_and_then (taken claimed)) c.in_ok-found.was)

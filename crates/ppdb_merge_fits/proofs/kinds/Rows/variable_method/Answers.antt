@@ -8,7 +8,8 @@ use Rattle.ppdb_merge_fits.proofs.kinds.Rows.variable_method.Goals as goal
 
 pub returns-in-Some : goal.returns-in-Some
 returns-in-Some c =
-    subst (λ (pair : Map × FileValue). Some c.in-Some.variable.method ≡ row_at (flat_map (λ (s : ScopeValue). map (λ v. s.method) s.variables) pair.1.scopes) c.args.row) c.self.view_is
+    subst (λ (pair : Map × FileValue). Some c.in-Some.variable.method
+    ≡ row_at (flat_map (λ (s : ScopeValue). map (λ v. s.method) s.variables) pair.1.scopes) c.args.row) c.self.view_is
     (variable_of_row (value_of (raw_file c.self.inside.file)) c.args.row (Some c.in-Some.variable)
     (sym (ap (λ l. row_at l c.args.row) (c.as_slice.ensures ∙ c.self.invariant.0)) ∙ sym c.entry.ensures ∙ c.in-Some.is))
 

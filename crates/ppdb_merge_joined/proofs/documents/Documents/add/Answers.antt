@@ -19,8 +19,8 @@ returns-then-row-eq0-clause-gathered c =
     (c.in_ok-name.ensures.items ∙ c.as_slice.ensures) c.push.new.self (sym c.row_of-row.ensures ∙ c.if-row-eq0.true) gathered rows)
     c.push.ensures.gathered c.push.ensures.rows
 
-pub note-requires : goal.note-requires
-note-requires c =
+pub annotate-requires : goal.annotate-requires
+annotate-requires c =
     row_inside c.requires.gathered.0 c.args.document c.args.self.now c.in_ok-name.name c.row_of-row.result c.requires.gathered.1
     (c.in_ok-name.ensures.items ∙ c.as_slice.ensures) c.row_of-row.ensures c.if-row-eq0.false
 
@@ -32,10 +32,10 @@ returns-clause-row c = λ before holds.
 pub returns-clause-gathered : goal.returns-clause-gathered
 returns-clause-gathered c = λ before holds.
     add_holds_old before c.args.document c.args.self.now c.in_ok-name.name c.row_of-row.result holds
-    (c.in_ok-name.ensures.items ∙ c.as_slice.ensures) c.row_of-row.ensures c.if-row-eq0.false c.note.new.self c.in_ok-note.ensures.gathered
-    c.in_ok-note.ensures.rows
+    (c.in_ok-name.ensures.items ∙ c.as_slice.ensures) c.row_of-row.ensures c.if-row-eq0.false c.annotate.new.self c.in_ok-annotate.ensures.gathered
+    c.in_ok-annotate.ensures.rows
 
 pub returns-clause-most : goal.returns-clause-most
 returns-clause-most c =
-    let e = ap length c.in_ok-note.ensures.gathered in
+    let e = ap length c.in_ok-annotate.ensures.gathered in
     let l = annotated_length c.args.self.now.gathered (c.row_of-row.result - 1) c.args.document.customs in omega (arith, e, l)

@@ -1,7 +1,7 @@
 use Rattle.std.proofs.Common.{List, [], ap, arith, ◌∙◌}
 use Rattle.custom_info.specs.{HoistedScopes.{hoisted_scopes}, declared.slots.Slot.{Slot}}
 use Rattle.ppdb_queries.{specs.Hoisted.{slots_from}, proofs.Records.{nothing_whole, nothing_read}}
-use Rattle.ppdb_verify_rows.proofs.{Lengths.{slots_most}, Whole.{whole_left}}
+use Rattle.ppdb_verify_readers.proofs.{Lengths.{slots_most}, Whole.{whole_left}}
 use Rattle.ppdb_queries.proofs.hoisted.RecordSlots.none.Goals as goal
 
 pub invariant_of-result : goal.invariant_of-result

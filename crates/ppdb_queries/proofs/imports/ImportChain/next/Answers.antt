@@ -16,19 +16,19 @@ pub returns-clause-answer : goal.returns-clause-answer
 returns-clause-answer g c =
     let raw = raw_of (tables_of c.self.inside.file) in
     answer_some c.args.self.now (links_from raw c.import-scope.result.parent) _ (sym c.self.view_is
-    ∙ links_next raw c.self.inside.row c.import-scope.result c.imports_of.result c.keeps.ensures.rules.imports
-    (let shape = c.keeps.ensures.rules.shape.imports in omega (arith, shape)) c.import-scope.ensures.row c.imports_of.ensures)
+    ∙ links_next raw c.self.inside.row c.import-scope.result c.imports_of.result c.facts.ensures.rules.imports
+    (let shape = c.facts.ensures.rules.shape.imports in omega (arith, shape)) c.import-scope.ensures.row c.imports_of.ensures)
 
 pub returns-clause-left : goal.returns-clause-left
 returns-clause-left g c =
     let raw = raw_of (tables_of c.self.inside.file) in
     left_some c.args.self.now (links_from raw c.import-scope.result.parent) _ (sym c.self.view_is
-    ∙ links_next raw c.self.inside.row c.import-scope.result c.imports_of.result c.keeps.ensures.rules.imports
-    (let shape = c.keeps.ensures.rules.shape.imports in omega (arith, shape)) c.import-scope.ensures.row c.imports_of.ensures)
+    ∙ links_next raw c.self.inside.row c.import-scope.result c.imports_of.result c.facts.ensures.rules.imports
+    (let shape = c.facts.ensures.rules.shape.imports in omega (arith, shape)) c.import-scope.ensures.row c.imports_of.ensures)
 
 pub returns-clause-cost : goal.returns-clause-cost
 returns-clause-cost g c =
     let raw = raw_of (tables_of c.self.inside.file) in
     cost_some c.args.self.now (links_from raw c.import-scope.result.parent) _ c.args.steps.now c.import-scope.new.steps (sym c.self.view_is
-    ∙ links_next raw c.self.inside.row c.import-scope.result c.imports_of.result c.keeps.ensures.rules.imports
-    (let shape = c.keeps.ensures.rules.shape.imports in omega (arith, shape)) c.import-scope.ensures.row c.imports_of.ensures) c.import-scope.ensures.step
+    ∙ links_next raw c.self.inside.row c.import-scope.result c.imports_of.result c.facts.ensures.rules.imports
+    (let shape = c.facts.ensures.rules.shape.imports in omega (arith, shape)) c.import-scope.ensures.row c.imports_of.ensures) c.import-scope.ensures.step

@@ -11,7 +11,7 @@ pub chain-init : goal.chain-init
 chain-init g c =
     let raw = raw_of (tables_of c.args.file.now) in
     record {
-      each = rw c.imports_of-chain.ensures (links_there raw c.args.import c.keeps.ensures.rules.shape.imports);
+      each = rw c.imports_of-chain.ensures (links_there raw c.args.import c.facts.ensures.rules.shape.imports);
       walk = walk_none _ _ _ _ _ _ _ c.imports_of-chain.ensures (omega arith);
       later = omega arith;
     }

@@ -7,7 +7,7 @@ use Rattle.ppdb_show.proofs.query.items.put_constant.Goals as goal
 pub put_customs-requires-clause-there : goal.put_customs-requires-clause-there
 put_customs-requires-clause-there g c =
     let within = row_within (raw_of (tables_of c.args.file.now)).constants c.args.row c.args.constant.now c.requires in
-    let many = c.keeps.ensures.rules.shape.constants in
+    let many = c.facts.ensures.rules.shape.constants in
     (within.0, omega (arith, within, many))
 
 pub returns-clause-ok : goal.returns-clause-ok

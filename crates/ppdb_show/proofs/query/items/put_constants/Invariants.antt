@@ -12,7 +12,8 @@ invariant-constants g l =
       from : 1 ≤ l.row;
       to : l.row ≤ l.run.end;
       last : l.run.end ≤ length raw.constants + 1;
-      walk : Walked l.printer.form (constant_answer raw) (item_reads raw 0x34) (rows_in l.run raw.constants) (slice_range (numbered raw.constants) (l.row - 1) (l.run.end - 1))
+      walk : Walked l.printer.form (constant_answer raw) (item_reads raw 0x34) (rows_in l.run raw.constants)
+          (slice_range (numbered raw.constants) (l.row - 1) (l.run.end - 1))
           l.fn.text l.text l.fn.steps l.steps;
       later : l.fn.steps ≤ l.steps;
     }

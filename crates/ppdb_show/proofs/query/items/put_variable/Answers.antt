@@ -7,7 +7,7 @@ use Rattle.ppdb_show.proofs.query.items.put_variable.Goals as goal
 pub put_customs-requires-clause-there : goal.put_customs-requires-clause-there
 put_customs-requires-clause-there g c =
     let within = row_within (raw_of (tables_of c.args.file.now)).variables c.args.row c.args.variable.now c.requires in
-    let many = c.keeps.ensures.rules.shape.variables in
+    let many = c.facts.ensures.rules.shape.variables in
     (within.0, omega (arith, within, many))
 
 pub returns-clause-ok : goal.returns-clause-ok

@@ -12,7 +12,8 @@ invariant-variables g l =
       from : 1 ≤ l.row;
       to : l.row ≤ l.run.end;
       last : l.run.end ≤ length raw.variables + 1;
-      walk : Walked l.printer.form (variable_answer raw) (item_reads raw 0x33) (rows_in l.run raw.variables) (slice_range (numbered raw.variables) (l.row - 1) (l.run.end - 1))
+      walk : Walked l.printer.form (variable_answer raw) (item_reads raw 0x33) (rows_in l.run raw.variables)
+          (slice_range (numbered raw.variables) (l.row - 1) (l.run.end - 1))
           l.fn.text l.text l.fn.steps l.steps;
       later : l.fn.steps ≤ l.steps;
     }

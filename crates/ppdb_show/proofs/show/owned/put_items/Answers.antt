@@ -6,7 +6,7 @@ use Rattle.ppdb_show.proofs.show.owned.put_items.Goals as goal
 
 pub put_item-requires-clause-there : goal.put_item-requires-clause-there
 put_item-requires-clause-there g c =
-    let counted = items_counted (raw_file c.args.file.now).tables c.args.owned c.keeps.ensures.rules.shape in
+    let counted = items_counted (raw_file c.args.file.now).tables c.args.owned c.facts.ensures.rules.shape in
     let last = c.requires.last in
     (omega arith, omega (arith, counted, last))
 

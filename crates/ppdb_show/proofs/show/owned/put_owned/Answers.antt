@@ -14,7 +14,7 @@ lists-init g c =
       to = omega arith;
       first = omega arith;
       begins = sym (begins_first (list_by c.args.owned) raw.scopes (items_of raw c.args.owned)
-          (keeps_lists (raw_file c.args.file.now) c.args.owned c.keeps.ensures.rules));
+          (keeps_lists (raw_file c.args.file.now) c.args.owned c.facts.ensures.rules));
       put = rw (items_between raw c.args.owned) (put_none (g.O.Sink.written c.args.out.now) _ _);
     }
 
@@ -22,34 +22,34 @@ pub put_items-requires-clause-forward : goal.put_items-requires-clause-forward
 put_items-requires-clause-forward g c =
     let raw = (raw_file c.args.file.now).tables in
     let many : length raw.scopes ≡ c.rows-scopes.result =
-    c.keeps.ensures.rules.shape.scopes ∙ sym (rw c.tables-tables.ensures.tables at c.rows-scopes.ensures) in
+    c.facts.ensures.rules.shape.scopes ∙ sym (rw c.tables-tables.ensures.tables at c.rows-scopes.ensures) in
     let within = c.lists-test.true in
     rw (c.lists.invariant.begins, rw c.tables-tables.ensures.tables at c.end_of_list-end.ensures)
     (ends_after (list_by c.args.owned) raw.scopes (items_of raw c.args.owned) c.lists.scope
-    (keeps_lists (raw_file c.args.file.now) c.args.owned c.keeps.ensures.rules) c.lists.invariant.from (omega (arith, many)))
+    (keeps_lists (raw_file c.args.file.now) c.args.owned c.facts.ensures.rules) c.lists.invariant.from (omega (arith, many)))
 
 pub put_items-requires-clause-last : goal.put_items-requires-clause-last
 put_items-requires-clause-last g c =
     let raw = (raw_file c.args.file.now).tables in
     rw (rw c.tables-tables.ensures.tables at c.end_of_list-end.ensures)
     (ends_within (list_by c.args.owned) raw.scopes (items_of raw c.args.owned) c.lists.scope
-    (keeps_lists (raw_file c.args.file.now) c.args.owned c.keeps.ensures.rules))
+    (keeps_lists (raw_file c.args.file.now) c.args.owned c.facts.ensures.rules))
 
 pub put_items-requires-clause-owner : goal.put_items-requires-clause-owner
 put_items-requires-clause-owner g c item from to =
     let raw = (raw_file c.args.file.now).tables in
     let many : length raw.scopes ≡ c.rows-scopes.result =
-    c.keeps.ensures.rules.shape.scopes ∙ sym (rw c.tables-tables.ensures.tables at c.rows-scopes.ensures) in
+    c.facts.ensures.rules.shape.scopes ∙ sym (rw c.tables-tables.ensures.tables at c.rows-scopes.ensures) in
     owns_between (list_by c.args.owned) raw.scopes (items_of raw c.args.owned) c.lists.scope item
-    (keeps_lists (raw_file c.args.file.now) c.args.owned c.keeps.ensures.rules) c.lists.invariant.from (omega (arith, many))
+    (keeps_lists (raw_file c.args.file.now) c.args.owned c.facts.ensures.rules) c.lists.invariant.from (omega (arith, many))
     (rw c.lists.invariant.begins at from) (rw (rw c.tables-tables.ensures.tables at c.end_of_list-end.ensures) at to)
 
 pub returns-in_err-put_items : goal.returns-in_err-put_items
 returns-in_err-put_items g c =
     let raw = (raw_file c.args.file.now).tables in
-    let keeps = keeps_lists (raw_file c.args.file.now) c.args.owned c.keeps.ensures.rules in
+    let keeps = keeps_lists (raw_file c.args.file.now) c.args.owned c.facts.ensures.rules in
     let many : length raw.scopes ≡ c.rows-scopes.result =
-    c.keeps.ensures.rules.shape.scopes ∙ sym (rw c.tables-tables.ensures.tables at c.rows-scopes.ensures) in
+    c.facts.ensures.rules.shape.scopes ∙ sym (rw c.tables-tables.ensures.tables at c.rows-scopes.ensures) in
     let end_is : c.end_of_list-end.result ≡ list_end (list_by c.args.owned) raw.scopes c.lists.scope (items_of raw c.args.owned) =
     rw c.tables-tables.ensures.tables at c.end_of_list-end.ensures in
     let forward : c.lists.item ≤ c.end_of_list-end.result =
@@ -64,9 +64,9 @@ returns-in_err-put_items g c =
 pub lists-preserved : goal.lists-preserved
 lists-preserved g c =
     let raw = (raw_file c.args.file.now).tables in
-    let keeps = keeps_lists (raw_file c.args.file.now) c.args.owned c.keeps.ensures.rules in
+    let keeps = keeps_lists (raw_file c.args.file.now) c.args.owned c.facts.ensures.rules in
     let many : length raw.scopes ≡ c.rows-scopes.result =
-    c.keeps.ensures.rules.shape.scopes ∙ sym (rw c.tables-tables.ensures.tables at c.rows-scopes.ensures) in
+    c.facts.ensures.rules.shape.scopes ∙ sym (rw c.tables-tables.ensures.tables at c.rows-scopes.ensures) in
     let end_is : c.end_of_list-end.result ≡ list_end (list_by c.args.owned) raw.scopes c.lists.scope (items_of raw c.args.owned) =
     rw c.tables-tables.ensures.tables at c.end_of_list-end.ensures in
     let forward : c.lists.item ≤ c.end_of_list-end.result =
@@ -88,7 +88,7 @@ pub returns : goal.returns
 returns g c =
     let raw = (raw_file c.args.file.now).tables in
     let many : length raw.scopes ≡ c.rows-scopes.result =
-    c.keeps.ensures.rules.shape.scopes ∙ sym (rw c.tables-tables.ensures.tables at c.rows-scopes.ensures) in
+    c.facts.ensures.rules.shape.scopes ∙ sym (rw c.tables-tables.ensures.tables at c.rows-scopes.ensures) in
     let end = c.lists.invariant.begins ∙ begins_last (list_by c.args.owned) raw.scopes (items_of raw c.args.owned) c.lists.scope (omega (arith, many)) in
     put_whole _ _ _ _ _ (rw (last_row c.args.printer.form (lines_of_item raw c.args.owned) c.lists.item (items_of raw c.args.owned + 1) (omega (arith, end))) at
     c.lists.invariant.put)

@@ -12,7 +12,7 @@ rows-init g c =
     record {
       from = omega arith;
       to = omega arith;
-      put = rw (table_between raw c.args.rows c.keeps.ensures.rules.shape, counted) (put_none (g.O.Sink.written c.args.out.now) _ _);
+      put = rw (table_between raw c.args.rows c.facts.ensures.rules.shape, counted) (put_none (g.O.Sink.written c.args.out.now) _ _);
     }
 
 pub returns-in_err-put_row : goal.returns-in_err-put_row

@@ -6,7 +6,7 @@ pub returns-clause-place : goal.returns-clause-place
 returns-clause-place g c =
     let widths = c.self.inside.widths in
     let column = c.args.column in
-    let there : column < length widths = omega (arith, c.requires, c.self.told) in
+    let there : column < length widths = omega (arith, c.requires, c.self.reported) in
     subst (λ ws. get_or c.self.inside.places column 0 ≡ cell_place ws column) c.self.view_is
     (ap (λ places. get_or places column 0) c.self.invariant.2 ∙ place_is widths column there)
 
@@ -14,7 +14,7 @@ pub returns-clause-within : goal.returns-clause-within
 returns-clause-within g c =
     let widths = c.self.inside.widths in
     let column = c.args.column in
-    let there : column < length widths = omega (arith, c.requires, c.self.told) in
+    let there : column < length widths = omega (arith, c.requires, c.self.reported) in
     let place : get_or c.self.inside.places column 0 ≡ cell_place widths column =
     ap (λ places. get_or places column 0) c.self.invariant.2 ∙ place_is widths column there in
     subst (λ ws. get_or c.self.inside.places column 0 + get_or ws column 0 ≤ sum ws) c.self.view_is

@@ -1,8 +1,7 @@
 use Rattle.std.proofs.Common.{◌≡◌, ◌∷◌, [], List, Some, None, Option, length, refl, sym, ap, subst, ◌∙◌, arith, true, false}
-use Rattle.sequence_points.specs.{declared.point.Point.{Point}, MovedPoints.{first_offset}}
-use Rattle.sequence_points.specs.HiddenPoints.{and_hidden, mark_at, no_offset, stretches_between}
-use Rattle.sequence_points_moved.specs.{Coming.{after_last, moved_left, shown_left}, MovedBlob.{moved_in}, Writing.{coming}}
-use Rattle.sequence_points_moved.proofs.Marks.{before_next, before_none, left_before, moved_first}
+use Rattle.sequence_points.specs.{declared.point.Point.{Point}, MovedPoints.{first_offset}, HiddenPoints.{and_hidden, mark_at, no_offset, stretches_between}}
+use Rattle.sequence_points_moved.{specs.Coming.{after_last, moved_left, shown_left}, specs.MovedBlob.{moved_in}, specs.Writing.{coming}, proofs.Marks.{before_next}}
+use Rattle.sequence_points_moved.proofs.Marks.{before_none, left_before, moved_first}
 use Rattle.sequence_points_moved.proofs.shown.Shown.mark_before.Goals as goal
 
 pub returns-then-not-is_image_between-clause-some : goal.returns-then-not-is_image_between-clause-some

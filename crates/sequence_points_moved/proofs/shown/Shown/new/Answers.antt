@@ -1,8 +1,6 @@
 use Rattle.std.proofs.Common.{ap, ◌∙◌, sym, None}
 use Rattle.sequence_points.specs.MovedPoints.{moved_points}
-use Rattle.sequence_points_moved.specs.Coming.{after_last}
-use Rattle.sequence_points_moved.proofs.{Commutes.{hidden_same}, Marks.{at_start}}
-use Rattle.sequence_points_moved.specs.MovedBlob.{moved_in}
+use Rattle.sequence_points_moved.{specs.Coming.{after_last}, proofs.Commutes.{hidden_same}, proofs.Marks.{at_start}, specs.MovedBlob.{moved_in}}
 use Rattle.sequence_points_moved.proofs.shown.Shown.new.Goals as goal
 
 pub returns-clause-left : goal.returns-clause-left

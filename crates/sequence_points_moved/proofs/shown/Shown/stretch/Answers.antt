@@ -1,8 +1,6 @@
 use Rattle.std.proofs.Common.{sym, arith}
-use Rattle.sequence_points.specs.HiddenPoints.{no_offset}
-use Rattle.sequence_points.specs.MovedPoints.{first_offset}
+use Rattle.sequence_points.{specs.HiddenPoints.{no_offset}, specs.MovedPoints.{first_offset}, proofs.Stretches.{next_stretch, none_left, past_end}}
 use Rattle.sequence_points_moved.specs.Writing.{coming}
-use Rattle.sequence_points.proofs.Stretches.{next_stretch, none_left, past_end}
 use Rattle.sequence_points_moved.proofs.shown.Shown.stretch.Goals as goal
 
 pub returns-then-stretch-end-clause-some : goal.returns-then-stretch-end-clause-some

@@ -1,0 +1,1 @@
+-- Items that are interned later move no place.

@@ -1,1 +1,0 @@
--- Items that are noted later move no place.

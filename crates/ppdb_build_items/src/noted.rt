@@ -1,9 +1,0 @@
-// The items of a heap once all are noted.
-use ppdb_build_heaps::Spelled;
-
-/// The items of a heap once all are noted, and the length of all uses.
-#[derive(Drop)]
-pub struct Noted {
-    pub items: Spelled,
-    pub total: u64,
-}

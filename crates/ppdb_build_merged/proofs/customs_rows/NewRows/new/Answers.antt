@@ -1,4 +1,0 @@
-use Rattle.ppdb_build_merged.proofs.customs_rows.NewRows.new.Goals as goal
-
-pub returns : goal.returns
-returns c = λ placed. record { scopes = tt; variables = tt; constants = tt }

@@ -1,8 +1,0 @@
-use Rattle.std.proofs.Common.{◌∙◌, ap}
-use Rattle.ppdb_merge.{specs.Rows.{RowMerged, traces_in}, specs.Together.{misfit_of}, proofs.Counting.{misfit_counted}}
-use Rattle.ppdb_merge.proofs.row_merger.RowMerger.misfit.Goals as goal
-
-pub returns : goal.returns
-returns c =
-    misfit_counted (traces_in c.self.inside.inputs) c.as_slice.result.now c.misfit.result (c.as_slice.ensures ∙ c.self.invariant.traces) c.misfit.ensures
-    ∙ ap (λ (v : RowMerged). misfit_of v.traces) c.self.view_is

@@ -1,5 +1,0 @@
-use Rattle.ppdb_merge_items.proofs.Values.{value_back}
-use Rattle.ppdb_merge_items.proofs.laws.values_come_back.Goals as goal
-
-pub returns : goal.returns
-returns c = λ value sound. value_back value c.codes_are_parents.ensures sound.customs

@@ -1,9 +1,0 @@
-use Rattle.ppdb_tables.specs.RawOf.{raw_of}
-use Rattle.ppdb_verify.specs.Views.{tables_of}
-use Rattle.ppdb_show.proofs.Notes.{put_again}
-use Rattle.ppdb_show.proofs.query.imports.put_noted_imports.Goals as goal
-
-pub returns-then-noted-import-clause-ok : goal.returns-then-noted-import-clause-ok
-returns-then-noted-import-clause-ok g c =
-    put_again c.args.printer.form (raw_of (tables_of c.args.file.now)) c.args.noted.now c.args.import c.put_text.result c.args.text.now c.put_text.new.text
-    c.as_slice.result.now c.requires.known c.if-noted-import.true c.as_slice.ensures c.put_text.ensures

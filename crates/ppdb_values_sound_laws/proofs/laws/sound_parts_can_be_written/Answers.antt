@@ -1,5 +1,0 @@
-use Rattle.ppdb_values_sound_laws.proofs.Writing.{parts_writable}
-use Rattle.ppdb_values_sound_laws.proofs.laws.sound_parts_can_be_written.Goals as goal
-
-pub returns : goal.returns
-returns c = parts_writable

@@ -1,5 +1,0 @@
-use Rattle.ppdb_values_sound_laws.proofs.Values.{value_sound}
-use Rattle.ppdb_values_sound_laws.proofs.laws.values_are_sound.Goals as goal
-
-pub returns : goal.returns
-returns c = value_sound c.codes_are_parents.ensures

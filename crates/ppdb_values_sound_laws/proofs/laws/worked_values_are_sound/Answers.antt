@@ -1,5 +1,0 @@
-use Rattle.ppdb_values_sound_laws.proofs.WorkedSound.{sound}
-use Rattle.ppdb_values_sound_laws.proofs.laws.worked_values_are_sound.Goals as goal
-
-pub returns : goal.returns
-returns c = sound c.codes_are_parents.ensures

@@ -1,5 +1,0 @@
-use Rattle.ppdb_verify_kept_laws.proofs.Files.{none_invalid}
-use Rattle.ppdb_verify_kept_laws.proofs.laws.kept_rules_accept.Goals as goal
-
-pub returns : goal.returns
-returns c = none_invalid

@@ -1,5 +1,0 @@
-use Rattle.type_blobs_rows.proofs.TypesTaken.{types-all}
-use Rattle.type_blobs_rows.proofs.constant.ConstantTypes.new.Goals as goal
-
-pub returns : goal.returns
-returns c = types-all c.args.limits c.args.blob.now
