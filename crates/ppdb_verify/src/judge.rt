@@ -65,7 +65,7 @@ pub(crate) fn judge_all<L: Ledger>(
     ensures accepted { OnOk result (IsAccepted (RowsFaults (raw_of tables.now))) }
     ensures first { IfErr result (FaultIs (IsFirst (RowsFaults (raw_of tables.now)))) }
 {
-    match judge_spans(tables, steps) {
+    match judge_spans(alloc, tables, steps) {
         Ok(()) => {}
         Err(over) => return Err(first_fault(alloc, tables, over, steps)),
     }

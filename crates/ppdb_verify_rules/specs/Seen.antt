@@ -1,13 +1,19 @@
 -- What the passes over the tables have seen.
-use Rattle.std.specs.Prelude.{◌≡◌, ℕ, ◌-◌, ◌/◌, ◌%◌, ◌<◌, ◌≤◌, ◌⊎◌, List, [], Some, IsTrue}
+use Rattle.std.specs.Prelude.{◌≡◌, ℕ, ◌-◌, ◌/◌, ◌%◌, ◌<◌, ◌≤◌, ◌⊎◌, List, [], Some, None, IsTrue}
 use Rattle.std.specs.{Prelude.{slice_index, bytes_eq}, Ordering.{nat_cmp, is_eq}}
 use Rattle.std.specs.{Cmp.Lexicographic.slice_cmp, Int.bit_at, List.list_any}
 use Rattle.std.specs.Borrow.{Bor}
-use Rattle.ppdb_heaps.specs.Heaps.{text_at}
+use Rattle.blob_grammar.specs.Places.{HasEnd}
+use Rattle.custom_info.specs.declared.kinds.{Kind.Kind, Kind.TheVariants.{Async, Hoisted}}
+use Rattle.custom_info.specs.declared.kinds.Kind.TheVariants.{TypeDocuments}
+use Rattle.ppdb_heaps.specs.Heaps.{text_at, blob_at}
 use Rattle.ppdb_tables.specs.declared.rows.{MachineRow.MachineRow, ScopeRow.ScopeRow}
 use Rattle.ppdb_tables.specs.declared.rows.{VariableRow.VariableRow, ConstantRow.ConstantRow}
 use Rattle.ppdb_tables.specs.{RawTables.{RawTables, row_at, count}, Owners.Owns}
+use Rattle.type_blobs.specs.{Constants.constants, Imports.imports}
 use Rattle.ppdb_verify_rules.specs.declared.{lists.ScopeList.ScopeList, seen.Texts.Texts}
+use Rattle.ppdb_verify_rules.specs.declared.seen.ReadValues.{ReadValues}
+use Rattle.ppdb_verify_rules.specs.{Blobs.type_limits, Customs.ReadsValue}
 use Rattle.ppdb_verify_rules.specs.{Earlier.HasEarlier, Lists.{list_of, table_of}, Scopes.IsListOut}
 
 -- the bit of the number is set: bit n % 32 of word n / 32
@@ -75,3 +81,33 @@ AreVariableNames raw row owner seen = AreTexts (λ s. s.variables) raw.scopes ra
 abbrev pub AreConstantNames : RawTables → ℕ → ℕ → Texts → Type 0
 AreConstantNames raw row owner seen = AreTexts (λ s. s.constants) raw.scopes raw.texts
     (λ (c : ConstantRow). c.name) raw.constants row owner seen
+
+-- ---- blobs that were read to their ends
+
+-- a blob whose bit is set is there, and is read so
+abbrev pub AreRead : (List ℕ → Type 0) → List ℕ → List ℕ → Type 0
+AreRead Reads blobs words = (index : ℕ) → Has words index
+    → (content : List ℕ) × (blob_at blobs index ≡ Some content) × Reads content
+
+-- the blobs whose bits are set are whole lists of imports
+abbrev pub AreWholeImports : RawTables → List ℕ → Type 0
+AreWholeImports raw words = AreRead
+    (λ content. HasEnd (imports (type_limits raw) (blob_at raw.blobs)) content None) raw.blobs words
+
+-- the blobs whose bits are set are whole signatures of constants
+abbrev pub AreWholeConstants : RawTables → List ℕ → Type 0
+AreWholeConstants raw words =
+    AreRead (λ content. HasEnd (constants (type_limits raw)) content None) raw.blobs words
+
+-- the blob was read as the value of a record of the kind
+abbrev pub HasRead : ReadValues → Kind → ℕ → Type 0
+HasRead read Async index = Has read.stepping.items index
+HasRead read Hoisted index = Has read.hoisted.items index
+HasRead read TypeDocuments index = Has read.documents.items index
+HasRead read _ index = ⊥
+
+-- a value that was read is there, and has no fault
+abbrev pub AreWholeValues : RawTables → ReadValues → Type 0
+AreWholeValues raw read = (kind : Kind) (index : ℕ) → HasRead read kind index
+    → (content : List ℕ) × (blob_at raw.blobs index ≡ Some content)
+    × ReadsValue raw kind content None

@@ -7,14 +7,15 @@ ghost use Rattle.ppdb_verify_rules.specs.Judged.{ToTable, ToRow, ToCell, IsFirst
 ghost use Rattle.ppdb_verify_rules.specs.declared.lists.ScopeList.TheVariants.{Constants};
 ghost use Rattle.ppdb_heaps.specs.Heaps.{text_at};
 ghost use Rattle.ppdb_verify_rules.specs.Scopes.{Owns};
-ghost use Rattle.ppdb_verify_rules.specs.Seen.{AreConstantNames, HaveLists, OwnsBefore};
+ghost use Rattle.ppdb_verify_rules.specs.Seen.{AreConstantNames, AreWholeConstants, HaveLists};
+ghost use Rattle.ppdb_verify_rules.specs.Seen.{OwnsBefore};
 
 use crate::cells::{fault, fault_within, row_count};
 use crate::contents::constant_fault;
 use crate::errors::VerifyError;
 use crate::lists::ScopeList;
 use crate::owners::owner_of;
-use crate::seen::Texts;
+use crate::seen::{Texts, is_unread};
 use ppdb_base::{Code, Fault, Steps};
 use ppdb_tables::{ConstantRow, LOCAL_CONSTANT, LOCAL_SCOPE, Tables};
 use std::alloc::Global;
@@ -78,18 +79,29 @@ fn judge_repeat<'a>(
     Ok(())
 }
 
-/// Judges the signature of a constant.
-fn judge_signature(tables: &Tables<'_>, row: u32, constant: &ConstantRow) -> Result<(), Fault>
+/// Judges the signature of a constant, unless its blob was read before.
+fn judge_signature(
+    tables: &Tables<'_>,
+    row: u32,
+    constant: &ConstantRow,
+    read: &mut Vec<u32>,
+) -> Result<(), VerifyError>
     requires there { row_at (raw_of tables.now).constants row ≡ Some constant.now }
     requires judged { ToCell (raw_of tables.now) 0x34 row 1 }
+    requires read { AreWholeConstants (raw_of tables.now) read.old.items }
     ensures ok { OnOk result (ToCell (raw_of tables.now) 0x34 row 2) }
-    ensures err { IfErr result (IsFirstOf (raw_of tables.now)) }
+    ensures read { OnOk result (AreWholeConstants (raw_of tables.now) read.new.items) }
+    ensures err { IfErr result (FaultIs (IsFirstOf (raw_of tables.now))) }
 {
     let Some(content) = tables.blobs().get(constant.signature) else {
-        return Err(fault(Code::BlobIndex, LOCAL_CONSTANT, row, 1));
+        return Err(VerifyError::Fault(fault(Code::BlobIndex, LOCAL_CONSTANT, row, 1)));
     };
+    let unread = is_unread(read, constant.signature, content)?;
+    if !unread {
+        return Ok(());
+    }
     match constant_fault(tables, content) {
-        Some(inside) => Err(fault_within(inside, LOCAL_CONSTANT, row, 1)),
+        Some(inside) => Err(VerifyError::Fault(fault_within(inside, LOCAL_CONSTANT, row, 1))),
         None => Ok(()),
     }
 }
@@ -101,6 +113,7 @@ fn judge_constant<'a, L: Ledger>(
     constant: &ConstantRow,
     before: u32,
     names: &mut Texts<'a>,
+    read: &mut Vec<u32>,
     steps: &mut Steps<L>,
 ) -> Result<u32, VerifyError>
     requires first { 1 ≤ row }
@@ -109,18 +122,20 @@ fn judge_constant<'a, L: Ledger>(
     requires judged { ToCell (raw_of tables.now) 0x34 row 0 }
     requires before { OwnsBefore (λ s. s.constants) (raw_of tables.now).scopes before row }
     requires names { AreConstantNames (raw_of tables.now) row before names.old }
+    requires read { AreWholeConstants (raw_of tables.now) read.old.items }
     ensures ok { OnOk result (ToRow (raw_of tables.now) 0x34 (row + 1)) }
     ensures owner { IfOk result
         (λ owner. OwnsBefore (λ s. s.constants) (raw_of tables.now).scopes owner (row + 1)) }
     ensures names { IfOk result
         (λ owner. AreConstantNames (raw_of tables.now) (row + 1) owner names.new) }
+    ensures read { OnOk result (AreWholeConstants (raw_of tables.now) read.new.items) }
     ensures err { IfErr result (FaultIs (IsFirstOf (raw_of tables.now))) }
 {
     let name = judge_there(tables, row, constant)?;
     let owner = owner_of(tables, ScopeList::Constants, row, before, steps);
     go_to_owner(tables, row, before, owner, names);
     judge_repeat(tables, row, constant, owner, name, names)?;
-    judge_signature(tables, row, constant)?;
+    judge_signature(tables, row, constant, read)?;
     Ok(owner)
 }
 
@@ -137,11 +152,14 @@ pub(crate) fn judge_constants<L: Ledger>(
     ensures err { IfErr result (FaultIs (IsFirstOf (raw_of tables.now))) }
 {
     let mut names = Texts::new(alloc);
+    let mut read: Vec<u32> = Vec::new(alloc);
     let mut owner = 0;
     let _ = tables.shape();
     for row in 1..last + 1 {
         let constant = tables.constant(row, steps);
-        owner = judge_constant(tables, row, &constant, owner, &mut names, steps)?;
+        owner = judge_constant(
+            tables, row, &constant, owner, &mut names, &mut read, steps,
+        )?;
     }
     Ok(())
 }

@@ -6,13 +6,17 @@ ghost use Rattle.custom_info.specs.declared.kinds.Kind.{Kind};
 ghost use Rattle.ppdb_heaps.specs.Heaps.{guid_at};
 ghost use Rattle.ppdb_tables.specs.RawTables.{row_at, count};
 ghost use Rattle.ppdb_tables.specs.RawOf.{raw_of};
+ghost use Rattle.ppdb_verify_rules.specs.Errors.{FaultIs};
 ghost use Rattle.ppdb_verify_rules.specs.Judged.{ToTable, ToRow, ToCell, IsFirstOf};
 ghost use Rattle.ppdb_verify_rules.specs.Customs.{HasNoParent, HasOtherParent, IsOfKind};
 ghost use Rattle.ppdb_verify_rules.specs.Customs.{parent_table};
 ghost use Rattle.ppdb_verify_rules.specs.Earlier.{HasEarlier};
+ghost use Rattle.ppdb_verify_rules.specs.Seen.{AreWholeValues};
 
 use crate::cells::{fault, fault_within, names_no_row, row_count};
 use crate::contents::value_fault;
+use crate::errors::VerifyError;
+use crate::seen::ReadValues;
 use custom_info::{Kind, Marks, kind_of};
 use ppdb_base::{Code, Fault, Steps};
 use ppdb_tables::{CUSTOM, CustomRow, METHOD_DEF, TYPE_DEF, Tables, parent_of};
@@ -125,19 +129,31 @@ fn judge_kind(
     Ok(kind)
 }
 
-/// Judges the value of a custom record.
-fn judge_value(tables: &Tables<'_>, row: u32, custom: &CustomRow, kind: Kind) -> Result<(), Fault>
+/// Judges the value of a custom record, unless it was read before.
+fn judge_value(
+    tables: &Tables<'_>,
+    row: u32,
+    custom: &CustomRow,
+    kind: Kind,
+    read: &mut ReadValues,
+) -> Result<(), VerifyError>
     requires there { row_at (raw_of tables.now).customs row ≡ Some custom.now }
     requires judged { ToCell (raw_of tables.now) 0x37 row 2 }
     requires kind { IsOfKind (raw_of tables.now).guids custom.now.kind kind }
+    requires read { AreWholeValues (raw_of tables.now) read.old }
     ensures ok { OnOk result (ToCell (raw_of tables.now) 0x37 row 3) }
-    ensures err { IfErr result (IsFirstOf (raw_of tables.now)) }
+    ensures read { OnOk result (AreWholeValues (raw_of tables.now) read.new) }
+    ensures err { IfErr result (FaultIs (IsFirstOf (raw_of tables.now))) }
 {
     let Some(content) = tables.blobs().get(custom.value) else {
-        return Err(fault(Code::BlobIndex, CUSTOM, row, 2));
+        return Err(VerifyError::Fault(fault(Code::BlobIndex, CUSTOM, row, 2)));
     };
+    let unread = read.is_unread(kind, custom.value, content)?;
+    if !unread {
+        return Ok(());
+    }
     match value_fault(tables, kind, content) {
-        Some(inside) => Err(fault_within(inside, CUSTOM, row, 2)),
+        Some(inside) => Err(VerifyError::Fault(fault_within(inside, CUSTOM, row, 2))),
         None => Ok(()),
     }
 }
@@ -148,16 +164,19 @@ fn judge_custom<L: Ledger>(
     tables: &Tables<'_>,
     row: u32,
     custom: &CustomRow,
+    read: &mut ReadValues,
     steps: &mut Steps<L>,
-) -> Result<(), Fault>
+) -> Result<(), VerifyError>
     requires there { row_at (raw_of tables.now).customs row ≡ Some custom.now }
     requires judged { ToCell (raw_of tables.now) 0x37 row 0 }
+    requires read { AreWholeValues (raw_of tables.now) read.old }
     ensures ok { OnOk result (ToRow (raw_of tables.now) 0x37 (row + 1)) }
-    ensures err { IfErr result (IsFirstOf (raw_of tables.now)) }
+    ensures read { OnOk result (AreWholeValues (raw_of tables.now) read.new) }
+    ensures err { IfErr result (FaultIs (IsFirstOf (raw_of tables.now))) }
 {
     judge_parent(tables, row, custom, steps)?;
     let kind = judge_kind(alloc, tables, row, custom)?;
-    judge_value(tables, row, custom, kind)?;
+    judge_value(tables, row, custom, kind, read)?;
     Ok(())
 }
 
@@ -168,16 +187,17 @@ pub(crate) fn judge_customs<L: Ledger>(
     tables: &Tables<'_>,
     last: u32,
     steps: &mut Steps<L>,
-) -> Result<(), Fault>
+) -> Result<(), VerifyError>
     requires judged { ToTable (raw_of tables.now) 0x37 }
     requires within { last ≤ count (raw_of tables.now) 0x37 }
     ensures ok { OnOk result (ToRow (raw_of tables.now) 0x37 (last + 1)) }
-    ensures err { IfErr result (IsFirstOf (raw_of tables.now)) }
+    ensures err { IfErr result (FaultIs (IsFirstOf (raw_of tables.now))) }
 {
+    let mut read = ReadValues::new(alloc);
     let _ = tables.shape();
     for row in 1..last + 1 {
         let custom = tables.custom(row, steps);
-        judge_custom(alloc, tables, row, &custom, steps)?;
+        judge_custom(alloc, tables, row, &custom, &mut read, steps)?;
     }
     Ok(())
 }

@@ -2,6 +2,7 @@
 ghost use Rattle.std.specs.Prelude.{◌≡◌, ◌<◌, ◌≤◌, ◌+◌, ◌-◌, ◌↔◌, length, Some, IsTrue, OnOk};
 ghost use Rattle.std.specs.Prelude.{IfErr};
 ghost use Rattle.std.specs.Bool.{OnFalse};
+ghost use Rattle.ppdb_verify_rules.specs.Seen.{AreWholeImports};
 ghost use Rattle.ppdb_tables.specs.RawTables.{row_at, count};
 ghost use Rattle.ppdb_tables.specs.RawOf.{raw_of};
 ghost use Rattle.ppdb_verify_rules.specs.Errors.{FaultIs};
@@ -12,6 +13,7 @@ ghost use Rattle.ppdb_tables.specs.Chains.{NeverEnds};
 use crate::cells::{fault, fault_within, names_no_row, row_count};
 use crate::contents::imports_fault;
 use crate::errors::VerifyError;
+use crate::seen::is_unread;
 use ppdb_base::{Code, Fault, Steps};
 use ppdb_tables::{IMPORT_SCOPE, ImportRow, Tables};
 use std::alloc::Global;
@@ -71,18 +73,29 @@ fn judge_parent<L: Ledger>(
     Ok(())
 }
 
-/// Judges the imports of an import scope.
-fn judge_list(tables: &Tables<'_>, row: u32, import: &ImportRow) -> Result<(), Fault>
+/// Judges the imports of an import scope, unless its blob was read before.
+fn judge_list(
+    tables: &Tables<'_>,
+    row: u32,
+    import: &ImportRow,
+    read: &mut Vec<u32>,
+) -> Result<(), VerifyError>
     requires there { row_at (raw_of tables.now).imports row ≡ Some import.now }
     requires judged { ToCell (raw_of tables.now) 0x35 row 1 }
+    requires read { AreWholeImports (raw_of tables.now) read.old.items }
     ensures ok { OnOk result (ToCell (raw_of tables.now) 0x35 row 2) }
-    ensures err { IfErr result (IsFirstOf (raw_of tables.now)) }
+    ensures read { OnOk result (AreWholeImports (raw_of tables.now) read.new.items) }
+    ensures err { IfErr result (FaultIs (IsFirstOf (raw_of tables.now))) }
 {
     let Some(content) = tables.blobs().get(import.imports) else {
-        return Err(fault(Code::BlobIndex, IMPORT_SCOPE, row, 1));
+        return Err(VerifyError::Fault(fault(Code::BlobIndex, IMPORT_SCOPE, row, 1)));
     };
+    let unread = is_unread(read, import.imports, content)?;
+    if !unread {
+        return Ok(());
+    }
     match imports_fault(tables, content) {
-        Some(inside) => Err(fault_within(inside, IMPORT_SCOPE, row, 1)),
+        Some(inside) => Err(VerifyError::Fault(fault_within(inside, IMPORT_SCOPE, row, 1))),
         None => Ok(()),
     }
 }
@@ -93,17 +106,20 @@ fn judge_import<L: Ledger>(
     row: u32,
     import: &ImportRow,
     marks: &mut [u32],
+    read: &mut Vec<u32>,
     steps: &mut Steps<L>,
-) -> Result<(), Fault>
+) -> Result<(), VerifyError>
     requires there { row_at (raw_of tables.now).imports row ≡ Some import.now }
     requires judged { ToCell (raw_of tables.now) 0x35 row 0 }
     requires marks { MarksEnd (raw_of tables.now).imports row marks.old }
+    requires read { AreWholeImports (raw_of tables.now) read.old.items }
     ensures ok { OnOk result (ToRow (raw_of tables.now) 0x35 (row + 1)) }
     ensures marks { OnOk result (MarksEnd (raw_of tables.now).imports (row + 1) marks.new) }
-    ensures err { IfErr result (IsFirstOf (raw_of tables.now)) }
+    ensures read { OnOk result (AreWholeImports (raw_of tables.now) read.new.items) }
+    ensures err { IfErr result (FaultIs (IsFirstOf (raw_of tables.now))) }
 {
     judge_parent(tables, row, import, marks, steps)?;
-    judge_list(tables, row, import)?;
+    judge_list(tables, row, import, read)?;
     Ok(())
 }
 
@@ -122,9 +138,10 @@ pub(crate) fn judge_imports<L: Ledger>(
     let count = row_count(tables, IMPORT_SCOPE);
     let mut all: Vec<u32> = vec![in alloc; 0; count as usize]?;
     let marks = all.as_mut_slice();
+    let mut read: Vec<u32> = Vec::new(alloc);
     for row in 1..last + 1 {
         let import = tables.import(row, steps);
-        judge_import(tables, row, &import, marks, steps)?;
+        judge_import(tables, row, &import, marks, &mut read, steps)?;
     }
     Ok(())
 }

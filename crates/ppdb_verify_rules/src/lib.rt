@@ -21,3 +21,4 @@ mod variables;
 pub use contents::{point_limits, type_limits};
 pub use errors::VerifyError;
 pub use rows::{judge_rows, judge_rows_to};
+pub use seen::LONG_BLOB;

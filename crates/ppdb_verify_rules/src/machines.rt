@@ -10,7 +10,7 @@ ghost use Rattle.ppdb_verify_rules.specs.Seen.{AreKickoffs};
 
 use crate::cells::{fault, names_no_row, row_count};
 use crate::errors::VerifyError;
-use crate::seen::enter_method;
+use crate::seen::enter_number;
 use ppdb_base::{Code, Fault, Steps};
 use ppdb_tables::{METHOD_DEF, MachineRow, STATE_MACHINE, Tables};
 use std::alloc::Global;
@@ -70,7 +70,7 @@ fn judge_kickoff(
     if names_no_row(tables, METHOD_DEF, 1, machine.kickoff) {
         return Err(VerifyError::Fault(fault(Code::RowIndex, STATE_MACHINE, row, 1)));
     }
-    let is_new = enter_method(seen, machine.kickoff)?;
+    let is_new = enter_number(seen, machine.kickoff)?;
     if !is_new {
         return Err(VerifyError::Fault(fault(Code::KickoffRepeated, STATE_MACHINE, row, 1)));
     }

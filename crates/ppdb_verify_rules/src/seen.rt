@@ -1,9 +1,11 @@
-// What the passes over the tables have seen: methods, slots and texts.
+// What the passes over the tables have seen: methods, slots, texts and blobs.
 ghost use Rattle.std.specs.Prelude.{◌≡◌, ◌≢◌, ◌↔◌, ℕ, ◌<◌, ◌/◌, ◌^◌, ◌⊎◌, List, length, IsTrue};
 ghost use Rattle.std.specs.Prelude.{slice_index, vec_len, OnOk, IfOk};
 ghost use Rattle.std.specs.Bool.{OnFalse, OnTrue};
-ghost use Rattle.ppdb_verify_rules.specs.Seen.{Has, HasText, HasNoTexts};
+ghost use Rattle.custom_info.specs.declared.kinds.Kind.{Kind};
+ghost use Rattle.ppdb_verify_rules.specs.Seen.{Has, HasRead, HasText, HasNoTexts};
 
+use custom_info::Kind;
 use std::alloc::{AllocError, Global};
 use std::collections::BTreeSet;
 
@@ -38,19 +40,81 @@ fn set_bit(words: &mut [u32], number: u32)
     words[(number / 32) as usize] |= 1 << (number % 32);
 }
 
-/// Sets the bit of a method, and says whether it was not set before.
-pub(crate) fn enter_method(words: &mut Vec<u32>, method: u32) -> Result<bool, AllocError>
-    ensures old { IfOk result (λ new. OnFalse new (Has words.old.items method)) }
-    ensures new { IfOk result (λ new. OnTrue new (Has words.old.items method → ⊥)) }
+/// Sets the bit of a number, and says whether it was not set before.
+pub(crate) fn enter_number(words: &mut Vec<u32>, number: u32) -> Result<bool, AllocError>
+    ensures old { IfOk result (λ new. OnFalse new (Has words.old.items number)) }
+    ensures new { IfOk result (λ new. OnTrue new (Has words.old.items number → ⊥)) }
     ensures kept { OnOk result ((n : ℕ) → Has words.old.items n → Has words.new.items n) }
-    ensures added { OnOk result (Has words.new.items method) }
+    ensures added { OnOk result (Has words.new.items number) }
     ensures only { OnOk result ((n : ℕ) → Has words.new.items n
-        → Has words.old.items n ⊎ (n ≡ method)) }
+        → Has words.old.items n ⊎ (n ≡ number)) }
 {
-    reach(words, (method / 32) as usize)?;
-    let old = has_bit(words.as_slice(), method);
-    set_bit(words.as_mut_slice(), method);
+    reach(words, (number / 32) as usize)?;
+    let old = has_bit(words.as_slice(), number);
+    set_bit(words.as_mut_slice(), number);
     Ok(!old)
+}
+
+/// From how many bytes on a blob is read once alone. A shorter one is read for each row that names
+/// it, which costs little more than the row.
+pub const LONG_BLOB: usize = 256;
+
+/// Whether a blob is still to be read, where the bits of the long blobs that were read are set. It
+/// counts as read then.
+pub(crate) fn is_unread(
+    read: &mut Vec<u32>,
+    index: u32,
+    content: &[u8],
+) -> Result<bool, AllocError>
+    ensures read { IfOk result (λ unread. OnFalse unread (Has read.old.items index)) }
+    ensures only { OnOk result ((n : ℕ) → Has read.new.items n
+        → Has read.old.items n ⊎ (n ≡ index)) }
+{
+    if content.len() < LONG_BLOB {
+        return Ok(true);
+    }
+    enter_number(read, index)
+}
+
+/// The long values of custom records that were read, by their places in the heap, for each kind
+/// that is read.
+#[derive(Drop)]
+pub(crate) struct ReadValues {
+    stepping: Vec<u32>,
+    hoisted: Vec<u32>,
+    documents: Vec<u32>,
+}
+
+impl ReadValues {
+    /// No value.
+    pub(crate) fn new(alloc: Global) -> ReadValues
+        ensures { (kind : Kind) (n : ℕ) → HasRead result kind n → ⊥ }
+    {
+        ReadValues {
+            stepping: Vec::new(alloc),
+            hoisted: Vec::new(alloc),
+            documents: Vec::new(alloc),
+        }
+    }
+
+    /// Whether the value of a record of a kind is still to be read. It counts as read then.
+    pub(crate) fn is_unread(
+        &mut self,
+        kind: Kind,
+        index: u32,
+        content: &[u8],
+    ) -> Result<bool, AllocError>
+        ensures read { IfOk result (λ unread. OnFalse unread (HasRead self.old kind index)) }
+        ensures only { OnOk result ((k : Kind) (n : ℕ) → HasRead self.new k n
+            → HasRead self.old k n ⊎ ((k ≡ kind) × (n ≡ index))) }
+    {
+        match kind {
+            Kind::Async => is_unread(&mut self.stepping, index, content),
+            Kind::Hoisted => is_unread(&mut self.hoisted, index, content),
+            Kind::TypeDocuments => is_unread(&mut self.documents, index, content),
+            Kind::Free | Kind::Unknown => Ok(true),
+        }
+    }
 }
 
 /// Marks a slot with the owner of its variable, and says whether it had another mark before.

@@ -1,11 +1,15 @@
 -- The running sum finds the first reference that passes the limit.
 use Rattle.std.proofs.Common.{◌≡◌, ℕ, zero, suc, ◌+◌, ◌<◌, ◌≤◌, inl, inr, List, [], ◌∷◌, ◌++◌, take, slice_get, Some, None, Result, Ok, Err, refl, sym, ap, subst}
-use Rattle.std.{proofs.Common.{◌∙◌, arith, Bool, true, false, nat_lt, cond}, specs.Prelude.{sum_by}, proofs.lemmas.Bool.{cases_lt}}
+use Rattle.std.{proofs.Common.{◌∙◌, ◌⊎◌, ◌-◌, Option, arith, Bool, true, false, nat_lt, cond}, specs.Prelude.{sum_by}, proofs.lemmas.Bool.{cases_lt}}
 use Rattle.std.proofs.lemmas.{List.Sums.{sum_by-cons}, Bool.Decides.{nat_tests}}
 use Rattle.ppdb_base.specs.declared.{limits.TheConstants.{MAX_SPAN}, code.Code.TheVariants.{SpanTotal}, code.Code.{Code}, fault.Fault.{Fault}, fault.Place.{Place}}
 use Rattle.ppdb_base.specs.{Place.{ComesBefore, numbers}, First.{IsAccepted, IsFirst}}
 use Rattle.ppdb_tables.specs.RawTables.{RawTables}
-use Rattle.ppdb_verify_total.specs.{HeapUses.{HeapUse, heap_uses}, Spans.{SpanFaults, spanned}, Spans.SpanFaults.{span_total}}
+use Rattle.blob_grammar.specs.declared.places.PlacedIndex.{PlacedIndex}
+use Rattle.ppdb_heaps.specs.Heaps.{blob_at}
+use Rattle.ppdb_verify_rules.specs.Blobs.{in_blob}
+use Rattle.ppdb_verify_total.specs.{HeapUses.{HeapUse, heap_uses, len_of, named_inside}, Spans.{SpanFaults, spanned}, Spans.SpanFaults.{span_total}}
+use Rattle.ppdb_verify_total.specs.{Known.{AreSums, IsKnown, bytes_named}, declared.known.Known.{Known}}
 
 abbrev total_of : List HeapUse → ℕ
 total_of rs = sum_by (λ (x : HeapUse). x.len) rs
@@ -179,3 +183,64 @@ followed total sum xs ys result first second =
 
 pub cut_short : (total : ℕ) (fault : Fault) (xs ys : List HeapUse) → Err fault ≡ spanned total xs → Err fault ≡ spanned total (xs ++ ys)
 cut_short total fault xs ys first = sym (spanned-append total xs ys ∙ ap (λ (o : Result ℕ Fault). and_then o (λ t. spanned t ys)) (sym first))
+
+-- ---- a sum that is known
+
+-- the sum of all, where it does not pass
+pub sum_within : (total : ℕ) (rs : List HeapUse) → total + total_of rs ≤ MAX_SPAN → Ok (total + total_of rs) ≡ spanned total rs
+unfolding spanned
+sum_within total [] within = ap (λ n. Ok n) (omega arith)
+sum_within total (r ∷ rs) within =
+    let sum : total_of (r ∷ rs) ≡ r.len + total_of rs = sum_by-cons (λ (y : HeapUse). y.len) r rs in
+    let e : nat_lt MAX_SPAN (total + r.len) ≡ false = grind (arith, nat_tests, within, sum) in
+    rw e (ap (λ n. Ok n) (omega (arith, sum)) ∙ sum_within (total + r.len) rs (omega (arith, within, sum)))
+
+pub sum_found : (total last : ℕ) (rs : List HeapUse) → spanned total rs ≡ Ok last → last ≡ total + total_of rs
+unfolding spanned
+sum_found total last [] e = let same : total ≡ last = cc in omega (arith, same)
+sum_found total last (r ∷ rs) e = split (λ h. sum_found (total + r.len) last rs h) (nat_lt MAX_SPAN (total + r.len)) e
+  where
+    split : (spanned (total + r.len) rs ≡ Ok last → last ≡ total + r.len + total_of rs) → (b : Bool)
+        → cond b (Err (record { code = SpanTotal; place = r.at })) (spanned (total + r.len) rs) ≡ Ok last → last ≡ total + total_of (r ∷ rs)
+    split again true past = absurd cc
+    split again false under =
+        let sum : total_of (r ∷ rs) ≡ r.len + total_of rs = sum_by-cons (λ (y : HeapUse). y.len) r rs in omega (arith, again under, sum)
+
+-- what is named inside a blob has one sum, wherever the blob is named
+pub inside_is : (blobs : List ℕ) (table row column : ℕ) (indexes : List PlacedIndex)
+    → total_of (named_inside blobs table row column indexes) ≡ bytes_named blobs indexes
+inside_is blobs table row column [] = refl
+inside_is blobs table row column (x ∷ indexes) =
+    let rest = inside_is blobs table row column indexes in
+    let one : total_of (named_inside blobs table row column (x ∷ indexes)) ≡ len_of (blob_at blobs x.index) + total_of (named_inside blobs table row column indexes)
+        = sum_by-cons (λ (y : HeapUse). y.len) (record { at = in_blob table row column x.byte; len = len_of (blob_at blobs x.index) })
+    (named_inside blobs table row column indexes) in
+    let two : bytes_named blobs (x ∷ indexes) ≡ len_of (blob_at blobs x.index) + bytes_named blobs indexes =
+    sum_by-cons (λ (y : PlacedIndex). len_of (blob_at blobs y.index)) x indexes in omega (arith, rest, one, two)
+
+module _ (inside : Option (List ℕ) → List PlacedIndex) (blobs : List ℕ) (table row column index total : ℕ) (content : List ℕ)
+    (there : blob_at blobs index ≡ Some content) where
+  abbrev uses : List HeapUse
+  uses = named_inside blobs table row column (inside (Some content))
+
+  -- by a sum that is known
+  pub by_known : (known : Known) → AreSums inside blobs known → (after sum : ℕ) → IsKnown known index sum → after ≡ total + sum → after ≤ MAX_SPAN
+      → Ok after ≡ spanned total uses
+  by_known known are after sum is after_is within =
+      let e : sum ≡ total_of uses = are index sum is ∙ (ap (λ o. bytes_named blobs (inside o)) there ∙ sym (inside_is blobs table row column (inside (Some content)))) in
+      ap (λ n. Ok n) (after_is ∙ ap (λ n. total + n) e) ∙ sum_within total uses (omega (arith, within, after_is, e))
+
+  -- a sum that is found is kept
+  pub kept_sums : (old new : Known) → AreSums inside blobs old → (after : ℕ) → Ok after ≡ spanned total uses
+      → ((i s : ℕ) → IsKnown new i s → IsKnown old i s ⊎ ((i ≡ index) × (s ≡ after - total))) → AreSums inside blobs new
+  kept_sums old new are after found only i s has = elim (only i s has) [
+    | inl earlier ↦ are i s earlier
+    | inr same ↦
+        let e : after ≡ total + total_of uses = sum_found total after uses (sym found) in
+        let f : total_of uses ≡ bytes_named blobs (inside (Some content)) = inside_is blobs table row column (inside (Some content)) in
+        let g : bytes_named blobs (inside (blob_at blobs i)) ≡ bytes_named blobs (inside (Some content)) =
+        ap (λ o. bytes_named blobs (inside o)) (ap (λ k. blob_at blobs k) same.0 ∙ there) in omega (arith, same.1, e, f, g)
+  ]
+
+  pub added_above : (after : ℕ) → Ok after ≡ spanned total uses → total ≤ after
+  added_above after found = let e : after ≡ total + total_of uses = sum_found total after uses (sym found) in omega (arith, e)

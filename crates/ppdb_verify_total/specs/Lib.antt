@@ -1,3 +1,4 @@
 pub mod HeapUses
+pub mod Known
 pub mod Spans
 pub mod TableRows

@@ -3,6 +3,7 @@
 #![tactic(auto)]
 
 mod inside;
+mod known;
 mod rows;
 mod sum;
 mod tables;

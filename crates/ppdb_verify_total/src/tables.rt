@@ -7,13 +7,16 @@ ghost use Rattle.ppdb_verify_total.specs.HeapUses.{heap_uses};
 ghost use Rattle.ppdb_verify_total.specs.Spans.{SpanFaults, spanned};
 ghost use Rattle.ppdb_verify_total.specs.TableRows.{of_table};
 
+use crate::known::Known;
 use crate::rows::{Table, add_row, number_of};
 use ppdb_base::{Fault, Steps};
 use ppdb_tables::Tables;
+use std::alloc::Global;
 use std::sync::ledger::Ledger;
 
 /// Adds what the rows of a table name.
 fn add_table<L: Ledger>(
+    alloc: Global,
     tables: &Tables<'_>,
     table: Table,
     total: u64,
@@ -25,9 +28,11 @@ fn add_table<L: Ledger>(
 {
     let _ = tables.shape();
     let count = tables.rows(number_of(table));
+    let mut names = Known::new(alloc);
+    let mut imports = Known::new(alloc);
     let mut sum = total;
     for row in 1..count + 1 {
-        match add_row(tables, table, row, sum, steps) {
+        match add_row(tables, table, row, sum, &mut names, &mut imports, steps) {
             Ok(after) => sum = after,
             Err(fault) => return Err(fault),
         }
@@ -36,39 +41,47 @@ fn add_table<L: Ledger>(
 }
 
 /// Adds what all rows name.
-fn add_tables<L: Ledger>(tables: &Tables<'_>, steps: &mut Steps<L>) -> Result<u64, Fault>
+fn add_tables<L: Ledger>(
+    alloc: Global,
+    tables: &Tables<'_>,
+    steps: &mut Steps<L>,
+) -> Result<u64, Fault>
     ensures { result ≡ spanned 0 (heap_uses (raw_of tables.now)) }
 {
-    let documents = match add_table(tables, Table::Document, 0, steps) {
+    let documents = match add_table(alloc, tables, Table::Document, 0, steps) {
         Ok(sum) => sum,
         Err(fault) => return Err(fault),
     };
-    let methods = match add_table(tables, Table::MethodDebug, documents, steps) {
+    let methods = match add_table(alloc, tables, Table::MethodDebug, documents, steps) {
         Ok(sum) => sum,
         Err(fault) => return Err(fault),
     };
-    let variables = match add_table(tables, Table::LocalVariable, methods, steps) {
+    let variables = match add_table(alloc, tables, Table::LocalVariable, methods, steps) {
         Ok(sum) => sum,
         Err(fault) => return Err(fault),
     };
-    let constants = match add_table(tables, Table::LocalConstant, variables, steps) {
+    let constants = match add_table(alloc, tables, Table::LocalConstant, variables, steps) {
         Ok(sum) => sum,
         Err(fault) => return Err(fault),
     };
-    let imports = match add_table(tables, Table::ImportScope, constants, steps) {
+    let imports = match add_table(alloc, tables, Table::ImportScope, constants, steps) {
         Ok(sum) => sum,
         Err(fault) => return Err(fault),
     };
-    add_table(tables, Table::Custom, imports, steps)
+    add_table(alloc, tables, Table::Custom, imports, steps)
 }
 
 /// Says whether the texts and blobs that the rows name are few enough bytes in all, and names the
 /// first that is too many.
-pub fn judge_spans<L: Ledger>(tables: &Tables<'_>, steps: &mut Steps<L>) -> Result<(), Fault>
+pub fn judge_spans<L: Ledger>(
+    alloc: Global,
+    tables: &Tables<'_>,
+    steps: &mut Steps<L>,
+) -> Result<(), Fault>
     ensures accepted { OnOk result (IsAccepted (SpanFaults (raw_of tables.now))) }
     ensures first { IfErr result (IsFirst (SpanFaults (raw_of tables.now))) }
 {
-    match add_tables(tables, steps) {
+    match add_tables(alloc, tables, steps) {
         Ok(_) => Ok(()),
         Err(fault) => Err(fault),
     }

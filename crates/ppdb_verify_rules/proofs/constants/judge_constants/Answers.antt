@@ -1,6 +1,8 @@
-use Rattle.std.proofs.Common.{inl, refl}
+use Rattle.std.proofs.Common.{inl, refl, None}
+use Rattle.type_blobs.specs.Constants.{constants}
+use Rattle.blob_grammar.specs.Places.{HasEnd}
 use Rattle.ppdb_tables.specs.{RawOf.{raw_of}, declared.rows.ConstantRow.{ConstantRow}}
-use Rattle.ppdb_verify_rules.proofs.{ListOwners.{lists_of_constants, texts_at_first}, ConstantFaults.{first_row}}
+use Rattle.ppdb_verify_rules.{specs.Blobs.{type_limits}, proofs.{ListOwners.{lists_of_constants, texts_at_first}, ConstantFaults.{first_row}, SeenSets.{none_read}}}
 use Rattle.ppdb_verify_rules.proofs.constants.judge_constants.Goals as goal
 
 pub loop-row-init : goal.loop-row-init
@@ -9,6 +11,8 @@ loop-row-init g c = record {
   before = inl (refl, refl);
   names = texts_at_first (λ s. s.constants) (raw_of c.args.tables.now).scopes (raw_of c.args.tables.now).texts (λ (v : ConstantRow). v.name)
       (raw_of c.args.tables.now).constants 0 c.new-names.result c.new-names.ensures;
+  read = none_read (λ content. HasEnd (constants (type_limits (raw_of c.args.tables.now))) content None) (raw_of c.args.tables.now).blobs
+      c.new-read.result.items c.new-read.ensures.items;
 }
 
 pub judge_constant-requires-clause-lists : goal.judge_constant-requires-clause-lists
@@ -19,4 +23,5 @@ loop-row-preserved g c = record {
   judged = c.in_ok-owner.ensures.ok;
   before = c.in_ok-owner.ensures.owner;
   names = c.in_ok-owner.ensures.names;
+  read = c.in_ok-owner.ensures.read;
 }

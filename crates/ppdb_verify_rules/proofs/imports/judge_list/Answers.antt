@@ -1,13 +1,31 @@
-use Rattle.std.proofs.Common.{◌≡◌, Some, sym}
+use Rattle.std.proofs.Common.{◌≡◌, List, ℕ, Some, None, sym}
 use Rattle.ppdb_heaps.specs.Heaps.{blob_at}
 use Rattle.ppdb_tables.specs.RawOf.{raw_of}
 use Rattle.type_blobs.specs.Imports.{imports}
+use Rattle.blob_grammar.specs.Places.{HasEnd}
 use Rattle.ppdb_verify_rules.{specs.Blobs.{type_limits}, proofs.BlobFaults.{not_whole, value_there}, proofs.ImportFaults.{no_list_first, invalid_list_first, next_1}}
+use Rattle.ppdb_verify_rules.proofs.SeenSets.{one_read}
 use Rattle.ppdb_verify_rules.proofs.imports.judge_list.Goals as goal
 
 pub returns-in_default-clause-err : goal.returns-in_default-clause-err
 returns-in_default-clause-err c = no_list_first (raw_of c.args.tables.now) c.args.row c.args.import.now c.requires.there c.fault.result c.requires.judged
     (sym (rw c.blobs.ensures at c.in_default.ensures.blob)) c.fault.ensures
+
+-- a blob that was read before
+pub returns-then-not-unread-clause-ok : goal.returns-then-not-unread-clause-ok
+returns-then-not-unread-clause-ok c =
+    let whole = c.requires.read c.args.import.now.imports (rw c.if-not-unread.true at c.in_ok-unread.ensures.read) in
+    next_1 (raw_of c.args.tables.now) c.args.row c.args.import.now c.requires.there c.requires.judged
+    (value_there (raw_of c.args.tables.now).blobs whole.0 c.args.import.now.imports whole.1)
+    (λ fault invalid. not_whole {g = imports (type_limits (raw_of c.args.tables.now)) (blob_at (raw_of c.args.tables.now).blobs)} whole.0 whole.1 whole.2
+    invalid)
+
+pub returns-then-not-unread-clause-read : goal.returns-then-not-unread-clause-read
+returns-then-not-unread-clause-read c =
+    let raw = raw_of c.args.tables.now in
+    let whole = c.requires.read c.args.import.now.imports (rw c.if-not-unread.true at c.in_ok-unread.ensures.read) in
+    one_read (λ content. HasEnd (imports (type_limits raw) (blob_at raw.blobs)) content None) raw.blobs c.args.read.now.items c.is_unread.new.read.items
+    c.args.import.now.imports whole.0 c.requires.read c.in_ok-unread.ensures.only whole.1 whole.2
 
 pub returns-in-Some-imports_fault-clause-err : goal.returns-in-Some-imports_fault-clause-err
 returns-in-Some-imports_fault-clause-err c =
@@ -25,3 +43,10 @@ returns-in-None-clause-ok c =
     (value_there (raw_of c.args.tables.now).blobs c.in-Some.content.now c.args.import.now.imports there)
     (λ fault invalid. not_whole {g = imports (type_limits (raw_of c.args.tables.now)) (blob_at (raw_of c.args.tables.now).blobs)} c.in-Some.content.now there
     c.in-None.ensures invalid)
+
+pub returns-in-None-clause-read : goal.returns-in-None-clause-read
+returns-in-None-clause-read c =
+    let raw = raw_of c.args.tables.now in
+    one_read (λ content. HasEnd (imports (type_limits raw) (blob_at raw.blobs)) content None) raw.blobs c.args.read.now.items c.is_unread.new.read.items
+    c.args.import.now.imports c.in-Some.content.now c.requires.read c.in_ok-unread.ensures.only (sym (rw c.blobs.ensures at c.in-Some.ensures.blob))
+    c.in-None.ensures

@@ -5,7 +5,12 @@ use Rattle.ppdb_verify_total.proofs.{TableLists.{rows_are, table_is}, Sums.{sum-
 use Rattle.ppdb_verify_total.proofs.tables.add_table.Goals as goal
 
 pub loop-row-init : goal.loop-row-init
-loop-row-init g c = record { left = ap (spanned c.args.total) (table_is (raw_of c.args.tables.now) c.args.table); within = c.requires.within }
+loop-row-init g c = record {
+  left = ap (spanned c.args.total) (table_is (raw_of c.args.tables.now) c.args.table);
+  within = c.requires.within;
+  names = λ index sum is. absurd (c.new-names.ensures index sum is);
+  imports = λ index sum is. absurd (c.new-imports.ensures index sum is);
+}
 
 pub add_row-requires-clause-within : goal.add_row-requires-clause-within
 add_row-requires-clause-within g c = c.loop-row.invariant.within
@@ -33,6 +38,8 @@ loop-row-preserved g c =
           (rows_of (raw_of c.args.tables.now) c.args.table)) c.in-Ok.after
           (c.loop-row.invariant.left ∙ ap (spanned c.loop-row.sum) more) (c.in-Ok.ensures.sum here.0 here.1);
       within = c.in-Ok.ensures.within;
+      names = c.add_row.ensures.names;
+      imports = c.add_row.ensures.imports;
     }
 
 pub returns-clause-sum : goal.returns-clause-sum

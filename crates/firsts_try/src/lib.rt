@@ -1,0 +1,5 @@
+//! A trial.
+#![tactic(auto)]
+
+/// Nothing.
+pub fn nothing() {}
