@@ -1,21 +1,27 @@
--- Items that come again: the first of each is what sorting and leaving each once keeps.
-use Rattle.std.{proofs.Common.{◌≡◌, ℕ, ◌≤◌, ◌<◌, ◌&&◌, Bool, true, false, cond, List, [], ◌∷◌, refl, sym, ◌∙◌, ap, arith, subst}, specs.Prelude.{nat_eq, not}}
-use Rattle.std.{specs.List.{filter, dedup, dedup_from}, proofs.lemmas.Bool.{eq-eqb, ne_eqb, eqb-true}}
-use Rattle.firsts_try.{specs.Each.{Each, Pairs}, specs.Sorted.{in_order}, specs.Twice.{each_once, firsts, is_same}}
-use Rattle.firsts_try.proofs.{Lists.{Each-filter, Each-weaker, Pairs-weaker, each_of}, Kept.{in_order_keyed}}
-use Rattle.firsts_try.proofs.Orders.{Rises, filter_swap, in_order_filter, in_order_rises, key_kept, of_key, one_order, pairs_of, rises_filter}
+-- Items that come again: the first of each.
+use Rattle.std.{proofs.Common.{◌≡◌, ℕ, ◌&&◌, ◌||◌, Bool, true, false, cond, List, [], ◌∷◌, ◌++◌, refl, sym, ◌∙◌, ap, fold, append_assoc, append-nil}, specs.Prelude.{nat_eq, not}}
+use Rattle.std.{specs.List.{filter, list_any}, proofs.lemmas.Bool.{eqb-true}}
+use Rattle.firsts_try.specs.Imaging.{Imaged}
+use Rattle.firsts_try.specs.{Imaging.{firsts, has_image, with_row}}
+
+filter_swap : {A : Type 0} (p q : A → Bool) (xs : List A) → filter p (filter q xs) ≡ filter q (filter p xs)
+filter_swap p q [] = refl
+filter_swap p q (x ∷ xs) = step (p x) refl (q x) refl (filter_swap p q xs)
+  where
+    step : (a : Bool) → p x ≡ a → (b : Bool) → q x ≡ b → filter p (filter q xs) ≡ filter q (filter p xs)
+        → filter p (cond b (x ∷ filter q xs) (filter q xs)) ≡ filter q (cond a (x ∷ filter p xs) (filter p xs))
+    step true is true also rest = rw (is, also) (ap (λ l. x ∷ l) rest)
+    step true is false also rest = rw also rest
+    step false is true also rest = rw is rest
+    step false is false also rest = rest
 
 -- ---- filters
 
-filter_all : {A : Type 0} (p : A → Bool) (xs : List A) → Each (λ x. p x ≡ true) xs → filter p xs ≡ xs
-filter_all p [] each = refl
-filter_all p (x ∷ xs) each = rw each.0 (ap (λ l. x ∷ l) (filter_all p xs each.1))
-
-filter_as : {A : Type 0} (p q : A → Bool) → ((x : A) → p x ≡ q x) → (xs : List A) → filter p xs ≡ filter q xs
+pub filter_as : {A : Type 0} (p q : A → Bool) → ((x : A) → p x ≡ q x) → (xs : List A) → filter p xs ≡ filter q xs
 filter_as p q alike [] = refl
 filter_as p q alike (x ∷ xs) = rw (alike x) (ap (λ l. cond (q x) (x ∷ l) l) (filter_as p q alike xs))
 
-filter_twice : {A : Type 0} (p : A → Bool) (xs : List A) → filter p (filter p xs) ≡ filter p xs
+pub filter_twice : {A : Type 0} (p : A → Bool) (xs : List A) → filter p (filter p xs) ≡ filter p xs
 filter_twice p [] = refl
 filter_twice p (x ∷ xs) = by (p x) refl (filter_twice p xs)
   where
@@ -25,10 +31,10 @@ filter_twice p (x ∷ xs) = by (p x) refl (filter_twice p xs)
     by false is again = again
 
 module _ {A : Type 0} (group number : A → ℕ) where
-  abbrev same : A → A → Bool
-  same = is_same group number
+  abbrev pub same : A → A → Bool
+  same a b = nat_eq (group a) (group b) && nat_eq (number a) (number b)
 
-  same_is : (a b : A) → same a b ≡ true → (group a ≡ group b) × (number a ≡ number b)
+  pub same_is : (a b : A) → same a b ≡ true → (group a ≡ group b) × (number a ≡ number b)
   same_is a b is = by (nat_eq (group a) (group b)) (nat_eq (number a) (number b)) refl refl is
     where
       by : (p q : Bool) → nat_eq (group a) (group b) ≡ p → nat_eq (number a) (number b) ≡ q → (p && q) ≡ true
@@ -38,20 +44,14 @@ module _ {A : Type 0} (group number : A → ℕ) where
       by false q g n is = absurd cc
 
   -- those that are the same are the same as the same
-  same_as : (a b : A) → group a ≡ group b → number a ≡ number b → (x : A) → not (same a x) ≡ not (same b x)
+  pub same_as : (a b : A) → group a ≡ group b → number a ≡ number b → (x : A) → not (same a x) ≡ not (same b x)
   same_as a b g n x = rw (g, n) refl
 
-  -- ---- the first of each, before and after
-
-  first_each : (P : A → Type 0) (xs : List A) → Each P xs → Each P (firsts same xs)
-  first_each P [] each = tt
-  first_each P (x ∷ xs) each = (each.0, Each-filter P P (λ y. not (same x y)) (λ y is holds. holds) (firsts same xs) (first_each P xs each.1))
-
   -- what is the same stays or goes together
-  abbrev Respects : (A → Bool) → Type 0
+  abbrev pub Respects : (A → Bool) → Type 0
   Respects p = (a b : A) → group a ≡ group b → number a ≡ number b → p a ≡ p b
 
-  kept_out : (p : A → Bool) → Respects p → (x : A) → p x ≡ false → (ys : List A) → filter p (filter (λ y. not (same x y)) ys) ≡ filter p ys
+  pub kept_out : (p : A → Bool) → Respects p → (x : A) → p x ≡ false → (ys : List A) → filter p (filter (λ y. not (same x y)) ys) ≡ filter p ys
   kept_out p keeps x out [] = refl
   kept_out p keeps x out (y ∷ ys) = by (same x y) refl (kept_out p keeps x out ys)
     where
@@ -73,10 +73,10 @@ module _ {A : Type 0} (group number : A → ℕ) where
       by true is again = ap (λ l. x ∷ l) (filter_swap p (λ y. not (same x y)) (firsts same xs) ∙ ap (filter (λ y. not (same x y))) again)
       by false is again = kept_out p keeps x is (firsts same xs) ∙ again
 
-  respects_group : (k : ℕ) → Respects (λ x. nat_eq (group x) k)
+  pub respects_group : (k : ℕ) → Respects (λ x. nat_eq (group x) k)
   respects_group k a b g n = ap (λ v. nat_eq v k) g
 
-  respects_number : (k : ℕ) → Respects (λ x. nat_eq (number x) k)
+  pub respects_number : (k : ℕ) → Respects (λ x. nat_eq (number x) k)
   respects_number k a b g n = ap (λ v. nat_eq v k) n
 
   respects_same : (x : A) → Respects (λ y. not (same x y))
@@ -88,104 +88,71 @@ module _ {A : Type 0} (group number : A → ℕ) where
   firsts_twice (x ∷ xs) = ap (λ l. x ∷ l) (ap (filter (λ y. not (same x y))) (sym (firsts_filter (λ y. not (same x y)) (respects_same x) (firsts same xs)))
       ∙ filter_twice (λ y. not (same x y)) (firsts same (firsts same xs)) ∙ ap (filter (λ y. not (same x y))) (firsts_twice xs))
 
-  -- ---- in order, the first of each is each once
+-- ---- rows with their images, each with one more only where its row is not there
 
-  abbrev IsNotBelow : A → A → Type 0
-  IsNotBelow a b = (group a ≤ group b) × (group a ≡ group b → number a ≤ number b)
+or_none : (a : Bool) → (a || false) ≡ a
+or_none true = refl
+or_none false = refl
 
-  apart : (k x : A) → same x k ≡ false → IsNotBelow k x → (y : A) → IsNotBelow k y → IsNotBelow x y → not (same k y) ≡ true
-  apart k x differ le y ky xy = by (same k y) refl
-    where
-      by : (b : Bool) → same k y ≡ b → not b ≡ true
-      by false is = refl
-      by true is =
-          let e = same_is k y is in
-          let g : group x ≡ group k = omega (arith, e.0, le.0, xy.0) in
-          let n : number x ≡ number k = omega (arith, e.1, le.1 (sym g), xy.1 (g ∙ e.0)) in
-          let yes : same x k ≡ true = rw (eq-eqb (group x) (group k) g, eq-eqb (number x) (number k) n) refl in
-          absurd cc
+or_more : (a b c : Bool) → (a || (b || c)) ≡ ((a || b) || c)
+or_more true b c = refl
+or_more false b c = refl
 
-  firsts_from : (k : A) (xs : List A) → Pairs IsNotBelow (k ∷ xs) → dedup_from same k xs ≡ firsts same (k ∷ xs)
-  firsts_from k [] pairs = refl
-  firsts_from k (x ∷ xs) pairs = by (same x k) refl (firsts_from k xs (pairs.0.1, pairs.1.1)) (firsts_from x xs pairs.1)
-    where
-      by : (b : Bool) → same x k ≡ b → dedup_from same k xs ≡ firsts same (k ∷ xs) → dedup_from same x xs ≡ firsts same (x ∷ xs)
-          → cond b (dedup_from same k xs) (k ∷ dedup_from same x xs) ≡ k ∷ filter (λ y. not (same k y)) (x ∷ filter (λ y. not (same x y)) (firsts same xs))
-      by true is again next =
-          let e = same_is x k is in
-          let gone : not (same k x) ≡ false =
-          rw (eq-eqb (group k) (group x) (sym e.0), eq-eqb (number k) (number x) (sym e.1)) refl in
-          again
-          ∙ ap (λ l. k ∷ l) (sym (rw gone (ap (filter (λ y. not (same k y))) (filter_as (λ y. not (same x y)) (λ y. not (same k y)) (same_as x k e.0 e.1) (firsts same xs))
-          ∙ filter_twice (λ y. not (same k y)) (firsts same xs))))
-      by false is again next =
-          let here : not (same k x) ≡ true = apart k x is pairs.0.0 x pairs.0.0 (omega arith, λ e. omega arith) in
-          let later : Each (λ y. not (same k y) ≡ true) xs = both xs pairs.0.1 pairs.1.0 in
-          ap (λ l. k ∷ l) (next
-          ∙ sym (filter_all (λ y. not (same k y)) (x ∷ filter (λ y. not (same x y)) (firsts same xs)) (here,
-          Each-filter (λ y. not (same k y) ≡ true) (λ y. not (same k y) ≡ true) (λ y. not (same x y)) (λ y p holds. holds) (firsts same xs)
-          (first_each (λ y. not (same k y) ≡ true) xs later))))
-        where
-          both : (ys : List A) → Each (IsNotBelow k) ys → Each (IsNotBelow x) ys → Each (λ y. not (same k y) ≡ true) ys
-          both [] a b = tt
-          both (y ∷ ys) a b = (apart k x is pairs.0.0 y a.0 b.0, both ys a.1 b.1)
+pub or_swap : (a b : Bool) → (a || b) ≡ (b || a)
+or_swap true true = refl
+or_swap true false = refl
+or_swap false true = refl
+or_swap false false = refl
 
-  once_firsts : (xs : List A) → Pairs IsNotBelow xs → dedup same xs ≡ firsts same xs
-  once_firsts [] pairs = refl
-  once_firsts (x ∷ xs) pairs = firsts_from x xs pairs
+pub has_more : (images : List Imaged) (x : Imaged) (table row : ℕ)
+    → has_image (images ++ x ∷ []) table row ≡ (has_image images table row || (nat_eq x.table table && nat_eq x.row row))
+has_more [] x table row = or_none (nat_eq x.table table && nat_eq x.row row)
+has_more (i ∷ images) x table row =
+    ap (λ b. (nat_eq i.table table && nat_eq i.row row) || b) (has_more images x table row)
+    ∙ or_more (nat_eq i.table table && nat_eq i.row row) (has_image images table row) (nat_eq x.table table && nat_eq x.row row)
 
-  abbrev ordered : List A → List A
-  ordered xs = in_order group (in_order number xs)
+filter_both : {A : Type 0} (p q r : A → Bool) → ((y : A) → p y ≡ not (q y || r y)) → (xs : List A)
+    → filter p xs ≡ filter (λ y. not (q y)) (filter (λ y. not (r y)) xs)
+filter_both p q r both [] = refl
+filter_both p q r both (x ∷ xs) = by (q x) (r x) refl refl (filter_both p q r both xs)
+  where
+    by : (a b : Bool) → q x ≡ a → r x ≡ b → filter p xs ≡ filter (λ y. not (q y)) (filter (λ y. not (r y)) xs)
+        → cond (p x) (x ∷ filter p xs) (filter p xs) ≡ filter (λ y. not (q y)) (cond (not (r x)) (x ∷ filter (λ y. not (r y)) xs) (filter (λ y. not (r y)) xs))
+    by true true one two again = rw (both x, one, two) again
+    by true false one two again = rw (both x, one, two) (again ∙ sym (rw one refl))
+    by false true one two again = rw (both x, one, two) again
+    by false false one two again = rw (both x, one, two) (ap (λ l. x ∷ l) again ∙ sym (rw one refl))
 
-  two_pairs : {R S T : A → A → Type 0} → ((x y : A) → R x y → S x y → T x y) → (xs : List A) → Pairs R xs → Pairs S xs → Pairs T xs
-  two_pairs both [] r s = tt
-  two_pairs {R} {S} {T} both (x ∷ xs) r s = (each xs r.0 s.0, two_pairs both xs r.1 s.1)
-    where
-      each : (ys : List A) → Each (R x) ys → Each (S x) ys → Each (T x) ys
-      each [] r s = tt
-      each (y ∷ ys) r s = (both x y r.0 s.0, each ys r.1 s.1)
+abbrev row_of : Imaged → Imaged → Bool
+row_of a b = nat_eq a.table b.table && nat_eq a.row b.row
 
-  ordered_pairs : (xs : List A) → Pairs IsNotBelow (ordered xs)
-  ordered_pairs xs =
-      two_pairs (λ x y g n. (g, n)) (ordered xs) (pairs_of group 0 (ordered xs) (in_order_rises group (in_order number xs)))
-      (in_order_keyed group (λ a b. number a ≤ number b) (in_order number xs)
-      (Pairs-weaker (λ a b. number a ≤ number b) (λ a b. group a ≡ group b → number a ≤ number b) (λ a b le e. le) (in_order number xs)
-      (pairs_of number 0 (in_order number xs) (in_order_rises number xs))))
+abbrev is_new : List Imaged → Imaged → Bool
+is_new images i = not (has_image images i.table i.row)
 
-  -- ---- lists with the same firsts have the same items, each once
+new_respects : (images : List Imaged) → Respects (λ (i : Imaged). i.table) (λ i. i.row) (is_new images)
+new_respects images a b t r = ap (λ k. not (has_image images k a.row)) t ∙ ap (λ k. not (has_image images b.table k)) r
 
-  of_group : (k : ℕ) (xs : List A) → of_key group k (firsts same (ordered xs)) ≡ firsts same (in_order number (of_key group k xs))
-  of_group k xs =
-      firsts_filter (λ x. nat_eq (group x) k) (respects_group k) (ordered xs)
-      ∙ ap (firsts same) (key_kept group k (in_order number xs) ∙ in_order_filter number (λ x. nat_eq (group x) k) xs)
+all_new : (xs : List Imaged) → filter (is_new []) xs ≡ xs
+all_new [] = refl
+all_new (x ∷ xs) = ap (λ l. x ∷ l) (all_new xs)
 
-  of_both : (k j : ℕ) (xs : List A) → of_key number j (of_key group k (firsts same (ordered xs))) ≡ of_key number j (of_key group k (firsts same xs))
-  of_both k j xs =
-      ap (of_key number j) (of_group k xs)
-      ∙ firsts_filter (λ x. nat_eq (number x) j) (respects_number j) (in_order number (of_key group k xs))
-      ∙ ap (firsts same) (key_kept number j (of_key group k xs))
-      ∙ sym (firsts_filter (λ x. nat_eq (number x) j) (respects_number j) (of_key group k xs))
-      ∙ ap (of_key number j) (sym (firsts_filter (λ x. nat_eq (group x) k) (respects_group k) xs))
+rows_firsts : (images xs : List Imaged) → fold with_row images xs ≡ images ++ filter (is_new images) (firsts row_of xs)
+rows_firsts images [] = sym (append-nil images)
+rows_firsts images (x ∷ xs) = by (has_image images x.table x.row) refl (rows_firsts images xs) (rows_firsts (images ++ x ∷ []) xs)
+  where
+    left : List Imaged
+    left = filter (is_new images) (filter (λ y. not (row_of x y)) (firsts row_of xs))
 
-  first_rises : (key : A → ℕ) (from : ℕ) (xs : List A) → Rises key from xs → Rises key from (firsts same xs)
-  first_rises key from [] rise = tt
-  first_rises key from (x ∷ xs) rise = (rise.0, rises_filter key (λ y. not (same x y)) (key x) (firsts same xs) (first_rises key (key x) xs rise.1))
+    by : (b : Bool) → has_image images x.table x.row ≡ b → fold with_row images xs ≡ images ++ filter (is_new images) (firsts row_of xs)
+        → fold with_row (images ++ x ∷ []) xs ≡ (images ++ x ∷ []) ++ filter (is_new (images ++ x ∷ [])) (firsts row_of xs)
+        → fold with_row (cond b images (images ++ x ∷ [])) xs ≡ images ++ cond (not b) (x ∷ left) left
+    by true is again more =
+        again ∙ ap (λ l. images ++ l) (sym (kept_out (λ (i : Imaged). i.table) (λ i. i.row) (is_new images) (new_respects images) x (ap not is) (firsts row_of xs)))
+    by false is again more =
+        more ∙ append_assoc images (x ∷ []) (filter (is_new (images ++ x ∷ [])) (firsts row_of xs))
+        ∙ ap (λ l. images ++ x ∷ l) (filter_both (is_new (images ++ x ∷ [])) (λ y. has_image images y.table y.row) (row_of x)
+        (λ y. ap not (has_more images x y.table y.row)) (firsts row_of xs))
 
-  number_rises : (k : ℕ) (xs : List A) → Rises number 0 (of_key group k (firsts same (ordered xs)))
-  number_rises k xs =
-      subst (Rises number 0) (sym (of_group k xs))
-      (first_rises number 0 (in_order number (of_key group k xs)) (in_order_rises number (of_key group k xs)))
-
-  pub once_by_firsts : (xs ys : List A) → firsts same xs ≡ firsts same ys → each_once group number xs ≡ each_once group number ys
-  once_by_firsts xs ys e =
-      once_firsts (ordered xs) (ordered_pairs xs)
-      ∙ one_order group 0 (firsts same (ordered xs)) (firsts same (ordered ys))
-      (first_rises group 0 (ordered xs) (in_order_rises group (in_order number xs)))
-      (first_rises group 0 (ordered ys) (in_order_rises group (in_order number ys)))
-      (λ k. one_order number 0 (of_key group k (firsts same (ordered xs))) (of_key group k (firsts same (ordered ys))) (number_rises k xs) (number_rises k ys)
-      (λ j. of_both k j xs ∙ ap (λ l. of_key number j (of_key group k l)) e ∙ sym (of_both k j ys)))
-      ∙ sym (once_firsts (ordered ys) (ordered_pairs ys))
-
-  -- the first of each has all that is left once
-  pub once_of_firsts : (xs : List A) → each_once group number (firsts same xs) ≡ each_once group number xs
-  once_of_firsts xs = once_by_firsts (firsts same xs) xs (firsts_twice xs)
+-- from none on, these are the first of each row
+pub rows_are : (xs : List Imaged) → fold with_row [] xs ≡ firsts row_of xs
+rows_are xs = rows_firsts [] xs ∙ all_new (firsts row_of xs)

@@ -1,4 +1,4 @@
 pub mod Lists
 pub mod Orders
-pub mod Kept
 pub mod Firsts
+pub mod Once

@@ -1,3 +1,4 @@
 pub mod Each
 pub mod Sorted
 pub mod Twice
+pub mod Imaging

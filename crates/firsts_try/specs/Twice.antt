@@ -8,7 +8,3 @@ is_same group number a b = nat_eq (group a) (group b) && nat_eq (number a) (numb
 abbrev pub each_once : {A : Type 0} → (A → ℕ) → (A → ℕ) → List A → List A
 each_once group number items = dedup (is_same group number) (in_order group (in_order number items))
 
--- the items, each the first of those that are the same
-abbrev pub firsts : {A : Type 0} → (A → A → Bool) → List A → List A
-firsts same [] = []
-firsts same (x ∷ xs) = x ∷ filter (λ y. not (same x y)) (firsts same xs)

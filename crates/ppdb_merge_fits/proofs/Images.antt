@@ -1,10 +1,11 @@
 -- The images of the rows that are named.
-use Rattle.std.{proofs.Common.{◌≡◌, ℕ, zero, suc, ◌<◌, ◌++◌, cond, List, [], ◌∷◌, Some, slice_get, flat_map, refl, sym, ◌∙◌, ap, arith}, specs.List.{filter_map}}
+use Rattle.std.{proofs.Common.{◌≡◌, ℕ, zero, suc, ◌<◌, ◌++◌, Bool, cond, List, [], ◌∷◌, Some, slice_get, flat_map, refl, sym, ◌∙◌, ap, arith}, specs.List.{filter_map}}
 use Rattle.std.specs.List.{cons_option}
 use Rattle.ppdb_base.specs.declared.merge_error.MergeError.TheVariants.{Unmapped}
 use Rattle.ppdb_maps.specs.{Map.{Map}, declared.image.RowImage.{RowImage}, declared.image.RowImage.TheVariants.{Row, Missing}}
-use Rattle.ppdb_merge_names.specs.{declared.imaged.Imaged.{Imaged}, Imaging.{AreImagesOf, IsImageOf, image_of}, References.{Reference}}
-use Rattle.ppdb_merge_fits.{specs.Rows.{imaged, imaged_to, is_row}, proofs.Parts.{if_unmapped}}
+use Rattle.ppdb_values.specs.RawFile.{RawFile}
+use Rattle.ppdb_merge_names.specs.{declared.imaged.Imaged.{Imaged}, Imaging.{AreImagesOf, IsImageOf, firsts, image_of, is_same_row}, References.{Reference, references}}
+use Rattle.ppdb_merge_fits.{specs.Rows.{imaged, imaged_rows, imaged_to, is_row}, specs.Twice.{each_once}, proofs.Once.{once_of_firsts}, proofs.Parts.{if_unmapped}}
 
 one_image : (m : Map) (r : Reference) (i : Imaged) → IsImageOf m r i → imaged m r ≡ Some i
 one_image m r i is =
@@ -40,3 +41,10 @@ first_unmapped m (x ∷ rs) r (suc at) there none before =
     let image = before 0 x (omega arith) refl in
     ap (λ l. slice_get (l ++ flat_map (if_unmapped m) rs) 0) (mapped m x image.0 image.1 image.2)
     ∙ first_unmapped m rs r at there none (λ k other less is. before (suc k) other (omega (arith, less)) is)
+
+-- rows, each where it is named first, are those that a file names once they are set in order
+pub same_rows : {rows : List Imaged} (first : Bool) (m : Map) (raw : RawFile) → rows ≡ firsts is_same_row (filter_map (imaged m) (references first m raw))
+    → each_once (λ (i : Imaged). i.table) (λ i. i.row) rows ≡ imaged_rows first m raw
+same_rows first m raw are =
+    ap (each_once (λ (i : Imaged). i.table) (λ i. i.row)) are
+    ∙ once_of_firsts (λ (i : Imaged). i.table) (λ i. i.row) (filter_map (imaged m) (references first m raw))

@@ -12,6 +12,7 @@ pub mod Looking
 pub mod Methods
 pub mod NoSlots
 pub mod Nothing
+pub mod Once
 pub mod OneName
 pub mod Owned
 pub mod Rows

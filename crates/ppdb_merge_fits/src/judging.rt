@@ -6,6 +6,7 @@ ghost use Rattle.ppdb_base.specs.declared.merge_error.MergeError.{MergeError};
 ghost use Rattle.ppdb_base.specs.declared.merge_error.MergeError.TheVariants.{Memory as NoMemory};
 ghost use Rattle.ppdb_verify.specs.Views.{raw_file};
 ghost use Rattle.ppdb_values.specs.Value.{value_of};
+ghost use Rattle.ppdb_merge_names.specs.Imaging.{firsts, is_same_row};
 ghost use Rattle.ppdb_merge_names.specs.References.{references};
 ghost use Rattle.ppdb_merge_moved.specs.Fits.{may_share};
 ghost use Rattle.ppdb_merge_fits.specs.Clashes.{unknown_kinds, first_clash};
@@ -59,7 +60,7 @@ fn judge_offsets<L: Ledger>(
     refuse(first_lost(alloc, file, map, steps))
 }
 
-/// The rows that a file names with their images, in the order of their places.
+/// The rows that a file names with their images, in the order of the places that name them first.
 fn placed_images<L: Ledger>(
     alloc: Global,
     file: &Verified<'_>,
@@ -67,8 +68,8 @@ fn placed_images<L: Ledger>(
     first: bool,
     steps: &mut Steps<L>,
 ) -> Result<Vec<Imaged>, MergeError>
-    ensures rows { IfOk result (λ rows. rows.items
-        ≡ filter_map (imaged map.now) (references first map.now (raw_file file.now))) }
+    ensures rows { IfOk result (λ rows. rows.items ≡ firsts is_same_row
+        (filter_map (imaged map.now) (references first map.now (raw_file file.now)))) }
     ensures reported { IsFirstOf (unmapped first map.now (raw_file file.now)) result }
 {
     match images(alloc, file, map, first, steps) {

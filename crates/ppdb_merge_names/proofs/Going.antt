@@ -1,11 +1,11 @@
 -- References that are gone through one after the other.
 use Rattle.std.proofs.Common.{◌≡◌, ℕ, zero, suc, ◌<◌, true, false, List, [], ◌∷◌, ◌++◌, Some, Result, Ok, Err, slice_get, refl, sym, ap, subst, ◌∙◌, arith}
-use Rattle.std.{proofs.Common.{append_assoc, append-nil}, specs.List.{AllByRecursion}}
+use Rattle.std.{proofs.Common.{fold}, specs.List.{AllByRecursion}}
 use Rattle.ppdb_base.specs.declared.fault.Place.{Place}
 use Rattle.ppdb_maps.specs.{Map.{Map, is_gone}, declared.image.RowImage.{RowImage}, declared.image.RowImage.TheVariants.{Row, Gone, Missing}}
 use Rattle.ppdb_merge_names.specs.declared.imaged.{Imaged.{Imaged}, ReferenceError.{ReferenceError}, ReferenceError.TheVariants.{Unmapped, Memory}}
-use Rattle.ppdb_merge_names.specs.{References.{Reference, names}, Imaging.{image_of, AreImagesOf, IsFirstUnmapped, IsRefusedBy, Imaging, with_image, and_then}}
-use Rattle.ppdb_merge_names.specs.Imaging.{imaged_on, GoesThrough}
+use Rattle.ppdb_merge_names.specs.{References.{Reference, names}, Imaging.{image_of, AreImagesOf, AreRowsOf, IsFirstUnmapped, IsRefusedBy, Imaging, with_image, and_then}}
+use Rattle.ppdb_merge_names.{specs.Imaging.{imaged_on, GoesThrough, with_row}, proofs.Firsts.{rows_are}}
 
 pub imaged_on-append : (s : Imaging) (xs ys : List Reference) → imaged_on s (xs ++ ys) ≡ and_then (imaged_on s xs) (λ t. imaged_on t ys)
 unfolding imaged_on
@@ -16,12 +16,12 @@ imaged_on-append s (x ∷ xs) ys = split (λ t. imaged_on-append t xs ys) (image
         → and_then (with_image s x o) (λ t. imaged_on t (xs ++ ys)) ≡ and_then (and_then (with_image s x o) (λ t. imaged_on t xs)) (λ t. imaged_on t ys)
     split again Gone = refl
     split again Missing = refl
-    split again (Row to image) = again (record { map = s.map; images = s.images ++ record { table = x.table; row = x.row; to = to; image = image } ∷ [] })
+    split again (Row to image) = again (record { map = s.map; images = with_row s.images (record { table = x.table; row = x.row; to = to; image = image }) })
 
 -- ---- one reference
 
 pub one-is : (s t : Imaging) (r : Reference) (to image : ℕ) → image_of s.map r ≡ Row to image
-    → t ≡ record { map = s.map; images = s.images ++ record { table = r.table; row = r.row; to = to; image = image } ∷ [] }
+    → t ≡ record { map = s.map; images = with_row s.images (record { table = r.table; row = r.row; to = to; image = image }) }
     → imaged_on s (r ∷ []) ≡ Ok t
 unfolding imaged_on
 one-is s t r to image e is = rw (e, is) refl
@@ -74,23 +74,26 @@ goes-cut s t u xs ys Memory first = tt
 
 -- ---- the images and the first reference without one
 
-images-after : (s t : Imaging) (rs : List Reference) → imaged_on s rs ≡ Ok t → (more : List Imaged) × (t.images ≡ s.images ++ more) × AreImagesOf s.map rs more
+images-after : (s t : Imaging) (rs : List Reference) → imaged_on s rs ≡ Ok t
+    → (more : List Imaged) × (t.images ≡ fold with_row s.images more) × AreImagesOf s.map rs more
 unfolding imaged_on
-images-after s t [] e = let same : s ≡ t = cc in ([], ap (λ (u : Imaging). u.images) (sym same) ∙ sym (append-nil s.images), tt)
+images-after s t [] e = let same : s ≡ t = cc in ([], ap (λ (u : Imaging). u.images) (sym same), tt)
 images-after s t (r ∷ rs) e = split (λ u h. images-after u t rs h) (image_of s.map r) refl e
   where
-    split : ((u : Imaging) → imaged_on u rs ≡ Ok t → (more : List Imaged) × (t.images ≡ u.images ++ more) × AreImagesOf u.map rs more) → (o : RowImage)
+    split : ((u : Imaging) → imaged_on u rs ≡ Ok t → (more : List Imaged) × (t.images ≡ fold with_row u.images more) × AreImagesOf u.map rs more) → (o : RowImage)
         → image_of s.map r ≡ o
-        → and_then (with_image s r o) (λ u. imaged_on u rs) ≡ Ok t → (more : List Imaged) × (t.images ≡ s.images ++ more) × AreImagesOf s.map (r ∷ rs) more
+        → and_then (with_image s r o) (λ u. imaged_on u rs) ≡ Ok t
+        → (more : List Imaged) × (t.images ≡ fold with_row s.images more) × AreImagesOf s.map (r ∷ rs) more
     split again Gone is e = absurd cc
     split again Missing is e = absurd cc
     split again (Row to image) is e =
         let i : Imaged = record { table = r.table; row = r.row; to = to; image = image } in
-        let h = again (record { map = s.map; images = s.images ++ i ∷ [] }) e in
-        (i ∷ h.0, h.1 ∙ append_assoc s.images (i ∷ []) h.0, (record { table = refl; row = refl; image = is }, h.2))
+        let h = again (record { map = s.map; images = with_row s.images i }) e in
+        (i ∷ h.0, h.1, (record { table = refl; row = refl; image = is }, h.2))
 
-pub images-are : (m : Map) (t : Imaging) (rs : List Reference) → imaged_on (record { map = m; images = [] }) rs ≡ Ok t → AreImagesOf m rs t.images
-images-are m t rs e = let h = images-after (record { map = m; images = [] }) t rs e in subst (λ (l : List Imaged). AreImagesOf m rs l) (sym h.1) h.2
+pub images-are : (m : Map) (t : Imaging) (rs : List Reference) → imaged_on (record { map = m; images = [] }) rs ≡ Ok t → AreRowsOf m rs t.images
+images-are m t rs e =
+    let h = images-after (record { map = m; images = [] }) t rs e in record { images = h.0; each = h.2; once = h.1 ∙ rows_are h.0 }
 
 -- none of the references is gone
 abbrev pub IsStill : Map → Reference → Type 0
@@ -123,7 +126,7 @@ first-unmapped s (x ∷ rs) r still e = split (λ u h. first-unmapped u rs r h) 
           before = λ k other less there. absurd (omega (arith, less));
         }
     split again (Row to image) is e = shifted to image is
-        (again (record { map = s.map; images = s.images ++ record { table = x.table; row = x.row; to = to; image = image } ∷ [] }) still.1 e)
+        (again (record { map = s.map; images = with_row s.images (record { table = x.table; row = x.row; to = to; image = image }) }) still.1 e)
 
 -- the map stays
 pub map-stays : (s t : Imaging) (rs : List Reference) → imaged_on s rs ≡ Ok t → t.map ≡ s.map
@@ -134,7 +137,7 @@ map-stays s t (r ∷ rs) e = split (λ u h. map-stays u t rs h) (image_of s.map 
     split : ((u : Imaging) → imaged_on u rs ≡ Ok t → t.map ≡ u.map) → (o : RowImage) → and_then (with_image s r o) (λ u. imaged_on u rs) ≡ Ok t → t.map ≡ s.map
     split again Gone e = absurd cc
     split again Missing e = absurd cc
-    split again (Row to image) e = again (record { map = s.map; images = s.images ++ record { table = r.table; row = r.row; to = to; image = image } ∷ [] }) e
+    split again (Row to image) e = again (record { map = s.map; images = with_row s.images (record { table = r.table; row = r.row; to = to; image = image }) }) e
 
 -- the same of a list that is this one
 pub goes-as : (s t : Imaging) (xs ys : List Reference) (result : Result (Unit {0}) ReferenceError) → xs ≡ ys → GoesThrough s xs t result → GoesThrough s ys t result

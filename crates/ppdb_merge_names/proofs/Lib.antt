@@ -5,3 +5,5 @@ pub mod RowNames
 pub mod ConstantLists
 pub mod Still
 pub mod Parts
+pub mod Bits
+pub mod Firsts

@@ -1,5 +1,7 @@
 -- The images of the rows that are named, and the first row that has none.
-use Rattle.std.specs.Prelude.{◌≡◌, ℕ, ◌<◌, List, [], ◌∷◌, ◌++◌, Some, Result, Ok, Err, slice_get}
+use Rattle.std.specs.Prelude.{◌≡◌, ℕ, ◌<◌, ◌&&◌, not, nat_eq, Bool, cond, List, [}, ◌∷◌, ◌++◌, Some}
+use Rattle.std.specs.Prelude.{Result, Ok, Err, slice_get, filter}
+use Rattle.std.specs.List.{list_any}
 use Rattle.ppdb_maps.specs.{Map.{Map, row_image}, declared.image.RowImage.RowImage}
 use Rattle.ppdb_maps.specs.declared.image.RowImage.TheVariants.{Row, Gone, Missing}
 use Rattle.ppdb_merge_names.specs.declared.imaged.{Imaged.Imaged, ReferenceError.ReferenceError}
@@ -22,6 +24,22 @@ AreImagesOf m [] [] = Unit {0}
 AreImagesOf m (r ∷ rs) (i ∷ is) = IsImageOf m r i × AreImagesOf m rs is
 AreImagesOf m _ _ = ⊥
 
+-- items without those that come after one that is the same
+abbrev pub firsts : {A : Type 0} → (A → A → Bool) → List A → List A
+firsts same [] = []
+firsts same (x ∷ xs) = x ∷ filter (λ y. not (same x y)) (firsts same xs)
+
+-- two are of one row
+abbrev pub is_same_row : Imaged → Imaged → Bool
+is_same_row a b = nat_eq a.table b.table && nat_eq a.row b.row
+
+-- These are the rows that are named, with their images, each where it is named first; all have
+-- images.
+pub record AreRowsOf (m : Map) (references : List Reference) (rows : List Imaged) : Type 0 where
+  pub images : List Imaged
+  pub each : AreImagesOf m references images
+  pub once : rows ≡ firsts is_same_row images
+
 -- The first whose image is missing: those before it have theirs.
 pub record IsFirstUnmapped (m : Map) (references : List Reference) (r : Reference) : Type 0 where
   pub at : ℕ
@@ -39,15 +57,23 @@ IsRefusedBy m references Memory = Unit {0}
 
 -- ---- how they are found, one after the other
 
--- what is known: the map, and the images so far
+-- what is known: the map, and the images so far, each row once
 pub record Imaging : Type 0 where
   pub map : Map
   pub images : List Imaged
 
+-- one of the images is that of the row
+abbrev pub has_image : List Imaged → ℕ → ℕ → Bool
+has_image images table row = list_any (λ i. nat_eq i.table table && nat_eq i.row row) images
+
+-- the images with one more, unless it is there
+abbrev pub with_row : List Imaged → Imaged → List Imaged
+with_row images i = cond (has_image images i.table i.row) images (images ++ i ∷ [])
+
 abbrev pub with_image : Imaging → Reference → RowImage → Result Imaging Reference
 with_image s r (Row to image) = Ok (record {
   map = s.map;
-  images = s.images ++ record { table = r.table; row = r.row; to = to; image = image } ∷ [];
+  images = with_row s.images (record { table = r.table; row = r.row; to = to; image = image });
 })
 with_image s r Gone = Err r
 with_image s r Missing = Err r

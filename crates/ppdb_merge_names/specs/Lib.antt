@@ -2,3 +2,4 @@ pub mod References
 pub mod Imaging
 pub mod TableRows
 pub mod Lists
+pub mod BitSets

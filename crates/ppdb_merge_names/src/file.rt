@@ -1,7 +1,7 @@
 // The images of all rows that a file names.
 ghost use Rattle.std.specs.Prelude.{IfOk, IfErr};
 ghost use Rattle.ppdb_verify.specs.Views.{raw_file};
-ghost use Rattle.ppdb_merge_names.specs.Imaging.{GoesThrough, AreImagesOf, IsRefusedBy};
+ghost use Rattle.ppdb_merge_names.specs.Imaging.{GoesThrough, AreRowsOf, IsRefusedBy};
 ghost use Rattle.ppdb_merge_names.specs.References.{of_methods, of_others, references};
 ghost use Rattle.ppdb_merge_names.specs.TableRows.{of_table};
 
@@ -83,9 +83,9 @@ fn add_file<L: Ledger>(
     add_others(alloc, file, imager, steps)
 }
 
-/// The images of the rows of the type system that a file names, in the order of the places at which
-/// they are named, without those that stand in what is removed; or the first whose image is
-/// missing. The entry point counts in the first of several files.
+/// The rows of the type system that a file names, with their images, in the order of the places at
+/// which they are named first, without those that stand in what is removed; or the first whose
+/// image is missing. The entry point counts in the first of several files.
 pub fn images<L: Ledger>(
     alloc: Global,
     file: &Verified<'_>,
@@ -94,7 +94,7 @@ pub fn images<L: Ledger>(
     steps: &mut Steps<L>,
 ) -> Result<List<Imaged>, ReferenceError>
     ensures images { IfOk result
-        (AreImagesOf map.now (references first map.now (raw_file file.now))) }
+        (AreRowsOf map.now (references first map.now (raw_file file.now))) }
     ensures unmapped { IfErr result
         (IsRefusedBy map.now (references first map.now (raw_file file.now))) }
 {

@@ -1,12 +1,13 @@
-// The images that were found so far.
-ghost use Rattle.std.specs.Prelude.{◌≡◌, ◌||◌, ◌∷◌, [], is_some, slice_get};
+// The images that were found so far, each row once.
+ghost use Rattle.std.specs.Prelude.{◌≡◌, ◌||◌, ◌∷◌, ◌++◌, [], is_some, slice_get, false, OnOk};
 ghost use Rattle.ppdb_maps.specs.Map.{is_dropped, row_image, signature_line, is_gone_row};
 ghost use Rattle.ppdb_maps.specs.Map.{leaves_table};
-ghost use Rattle.ppdb_merge_names.specs.Imaging.{GoesThrough};
+ghost use Rattle.ppdb_merge_names.specs.Imaging.{GoesThrough, has_image};
 ghost use Rattle.ppdb_merge_names.specs.References.{is_live, names, names_some, takes_constant};
 
 use crate::imaged::{Imaged, ReferenceError};
-use ppdb_base::{List, Place};
+use ppdb_base::{List, Memory, Place};
+use crate::bit_set::RowSet;
 use ppdb_maps::{MapText, RowImage};
 use ppdb_tables::ASSEMBLY;
 use std::alloc::Global;
@@ -21,26 +22,33 @@ struct Known {
     image: RowImage,
 }
 
-/// A map, and the images of the rows that were named so far, in order.
+/// A map, and the images of the rows that were named so far, each where it was named first.
 #[derive(Drop)]
 pub(crate) struct Imager<'m> {
+    alloc: Global,
     map: &'m MapText,
     images: List<Imaged>,
+    /// The rows whose images are there.
+    imaged: RowSet,
     /// The row before, which is often asked for again.
     last: Option<Known>,
 }
 
 impl<'m> Model for Imager<'m> {
-    ghost use Rattle.std.specs.Prelude.{◌≡◌};
+    ghost use Rattle.std.specs.Prelude.{◌≡◌, ℕ};
     ghost use Rattle.std.specs.Option.{ForSome};
+    ghost use Rattle.ppdb_merge_names.specs.BitSets.{has_row};
     ghost use Rattle.ppdb_maps.specs.Map.{row_image};
-    ghost use Rattle.ppdb_merge_names.specs.Imaging.{Imaging};
+    ghost use Rattle.ppdb_merge_names.specs.Imaging.{Imaging, has_image};
 
     ghost Value = { Imaging };
 
     ghost view = { λ s. record { map = s.map.now; images = s.images } };
 
-    ghost invariant = { λ s. ForSome s.last (λ i. row_image s.map.now i.table i.row ≡ i.image) };
+    ghost invariant = { λ s. record {
+      last : ForSome s.last (λ i. row_image s.map.now i.table i.row ≡ i.image);
+      once : (table row : ℕ) → has_row s.imaged table row ≡ has_image s.images table row;
+    } };
 }
 
 impl<'m> Imager<'m> {
@@ -49,8 +57,10 @@ impl<'m> Imager<'m> {
         ensures { result ≡ record { map = map.now; images = [] } }
     {
         Imager {
+            alloc,
             map,
             images: List::new(alloc),
+            imaged: RowSet::new(alloc),
             last: None,
         }
     }
@@ -140,7 +150,23 @@ impl<'m> Imager<'m> {
         }
     }
 
-    /// Adds the image of a row that is named at a place.
+    /// Adds the image of a row that has none. Without memory all images are lost.
+    fn push(&mut self, imaged: Imaged) -> Result<(), Memory>
+        requires { has_image self.old.images imaged.table imaged.row ≡ false }
+        ensures { OnOk result (self.new
+            ≡ record { map = self.old.map; images = self.old.images ++ imaged ∷ [] }) }
+    {
+        self.images.push(imaged)?;
+        let marked = self.imaged.insert(self.alloc, imaged.table, imaged.row);
+        if marked.is_err() {
+            self.images = List::new(self.alloc);
+            self.imaged = RowSet::new(self.alloc);
+            return Err(Memory);
+        }
+        Ok(())
+    }
+
+    /// Adds the image of a row that is named at a place, unless it is there.
     pub(crate) fn add(&mut self, table: u8, row: u32, place: Place) -> Result<(), ReferenceError>
         ensures { GoesThrough self.old (names place table row ∷ []) self.new result }
     {
@@ -151,7 +177,10 @@ impl<'m> Imager<'m> {
         else {
             return Err(ReferenceError::Unmapped { table, row, place });
         };
-        self.images.push(Imaged {
+        if self.imaged.contains(table, row) {
+            return Ok(());
+        }
+        self.push(Imaged {
             table,
             row,
             to,

@@ -2,6 +2,7 @@
 //! names them, and their images by a map: that of each, or the first that has none.
 #![tactic(auto)]
 
+mod bit_set;
 mod constants;
 mod file;
 mod imaged;
