@@ -8,12 +8,20 @@ use std::alloc::Global;
 use std::hash::RandomState;
 use std::marker::Model;
 
+/// A blob that was interned: its index, and the length of it and of the blobs whose indexes it
+/// holds.
+#[derive(Clone, Copy, Debug, PartialEq, Eq)]
+pub struct InternedBlob {
+    pub index: u32,
+    pub len: u64,
+}
+
 /// The blobs that were interned, each kept once, the length of all uses, and a buffer in which the
 /// next blob is made.
 #[derive(Drop)]
 pub struct BlobHeap {
     heap: Heap,
-    total: u64,
+    pub(crate) total: u64,
     pub(crate) blob: Bytes,
 }
 
@@ -30,13 +38,13 @@ impl Model for BlobHeap {
 }
 
 impl BlobHeap {
-    ghost use Rattle.std.specs.Prelude.{◌≡◌, ◌<◌, ◌^◌, [], OnOk, IfOk};
+    ghost use Rattle.std.specs.Prelude.{◌≡◌, ◌<◌, ◌^◌, List, [], OnOk, IfOk};
     ghost use Rattle.cli_ints.specs.Shortest.{short_unsigned};
     ghost use Rattle.ppdb_build_heaps.specs.declared.heap.HeapKind.TheVariants.{Blobs};
     ghost use Rattle.ppdb_build_heaps.specs.Items.{as_blob, index_of};
-    ghost use Rattle.ppdb_build_heaps.specs.Uses.{plain, octets, index};
+    ghost use Rattle.ppdb_build_heaps.specs.Uses.{Piece, plain, octets, index};
     ghost use Rattle.ppdb_build_interning.specs.Interned.{none_interned, with_blob, blob_place};
-    ghost use Rattle.ppdb_build_interning.specs.Interned.{cell};
+    ghost use Rattle.ppdb_build_interning.specs.Interned.{IsInterned, cell};
     ghost use Rattle.ppdb_build_interning.specs.Making.{interned_of, begun, with_piece, made};
 
     /// The empty blob alone, which no use has counted. Blobs are hashed under the key, if there is
@@ -106,6 +114,14 @@ impl BlobHeap {
         self.put(bytes)?;
         let index = self.finish()?;
         Ok(index)
+    }
+
+    /// Counts one more use of a blob that was interned before, and of what it holds.
+    pub fn use_again(&mut self, blob: InternedBlob)
+        ensures { (pieces : List Piece) → IsInterned (interned_of self.old) blob pieces
+            → interned_of self.new ≡ with_blob (interned_of self.old) pieces }
+    {
+        self.total = self.total.saturating_add(blob.len);
     }
 
     /// The blobs alone. What they were found by is freed, since no more come.

@@ -6,7 +6,7 @@ ghost use Rattle.ppdb_build_canon.specs.Uses.{import_pieces, number};
 ghost use Rattle.ppdb_values_sound.specs.Writing.{HasSpelling};
 ghost use Rattle.ppdb_build_interning.specs.Making.{with_piece};
 
-use crate::blobs::BlobHeap;
+use crate::blobs::{BlobHeap, InternedBlob};
 use ppdb_base::Memory;
 use ppdb_values::ImportValue;
 use type_blobs::{TypeToken, number_of};
@@ -101,20 +101,25 @@ impl BlobHeap {
     ghost use Rattle.std.specs.Prelude.{◌≡◌, All, flat_map, OnOk, IfOk};
     ghost use Rattle.ppdb_build_canon.specs.Uses.{import_pieces};
     ghost use Rattle.ppdb_values_sound.specs.Writing.{HasSpelling};
-    ghost use Rattle.ppdb_build_interning.specs.Interned.{with_blob, blob_place, cell};
+    ghost use Rattle.ppdb_build_interning.specs.Interned.{IsInterned, with_blob};
     ghost use Rattle.ppdb_build_interning.specs.Making.{interned_of};
 
-    /// Interns what an import scope imports, its texts first, and answers the index of its blob.
-    pub fn intern_imports(&mut self, imports: &[ImportValue]) -> Result<u32, Memory>
+    /// Interns what an import scope imports, its texts first, and answers the index of its blob and
+    /// the length of all of them.
+    pub fn intern_imports(&mut self, imports: &[ImportValue]) -> Result<InternedBlob, Memory>
         requires { All HasSpelling imports.now }
         ensures interned { OnOk result (interned_of self.new
             ≡ with_blob (interned_of self.old) (flat_map import_pieces imports.now)) }
-        ensures index { IfOk result (λ index. index
-            ≡ cell (blob_place self.new.items (flat_map import_pieces imports.now))) }
+        ensures blob { IfOk result (λ blob.
+            IsInterned (interned_of self.new) blob (flat_map import_pieces imports.now)) }
     {
+        let before = self.total;
+        self.total = 0;
         self.begin();
         put_imports(self, imports)?;
         let index = self.finish()?;
-        Ok(index)
+        let len = self.total;
+        self.total = before.saturating_add(len);
+        Ok(InternedBlob { index, len })
     }
 }

@@ -10,7 +10,7 @@ mod names;
 mod noted;
 mod texts;
 
-pub use blobs::BlobHeap;
+pub use blobs::{BlobHeap, InternedBlob};
 pub use cells::cell_of;
 pub use noted::Noted;
 pub use texts::TextHeap;

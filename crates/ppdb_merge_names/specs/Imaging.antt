@@ -1,5 +1,5 @@
 -- The images of the rows that are named, and the first row that has none.
-use Rattle.std.specs.Prelude.{◌≡◌, ℕ, ◌<◌, ◌&&◌, not, nat_eq, Bool, cond, List, [}, ◌∷◌, ◌++◌, Some}
+use Rattle.std.specs.Prelude.{◌≡◌, ℕ, ◌<◌, ◌&&◌, not, nat_eq, Bool, cond, List, [], ◌∷◌, ◌++◌, Some}
 use Rattle.std.specs.Prelude.{Result, Ok, Err, slice_get, filter}
 use Rattle.std.specs.List.{list_any}
 use Rattle.ppdb_maps.specs.{Map.{Map, row_image}, declared.image.RowImage.RowImage}
