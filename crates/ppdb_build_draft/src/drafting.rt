@@ -4,7 +4,7 @@ use crate::interning::{fill_rows, intern_guid, next_row, put_row};
 use custom_info::Range;
 use ppdb_base::{List, Memory};
 use ppdb_build_heaps::GuidHeap;
-use ppdb_build_interning::{BlobHeap, TextHeap};
+use ppdb_build_interning::{BlobHeap, InternedBlob, TextHeap};
 use ppdb_build_layout::Rows;
 use ppdb_tables::{
     ConstantRow, CustomRow, DocumentRow, ImportRow, MachineRow, MethodDebugRow, Parent, ScopeRow,
@@ -46,7 +46,7 @@ impl Model for Drafting {
 }
 
 impl Drafting {
-    ghost use Rattle.std.specs.Prelude.{◌≡◌, ◌≤◌, [], All, OnOk, IfOk, IfErr};
+    ghost use Rattle.std.specs.Prelude.{◌≡◌, ◌≤◌, List, [], All, flat_map, OnOk, IfOk, IfErr};
     ghost use Rattle.type_blobs.specs.Types.{IsToken};
     ghost use Rattle.type_blobs.specs.ConstantReading.{shown};
     ghost use Rattle.type_blobs.specs.Spelling.{IsBody, constant_spelling};
@@ -54,6 +54,9 @@ impl Drafting {
     ghost use Rattle.sequence_points.specs.Written.{CanBeWritten, large_steps, points_blob};
     ghost use Rattle.sequence_points.specs.Written.{IsRefused};
     ghost use Rattle.ppdb_values.specs.declared.file.MethodValue.{MethodValue};
+    ghost use Rattle.ppdb_values.specs.declared.import.ImportValue.{ImportValue as ImportedValue};
+    ghost use Rattle.ppdb_build_canon.specs.Uses.{import_pieces};
+    ghost use Rattle.ppdb_build_interning.specs.Interned.{IsInterned};
     ghost use Rattle.ppdb_values_sound.specs.Writing.{HasSpelling, IsWritable};
     ghost use Rattle.ppdb_build_draft.specs.Draft.{empty_draft, with_document, with_method};
     ghost use Rattle.ppdb_build_draft.specs.Draft.{with_all_methods, with_variable, with_scope_row};
@@ -227,15 +230,39 @@ impl Drafting {
         Ok(())
     }
 
-    /// Adds an import scope.
+    /// Adds an import scope, and answers the blob of its imports.
     #[tactic(auto, unfolding(crate::specs::Draft::with_import))]
-    pub fn import(&mut self, parent: u32, imports: &[ImportValue]) -> Result<(), Memory>
+    pub fn import(
+        &mut self,
+        parent: u32,
+        imports: &[ImportValue],
+    ) -> Result<InternedBlob, Memory>
         requires { All HasSpelling imports.now }
-        ensures { OnOk result
+        ensures added { OnOk result
             (self.new ≡ with_import self.old (record { parent = parent; imports = imports.now })) }
+        ensures blob { IfOk result
+            (λ blob. IsInterned self.new.blobs blob (flat_map import_pieces imports.now)) }
     {
-        let imports = self.blobs.intern_imports(imports)?;
-        self.rows.imports.push(ImportRow { parent, imports })?;
+        let blob = self.blobs.intern_imports(imports)?;
+        self.rows.imports.push(ImportRow {
+            parent,
+            imports: blob.index,
+        })?;
+        Ok(blob)
+    }
+
+    /// Adds an import scope whose imports were interned before, as this blob.
+    #[tactic(auto, unfolding(crate::specs::Draft::with_import))]
+    pub fn import_again(&mut self, parent: u32, blob: InternedBlob) -> Result<(), Memory>
+        ensures { (imports : List ImportedValue)
+            → IsInterned self.old.blobs blob (flat_map import_pieces imports) → OnOk result
+            (self.new ≡ with_import self.old (record { parent = parent; imports = imports })) }
+    {
+        self.blobs.use_again(blob);
+        self.rows.imports.push(ImportRow {
+            parent,
+            imports: blob.index,
+        })?;
         Ok(())
     }
 

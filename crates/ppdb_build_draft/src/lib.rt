@@ -13,3 +13,4 @@ pub use drafted::Drafted;
 pub use drafting::Drafting;
 pub use laws::drafts_are_canonical;
 pub use lent::lent_body;
+pub use ppdb_build_interning::InternedBlob;

@@ -1,4 +1,5 @@
 pub mod Inputs
+pub mod Imports
 pub mod Names
 pub mod Keyed
 pub mod Constants

@@ -12,7 +12,7 @@ mod renumbering;
 mod scopes;
 
 pub use constants::moved_constant;
-pub use imports::moved_import_scope;
+pub use imports::{ImportPlace, import_place, moved_import_scope};
 pub use inputs::RowInput;
 pub use laws::{fitting_points_fit, methods_have_their_rows, rows_are_images};
 pub use methods::{MovedMethod, moved_method_into};
