@@ -1,4 +1,5 @@
 mod Added
+mod Again
 mod Rows
 mod Staying
 mod NoneGone

@@ -17,10 +17,13 @@ use ppdb_build_draft::{Drafting, InternedBlob};
 use ppdb_merge_moved_rows::{import_place, moved_import_scope};
 use ppdb_tables::IMPORT_SCOPE;
 use ppdb_verify_readers::count;
-use ppdb_verify_rules::LONG_BLOB;
 use std::alloc::Global;
 use std::collections::BTreeMap;
 use std::sync::ledger::Ledger;
+
+/// From how many bytes on a blob is made once alone of the imports at an index. A shorter one is made
+/// for each row that names them, which costs little more than the row.
+const LONG: u64 = 256;
 
 /// Keeps the blob that was made of the imports at an index, if it is long and there is memory for
 /// it.
@@ -28,7 +31,7 @@ fn keep(made: &mut BTreeMap<u32, InternedBlob>, index: u32, blob: InternedBlob)
     ensures { (i : ℕ) (b : Interned) → get nat_cmp made.new i ≡ Some b
         → (get nat_cmp made.old i ≡ Some b) ⊎ ((i ≡ index) × (b ≡ blob)) }
 {
-    if blob.len < LONG_BLOB as u64 {
+    if blob.len < LONG {
         return;
     }
     let _ = made.insert(index, blob);

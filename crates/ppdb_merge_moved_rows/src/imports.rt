@@ -1,6 +1,7 @@
 // What becomes of import scopes.
-ghost use Rattle.std.specs.Prelude.{◌≡◌, ◌+◌, ◌<◌, ◌^◌, Some, IfOk, IfSome};
+ghost use Rattle.std.specs.Prelude.{◌≡◌, ◌+◌, ◌<◌, ◌^◌, Some, IfOk};
 ghost use Rattle.ppdb_tables.specs.RawTables.{row_at};
+ghost use Rattle.ppdb_tables.specs.declared.rows.ImportRow.{ImportRow as Cells};
 ghost use Rattle.ppdb_values.specs.Rules.{HasRow};
 ghost use Rattle.ppdb_verify.specs.Views.{raw_file};
 ghost use Rattle.ppdb_merge_joined.specs.Joined.{shifted};
@@ -59,8 +60,8 @@ pub fn import_place<L: Ledger>(
 ) -> ImportPlace
     requires there { HasRow (raw_file file.now).tables 0x35 row }
     requires room { before + 16777215 < 2 ^ 32 }
-    ensures { IfSome (row_at (raw_file file.now).tables.imports row) (λ cells.
-        (result.parent ≡ shifted before cells.parent) × (result.imports ≡ cells.imports)) }
+    ensures { (cells : Cells) × (row_at (raw_file file.now).tables.imports row ≡ Some cells)
+        × (result.parent ≡ shifted before cells.parent) × (result.imports ≡ cells.imports) }
 {
     let _ = file.facts();
     let cells = import(file, row, steps);

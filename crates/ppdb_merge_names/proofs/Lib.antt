@@ -7,3 +7,4 @@ pub mod Still
 pub mod Parts
 pub mod Bits
 pub mod Firsts
+pub mod Again

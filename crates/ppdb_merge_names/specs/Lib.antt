@@ -3,3 +3,4 @@ pub mod Imaging
 pub mod TableRows
 pub mod Lists
 pub mod BitSets
+pub mod Walked

@@ -5,6 +5,7 @@ ghost use Rattle.ppdb_merge_names.specs.Imaging.{GoesThrough, AreRowsOf, IsRefus
 ghost use Rattle.ppdb_merge_names.specs.References.{of_methods, of_others, references};
 ghost use Rattle.ppdb_merge_names.specs.TableRows.{of_table};
 
+use crate::bit_set::BitSet;
 use crate::constants::add_constants;
 use crate::imaged::{Imaged, ReferenceError};
 use crate::imager::Imager;
@@ -29,9 +30,10 @@ fn add_table<L: Ledger>(
 {
     let _ = file.facts();
     let count = count(file, table_number(table));
+    let mut walked = BitSet::new(alloc);
     let mut row = 1;
     'rows: while row <= count {
-        add_row(alloc, file, table, row, imager, steps)?;
+        add_row(alloc, file, table, row, &mut walked, imager, steps)?;
         row += 1;
     }
     Ok(())

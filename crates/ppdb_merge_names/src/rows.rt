@@ -1,22 +1,25 @@
 // The rows that a row names.
-ghost use Rattle.std.specs.Prelude.{◌≡◌, ◌||◌, ◌∷◌, [], List, Some, filter};
+ghost use Rattle.std.specs.Prelude.{◌≡◌, ◌||◌, ◌⊎◌, ◌∷◌, ℕ, [], List, Some, true, filter, OnOk};
 ghost use Rattle.ppdb_maps.specs.Map.{is_dropped};
 ghost use Rattle.ppdb_base.specs.Place.{cell};
 ghost use Rattle.ppdb_tables.specs.RawTables.{row_at};
 ghost use Rattle.ppdb_values.specs.Rules.{HasRow};
 ghost use Rattle.ppdb_verify.specs.Views.{raw_file};
+ghost use Rattle.ppdb_merge_names.specs.BitSets.{has_number};
 ghost use Rattle.ppdb_merge_names.specs.Imaging.{GoesThrough};
 ghost use Rattle.ppdb_merge_names.specs.References.{Reference, inside, of_entry, of_method};
 ghost use Rattle.ppdb_merge_names.specs.References.{of_scope, of_signature};
 ghost use Rattle.ppdb_merge_names.specs.References.{of_import, of_machine, methods_of, of_parent};
 ghost use Rattle.ppdb_merge_names.specs.References.{is_live, is_live_parent, leaves_types};
 ghost use Rattle.ppdb_merge_names.specs.References.{of_custom};
+ghost use Rattle.ppdb_merge_names.specs.Walked.{AreWalked};
 ghost use Rattle.ppdb_merge_names.specs.TableRows.{table_number, row_references};
 
+use crate::bit_set::BitSet;
 use crate::imaged::ReferenceError;
 use crate::imager::Imager;
 use custom_info::Kind;
-use ppdb_base::{Place, Steps};
+use ppdb_base::{Memory, Place, Steps};
 use ppdb_tables::{
     CUSTOM, CustomRow, IMPORT_SCOPE, ImportRow, LOCAL_SCOPE, METHOD_DEBUG, METHOD_DEF, MachineRow,
     MethodDebugRow, Parent, STAND_ALONE_SIG, STATE_MACHINE, ScopeRow, TYPE_TABLES, parent_of,
@@ -297,8 +300,24 @@ fn add_scope(row: u32, cells: &ScopeRow, imager: &mut Imager<'_>) -> Result<(), 
     imager.add(METHOD_DEF, cells.method, cell(LOCAL_SCOPE, row, 0))
 }
 
-/// Adds the types and the assemblies that those imports of a scope name that are kept.
-fn add_import(
+/// From how many bytes on a list of imports is gone through once alone. A shorter one is gone through
+/// for each row that names it, which costs little more than the row.
+const LONG: usize = 256;
+
+/// Puts the index of a list of imports that was gone through into a set, if the list is long.
+fn mark(walked: &mut BitSet, index: u32, len: usize) -> Result<(), Memory>
+    ensures { OnOk result ((n : ℕ) → has_number walked.new n ≡ true
+        → (has_number walked.old n ≡ true) ⊎ (n ≡ index)) }
+{
+    if len < LONG {
+        return Ok(());
+    }
+    walked.insert(index)?;
+    Ok(())
+}
+
+/// Adds the types and the assemblies that imports name that are kept.
+fn add_imports(
     file: &Verified<'_>,
     row: u32,
     cells: &ImportRow,
@@ -310,6 +329,28 @@ fn add_import(
     let content = blob(file, cells.imports);
     let mut rows = ImportRows::new(content, blobs(file), type_limits(file));
     add_live_rows(&mut rows, IMPORT_SCOPE, row, 1, imager)
+}
+
+/// Adds the types and the assemblies that those imports of a scope name that are kept, unless the
+/// list was gone through before.
+fn add_import(
+    file: &Verified<'_>,
+    row: u32,
+    cells: &ImportRow,
+    walked: &mut BitSet,
+    imager: &mut Imager<'_>,
+) -> Result<(), ReferenceError>
+    requires walked { AreWalked (raw_file file.now).tables imager.old walked.old }
+    ensures goes { GoesThrough imager.old
+        (of_import imager.old.map (raw_file file.now).tables (row, cells.now)) imager.new result }
+    ensures walked { OnOk result (AreWalked (raw_file file.now).tables imager.new walked.new) }
+{
+    if walked.contains(cells.imports) {
+        return Ok(());
+    }
+    add_imports(file, row, cells, imager)?;
+    mark(walked, cells.imports, blob(file, cells.imports).len())?;
+    Ok(())
 }
 
 /// Whether a method of a state machine is dropped.
@@ -332,17 +373,20 @@ fn add_machine(row: u32, cells: &MachineRow, imager: &mut Imager<'_>) -> Result<
     imager.add(METHOD_DEF, cells.kickoff, cell(STATE_MACHINE, row, 1))
 }
 
-/// Adds what a row of a table names.
+/// Adds what a row of a table names. The set has the long lists of imports that were gone through.
 pub(crate) fn add_row<L: Ledger>(
     alloc: Global,
     file: &Verified<'_>,
     table: Table,
     row: u32,
+    walked: &mut BitSet,
     imager: &mut Imager<'_>,
     steps: &mut Steps<L>,
 ) -> Result<(), ReferenceError>
-    requires { HasRow (raw_file file.now).tables (table_number table) row }
-    ensures { (names : List Reference)
+    requires there { HasRow (raw_file file.now).tables (table_number table) row }
+    requires walked { AreWalked (raw_file file.now).tables imager.old walked.old }
+    ensures walked { OnOk result (AreWalked (raw_file file.now).tables imager.new walked.new) }
+    ensures goes { (names : List Reference)
         → row_at (row_references imager.old.map (raw_file file.now).tables table) row ≡ Some names
         → GoesThrough imager.old names imager.new result }
 {
@@ -352,7 +396,7 @@ pub(crate) fn add_row<L: Ledger>(
             add_method(file, row, &cells, imager)
         }
         Table::LocalScope => add_scope(row, &scope(file, row, steps), imager),
-        Table::ImportScope => add_import(file, row, &import(file, row, steps), imager),
+        Table::ImportScope => add_import(file, row, &import(file, row, steps), walked, imager),
         Table::StateMachine => add_machine(row, &machine(file, row, steps), imager),
         Table::Custom => {
             let cells = custom(file, row, steps);

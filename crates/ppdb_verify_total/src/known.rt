@@ -1,5 +1,5 @@
 // What long blobs name inside, once it is known.
-ghost use Rattle.std.specs.Prelude.{◌≡◌, ℕ, ◌+◌, ◌≤◌, ◌⊎◌, ⊥, IfSome};
+ghost use Rattle.std.specs.Prelude.{◌≡◌, ℕ, ◌+◌, ◌≤◌, ◌⊎◌, IfSome};
 ghost use Rattle.ppdb_base.specs.declared.limits.TheConstants.{MAX_SPAN};
 ghost use Rattle.ppdb_verify_total.specs.Known.{IsKnown};
 

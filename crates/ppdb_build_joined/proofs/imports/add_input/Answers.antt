@@ -17,8 +17,9 @@ rows-preserved g c =
       from = omega arith;
       to = omega arith;
       taken = (row_each IsWritableImport scopes c.rows.row c.rows.invariant.from c.rows.invariant.taken).1;
+      made = c.in_ok-add_import.ensures.made;
       added = row_added with_import scopes (fold with_import c.args.draft.now scopes) c.rows.draft c.add_import.new.draft c.rows.row c.rows.invariant.from
-          c.rows.invariant.added c.in_ok-add_import.ensures;
+          c.rows.invariant.added c.in_ok-add_import.ensures.added;
     }
 
 pub returns : goal.returns

@@ -9,4 +9,4 @@ shifted-requires g c =
     omega (arith, within, few, room)
 
 pub returns : goal.returns
-returns g c = rw c.import-cells.ensures.row (c.shifted.ensures, refl)
+returns g c = (c.import-cells.result, c.import-cells.ensures.row, c.shifted.ensures, refl)

@@ -1,6 +1,6 @@
 use Rattle.std.proofs.Common.{◌≡◌, ◌≤◌, ◌+◌, ◌-◌}
 use Rattle.ppdb_verify.specs.Views.{raw_file}
-use Rattle.ppdb_merge_names.{specs.TableRows.{of_table, row_references}, proofs.Going.{Leads}}
+use Rattle.ppdb_merge_names.{specs.TableRows.{of_table, row_references}, specs.Walked.{AreWalked}, proofs.Going.{Leads}}
 use Rattle.ppdb_verify_total.proofs.RowLists.{from_row}
 use Rattle.ppdb_merge_names.proofs.file.add_table.Given as goal
 
@@ -10,6 +10,7 @@ invariant-rows g l =
     record {
       low : 1 ≤ l.row;
       same_map : l.imager.map ≡ l.fn.imager.map;
+      walked : AreWalked raw l.imager l.walked;
       leads : Leads l.fn.imager (of_table l.fn.imager.map raw l.table) l.imager (from_row l.row (row_references l.fn.imager.map raw l.table));
     }
 
