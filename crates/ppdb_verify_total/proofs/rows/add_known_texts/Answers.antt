@@ -19,3 +19,8 @@ returns-in-Ok-clause-known c =
     let raw = raw_of c.args.tables.now in
     kept_sums (in_imports raw) raw.blobs 0x35 c.args.row 1 c.args.index c.args.total c.args.content.now c.requires.there c.args.known.now c.keep.new.self
     c.requires.known c.in-Ok.after (rw c.type_limits.ensures at (rw c.blobs.ensures at c.in-Ok.ensures.sum)) c.keep.ensures
+
+pub overflow_sub-after : goal.overflow_sub-after
+overflow_sub-after c =
+    let raw = raw_of c.args.tables.now in
+    added_above (in_imports raw) raw.blobs 0x35 c.args.row 1 c.args.index c.args.total c.args.content.now c.requires.there c.in-Ok.after (rw c.type_limits.ensures at (rw c.blobs.ensures at c.in-Ok.ensures.sum))
