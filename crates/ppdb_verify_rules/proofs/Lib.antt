@@ -2,6 +2,7 @@ pub mod BlobFaults
 pub mod ConstantEnds
 pub mod CellFaults
 pub mod SeenSets
+pub mod OneColumn
 pub mod ListOwners
 pub mod ScopeFaults
 pub mod Order

@@ -1,5 +1,5 @@
 -- What the passes over the tables have seen.
-use Rattle.std.specs.Prelude.{◌≡◌, ℕ, ◌-◌, ◌/◌, ◌%◌, ◌<◌, ◌≤◌, ◌⊎◌, List, [], Some, None, IsTrue}
+use Rattle.std.specs.Prelude.{◌≡◌, ℕ, suc, ◌-◌, ◌/◌, ◌%◌, ◌<◌, ◌≤◌, ◌⊎◌, List, [], Some, None, IsTrue}
 use Rattle.std.specs.{Prelude.{slice_index, bytes_eq}, Ordering.{nat_cmp, is_eq}}
 use Rattle.std.specs.{Cmp.Lexicographic.slice_cmp, Int.bit_at, List.list_any}
 use Rattle.std.specs.Borrow.{Bor}
@@ -12,8 +12,9 @@ use Rattle.ppdb_tables.specs.declared.rows.{VariableRow.VariableRow, ConstantRow
 use Rattle.ppdb_tables.specs.{RawTables.{RawTables, row_at, count}, Owners.Owns}
 use Rattle.type_blobs.specs.{Constants.constants, Imports.imports}
 use Rattle.ppdb_verify_rules.specs.declared.{lists.ScopeList.ScopeList, seen.Texts.Texts}
-use Rattle.ppdb_verify_rules.specs.declared.seen.ReadValues.{ReadValues}
-use Rattle.ppdb_verify_rules.specs.{Blobs.type_limits, Customs.ReadsValue}
+use Rattle.sequence_points.specs.Records.{sequence_points}
+use Rattle.ppdb_verify_rules.specs.declared.seen.{ReadPoints.ReadPoints, ReadValues.ReadValues}
+use Rattle.ppdb_verify_rules.specs.{Blobs.{point_limits, type_limits}, Customs.ReadsValue}
 use Rattle.ppdb_verify_rules.specs.{Earlier.HasEarlier, Lists.{list_of, table_of}, Scopes.IsListOut}
 
 -- the bit of the number is set: bit n % 32 of word n / 32
@@ -98,6 +99,14 @@ AreWholeImports raw words = AreRead
 abbrev pub AreWholeConstants : RawTables → List ℕ → Type 0
 AreWholeConstants raw words =
     AreRead (λ content. HasEnd (constants (type_limits raw)) content None) raw.blobs words
+
+-- the blobs whose bits are set are whole lists of points: of methods without a document, and of
+-- methods that have one, whichever it is
+pub record AreWholePoints (raw : RawTables) (read : ReadPoints) : Type 0 where
+  pub without : AreRead (λ content. HasEnd (sequence_points 0 (point_limits raw)) content None)
+      raw.blobs read.without.items
+  pub within : (n : ℕ) → AreRead (λ content.
+      HasEnd (sequence_points (suc n) (point_limits raw)) content None) raw.blobs read.within.items
 
 -- the blob was read as the value of a record of the kind
 abbrev pub HasRead : ReadValues → Kind → ℕ → Type 0

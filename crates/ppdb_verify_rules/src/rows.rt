@@ -41,7 +41,7 @@ fn judge_table<L: Ledger>(
 {
     match table {
         DOCUMENT => judge_documents(alloc, tables, last, steps)?,
-        METHOD_DEBUG => judge_methods(tables, last, steps)?,
+        METHOD_DEBUG => judge_methods(alloc, tables, last, steps)?,
         LOCAL_SCOPE => judge_scopes(alloc, tables, last, steps)?,
         LOCAL_VARIABLE => judge_variables(alloc, tables, last, steps)?,
         LOCAL_CONSTANT => judge_constants(alloc, tables, last, steps)?,

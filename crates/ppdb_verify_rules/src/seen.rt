@@ -76,6 +76,14 @@ pub(crate) fn is_unread(
     enter_number(read, index)
 }
 
+/// The long lists of points that were read, by their places in the heap: for methods without a
+/// document, and for those that have one, whichever it is.
+#[derive(Drop)]
+pub(crate) struct ReadPoints {
+    pub(crate) without: Vec<u32>,
+    pub(crate) within: Vec<u32>,
+}
+
 /// The long values of custom records that were read, by their places in the heap, for each kind
 /// that is read.
 #[derive(Drop)]

@@ -1,9 +1,7 @@
 use Rattle.std.proofs.Common.{sym, ◌≡◌, ◌∙◌, Some, [], ap, refl}
 use Rattle.ppdb_tables.specs.RawOf.{raw_of}
 use Rattle.ppdb_heaps.specs.Heaps.{blob_at}
-use Rattle.sequence_points.specs.Records.{sequence_points}
-use Rattle.ppdb_verify_rules.{specs.Blobs.{point_limits}, proofs.BlobFaults.{no_length, not_whole, value_there}, proofs.MethodDebugFaults.{no_points_first}}
-use Rattle.ppdb_verify_rules.proofs.MethodDebugFaults.{invalid_points_first, next_1}
+use Rattle.ppdb_verify_rules.proofs.{BlobFaults.{no_length, value_there}, MethodDebugFaults.{no_points_first, next_1}}
 use Rattle.ppdb_verify_rules.proofs.methods.judge_points.Goals as goal
 
 pub returns-in_default-clause-err : goal.returns-in_default-clause-err
@@ -18,21 +16,3 @@ returns-then-content-eq0-clause-ok c =
     next_1 (raw_of c.args.tables.now) c.args.row c.args.method.now c.requires.there c.requires.judged
     (value_there (raw_of c.args.tables.now).blobs c.in-Some.content.now c.args.method.now.points there)
     (λ fault some invalid. some (there ∙ ap Some nil))
-
-pub returns-in-Some-points_fault-clause-err : goal.returns-in-Some-points_fault-clause-err
-returns-in-Some-points_fault-clause-err c =
-    let there : blob_at (raw_of c.args.tables.now).blobs c.args.method.now.points ≡ Some c.in-Some.content.now =
-    sym (rw c.blobs.ensures at c.in-Some.ensures.blob) in
-    invalid_points_first (raw_of c.args.tables.now) c.args.row c.args.method.now c.requires.there c.fault_within.result c.in-Some-points_fault.inside
-    c.requires.judged
-    (λ nil. c.if-content-eq0.false (let e : Some c.in-Some.content.now ≡ Some [] = sym there ∙ nil in let f : c.in-Some.content.now ≡ [] = cc in rw f refl))
-    (record { content = c.in-Some.content.now; there = there; reads = c.in-Some-points_fault.ensures }) c.fault_within.ensures
-
-pub returns-in-None-clause-ok : goal.returns-in-None-clause-ok
-returns-in-None-clause-ok c =
-    let there : blob_at (raw_of c.args.tables.now).blobs c.args.method.now.points ≡ Some c.in-Some.content.now =
-    sym (rw c.blobs.ensures at c.in-Some.ensures.blob) in
-    next_1 (raw_of c.args.tables.now) c.args.row c.args.method.now c.requires.there c.requires.judged
-    (value_there (raw_of c.args.tables.now).blobs c.in-Some.content.now c.args.method.now.points there)
-    (λ fault some invalid. not_whole {g = sequence_points c.args.method.now.document (point_limits (raw_of c.args.tables.now))} c.in-Some.content.now there
-    c.in-None.ensures invalid)
