@@ -232,11 +232,7 @@ impl Drafting {
 
     /// Adds an import scope, and answers the blob of its imports.
     #[tactic(auto, unfolding(crate::specs::Draft::with_import))]
-    pub fn import(
-        &mut self,
-        parent: u32,
-        imports: &[ImportValue],
-    ) -> Result<InternedBlob, Memory>
+    pub fn import(&mut self, parent: u32, imports: &[ImportValue]) -> Result<InternedBlob, Memory>
         requires { All HasSpelling imports.now }
         ensures added { OnOk result
             (self.new ≡ with_import self.old (record { parent = parent; imports = imports.now })) }

@@ -26,7 +26,6 @@ mod search;
 mod starts;
 mod words;
 
-pub use bit_set::{BitSet, RowSet};
 pub use image::RowImage;
 pub use laws::{
     kept_offsets_rise, maps_are_readable, next_image_never_falls, refusals_are_one,

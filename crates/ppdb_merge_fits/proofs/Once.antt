@@ -70,9 +70,11 @@ module _ {A : Type 0} (group number : A → ℕ) where
           let here : not (same k x) ≡ true = apart k x is pairs.0.0 x pairs.0.0 (omega arith, λ e. omega arith) in
           let later : Each (λ y. not (same k y) ≡ true) xs = both xs pairs.0.1 pairs.1.0 in
           ap (λ l. k ∷ l) (next
-          ∙ sym (filter_all (λ y. not (same k y)) (x ∷ filter (λ y. not (same x y)) (firsts same xs)) (here,
-          Each-filter (λ y. not (same k y) ≡ true) (λ y. not (same k y) ≡ true) (λ y. not (same x y)) (λ y p holds. holds) (firsts same xs)
-          (first_each (λ y. not (same k y) ≡ true) xs later))))
+          ∙ sym (filter_all (λ y. not (same k y)) (x ∷ filter (λ y. not (same x y)) (firsts same xs)) (
+            here,
+            Each-filter (λ y. not (same k y) ≡ true) (λ y. not (same k y) ≡ true) (λ y. not (same x y)) (λ y p holds. holds) (firsts same xs)
+                (first_each (λ y. not (same k y) ≡ true) xs later),
+          )))
         where
           both : (ys : List A) → Each (IsNotBelow k) ys → Each (IsNotBelow x) ys → Each (λ y. not (same k y) ≡ true) ys
           both [] a b = tt

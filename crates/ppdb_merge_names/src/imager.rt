@@ -5,9 +5,9 @@ ghost use Rattle.ppdb_maps.specs.Map.{leaves_table};
 ghost use Rattle.ppdb_merge_names.specs.Imaging.{GoesThrough, has_image};
 ghost use Rattle.ppdb_merge_names.specs.References.{is_live, names, names_some, takes_constant};
 
+use crate::bit_set::RowSet;
 use crate::imaged::{Imaged, ReferenceError};
 use ppdb_base::{List, Memory, Place};
-use crate::bit_set::RowSet;
 use ppdb_maps::{MapText, RowImage};
 use ppdb_tables::ASSEMBLY;
 use std::alloc::Global;

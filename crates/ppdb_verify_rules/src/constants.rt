@@ -157,9 +157,7 @@ pub(crate) fn judge_constants<L: Ledger>(
     let _ = tables.shape();
     for row in 1..last + 1 {
         let constant = tables.constant(row, steps);
-        owner = judge_constant(
-            tables, row, &constant, owner, &mut names, &mut read, steps,
-        )?;
+        owner = judge_constant(tables, row, &constant, owner, &mut names, &mut read, steps)?;
     }
     Ok(())
 }

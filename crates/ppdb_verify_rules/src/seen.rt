@@ -61,11 +61,7 @@ pub const LONG_BLOB: usize = 256;
 
 /// Whether a blob is still to be read, where the bits of the long blobs that were read are set. It
 /// counts as read then.
-pub(crate) fn is_unread(
-    read: &mut Vec<u32>,
-    index: u32,
-    content: &[u8],
-) -> Result<bool, AllocError>
+pub(crate) fn is_unread(read: &mut Vec<u32>, index: u32, content: &[u8]) -> Result<bool, AllocError>
     ensures read { IfOk result (λ unread. OnFalse unread (Has read.old.items index)) }
     ensures only { OnOk result ((n : ℕ) → Has read.new.items n
         → Has read.old.items n ⊎ (n ≡ index)) }

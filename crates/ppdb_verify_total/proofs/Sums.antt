@@ -213,7 +213,7 @@ inside_is blobs table row column [] = refl
 inside_is blobs table row column (x ∷ indexes) =
     let rest = inside_is blobs table row column indexes in
     let one : total_of (named_inside blobs table row column (x ∷ indexes)) ≡ len_of (blob_at blobs x.index) + total_of (named_inside blobs table row column indexes)
-        = sum_by-cons (λ (y : HeapUse). y.len) (record { at = in_blob table row column x.byte; len = len_of (blob_at blobs x.index) })
+    = sum_by-cons (λ (y : HeapUse). y.len) (record { at = in_blob table row column x.byte; len = len_of (blob_at blobs x.index) })
     (named_inside blobs table row column indexes) in
     let two : bytes_named blobs (x ∷ indexes) ≡ len_of (blob_at blobs x.index) + bytes_named blobs indexes =
     sum_by-cons (λ (y : PlacedIndex). len_of (blob_at blobs y.index)) x indexes in omega (arith, rest, one, two)
