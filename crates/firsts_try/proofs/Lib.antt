@@ -1,4 +1,0 @@
-pub mod Lists
-pub mod Orders
-pub mod Firsts
-pub mod Once

@@ -1,4 +1,0 @@
-pub mod Each
-pub mod Sorted
-pub mod Twice
-pub mod Imaging

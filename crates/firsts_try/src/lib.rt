@@ -1,5 +1,0 @@
-//! A trial.
-#![tactic(auto)]
-
-/// Nothing.
-pub fn nothing() {}
