@@ -1,19 +1,20 @@
 -- A draft holds a line that was added.
-use Rattle.std.proofs.Common.{inl, inr, ℕ, ◌≡◌, ◌≤◌, ◌&&◌, ◌||◌, ◌++◌, map, Bool, true, false, cond, List, [], ◌∷◌, Option, Some, None, Result, Ok, Err, OnOk, IfErr}
+use Rattle.std.proofs.Common.{inl, inr, ℕ, ◌≡◌, ◌+◌, ◌<◌, ◌≤◌, ◌&&◌, ◌||◌, ◌++◌, map, Bool, true, false, cond, List, [], ◌∷◌, Option, Some, None, Result, Ok, Err, OnOk, IfErr}
 use Rattle.std.{proofs.Common.{lit≤, refl, sym, ap, ◌∙◌, subst, rules}, specs.Prelude.{nat_eq, bytes_eq, is_some, option_map, option_and_then, Vec}}
 use Rattle.std.specs.{Cmp.{IsEquivalence}, List.{find, list_any, IsDistinct}, Option.{option_or}, declared.alloc.Global.{Global}}
 use Rattle.std.proofs.lemmas.{List.{map-append}, List.Folds.{find-append}, Cmp.{nat_eq_equiv}, Map.Keys.{IsDistinct-push}, Bool.{false≢true}}
 use Rattle.ppdb_base.specs.declared.offsets.Run.{Run}
 use Rattle.std.specs.BTreeMap as tree
 use Rattle.std.specs.{BTreeMap.{BTreeMap, is_at}, Ordering.{nat_cmp}, Cmp.Lexicographic.{slice_cmp}}
-use Rattle.ppdb_maps.specs.{Map.{MethodLine, pair_cmp}, BitSets.{has_number, has_row}, Gathered.{row_key, cross_key, gone_key, method_key, signature_key, same_pair}}
+use Rattle.ppdb_maps.specs.{Map.{MethodLine, pair_cmp, none_shared}, BitSets.{has_number, has_row}, Gathered.{row_key, cross_key, gone_key, method_key, signature_key, same_pair}}
 use Rattle.ppdb_maps.specs.Before.{reported, methods_of, follows_method, row_said, cross_said, gone_said, slot_said, signature_said, document_said, slot_in}
 use Rattle.ppdb_maps.specs.{Before.{document_in}, Places.{Place, place, is_place, row_place, slot_place, signature_place, document_place, method_place}}
-use Rattle.ppdb_maps.specs.{Rules.{kind_of, Breaks, BeginsEarly, EndsBeyond, second, alone, run_alone, run_early, run_long, names_dropped}, Runs.{RefusesRun}}
+use Rattle.ppdb_maps.specs.{Rules.{kind_of, Breaks, BeginsEarly, EndsBeyond, HidesEarly, second, alone, run_alone, run_early, run_long, names_dropped}}
+use Rattle.ppdb_maps.specs.{Rules.{hide_alone, hide_early, hide_long}, Runs.{RefusesOffsets}, declared.entries.Shared.{Shared}}
 use Rattle.ppdb_maps.specs.{Drafts.{Gathers, Holds, HoldsOthers, HoldsMethods, HasLines, IsClosed, RefusedBy, AddsLine}, declared.draft.Draft.{Draft}}
 use Rattle.ppdb_maps.specs.declared.{refusal.Refusal.{Refusal}, refusal.Refusal.TheVariants.{Breaks as refused, Memory}, line.Line.{Line}}
-use Rattle.ppdb_maps.specs.declared.{line.Line.TheVariants.{Row, Cross, Gone, Method, Kept, Slot, Signature, Document, Link, Shares}, rule.Rule.{Rule}}
-use Rattle.ppdb_maps.specs.declared.{rule.Rule.TheVariants.{Repeated, NoMethod}, bit_set.BitSet.{BitSet}, bit_set.RowSet.{RowSet}, entries.RowLine.{RowLine}}
+use Rattle.ppdb_maps.specs.declared.{line.Line.TheVariants.{Row, Cross, Gone, Method, Kept, Slot, Signature, Document, Link, Shares, SharesSlots, Hidden}, rule.Rule.{Rule}}
+use Rattle.ppdb_maps.specs.declared.{rule.Rule.TheVariants.{Repeated, NoMethod, Overlap, Beyond}, bit_set.BitSet.{BitSet}, bit_set.RowSet.{RowSet}, entries.RowLine.{RowLine}}
 use Rattle.ppdb_maps.specs.declared.entries.{CrossLine.{CrossLine}, GoneLine.{GoneLine}, SignatureImage.{SignatureImage}, NameLine.{NameLine}}
 use Rattle.ppdb_maps.proofs.{OneMap.{pair_equal, pair_is, same_number}, Refusing.{none_of, at_pair}, Telling.{has_method, placed, none_there}}
 
@@ -100,7 +101,7 @@ pub none_held : (draft : Draft) → draft.counts.entries ≡ [] → draft.rows.i
     → ((table row : ℕ) → has_row draft.moved table row ≡ false) → draft.methods.items ≡ [] → ((number : ℕ) → has_number draft.listed number ≡ false)
     → draft.current ≡ None → draft.drops.keys ≡ [] → draft.slotted.keys ≡ [] → draft.slots.entries ≡ [] → draft.signatures.items ≡ []
     → ((number : ℕ) → has_number draft.signed number ≡ false) → draft.documents.entries ≡ [] → draft.link ≡ None
-    → draft.shares ≡ false → Holds [] draft
+    → draft.shares ≡ none_shared → Holds [] draft
 unfolding IsDistinct
 none_held draft counts rows crossed gone moved methods listed current drops slotted slots signatures signed documents link shares = record {
   others = search rules;
@@ -174,7 +175,7 @@ module _ (before : List Line) (draft : Draft) (closed : IsClosed before draft) w
       λ k. marks k ∙ there_now (nat_eq x.method k) (has_number draft.signed k) line (reported before (signature_place k)) (here.signed k) in
       closed_holds before line (record draft { signatures = signatures; signed = signed }) closed.closed (search rules) (closed.methods, refl)
 
-  pub slot_put : (slots : BTreeMap (ℕ × ℕ) ℕ) (m o n : ℕ)
+  pub slot_put : (slots : BTreeMap (ℕ × ℕ) (Option ℕ)) (m o : ℕ) (n : Option ℕ)
       → ((q : ℕ × ℕ) → tree.get pair_cmp slots q ≡ cond (is_at (pair_cmp (m, o)) q) (Some n) (tree.get pair_cmp draft.slots q))
       → Holds (Slot m o n ∷ before) (record draft { slots = slots })
   slot_put slots m o n updates =
@@ -205,13 +206,20 @@ module _ (before : List Line) (draft : Draft) (closed : IsClosed before draft) w
       let here = closed.others in
       closed_holds before (Link value) (record draft { link = Some value }) closed.closed (search rules) (closed.methods, refl)
 
-  pub shares_put : Holds (Shares ∷ before) (record draft { shares = true })
+  pub shares_put : Holds (Shares ∷ before) (record draft { shares = record draft.shares { rows = true } })
   shares_put =
       let here = closed.others in
-      closed_holds before Shares (record draft { shares = true }) closed.closed (search rules) (closed.methods, refl)
+      let shared = ap (λ (s : Shared). record s { rows = true }) here.shares in
+      closed_holds before Shares (record draft { shares = record draft.shares { rows = true } }) closed.closed (search rules) (closed.methods, refl)
+
+  pub shares_slots_put : Holds (SharesSlots ∷ before) (record draft { shares = record draft.shares { slots = true } })
+  shares_slots_put =
+      let here = closed.others in
+      let shared = ap (λ (s : Shared). record s { slots = true }) here.shares in
+      closed_holds before SharesSlots (record draft { shares = record draft.shares { slots = true } }) closed.closed (search rules) (closed.methods, refl)
 
   pub method_added : (m o n : ℕ) → (Breaks before Repeated (Method m o n) → ⊥)
-      → Holds (Method m o n ∷ before) (record draft { current = Some (record { method = m; old_size = o; new_size = n; runs = [] }) })
+      → Holds (Method m o n ∷ before) (record draft { current = Some (record { method = m; old_size = o; new_size = n; runs = []; stretches = [] }) })
   method_added m o n once =
       let here = closed.others in
       record {
@@ -249,70 +257,120 @@ method_closed before draft methods listed line holds is pushes marks =
           ∙ (some_or (nat_eq line.method k) line (find (λ l. nat_eq l.method k) h.0) ∙ ap (λ ls. is_some (find (λ l. nat_eq l.method k) ls)) (sym h.1)));
     }
 
--- a run is refused where no method is open
-pub run_unowned : (before : List Line) (draft : Draft) (run : Run) → Holds before draft → draft.current ≡ None → RefusedBy before (Kept run) (refused NoMethod)
-run_unowned before draft run holds is =
-    let h : HoldsMethods before None draft = subst (λ (m : Option MethodLine). HoldsMethods before m draft) is holds.methods in
-    (run_alone h.1, λ other b. least other b)
+-- ---- a line of offsets: a `run` or a `hide`
+
+-- such a line is refused where no method is open, or it begins early in the last one or ends beyond it
+data BreaksIn (before : List Line) (early beyond : MethodLine → Type 0) : Rule → Type 0 where
+  in_none : follows_method before ≡ false → BreaksIn before early beyond NoMethod
+  in_early : (line : MethodLine) (lines : List MethodLine) → methods_of before ≡ line ∷ lines → early line → BreaksIn before early beyond Overlap
+  in_beyond : (line : MethodLine) (lines : List MethodLine) → methods_of before ≡ line ∷ lines → beyond line → BreaksIn before early beyond Beyond
+
+pub record IsOfOffsets (before : List Line) (line : Line) (early beyond : MethodLine → Type 0) : Type 0 where
+  breaks : (rule : Rule) → BreaksIn before early beyond rule → Breaks before rule line
+  broken : (rule : Rule) → Breaks before rule line → BreaksIn before early beyond rule
+  others : (draft : Draft) → HoldsOthers before draft → HoldsOthers (line ∷ before) draft
+  follows : follows_method (line ∷ before) ≡ follows_method before
+
+pub run_line_is : (before : List Line) (run : Run) → IsOfOffsets before (Kept run) (BeginsEarly run) (EndsBeyond run)
+run_line_is before run = record {
+  breaks = λ rule b. breaks rule b;
+  broken = λ rule b. broken rule b;
+  others = λ draft here. search rules;
+  follows = refl;
+}
   where
-    least : (other : Rule) → Breaks before other (Kept run) → 6 ≤ kind_of other
-    least other (second at is h) = absurd (cc)
-    least other (alone at is h) = absurd (cc)
-    least other (names_dropped m is h) = absurd (cc)
-    least other h = lit≤ tt
+    breaks : (rule : Rule) → BreaksIn before (BeginsEarly run) (EndsBeyond run) rule → Breaks before rule (Kept run)
+    breaks rule (in_none h) = run_alone h
+    breaks rule (in_early line lines is h) = run_early is h
+    breaks rule (in_beyond line lines is h) = run_long is h
+
+    broken : (rule : Rule) → Breaks before rule (Kept run) → BreaksIn before (BeginsEarly run) (EndsBeyond run) rule
+    broken rule (second at is h) = absurd (cc)
+    broken rule (alone at is h) = absurd (cc)
+    broken rule (names_dropped m is h) = absurd (cc)
+    broken rule (run_alone h) = in_none h
+    broken rule (run_early {line = line} {lines = lines} is h) = in_early line lines is h
+    broken rule (run_long {line = line} {lines = lines} is h) = in_beyond line lines is h
+
+pub hide_line_is : (before : List Line) (new length : ℕ)
+    → IsOfOffsets before (Hidden new length) (HidesEarly new) (λ line. line.new_size < new + length)
+hide_line_is before new length = record {
+  breaks = λ rule b. breaks rule b;
+  broken = λ rule b. broken rule b;
+  others = λ draft here. search rules;
+  follows = refl;
+}
+  where
+    breaks : (rule : Rule) → BreaksIn before (HidesEarly new) (λ line. line.new_size < new + length) rule → Breaks before rule (Hidden new length)
+    breaks rule (in_none h) = hide_alone h
+    breaks rule (in_early line lines is h) = hide_early is h
+    breaks rule (in_beyond line lines is h) = hide_long is h
+
+    broken : (rule : Rule) → Breaks before rule (Hidden new length) → BreaksIn before (HidesEarly new) (λ line. line.new_size < new + length) rule
+    broken rule (second at is h) = absurd (cc)
+    broken rule (alone at is h) = absurd (cc)
+    broken rule (names_dropped m is h) = absurd (cc)
+    broken rule (hide_alone h) = in_none h
+    broken rule (hide_early {line = line} {lines = lines} is h) = in_early line lines is h
+    broken rule (hide_long {line = line} {lines = lines} is h) = in_beyond line lines is h
 
 first_line : (before : List Line) (line other : MethodLine) (lines others : List MethodLine) → methods_of before ≡ line ∷ lines
     → methods_of before ≡ other ∷ others → other ≡ line
 first_line before line other lines others a b = let e : line ∷ lines ≡ other ∷ others = sym a ∙ b in cc
 
--- a run that an open method took, or refused
-pub run_added : (before : List Line) (draft : Draft) (line taken : MethodLine) (run : Run) (result : Result (Unit {0}) Refusal) → Holds before draft
-    → draft.current ≡ Some line
-    → OnOk result (taken ≡ record line { runs = line.runs ++ run ∷ [] }) → OnOk result ((BeginsEarly run line.runs → ⊥) × (EndsBeyond run line → ⊥))
-    → IfErr result (RefusesRun run line) → AddsLine before (Kept run) result (record draft { current = Some taken })
-run_added before draft line taken run result holds is added kept why =
-    of result (subst (λ (m : Option MethodLine). HoldsMethods before m draft) is holds.methods) added kept why
-  where
-    follows : follows_method before ≡ true → follows_method before ≡ false → ⊥
-    follows there absent = false≢true (sym absent ∙ there)
+module _ (before : List Line) (line : Line) (early beyond : MethodLine → Type 0) (is_line : IsOfOffsets before line early beyond) where
+  -- it is refused where no method is open
+  pub unowned : (draft : Draft) → Holds before draft → draft.current ≡ None → RefusedBy before line (refused NoMethod)
+  unowned draft holds is =
+      let h : HoldsMethods before None draft = subst (λ (m : Option MethodLine). HoldsMethods before m draft) is holds.methods in
+      (is_line.breaks NoMethod (in_none h.1), λ other b. least other (is_line.broken other b))
+    where
+      least : (other : Rule) → BreaksIn before early beyond other → 6 ≤ kind_of other
+      least other (in_none h) = lit≤ tt
+      least other (in_early l ls is h) = lit≤ tt
+      least other (in_beyond l ls is h) = lit≤ tt
 
-    of : (result : Result (Unit {0}) Refusal) → HoldsMethods before (Some line) draft
-        → OnOk result (taken ≡ record line { runs = line.runs ++ run ∷ [] }) → OnOk result ((BeginsEarly run line.runs → ⊥) × (EndsBeyond run line → ⊥))
-        → IfErr result (RefusesRun run line) → AddsLine before (Kept run) result (record draft { current = Some taken })
-    of (Ok u) h added kept why = (
-      record {
-        others = let here = holds.others in search rules;
-        methods = (h.0, rw (h.1, added) refl, h.2, h.3, rw added h.4);
-      },
-      λ rule b. keeps rule b,
-    )
-      where
-        keeps : (rule : Rule) → Breaks before rule (Kept run) → ⊥
-        keeps rule (second at is k) = absurd (cc)
-        keeps rule (alone at is k) = absurd (cc)
-        keeps rule (names_dropped m is k) = absurd (cc)
-        keeps rule (run_alone k) = follows h.3 k
-        keeps rule (run_early {line = other} e k) = kept.0 (subst (λ (l : MethodLine). BeginsEarly run l.runs) (first_line before line other h.0 _ h.1 e) k)
-        keeps rule (run_long {line = other} e k) = kept.1 (subst (λ (l : MethodLine). EndsBeyond run l) (first_line before line other h.0 _ h.1 e) k)
-    of (Err Memory) h added kept why = tt
-    of (Err (refused rule)) h added kept (inl w) =
-        subst (λ (r : Rule). RefusedBy before (Kept run) (refused r)) (sym w.0) (run_early h.1 w.1, λ other b. least other b)
-      where
-        least : (other : Rule) → Breaks before other (Kept run) → 7 ≤ kind_of other
-        least other (second at is k) = absurd (cc)
-        least other (alone at is k) = absurd (cc)
-        least other (names_dropped m is k) = absurd (cc)
-        least other (run_alone k) = absurd (follows h.3 k)
-        least other (run_early e k) = lit≤ tt
-        least other (run_long e k) = lit≤ tt
-    of (Err (refused rule)) h added kept (inr w) =
-        subst (λ (r : Rule). RefusedBy before (Kept run) (refused r)) (sym w.0) (run_long h.1 w.2, λ other b. least other b)
-      where
-        least : (other : Rule) → Breaks before other (Kept run) → 8 ≤ kind_of other
-        least other (second at is k) = absurd (cc)
-        least other (alone at is k) = absurd (cc)
-        least other (names_dropped m is k) = absurd (cc)
-        least other (run_alone k) = absurd (follows h.3 k)
-        least other (run_early {line = early} e k) = absurd
-            (w.1 (subst (λ (l : MethodLine). BeginsEarly run l.runs) (first_line before line early h.0 _ h.1 e) k))
-        least other (run_long e k) = lit≤ tt
+  -- the open method took it, or refused it
+  pub offsets_added : (draft : Draft) (open taken : MethodLine) (result : Result (Unit {0}) Refusal) → Holds before draft → draft.current ≡ Some open
+      → OnOk result (((lines : List MethodLine) → methods_of before ≡ open ∷ lines → methods_of (line ∷ before) ≡ taken ∷ lines) × (taken.method ≡ open.method))
+      → OnOk result ((early open → ⊥) × (beyond open → ⊥)) → IfErr result (RefusesOffsets (early open) (beyond open))
+      → AddsLine before line result (record draft { current = Some taken })
+  offsets_added draft open taken result holds is added kept why =
+      of result (subst (λ (m : Option MethodLine). HoldsMethods before m draft) is holds.methods) added kept why
+    where
+      follows : follows_method before ≡ true → follows_method before ≡ false → ⊥
+      follows there absent = false≢true (sym absent ∙ there)
+
+      of : (result : Result (Unit {0}) Refusal) → HoldsMethods before (Some open) draft
+          → OnOk result (((lines : List MethodLine) → methods_of before ≡ open ∷ lines → methods_of (line ∷ before) ≡ taken ∷ lines) × (taken.method ≡ open.method))
+          → OnOk result ((early open → ⊥) × (beyond open → ⊥)) → IfErr result (RefusesOffsets (early open) (beyond open))
+          → AddsLine before line result (record draft { current = Some taken })
+      of (Ok u) h added kept why = (
+        record {
+          others = let here = is_line.others draft holds.others in search rules;
+          methods = (h.0, added.0 h.0 h.1, h.2, is_line.follows ∙ h.3, rw added.1 h.4);
+        },
+        λ rule b. keeps rule (is_line.broken rule b),
+      )
+        where
+          keeps : (rule : Rule) → BreaksIn before early beyond rule → ⊥
+          keeps rule (in_none k) = follows h.3 k
+          keeps rule (in_early other others e k) = kept.0 (subst early (first_line before open other h.0 others h.1 e) k)
+          keeps rule (in_beyond other others e k) = kept.1 (subst beyond (first_line before open other h.0 others h.1 e) k)
+      of (Err Memory) h added kept why = tt
+      of (Err (refused rule)) h added kept (inl w) =
+          subst (λ (r : Rule). RefusedBy before line (refused r)) (sym w.0)
+          (is_line.breaks Overlap (in_early open h.0 h.1 w.1), λ other b. least other (is_line.broken other b))
+        where
+          least : (other : Rule) → BreaksIn before early beyond other → 7 ≤ kind_of other
+          least other (in_none k) = absurd (follows h.3 k)
+          least other (in_early l ls e k) = lit≤ tt
+          least other (in_beyond l ls e k) = lit≤ tt
+      of (Err (refused rule)) h added kept (inr w) =
+          subst (λ (r : Rule). RefusedBy before line (refused r)) (sym w.0)
+          (is_line.breaks Beyond (in_beyond open h.0 h.1 w.2), λ other b. least other (is_line.broken other b))
+        where
+          least : (other : Rule) → BreaksIn before early beyond other → 8 ≤ kind_of other
+          least other (in_none k) = absurd (follows h.3 k)
+          least other (in_early other_line others e k) = absurd (w.1 (subst early (first_line before open other_line h.0 others h.1 e) k))
+          least other (in_beyond l ls e k) = lit≤ tt

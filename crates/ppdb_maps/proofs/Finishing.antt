@@ -8,7 +8,7 @@ use Rattle.std.proofs.lemmas.{Bool.Decides.{nat_tests}, Cmp.{nat_cmp_total, nat_
 use Rattle.std.proofs.lemmas.Map.Views.{exact_unsigned_eq}
 use Rattle.ppdb_maps.specs.{Map.{Map, MethodLine, Ascends, pair_cmp}, Gathered.{count_entry, row_key, cross_key, gone_key, method_key, signature_key, same_pair}}
 use Rattle.ppdb_maps.specs.{Gathered.{slot_entry, name_entry, name_cmp}, Drafts.{IsClosed}, Text.{HoldsWhat}, declared.entries.Count.{Count}}
-use Rattle.ppdb_maps.specs.declared.entries.{RowLine.{RowLine}, GoneLine.{GoneLine}, SlotImage.{SlotImage}, SignatureImage.{SignatureImage}, NameLine.{NameLine}}
+use Rattle.ppdb_maps.specs.declared.entries.{RowLine.{RowLine}, GoneLine.{GoneLine}, SlotLine.{SlotLine}, SignatureImage.{SignatureImage}, NameLine.{NameLine}}
 use Rattle.ppdb_maps.{specs.declared.draft.Draft.{Draft}, specs.declared.line.Line.{Line}, proofs.Named.{at_name}, proofs.OneList.{any_is}}
 use Rattle.ppdb_maps.proofs.{OneMap.{pair_equal, pair_exact, pair_is, pair_total, same_number}, Refusing.{at_number, at_pair}, Sorting.{found_alike, sorts_strictly}}
 
@@ -42,9 +42,9 @@ pub counts_found : (m : BTreeMap ℕ ℕ) (table : ℕ)
 counts_found m table = found_entry count_entry (λ (c : Count). nat_eq c.table table) (λ (c : Count). c.rows) (is_at (nat_cmp table))
     (λ e. turned e.0 table ∙ sym (at_number table e.0)) (λ e. refl) m.entries
 
-pub slots_found : (m : BTreeMap (ℕ × ℕ) ℕ) (method old : ℕ)
-    → option_map (λ (s : SlotImage). s.new) (find (λ s. nat_eq s.method method && nat_eq s.old old) (map slot_entry m.entries)) ≡ get pair_cmp m (method, old)
-slots_found m method old = found_entry slot_entry (λ (s : SlotImage). nat_eq s.method method && nat_eq s.old old) (λ (s : SlotImage). s.new)
+pub slots_found : (m : BTreeMap (ℕ × ℕ) (Option ℕ)) (method old : ℕ)
+    → option_map (λ (s : SlotLine). s.new) (find (λ s. nat_eq s.method method && nat_eq s.old old) (map slot_entry m.entries)) ≡ get pair_cmp m (method, old)
+slots_found m method old = found_entry slot_entry (λ (s : SlotLine). nat_eq s.method method && nat_eq s.old old) (λ (s : SlotLine). s.new)
     (is_at (pair_cmp (method, old)))
     (λ e. turned_pair e.0.0 e.0.1 method old ∙ sym (at_pair method old e.0.0 e.0.1)) (λ e. refl) m.entries
 
@@ -134,7 +134,7 @@ made_ascends before draft made closed h = record {
   methods = methods_ascend before draft made closed h;
   drops = rw h.drops h.drops_ordered;
   slotted = rw h.slotted h.slotted_ordered;
-  slots = rw (h.slots, same_keys slot_entry (λ (s : SlotImage). (s.method, s.old)) (λ e. refl) draft.slots.entries) h.slots_ordered;
+  slots = rw (h.slots, same_keys slot_entry (λ (s : SlotLine). (s.method, s.old)) (λ e. refl) draft.slots.entries) h.slots_ordered;
   signatures = signatures_ascend before draft made closed h;
   documents = rw h.documents (names_rise draft.documents.entries h.documents_ordered);
 }

@@ -1,14 +1,14 @@
 -- What lines that break no rule say is in range and fits together.
-use Rattle.std.proofs.Common.{inl, inr, ◌⊎◌, ℕ, ◌≡◌, ◌<◌, ◌≤◌, ◌++◌, Bool, true, false, cond, List, [], ◌∷◌, Option, Some, None, refl, sym, ap, ◌∙◌, subst, arith}
-use Rattle.std.{proofs.Common.{◌≢◌, rules}, specs.Prelude.{nat_eq, is_some}, specs.List.{find}}
+use Rattle.std.proofs.Common.{inl, inr, ◌⊎◌, ℕ, ◌≡◌, ◌+◌, ◌<◌, ◌≤◌, ◌++◌, Bool, true, false, cond, List, [], ◌∷◌, Option, Some, None, refl, sym, ap, ◌∙◌, subst, arith}
+use Rattle.std.{proofs.Common.{◌≢◌, rules}, specs.Prelude.{nat_eq, is_some, IfSome}, specs.List.{find}}
 use Rattle.ppdb_base.specs.{declared.offsets.Run.{Run}, Offsets.{Rise, lined}, declared.limits.TheConstants.{MAX_ROWS, MAX_OFFSET}}
-use Rattle.ppdb_maps.specs.{Before.{reported, method_in, methods_of, with_run}, Forms.{AreBytes, MAX_SLOT, Values, Tells, silent, reported as tells, rows_line}}
+use Rattle.ppdb_maps.specs.{Before.{reported, method_in, methods_of, with_run, with_hidden, and_stretch}, Forms.{AreBytes, MAX_SLOT, Values, Tells, silent, reported as tells, rows_line}}
 use Rattle.ppdb_maps.specs.Forms.{row_line, method_line, run_line, drop_line, slots_line, slot_line, signature_line, document_line, link_line, cross_line, gone_line}
-use Rattle.ppdb_maps.specs.{Forms.{shares_line, Crosses}, Map.{MethodLine}, Places.{Place, place, needs, names, named_at, is_place, drop_place}, Readable.{IsRow}}
-use Rattle.ppdb_maps.specs.{Rules.{Breaks, alone, run_early, run_long, drop_named, names_dropped, by_lines}, Text.{Read, start, further}, declared.line.Form.{Form}}
+use Rattle.ppdb_maps.specs.{Forms.{shares_line, shares_slots_line, hide_line, SaysSlot, Crosses}, Map.{MethodLine}, Places.{Place, place, needs, names, named_at, is_place, drop_place}, Readable.{IsRow, HidesApart}}
+use Rattle.ppdb_maps.specs.{Rules.{Breaks, alone, run_early, run_long, hide_early, hide_long, drop_named, names_dropped, by_lines}, Text.{Read, start, further}, declared.line.Form.{Form}}
 use Rattle.ppdb_maps.specs.declared.line.{Line.{Line}, Line.TheVariants.{Silent, Rows, Row, Cross, Gone, Method, Kept, Dropped, Slots, Slot, Signature, Document}}
-use Rattle.ppdb_maps.specs.declared.{line.Line.TheVariants.{Link, Shares}, rule.Rule.{Rule}, rule.Rule.TheVariants.{Undeclared, Overlap, Beyond, NamesDropped}}
-use Rattle.ppdb_maps.proofs.{Rising.{rise_with, not_less}, Telling.{reported_at, dropped}}
+use Rattle.ppdb_maps.specs.declared.{line.Line.TheVariants.{Link, Shares, SharesSlots, Hidden}, rule.Rule.{Rule}, rule.Rule.TheVariants.{Undeclared, Overlap, Beyond, NamesDropped}}
+use Rattle.ppdb_maps.proofs.{Hidden.{with_run_fits, with_stretch_hides, nothing_hides}, Telling.{reported_at, dropped}}
 
 -- the numbers of a line
 abbrev pub InRange : Line → Type 0
@@ -21,13 +21,19 @@ InRange (Method m o n) = IsRow m × (o ≤ MAX_OFFSET) × (n ≤ MAX_OFFSET)
 InRange (Kept run) = (run.old ≤ MAX_OFFSET) × (run.new ≤ MAX_OFFSET) × (0 < run.length) × (run.length ≤ MAX_OFFSET)
 InRange (Dropped m) = IsRow m
 InRange (Slots m) = IsRow m
-InRange (Slot m o n) = IsRow m × (o ≤ MAX_SLOT) × (n ≤ MAX_SLOT)
+InRange (Slot m o n) = IsRow m × (o ≤ MAX_SLOT) × IfSome n (λ new. new ≤ MAX_SLOT)
 InRange (Signature m n) = IsRow m × (n ≤ MAX_ROWS)
 InRange (Document d) = AreBytes d.old × AreBytes d.new
 InRange (Link value) = AreBytes value
 InRange Shares = Unit {0}
+InRange SharesSlots = Unit {0}
+InRange (Hidden new length) = (new ≤ MAX_OFFSET) × (0 < length) × (length ≤ MAX_OFFSET)
 
-values_range : (form : Form) (values : List (List ℕ)) (line : Line) → Values form values line → InRange line
+slot_range : {version : ℕ} (word : List ℕ) (n : Option ℕ) → SaysSlot version word n → IfSome n (λ new. new ≤ MAX_SLOT)
+slot_range word None says = tt
+slot_range word (Some n) says = says.to
+
+values_range : {version : ℕ} (form : Form) (values : List (List ℕ)) (line : Line) → Values version form values line → InRange line
 values_range form values line (rows_line a b) = (a.1, b.to)
 values_range form values line (row_line a b d) = (a.1, (b.from, b.to), (d.from, d.to))
 values_range form values line (cross_line a b d e f) = (a.1, d.1, (b.from, b.to), (e.from, e.to), f)
@@ -36,11 +42,13 @@ values_range form values line (method_line a b d) = ((a.from, a.to), b.to, d.to)
 values_range form values line (run_line a b d) = (a.to, b.to, d.from, d.to)
 values_range form values line (drop_line a) = (a.from, a.to)
 values_range form values line (slots_line a) = (a.from, a.to)
-values_range form values line (slot_line a b d) = ((a.from, a.to), b.to, d.to)
+values_range form values line (slot_line {new = n} a b d) = ((a.from, a.to), b.to, slot_range _ n d)
 values_range form values line (signature_line a b) = ((a.from, a.to), b.to)
 values_range form values line (document_line a b) = (a.within, b.within)
 values_range form values line (link_line a) = a.within
 values_range form values line shares_line = tt
+values_range form values line shares_slots_line = tt
+values_range form values line (hide_line a b) = (a.to, b.from, b.to)
 
 tells_range : (version : ℕ) (text : List ℕ) (line : Line) → Tells version text line → InRange line
 tells_range version text line (silent h) = tt
@@ -56,6 +64,7 @@ pub record IsPlaced (all : Place → Option Line) (line : Line) : Type 0 where
 abbrev pub FitsLine : MethodLine → Type 0
 FitsLine line =
     IsRow line.method × (line.old_size ≤ MAX_OFFSET) × (line.new_size ≤ MAX_OFFSET) × Rise (lined line.runs line.old_size line.new_size)
+    × HidesApart line
 
 -- each line fits among all, and so do the methods
 pub record Fits (said : List Line) : Type 0 where
@@ -114,36 +123,52 @@ module _ (before : List Line) (line : Line) (fits : Fits before) (range : InRang
         }
   ]
 
+-- the last method, with what one line more says of it
+last_fits : (before : List Line) (m : ℕ) (line more : MethodLine) (first : MethodLine) (others : List MethodLine) → Fits before
+    → methods_of before ≡ first ∷ others → more.method ≡ first.method → (FitsLine first → FitsLine more)
+    → find (λ l. nat_eq l.method m) (more ∷ others) ≡ Some line → FitsLine line
+last_fits before m line more first others fits e same longer is =
+    elim (answer_from (nat_eq more.method m) more line (find (λ l. nat_eq l.method m) others) is) [
+      | inl (hit, found) ↦ subst FitsLine found
+          (longer (fits.methods m first (ap (find (λ l. nat_eq l.method m)) e ∙ rw (sym (ap (λ k. nat_eq k m) same) ∙ hit) refl)))
+      | inr (miss, rest) ↦ fits.methods m line (ap (find (λ l. nat_eq l.method m)) e ∙ rw (sym (ap (λ k. nat_eq k m) same) ∙ miss) rest)
+    ]
+
 -- the methods, with a run more
 run_fits : (before : List Line) (run : Run) → Fits before → 0 < run.length → ((rule : Rule) → Breaks before rule (Kept run) → ⊥) → (m : ℕ) (line : MethodLine)
     → method_in (Kept run ∷ before) m ≡ Some line → FitsLine line
 run_fits before run fits range keeps m line is = of (methods_of before) refl is
   where
-    longer : (first : MethodLine) (others : List MethodLine) → methods_of before ≡ first ∷ others → FitsLine first
-        → FitsLine (record first { runs = first.runs ++ run ∷ [] })
-    longer first others e fit = (
-      fit.0,
-      fit.1,
-      fit.2,
-      rise_with 0 0 first.runs run (record { old = first.old_size; new = first.new_size; length = 1 }) range
-          (not_less _ _ (λ h. keeps Beyond (run_long e (inl h)))) (not_less _ _ (λ h. keeps Beyond (run_long e (inr h))))
-          (λ early. keeps Overlap (run_early e early)) (λ _. (omega arith, omega arith)) fit.3,
-    )
-
     of : (lines : List MethodLine) → methods_of before ≡ lines → find (λ l. nat_eq l.method m) (with_run run lines) ≡ Some line → FitsLine line
     of [] e is = absurd (cc)
+    of (first ∷ others) e is = last_fits before m line (record first { runs = first.runs ++ run ∷ [] }) first others fits e refl (λ fit.
+        let h = with_run_fits first run range (fit.3, fit.4) (λ early. keeps Overlap (run_early e early)) (λ long. keeps Beyond (run_long e long)) in
+        (fit.0, fit.1, fit.2, h.0, h.1)) is
+
+-- the methods, with a stretch more
+hide_fits : (before : List Line) (new length : ℕ) → Fits before → 0 < length → ((rule : Rule) → Breaks before rule (Hidden new length) → ⊥) → (m : ℕ)
+    (line : MethodLine)
+    → method_in (Hidden new length ∷ before) m ≡ Some line → FitsLine line
+hide_fits before new length fits range keeps m line is = of (methods_of before) refl is
+  where
+    of : (lines : List MethodLine) → methods_of before ≡ lines → find (λ l. nat_eq l.method m) (with_hidden new length lines) ≡ Some line → FitsLine line
+    of [] e is = absurd (cc)
     of (first ∷ others) e is =
-        elim (answer_from (nat_eq first.method m) (record first { runs = first.runs ++ run ∷ [] }) line (find (λ l. nat_eq l.method m) others) is) [
-          | inl (hit, same) ↦ subst FitsLine same (longer first others e (fits.methods m first (ap (find (λ l. nat_eq l.method m)) e ∙ rw hit refl)))
-          | inr (miss, rest) ↦ fits.methods m line (ap (find (λ l. nat_eq l.method m)) e ∙ rw miss rest)
-        ]
+        last_fits before m line (record first { stretches = and_stretch first.stretches new (new + length) }) first others fits e refl (λ fit. (
+          fit.0,
+          fit.1,
+          fit.2,
+          fit.3,
+          with_stretch_hides first new length range fit.3 fit.4 (λ early. keeps Overlap (hide_early e early)) (λ long. keeps Beyond (hide_long e long)),
+        )) is
 
 methods_fit : (before : List Line) (line : Line) → Fits before → InRange line → ((rule : Rule) → Breaks before rule line → ⊥) → (m : ℕ) (l : MethodLine)
     → method_in (line ∷ before) m ≡ Some l → FitsLine l
 methods_fit before (Kept run) fits range keeps m l is = run_fits before run fits range.2 keeps m l is
+methods_fit before (Hidden new length) fits range keeps m l is = hide_fits before new length fits range.1 keeps m l is
 methods_fit before (Method k o n) fits range keeps m l is =
-    elim (answer_from (nat_eq k m) (record { method = k; old_size = o; new_size = n; runs = [] }) l (method_in before m) is) [
-      | inl (hit, same) ↦ subst FitsLine same (range.0, range.1, range.2, (omega arith, omega arith, omega arith, tt))
+    elim (answer_from (nat_eq k m) (record { method = k; old_size = o; new_size = n; runs = []; stretches = [] }) l (method_in before m) is) [
+      | inl (hit, same) ↦ subst FitsLine same (range.0, range.1, range.2, (omega arith, omega arith, omega arith, tt), nothing_hides k o n [])
       | inr (miss, rest) ↦ fits.methods m l rest
     ]
 methods_fit before line fits range keeps m l is = fits.methods m l is

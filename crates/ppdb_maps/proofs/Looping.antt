@@ -2,14 +2,14 @@
 use Rattle.std.proofs.Common.{rules, ℕ, ◌≡◌, ◌<◌, ◌+◌, ◌++◌, List, [], ◌∷◌, Result, Ok, Err, length, append_assoc, length-append, refl, sym, ap, ◌∙◌, subst, arith}
 use Rattle.std.specs.{Prelude.{MatchResult}, Str.Lines.{lines}}
 use Rattle.ppdb_maps.specs.Forms.{Tells, Values, silent, reported, run_line, rows_line, row_line, method_line, drop_line, slots_line, slot_line, signature_line}
-use Rattle.ppdb_maps.specs.{Forms.{IsHead, document_line, link_line, cross_line, gone_line, shares_line}, Cuts.{IsLineOf}, Rules.{by_lines}, Text.{Read, start}}
+use Rattle.ppdb_maps.specs.{Forms.{IsHead, document_line, link_line, cross_line, gone_line, shares_line, shares_slots_line, hide_line}, Cuts.{IsLineOf}, Rules.{by_lines}, Text.{Read, start}}
 use Rattle.ppdb_maps.specs.{Text.{further, Refused, at_line, at_head}, Drafts.{Holds, AddsLine, HasLength}, Loops.{TextAdded, TextRefused, IsAt, RefusedIn}}
 use Rattle.ppdb_maps.specs.{Loops.{RefusedAs}, Reading.{RefusedAlone}, declared.draft.Draft.{Draft}, declared.line.Form.{Form}, declared.line.Line.{Line}}
 use Rattle.ppdb_maps.specs.declared.refusal.{Refusal.{Refusal}, Refusal.TheVariants.{Breaks as refused, Memory as no_memory}, MapError.{MapError}}
 use Rattle.ppdb_maps.{specs.declared.refusal.MapError.TheVariants.{Line as refused_line, Memory as out_of_memory}, proofs.Saying.{breaks_said}}
 
--- a run that a line says has an offset
-values_length : (form : Form) (values : List (List ℕ)) (line : Line) → Values form values line → HasLength line
+-- a run and a `hide` that a line says have an offset
+values_length : {version : ℕ} (form : Form) (values : List (List ℕ)) (line : Line) → Values version form values line → HasLength line
 values_length form values line says = search rules
 
 pub tells_length : (version : ℕ) (text : List ℕ) (line : Line) → Tells version text line → HasLength line

@@ -4,7 +4,7 @@ use Rattle.std.{proofs.Common.{map, subst}, specs.Prelude.{nat_eq, bytes_eq, cod
 use Rattle.std.specs.{Option.{option_map}, Ordering.{nat_cmp}, Cmp.Lexicographic.{slice_cmp, nat_list_cmp_total}, Cmp.{IsTotalOrder, IsEquivalence}}
 use Rattle.std.proofs.lemmas.{Map.Lookups.{CmpEqualImpliesEq, exact_pairs, exact_unsigned}, Bool.{cases_lt, eq-eqb, ne_eqb, eqb-true, and_parts, and_from}}
 use Rattle.std.proofs.lemmas.{Cmp.{then_total, on_total, nat_cmp_total, nat_eq_equiv}, List.{append_cancel_left}}
-use Rattle.ppdb_maps.specs.declared.entries.{Count.{Count}, RowLine.{RowLine}, CrossLine.{CrossLine}, GoneLine.{GoneLine}, SlotImage.{SlotImage}}
+use Rattle.ppdb_maps.specs.declared.entries.{Count.{Count}, RowLine.{RowLine}, CrossLine.{CrossLine}, GoneLine.{GoneLine}, SlotLine.{SlotLine}}
 use Rattle.ppdb_maps.specs.{declared.entries.SignatureImage.{SignatureImage}, declared.entries.NameLine.{NameLine}, declared.line.Line.{Line}, Gathered.{same_pair}}
 use Rattle.ppdb_maps.{specs.Map.{Map, MethodLine, map_of, pair_cmp}, specs.Text.{Read, HoldsWhat}, specs.Readable.{TextsHaveOneMap}, proofs.OneList.{one_list}}
 use Rattle.ppdb_maps.proofs.{OneReading.{read_same}, Named.{same_bytes, bytes_same}}
@@ -130,9 +130,9 @@ maps_same said a b x y =
     (λ n. x.methods n ∙ sym (y.methods n)) in
     let drops : a.drops ≡ b.drops = numbers_one a.drops b.drops x.ascends.drops y.ascends.drops (λ n. x.drops n ∙ sym (y.drops n)) in
     let slotted : a.slotted ≡ b.slotted = numbers_one a.slotted b.slotted x.ascends.slotted y.ascends.slotted (λ n. x.slotted n ∙ sym (y.slotted n)) in
-    let slots : a.slots ≡ b.slots = one_list (λ (s : SlotImage). (s.method, s.old)) same_pair pair_cmp pair_is is_pair pair_total a.slots b.slots
+    let slots : a.slots ≡ b.slots = one_list (λ (s : SlotLine). (s.method, s.old)) same_pair pair_cmp pair_is is_pair pair_total a.slots b.slots
     x.ascends.slots y.ascends.slots
-    (λ k. alike (λ (s : SlotImage). nat_eq s.method k.0 && nat_eq s.old k.1) (λ (s : SlotImage). s.new) (λ n. record { method = k.0; old = k.1; new = n })
+    (λ k. alike (λ (s : SlotLine). nat_eq s.method k.0 && nat_eq s.old k.1) (λ (s : SlotLine). s.new) (λ n. record { method = k.0; old = k.1; new = n })
     (λ s hit. let parts = and_parts (nat_eq s.method k.0) (nat_eq s.old k.1) hit in
     ap (λ t. record { method = t; old = k.1; new = s.new }) (sym (eqb-true s.method k.0 parts.0))
     ∙ ap (λ o. record { method = s.method; old = o; new = s.new }) (sym (eqb-true s.old k.1 parts.1)))

@@ -120,7 +120,7 @@ run_word (x ∷ y ∷ z ∷ w ∷ rest) long a b c d =
 -- a line of words that says this
 line_there : (since_form : ℕ) (text w : List ℕ) (words : List (List ℕ)) (rest : List ℕ) (form : Form) (said : Line) → text ≡ line_of w words ++ 10 ∷ rest
     → From 33 w → EachFrom words
-    → w ≡ name_of form → length (w ∷ words) ≡ words_in form → since form ≤ since_form → (IsSilent (line_of w words) → ⊥) → Values form words said
+    → w ≡ name_of form → length (w ∷ words) ≡ words_in form → since form ≤ since_form → (IsSilent (line_of w words) → ⊥) → ((version : ℕ) → Values version form words said)
     → IsLineBefore since_form text said rest
 line_there since_form text w words rest form said is fw fs named counted there loud values = record {
   line = line_of w words;
@@ -130,7 +130,7 @@ line_there since_form text w words rest form said is fw fs named counted there l
     named = words_are w words fw fs ∙ ap (λ x. x ∷ words) named;
     counted = ap length (words_are w words fw fs) ∙ counted;
     there = omega (arith, there, at_least);
-  }) values;
+  }) (values version);
 }
 
 -- a `run` line that was read
@@ -144,7 +144,7 @@ run_there text v1 v2 v3 rest run is old new long o n some l =
     (omega arith, (omega arith, (omega arith, tt)))
     (decimal_from 33 run.old (omega arith) old.fits, (decimal_from 33 run.new (omega arith) new.fits, (decimal_from 33 run.length (omega arith) long.fits, tt)))
     refl refl (omega arith) (λ silent. omega (arith, silent))
-    (run_line (record { spelled = refl; from = omega arith; to = o }) (record { spelled = refl; from = omega arith; to = n })
+    (λ version. run_line (record { spelled = refl; from = omega arith; to = o }) (record { spelled = refl; from = omega arith; to = n })
     (record { spelled = refl; from = some; to = l }))
 
 pub method_word : (text : List ℕ) → 7 ≤ length text → get_or text 0 0 ≡ 109 → get_or text 1 0 ≡ 101 → get_or text 2 0 ≡ 116 → get_or text 3 0 ≡ 104
@@ -173,7 +173,7 @@ method_there text v1 v2 v3 rest m o n is first second third some rows old new =
     (omega arith, (omega arith, (omega arith, (omega arith, (omega arith, (omega arith, tt))))))
     (decimal_from 33 m (omega arith) first.fits, (decimal_from 33 o (omega arith) second.fits, (decimal_from 33 n (omega arith) third.fits, tt)))
     refl refl (omega arith) (λ silent. omega (arith, silent))
-    (method_line (record { spelled = refl; from = some; to = rows }) (record { spelled = refl; from = omega arith; to = old })
+    (λ version. method_line (record { spelled = refl; from = some; to = rows }) (record { spelled = refl; from = omega arith; to = old })
     (record { spelled = refl; from = omega arith; to = new }))
 
 pub row_word : (text : List ℕ) → 7 ≤ length text → get_or text 0 0 ≡ 114 → get_or text 1 0 ≡ 111 → get_or text 2 0 ≡ 119 → get_or text 3 0 ≡ 32
@@ -209,7 +209,7 @@ row_there text word v1 v2 rest t o n is table second third old rows new most =
     (omega arith, (omega arith, (omega arith, tt)))
     (table_from word t table, (decimal_from 33 o (omega arith) second.fits, (decimal_from 33 n (omega arith) third.fits, tt)))
     refl refl (omega arith) (λ silent. omega (arith, silent))
-    (row_line table (record { spelled = refl; from = old; to = rows }) (record { spelled = refl; from = new; to = most }))
+    (λ version. row_line table (record { spelled = refl; from = old; to = rows }) (record { spelled = refl; from = new; to = most }))
 
 pub table_word : (text : List ℕ) → 3 ≤ length text → get_or text 2 0 ≡ 32 → text ≡ take 2 text ++ 32 ∷ after 3 text
 table_word [] long c = absurd (omega (arith, long))
@@ -241,7 +241,7 @@ cross_there text word v1 v2 other v3 rest line is table second parts to third ol
       ),
     )
     refl refl (omega arith) (λ silent. omega (arith, silent))
-    (cross_line table (record { spelled = refl; from = old; to = rows }) to (record { spelled = refl; from = new; to = most }) crosses)
+    (λ version. cross_line table (record { spelled = refl; from = old; to = rows }) to (record { spelled = refl; from = new; to = most }) crosses)
 
 pub gone_word : (text : List ℕ) → 8 ≤ length text → get_or text 0 0 ≡ 103 → get_or text 1 0 ≡ 111 → get_or text 2 0 ≡ 110 → get_or text 3 0 ≡ 101
     → get_or text 4 0 ≡ 32
@@ -273,7 +273,7 @@ gone_there text word v1 rest t o is table other number old rows =
     (omega arith, (omega arith, (omega arith, (omega arith, tt))))
     (table_from word t table, (decimal_from 33 o (omega arith) number.fits, tt))
     refl refl (omega arith) (λ silent. omega (arith, silent))
-    (gone_line table other (record { spelled = refl; from = old; to = rows }))
+    (λ version. gone_line table other (record { spelled = refl; from = old; to = rows }))
 
 pub signature_word : (text : List ℕ) → 10 ≤ length text → get_or text 0 0 ≡ 115 → get_or text 1 0 ≡ 105 → get_or text 2 0 ≡ 103 → get_or text 3 0 ≡ 110
     → get_or text 4 0 ≡ 97 → get_or text 5 0 ≡ 116 → get_or text 6 0 ≡ 117 → get_or text 7 0 ≡ 114 → get_or text 8 0 ≡ 101 → get_or text 9 0 ≡ 32
@@ -310,4 +310,4 @@ signature_there text v1 v2 rest m n is first second some rows most =
     (omega arith, (omega arith, (omega arith, (omega arith, (omega arith, (omega arith, (omega arith, (omega arith, (omega arith, tt)))))))))
     (decimal_from 33 m (omega arith) first.fits, (decimal_from 33 n (omega arith) second.fits, tt))
     refl refl (omega arith) (λ silent. omega (arith, silent))
-    (signature_line (record { spelled = refl; from = some; to = rows }) (record { spelled = refl; from = omega arith; to = most }))
+    (λ version. signature_line (record { spelled = refl; from = some; to = rows }) (record { spelled = refl; from = omega arith; to = most }))

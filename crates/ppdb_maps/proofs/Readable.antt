@@ -6,7 +6,7 @@ use Rattle.ppdb_maps.specs.{Gathered.{same_pair}, Map.{Map, MethodLine, pair_cmp
 use Rattle.ppdb_maps.specs.{Readable.{IsGoneOf, IsLineOf, IsSlottedOf, IsSlotOf, IsSignatureOf, AreNames, MapsAreReadable}, Forms.{AreBytes}, Before.{reported}}
 use Rattle.ppdb_maps.specs.{Before.{method_in, row_said, cross_said}, Places.{place, is_place, names, named_at, link_place, rows_place, row_place, drop_place}}
 use Rattle.ppdb_maps.specs.{Places.{slots_place, slot_place, signature_place, document_place, method_place}, Text.{HoldsWhat, Read}, declared.entries.Count.{Count}}
-use Rattle.ppdb_maps.specs.declared.entries.{RowLine.{RowLine}, CrossLine.{CrossLine}, GoneLine.{GoneLine}, SlotImage.{SlotImage}, SignatureImage.{SignatureImage}}
+use Rattle.ppdb_maps.specs.declared.entries.{RowLine.{RowLine}, CrossLine.{CrossLine}, GoneLine.{GoneLine}, SlotLine.{SlotLine}, SignatureImage.{SignatureImage}}
 use Rattle.ppdb_maps.specs.declared.{entries.NameLine.{NameLine}, line.Line.{Line}, line.Line.TheVariants.{Rows, Row, Cross, Gone, Dropped, Slots, Slot, Signature}}
 use Rattle.ppdb_maps.{specs.declared.line.Line.TheVariants.{Document, Link}, proofs.InRange.{Fits, read_fits}, proofs.Named.{same_bytes, bytes_same}}
 use Rattle.ppdb_maps.proofs.{OneList.{any_is, each_found}, Telling.{reported_at, from_some, has_rows, has_method, reported_rows, reported_row, reported_cross}}
@@ -82,15 +82,15 @@ module _ (said : List Line) (m : Map) (holds : HoldsWhat said m) (fits : Fits sa
     methods = each_found (λ (l : MethodLine). l.method) nat_eq nat_cmp same_number number_same nat_cmp_total (IsLineOf m) m.methods holds.ascends.methods
         (λ l found.
         let is = sym (holds.methods l.method) ∙ found in
-        let h = fits.methods l.method l is in (h.0, h.1, h.2, h.3, method_live l is));
+        let h = fits.methods l.method l is in (h.0, h.1, h.2, h.3, h.4, method_live l is));
     drops = each_number IsRow m.drops (λ n is.
         (fits.lines (drop_place n) (Dropped n) (reported_drop said n (sym (holds.drops n) ∙ is))).range);
     slotted = each_number (IsSlottedOf m) m.slotted (λ n is.
         let h = fits.lines (slots_place n) (Slots n) (reported_slots said n (sym (holds.slotted n) ∙ is)) in (h.range, live n (h.live n refl)));
-    slots = each_found (λ (s : SlotImage). (s.method, s.old)) same_pair pair_cmp pair_is is_pair pair_total (IsSlotOf m) m.slots holds.ascends.slots
+    slots = each_found (λ (s : SlotLine). (s.method, s.old)) same_pair pair_cmp pair_is is_pair pair_total (IsSlotOf m) m.slots holds.ascends.slots
         (λ s found.
         let h = fits.lines (slot_place s.method s.old) (Slot s.method s.old s.new)
-        (reported_slot said s.method s.old s.new (sym (holds.slots s.method s.old) ∙ ap (option_map (λ (s : SlotImage). s.new)) found)) in
+        (reported_slot said s.method s.old s.new (sym (holds.slots s.method s.old) ∙ ap (option_map (λ (s : SlotLine). s.new)) found)) in
         (h.range.1, h.range.2, holds.slotted s.method ∙ h.needed (slots_place s.method) refl));
     signatures = each_found (λ (s : SignatureImage). s.method) nat_eq nat_cmp same_number number_same nat_cmp_total (IsSignatureOf m) m.signatures
         holds.ascends.signatures

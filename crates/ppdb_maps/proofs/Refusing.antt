@@ -3,7 +3,7 @@ use Rattle.std.proofs.Common.{ℕ, ◌≡◌, ◌≤◌, ◌&&◌, ◌⊎◌, in
 use Rattle.std.{specs.Prelude.{IsSome, IsTrue, ◌↔◌, not, nat_eq, is_some}, specs.Ordering.{nat_cmp}, proofs.lemmas.Bool.{false≢true}}
 use Rattle.std.{proofs.lemmas.Bool.Decides.{nat_tests}, specs.BTreeMap.{is_at}}
 use Rattle.ppdb_maps.specs.{Map.{pair_cmp}, Before.{reported}, Places.{Place, place, needs, names, named_at, drop_place, row_place, slots_place, signature_place}}
-use Rattle.ppdb_maps.specs.{Places.{method_place}, Rules.{kind_of, IsNamed, Breaks, second, alone, run_alone, run_early, run_long, drop_named, names_dropped}}
+use Rattle.ppdb_maps.specs.{Places.{method_place}, Rules.{kind_of, IsNamed, Breaks, second, alone, run_alone, run_early, run_long, hide_alone, hide_early, hide_long, drop_named, names_dropped}}
 use Rattle.ppdb_maps.specs.{Drafts.{HasNaming, RefusedBy, FitsIn}, declared.refusal.Refusal.TheVariants.{Breaks as refused}, declared.line.Line.{Line}}
 use Rattle.ppdb_maps.specs.declared.{line.Line.TheVariants.{Dropped}, rule.Rule.{Rule}, rule.Rule.TheVariants.{Repeated, Undeclared, NamesDropped}}
 use Rattle.ppdb_maps.proofs.{Saying.{from_four}, Telling.{has_method}}
@@ -79,7 +79,7 @@ refused_alone before line once breaks = (breaks, λ other h. least other line on
     least other l once (second at is there) = absurd (once (second at is there))
     least other l once breaks = lit≤ tt
 
--- a `run` names no method
+-- a `run` and a `hide` name no method
 pub refused_barred : (before : List Line) (line : Line) → (Breaks before Repeated line → ⊥) → (Breaks before Undeclared line → ⊥) → Breaks before NamesDropped line
     → RefusedBy before line (refused NamesDropped)
 refused_barred before line once declared breaks = (breaks, λ other h. least other line once declared breaks h)
@@ -91,6 +91,9 @@ refused_barred before line once declared breaks = (breaks, λ other h. least oth
     least other l once declared (names_dropped m is there) (run_alone h) = absurd (cc)
     least other l once declared (names_dropped m is there) (run_early h k) = absurd (cc)
     least other l once declared (names_dropped m is there) (run_long h k) = absurd (cc)
+    least other l once declared (names_dropped m is there) (hide_alone h) = absurd (cc)
+    least other l once declared (names_dropped m is there) (hide_early h k) = absurd (cc)
+    least other l once declared (names_dropped m is there) (hide_long h k) = absurd (cc)
     least other l once declared breaks broken = lit≤ tt
 
 -- a line with a place fits in where it is alone at it, what it needs is there, and it neither names a dropped method nor drops a named one
@@ -115,13 +118,16 @@ fits_in before line at own none needed live unnamed = record {
     kept l live unnamed (drop_named {m = m} named) = unnamed m refl named
     kept l live unnamed (names_dropped m is there) = false≢true (sym (absent (reported before (drop_place m)) (live m is)) ∙ there)
 
--- a line with a place is no `run`
+-- a line with a place is no `run` and no `hide`
 pub keeps_all : (before : List Line) (line : Line) → IsSome (place line) → FitsIn before line → (rule : Rule) → Breaks before rule line → ⊥
 keeps_all before line placed fits rule (second at is there) = fits.once (second at is there)
 keeps_all before line placed fits rule (alone at is none) = fits.declared (alone at is none)
 keeps_all before line placed fits rule (run_alone h) = false≢true placed
 keeps_all before line placed fits rule (run_early h k) = false≢true placed
 keeps_all before line placed fits rule (run_long h k) = false≢true placed
+keeps_all before line placed fits rule (hide_alone h) = false≢true placed
+keeps_all before line placed fits rule (hide_early h k) = false≢true placed
+keeps_all before line placed fits rule (hide_long h k) = false≢true placed
 keeps_all before line placed fits rule (drop_named h) = fits.kept (drop_named h)
 keeps_all before line placed fits rule (names_dropped m is there) = fits.kept (names_dropped m is there)
 

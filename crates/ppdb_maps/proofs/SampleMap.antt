@@ -3,10 +3,10 @@ use Rattle.std.{proofs.Common.{◌≡◌, ℕ, Bool, false, zero, suc, ◌+◌, 
 use Rattle.std.specs.{List.{AllByRecursion}, List.Sorted.{IsStrictlySortedBy}, Ordering.{nat_cmp}, Cmp.Lexicographic.{slice_cmp}, Cmp.{nat_cmp_is}}
 use Rattle.std.specs.declared.cmp.Ordering.TheVariants.{Less}
 use Rattle.ppdb_base.specs.Offsets.{Rise, lined}
-use Rattle.ppdb_maps.specs.declared.entries.{Count.{Count}, RowLine.{RowLine}, CrossLine.{CrossLine}, GoneLine.{GoneLine}, SlotImage.{SlotImage}}
-use Rattle.ppdb_maps.specs.{declared.entries.SignatureImage.{SignatureImage}, declared.entries.NameLine.{NameLine}, Map.{MethodLine, pair_cmp, map_of}}
+use Rattle.ppdb_maps.specs.declared.entries.{Count.{Count}, RowLine.{RowLine}, CrossLine.{CrossLine}, GoneLine.{GoneLine}, SlotLine.{SlotLine}, Shared.{Shared}}
+use Rattle.ppdb_maps.specs.{declared.entries.SignatureImage.{SignatureImage}, declared.entries.NameLine.{NameLine}, Map.{MethodLine, pair_cmp, map_of, none_shared}}
 use Rattle.ppdb_maps.{specs.Readable.{IsRowOf, IsLineOf, IsReadable}, specs.Sample.{sample_method, sample_runs, sample_map_of}, proofs.OneMap.{maps_made}}
-use Rattle.ppdb_maps.proofs.Parts.{sample_row}
+use Rattle.ppdb_maps.proofs.{Parts.{sample_row}, Hidden.{nothing_hides}}
 
 pub sample_rise : Rise (lined sample_runs 16 20)
 sample_rise = (omega arith, omega arith, omega arith, (omega arith, omega arith, omega arith, (omega arith, omega arith, omega arith, tt)))
@@ -58,7 +58,7 @@ rows_in n a (suc k) low high few =
 methods_in : (n a k : ℕ) → 1 ≤ a → a + k ≤ n + 1 → n ≤ 100000 → AllByRecursion (IsLineOf (sample_map_of n)) (map sample_method (range_with_len a k))
 methods_in n a zero low high few = tt
 methods_in n a (suc k) low high few =
-    (((omega arith, omega arith), omega arith, omega arith, sample_rise, refl), methods_in n (a + 1) k (omega arith) (omega arith) few)
+    (((omega arith, omega arith), omega arith, omega arith, sample_rise, nothing_hides a 16 20 sample_runs, refl), methods_in n (a + 1) k (omega arith) (omega arith) few)
 
 pub sample_readable : (n : ℕ) → n ≤ 100000 → IsReadable (sample_map_of n)
 sample_readable n few = record {
@@ -88,11 +88,11 @@ sample_readable n few = record {
 }
 
 pub sample_of : (n : ℕ) (counts : List Count) (rows : List RowLine) (crossed : List CrossLine) (gone : List GoneLine) (methods : List MethodLine)
-    (drops slotted : List ℕ) (slots : List SlotImage) (signatures : List SignatureImage) (documents : List NameLine) (link : Option (List ℕ)) (shares : Bool)
+    (drops slotted : List ℕ) (slots : List SlotLine) (signatures : List SignatureImage) (documents : List NameLine) (link : Option (List ℕ)) (shares : Shared)
     → counts ≡ record { table = 0x06; rows = n } ∷ []
     → rows ≡ map (sample_row n) (range_with_len 1 n) → crossed ≡ [] → gone ≡ [] → methods ≡ map sample_method (range_with_len 1 n) → drops ≡ [] → slotted ≡ []
     → slots ≡ []
-    → signatures ≡ [] → documents ≡ [] → link ≡ None → shares ≡ false
+    → signatures ≡ [] → documents ≡ [] → link ≡ None → shares ≡ none_shared
     → map_of counts rows crossed gone methods drops slotted slots signatures documents link shares ≡ sample_map_of n
 sample_of n counts rows crossed gone methods drops slotted slots signatures documents link shares c r x z m d t s g o l h =
     maps_made (map_of counts rows crossed gone methods drops slotted slots signatures documents link shares) (sample_map_of n) c r x z m d t s g o l h

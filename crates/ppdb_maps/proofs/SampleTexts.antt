@@ -148,8 +148,8 @@ holds_2 = record {
   rows = λ t o. two_rows (nat_eq 6 t) (nat_eq 1 o) (nat_eq 2 o) (apart o);
   crossed = λ t o. sym (none_of_two cross_said (nat_eq 6 t) (nat_eq 2 o) (nat_eq 1 o) refl refl);
   gone = λ t o. sym (ap is_some (none_of_two gone_said (nat_eq 6 t) (nat_eq 2 o) (nat_eq 1 o) refl refl));
-  methods = λ m. two_methods (nat_eq 1 m) (nat_eq 2 m) (record { method = 1; old_size = 16; new_size = 20; runs = prefix_run ∷ back_run ∷ [] })
-      (record { method = 2; old_size = 16; new_size = 20; runs = prefix_run ∷ back_run ∷ [] }) (apart m);
+  methods = λ m. two_methods (nat_eq 1 m) (nat_eq 2 m) (record { method = 1; old_size = 16; new_size = 20; runs = prefix_run ∷ back_run ∷ []; stretches = [] })
+      (record { method = 2; old_size = 16; new_size = 20; runs = prefix_run ∷ back_run ∷ []; stretches = [] }) (apart m);
   drops = λ m. refl;
   slotted = λ m. refl;
   slots = λ m o. refl;

@@ -1,21 +1,21 @@
 -- A line of a form has its values; a line says one thing.
-use Rattle.std.proofs.Common.{rules, zero, suc, inl, inr, lit<, lit≤, ℕ, ◌≡◌, ◌<◌, ◌≤◌, List, [], ◌∷◌, Option, Some, length, take, refl, sym, ap, ◌∙◌, subst, arith}
-use Rattle.std.{specs.Prelude.{find, bytes_eq, nat_eq, ◌&&◌}, proofs.lemmas.Bool.{cases_lt}, proofs.lemmas.List.{length-take-le}}
+use Rattle.std.proofs.Common.{rules, zero, suc, inl, inr, lit<, lit≤, ℕ, ◌≡◌, ◌<◌, ◌≤◌, ◌^◌, List, [], ◌∷◌, Option, Some, None, length, take, refl, sym, ap, ◌∙◌, subst, arith}
+use Rattle.std.{specs.Prelude.{find, bytes_eq, nat_eq, ◌&&◌, codes, decimal}, proofs.lemmas.Bool.{cases_lt}, proofs.lemmas.List.{length-take-le}}
 use Rattle.ppdb_base.specs.declared.{offsets.Run.{Run}, limits.TheConstants.{MAX_ROWS}}
 use Rattle.ppdb_maps.specs.{Words.{IsSilent, line_words}, Forms.{Crosses, name_of, words_in, HasForm, IsNumber, IsTable, Values, Tells, rows_line, row_line}}
 use Rattle.ppdb_maps.specs.Forms.{method_line, run_line, drop_line, slots_line, slot_line, signature_line, document_line, link_line, cross_line, gone_line}
-use Rattle.ppdb_maps.specs.{Forms.{shares_line, silent, reported}, declared.entries.CrossLine.{CrossLine}, declared.entries.NameLine.{NameLine}}
+use Rattle.ppdb_maps.specs.{Forms.{shares_line, shares_slots_line, hide_line, SaysSlot, MAX_SLOT, silent, reported}, declared.entries.CrossLine.{CrossLine}, declared.entries.NameLine.{NameLine}}
 use Rattle.ppdb_maps.specs.declared.line.{Form.{Form}, Form.TheVariants.{TableRows, RowMove, MethodSizes, OffsetRun, MethodDrop, MethodSlots, SlotMove}}
-use Rattle.ppdb_maps.specs.declared.line.{Form.TheVariants.{MethodSignature, DocumentRename, LinkValue, CrossMove, RowGone, Sharing}, Line.{Line}}
+use Rattle.ppdb_maps.specs.declared.line.{Form.TheVariants.{MethodSignature, DocumentRename, LinkValue, CrossMove, RowGone, Sharing, SlotSharing, Hiding}, Line.{Line}}
 use Rattle.ppdb_maps.specs.{declared.line.Line.TheVariants.{Cross, Kept, Document, Link}, Cuts.{AreWordsOf}, Reading.{FitsForm, values_of}, Rules.{kind_of, Breaks}}
 use Rattle.ppdb_maps.specs.Rules.{BreaksLine, BreaksFirst, no_form, no_value, by_lines, second, alone, run_alone, run_early, run_long, drop_named, names_dropped}
 use Rattle.ppdb_maps.specs.declared.{rule.Rule.{Rule}, rule.Rule.TheVariants.{UnknownForm, NumberFaults}, words.Words.{Words}}
-use Rattle.ppdb_maps.proofs.{Numbers.{one_number, one_table}, Spelled.{one_spelling}}
+use Rattle.ppdb_maps.proofs.{Numbers.{one_number, one_table, all_digits_decimal}, Spelled.{one_spelling}}
 
-pub rows_values : (a b : List ℕ) (line : Line) → Values TableRows (a ∷ b ∷ []) line → ((t : ℕ) × IsTable a t) × ((n : ℕ) × IsNumber b 0 MAX_ROWS n)
+pub rows_values : {version : ℕ} (a b : List ℕ) (line : Line) → Values version TableRows (a ∷ b ∷ []) line → ((t : ℕ) × IsTable a t) × ((n : ℕ) × IsNumber b 0 MAX_ROWS n)
 rows_values a b line (rows_line t n) = ((_, t), (_, n))
 
-pub row_values : (a b d : List ℕ) (line : Line) → Values RowMove (a ∷ b ∷ d ∷ []) line
+pub row_values : {version : ℕ} (a b d : List ℕ) (line : Line) → Values version RowMove (a ∷ b ∷ d ∷ []) line
     → ((t : ℕ) × IsTable a t) × ((n : ℕ) × IsNumber b 1 MAX_ROWS n) × ((n : ℕ) × IsNumber d 1 MAX_ROWS n)
 row_values a b d line (row_line t o n) = ((_, t), (_, o), (_, n))
 
@@ -41,21 +41,31 @@ cross_one : (a b d e : List ℕ) (k l : CrossLine) → IsTable a k.table → IsN
 cross_one a b d e k l t o u n t2 o2 u2 n2 = same_cross k l (one_table a k.table l.table t t2) (one_number b 1 MAX_ROWS k.old l.old (lit< tt) o o2)
     (one_table d k.to l.to u u2) (one_number e 1 MAX_ROWS k.new l.new (lit< tt) n n2)
 
-pub cross_values : (a b d e : List ℕ) (line : Line) → Values CrossMove (a ∷ b ∷ d ∷ e ∷ []) line
+pub cross_values : {version : ℕ} (a b d e : List ℕ) (line : Line) → Values version CrossMove (a ∷ b ∷ d ∷ e ∷ []) line
     → ((t : ℕ) × IsTable a t) × ((n : ℕ) × IsNumber b 1 MAX_ROWS n) × ((t : ℕ) × IsTable d t) × ((n : ℕ) × IsNumber e 1 MAX_ROWS n)
 cross_values a b d e line (cross_line t o u n f) = ((_, t), (_, o), (_, u), (_, n))
 
-pub gone_values : (a b : List ℕ) (line : Line) → Values RowGone (a ∷ b ∷ []) line → ((t : ℕ) × IsTable a t) × ((n : ℕ) × IsNumber b 1 MAX_ROWS n)
+pub gone_values : {version : ℕ} (a b : List ℕ) (line : Line) → Values version RowGone (a ∷ b ∷ []) line → ((t : ℕ) × IsTable a t) × ((n : ℕ) × IsNumber b 1 MAX_ROWS n)
 gone_values a b line (gone_line t k o) = ((_, t), (_, o))
 
 -- words that say a line that does not cross have no value
-pub cross_none : (a b d e : List ℕ) (ours : CrossLine) → IsTable a ours.table → IsNumber b 1 MAX_ROWS ours.old → IsTable d ours.to
-    → IsNumber e 1 MAX_ROWS ours.new → (Crosses ours → ⊥) → (line : Line) → Values CrossMove (a ∷ b ∷ d ∷ e ∷ []) line → ⊥
+pub cross_none : {version : ℕ} (a b d e : List ℕ) (ours : CrossLine) → IsTable a ours.table → IsNumber b 1 MAX_ROWS ours.old → IsTable d ours.to
+    → IsNumber e 1 MAX_ROWS ours.new → (Crosses ours → ⊥) → (line : Line) → Values version CrossMove (a ∷ b ∷ d ∷ e ∷ []) line → ⊥
 cross_none a b d e ours t o u n never line (cross_line {line = k} t2 o2 u2 n2 f) =
     never (subst Crosses (cross_one a b d e k ours t2 o2 u2 n2 t o u n) f)
 
+-- `gone` is no number
+gone_is_none : (n : ℕ) → n < 2 ^ 32 → codes "gone" ≡ decimal n → ⊥
+gone_is_none n small is = absurd (omega (arith, all_digits_decimal n (codes "gone") small is))
+
+one_slot : {version : ℕ} (word : List ℕ) (m n : Option ℕ) → SaysSlot version word m → SaysSlot version word n → m ≡ n
+one_slot word None None a b = refl
+one_slot word None (Some n) a b = absurd (gone_is_none n (omega (arith, b.to)) (sym a.0 ∙ b.spelled))
+one_slot word (Some m) None a b = absurd (gone_is_none m (omega (arith, a.to)) (sym b.0 ∙ a.spelled))
+one_slot word (Some m) (Some n) a b = ap Some (one_number word 0 MAX_SLOT m n (lit< tt) a b)
+
 -- a line of a form says one thing
-one_of_form : (form : Form) (values : List (List ℕ)) (x y : Line) → Values form values x → Values form values y → x ≡ y
+one_of_form : {version : ℕ} (form : Form) (values : List (List ℕ)) (x y : Line) → Values version form values x → Values version form values y → x ≡ y
 one_of_form form values x y (rows_line {table = t} {rows = n} a b) (rows_line {table = t2} {rows = n2} a2 b2) =
     let table = one_table _ t t2 a a2 in
     let rows = one_number _ _ _ n n2 (lit< tt) b b2 in
@@ -87,7 +97,7 @@ one_of_form form values x y (slots_line {method = m} a) (slots_line {method = m2
 one_of_form form values x y (slot_line {method = m} {old = o} {new = n} a b d) (slot_line {method = m2} {old = o2} {new = n2} a2 b2 d2) =
     let method = one_number _ _ _ m m2 (lit< tt) a a2 in
     let old = one_number _ _ _ o o2 (lit< tt) b b2 in
-    let new = one_number _ _ _ n n2 (lit< tt) d d2 in
+    let new = one_slot _ n n2 d d2 in
     cc
 one_of_form form values x y (signature_line {method = m} {new = n} a b) (signature_line {method = m2} {new = n2} a2 b2) =
     let method = one_number _ _ _ m m2 (lit< tt) a a2 in
@@ -97,12 +107,17 @@ one_of_form form values x y (document_line {d = d} a b) (document_line {d = e} a
     ap Document (same_names d e (one_spelling _ d.old e.old a a2) (one_spelling _ d.new e.new b b2))
 one_of_form form values x y (link_line {value = v} a) (link_line {value = w} b) = ap Link (one_spelling _ v w a b)
 one_of_form form values x y shares_line shares_line = refl
+one_of_form form values x y shares_slots_line shares_slots_line = refl
+one_of_form form values x y (hide_line {new = n} {length = l} a b) (hide_line {new = n2} {length = l2} a2 b2) =
+    let new = one_number _ _ _ n n2 (lit< tt) a a2 in
+    let long = one_number _ _ _ l l2 (lit< tt) b b2 in
+    cc
 
 -- the form that has the name and the number of words
 abbrev form_named : List ℕ → ℕ → Option Form
 form_named name count = find (λ form. bytes_eq (name_of form) name && nat_eq (words_in form) count)
     (TableRows ∷ RowMove ∷ MethodSizes ∷ OffsetRun ∷ MethodDrop ∷ MethodSlots ∷ SlotMove ∷ MethodSignature
-    ∷ DocumentRename ∷ LinkValue ∷ CrossMove ∷ RowGone ∷ Sharing ∷ [])
+    ∷ DocumentRename ∷ LinkValue ∷ CrossMove ∷ RowGone ∷ Sharing ∷ SlotSharing ∷ Hiding ∷ [])
 
 named_itself : (form : Form) → form_named (name_of form) (words_in form) ≡ Some form
 named_itself form = search rules
@@ -129,6 +144,8 @@ few_words LinkValue = (lit≤ tt, lit≤ tt)
 few_words CrossMove = (lit≤ tt, lit≤ tt)
 few_words RowGone = (lit≤ tt, lit≤ tt)
 few_words Sharing = (lit≤ tt, lit≤ tt)
+few_words SlotSharing = (lit≤ tt, lit≤ tt)
+few_words Hiding = (lit≤ tt, lit≤ tt)
 
 count_fits : (n : ℕ) (name a b d e : List ℕ) (words : List (List ℕ)) (version : ℕ) (form : Form)
     → (n ≤ 5 → words ≡ take n (name ∷ a ∷ b ∷ d ∷ e ∷ [])) → (5 < n → 5 < length words) → HasForm version words form
@@ -187,7 +204,7 @@ form_there line words version form are fits =
 -- values that were read are what the line says
 pub tells_form : (line : List ℕ) (words : Words) (version : ℕ) (form : Form) (says : Line) → (IsSilent line → ⊥) → AreWordsOf line words
     → FitsForm version words form
-    → Values form (values_of form words) says → Tells version line says
+    → Values version form (values_of form words) says → Tells version line says
 tells_form line words version form says loud are fits values =
     reported form loud (form_there line words version form are fits) values
 
@@ -210,7 +227,7 @@ breaks_form line words version before loud are none =
 -- a line of a form with a value that is misspelled or out of its range
 pub breaks_value : (line : List ℕ) (words : Words) (version : ℕ) (form : Form) (before : List Line) → (IsSilent line → ⊥) → AreWordsOf line words
     → FitsForm version words form
-    → ((says : Line) → Values form (values_of form words) says → ⊥) → BreaksFirst version before line NumberFaults
+    → ((says : Line) → Values version form (values_of form words) says → ⊥) → BreaksFirst version before line NumberFaults
 breaks_value line words version form before loud are fits none =
     let has = form_there line words version form are fits in
     record { broken = no_value loud has none; least = λ other broken. least has other broken }
@@ -230,7 +247,7 @@ one_said version text x y (reported one loud a says) (reported other loud2 b say
     let names : name_of one ≡ name_of other = cc in
     let values : b.values ≡ a.values = cc in
     let form : other ≡ one = one_form other one (sym names) (sym b.counted ∙ a.counted) in
-    one_of_form one a.values x y says (subst (λ (f : Form). Values f a.values y) form (subst (λ v. Values other v y) values says2))
+    one_of_form one a.values x y says (subst (λ (f : Form). Values version f a.values y) form (subst (λ v. Values version other v y) values says2))
 
 -- a line that says something breaks rules by what it says
 pub breaks_said : (version : ℕ) (before : List Line) (text : List ℕ) (says : Line) (rule : Rule) → Tells version text says
@@ -243,6 +260,6 @@ breaks_said version before text says rule (reported one loud a reported_values) 
     let names : name_of one ≡ name_of form = cc in
     let values : a.values ≡ has.values = cc in
     let same : one ≡ form = one_form one form names (sym a.counted ∙ has.counted) in
-    absurd (none says (subst (λ (f : Form). Values f has.values says) same (subst (λ v. Values one v says) values reported_values)))
+    absurd (none says (subst (λ (f : Form). Values version f has.values says) same (subst (λ v. Values version one v says) values reported_values)))
 breaks_said version before text says rule tells (by_lines {line = other} tells2 breaks) =
     subst (λ l. Breaks before rule l) (one_said version text other says tells2 tells) breaks

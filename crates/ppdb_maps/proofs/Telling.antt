@@ -2,11 +2,11 @@
 use Rattle.std.{proofs.Common.{ℕ, ◌≡◌, Bool, true, false, cond, List, [], ◌∷◌, Option, Some, None, refl, ap, ◌∙◌, subst, rules}, specs.Prelude.{nat_eq, is_some}}
 use Rattle.std.{specs.Prelude.{find, option_and_then}, proofs.lemmas.Bool.{false≢true}}
 use Rattle.ppdb_base.specs.declared.offsets.Run.{Run}
-use Rattle.ppdb_maps.specs.Before.{reported, rows_said, row_said, cross_said, gone_said, slot_said, signature_said, document_said, link_said, methods_of, with_run}
+use Rattle.ppdb_maps.specs.Before.{reported, rows_said, row_said, cross_said, gone_said, slot_said, signature_said, document_said, link_said, methods_of, with_run, with_hidden}
 use Rattle.ppdb_maps.specs.Before.{method_in, count_in, row_in, cross_in, gone_line_in, gone_in, drop_in, slots_in, slot_in, signature_in, document_in, link_in}
 use Rattle.ppdb_maps.specs.{Map.{MethodLine}, Places.{Place, place, same_place, is_place, link_place, rows_place, row_place, drop_place, slots_place, slot_place}}
 use Rattle.ppdb_maps.specs.{Places.{signature_place, document_place, method_place}, declared.entries.CrossLine.{CrossLine}, declared.entries.GoneLine.{GoneLine}}
-use Rattle.ppdb_maps.specs.declared.line.{Line.{Line}, Line.TheVariants.{Rows, Row, Cross, Gone, Method, Kept, Dropped, Slots, Slot, Signature, Document, Link}}
+use Rattle.ppdb_maps.specs.declared.line.{Line.{Line}, Line.TheVariants.{Rows, Row, Cross, Gone, Method, Kept, Dropped, Slots, Slot, Signature, Document, Link, Hidden}}
 use Rattle.ppdb_maps.proofs.{Named.{same_bytes, bytes_same}, OneMap.{number_same}}
 
 pub none_there : {A : Type 0} (o : Option A) → (is_some o ≡ true → ⊥) → o ≡ None
@@ -63,7 +63,7 @@ dropped m l hit = search rules
 pub slotted : (m : ℕ) (l : Line) → is_place (slots_place m) (place l) ≡ true → l ≡ Slots m
 slotted m l hit = search rules
 
-slot_is : (m o : ℕ) (l : Line) (n : ℕ) → is_place (slot_place m o) (place l) ≡ true → slot_said l ≡ Some n → l ≡ Slot m o n
+slot_is : (m o : ℕ) (l : Line) (n : Option ℕ) → is_place (slot_place m o) (place l) ≡ true → slot_said l ≡ Some n → l ≡ Slot m o n
 slot_is m o l n hit is = search rules
 
 signature_is : (m : ℕ) (l : Line) (n : ℕ) → is_place (signature_place m) (place l) ≡ true → signature_said l ≡ Some n → l ≡ Signature m n
@@ -123,7 +123,7 @@ module _ (before : List Line) where
   reported_slots m is =
       let some = from_some (reported before (slots_place m)) is in some.1 ∙ ap Some (slotted m some.0 (reported_at before (slots_place m) some.0 some.1))
 
-  pub reported_slot : (m o n : ℕ) → slot_in before m o ≡ Some n → reported before (slot_place m o) ≡ Some (Slot m o n)
+  pub reported_slot : (m o : ℕ) (n : Option ℕ) → slot_in before m o ≡ Some n → reported before (slot_place m o) ≡ Some (Slot m o n)
   reported_slot m o n is = from_place slot_said n (slot_place m o) (Slot m o n) (λ l hit said. slot_is m o l n hit said) is
 
   pub reported_signature : (m n : ℕ) → signature_in before m ≡ Some n → reported before (signature_place m) ≡ Some (Signature m n)
@@ -158,8 +158,14 @@ same_there : (run : Run) (m : ℕ) (lines : List MethodLine)
 same_there run m [] = refl
 same_there run m (line ∷ lines) = there_too (nat_eq line.method m) _ _ _ _ refl
 
+same_hidden : (new length m : ℕ) (lines : List MethodLine)
+    → is_some (find (λ l. nat_eq l.method m) (with_hidden new length lines)) ≡ is_some (find (λ l. nat_eq l.method m) lines)
+same_hidden new length m [] = refl
+same_hidden new length m (line ∷ lines) = there_too (nat_eq line.method m) _ _ _ _ refl
+
 pub has_method : (before : List Line) (m : ℕ) → is_some (method_in before m) ≡ is_some (reported before (method_place m))
 has_method [] m = refl
 has_method (Method k o n ∷ before) m = there_too (nat_eq k m) _ _ _ _ (has_method before m)
 has_method (Kept run ∷ before) m = same_there run m (methods_of before) ∙ has_method before m
+has_method (Hidden new length ∷ before) m = same_hidden new length m (methods_of before) ∙ has_method before m
 has_method (line ∷ before) m = has_method before m

@@ -94,7 +94,7 @@ keeps_method before text m o n tells none live = keeps_placed before text (Metho
 
 pub keeps_run : (before : List Line) (text : List ℕ) (run : Run) (line : MethodLine) (others : List MethodLine) → Tells 1 text (Kept run)
     → follows_method before ≡ true → methods_of before ≡ line ∷ others
-    → (BeginsEarly run line.runs → ⊥) → (EndsBeyond run line → ⊥) → Keeps 1 before text
+    → (BeginsEarly run line → ⊥) → (EndsBeyond run line → ⊥) → Keeps 1 before text
 keeps_run before text run line others tells follows last late short rule b = of rule (breaks_said 1 before text (Kept run) rule tells b)
   where
     of : (r : Rule) → Breaks before r (Kept run) → ⊥
@@ -104,7 +104,7 @@ keeps_run before text run line others tells follows last late short rule b = of 
     of r (run_alone never) = let e : true ≡ false = sym follows ∙ never in cc
     of r (run_early {line = l} {lines = ls} is early) =
         let e : line ∷ others ≡ l ∷ ls = sym last ∙ is in
-        let same : l ≡ line = cc in late (subst (λ (x : MethodLine). BeginsEarly run x.runs) same early)
+        let same : l ≡ line = cc in late (subst (BeginsEarly run) same early)
     of r (run_long {line = l} {lines = ls} is long) =
         let e : line ∷ others ≡ l ∷ ls = sym last ∙ is in
         let same : l ≡ line = cc in short (subst (EndsBeyond run) same long)
@@ -118,12 +118,15 @@ with_runs texts before m read =
       old_size = 16;
       new_size = 20;
       runs = [];
+      stretches = [];
     }) (methods_of before) tells_prefix refl refl
-    (λ e. e) (λ e. elim e [ inl h ↦ omega (arith, h) | inr h ↦ omega (arith, h) ])))
+    (λ e. elim e [ inl h ↦ h | inr h ↦ h ]) (λ e. elim e [ inl h ↦ omega (arith, h) | inr h ↦ omega (arith, h) ])))
     tells_back (keeps_run (Kept prefix_run ∷ Method m 16 20 ∷ before) (codes "run 8 10 8") back_run (record {
       method = m;
       old_size = 16;
       new_size = 20;
       runs = prefix_run ∷ [];
+      stretches = [];
     }) (methods_of before) tells_back refl refl
-    (λ e. elim e [ inl h ↦ omega (arith, h) | inr h ↦ omega (arith, h) ]) (λ e. elim e [ inl h ↦ omega (arith, h) | inr h ↦ omega (arith, h) ]))
+    (λ e. elim e [ inl (inl h) ↦ omega (arith, h) | inl (inr h) ↦ omega (arith, h) | inr h ↦ h ])
+    (λ e. elim e [ inl h ↦ omega (arith, h) | inr h ↦ omega (arith, h) ]))

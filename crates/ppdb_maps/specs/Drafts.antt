@@ -15,7 +15,7 @@ use Rattle.ppdb_maps.specs.declared.{bit_set.BitSet.BitSet, draft.Draft.Draft}
 use Rattle.ppdb_maps.specs.declared.refusal.{Refusal.Refusal, Refusal.TheVariants.Breaks as refused}
 use Rattle.ppdb_maps.specs.declared.refusal.Refusal.TheVariants.{Memory as no_memory}
 use Rattle.ppdb_maps.specs.{declared.line.Line.Line}
-use Rattle.ppdb_maps.specs.declared.line.Line.TheVariants.{Kept}
+use Rattle.ppdb_maps.specs.declared.line.Line.TheVariants.{Kept, Hidden}
 use Rattle.ppdb_maps.specs.declared.rule.Rule.{Rule}
 use Rattle.ppdb_maps.specs.declared.rule.Rule.TheVariants.{Repeated}
 use Rattle.ppdb_maps.specs.declared.rule.Rule.TheVariants.{Undeclared}
@@ -64,7 +64,7 @@ pub record AreLines (lines methods : List MethodLine) (listed : BitSet) : Type 0
 abbrev pub HasLines : List MethodLine → Draft → Type 0
 HasLines lines draft = AreLines lines draft.methods.items draft.listed
 
--- all methods are in the list, or all but the last one, which a `run` may follow
+-- all methods are in the list, or all but the last one, which a `run` or a `hide` may follow
 abbrev pub HoldsMethods : List Line → Option MethodLine → Draft → Type 0
 HoldsMethods before None draft =
     HasLines (methods_of before) draft × (follows_method before ≡ false)
@@ -122,7 +122,8 @@ IsPut line old result new =
     OnOk result ((before : List Line) → IsClosed before old → (Breaks before Repeated line → ⊥)
     → Holds (line ∷ before) new)
 
--- a run has an offset
+-- a run and a `hide` have an offset
 abbrev pub HasLength : Line → Type 0
 HasLength (Kept run) = 0 < run.length
+HasLength (Hidden new length) = 0 < length
 HasLength _ = Unit {0}

@@ -1,5 +1,6 @@
 -- The forms of a map text's lines, and what a line of each form says (docs/FORMAT.md, "Map texts").
-use Rattle.std.specs.Prelude.{◌≡◌, ℕ, ◌+◌, ◌<◌, ◌≤◌, ◌≢◌, ◌⊎◌, ◌++◌, List, [], ◌∷◌, codes, length}
+use Rattle.std.specs.Prelude.{◌≡◌, ℕ, ◌+◌, ◌<◌, ◌≤◌, ◌≢◌, ◌⊎◌, ◌++◌, List, [], ◌∷◌, codes}
+use Rattle.std.specs.Prelude.{length, Option, Some, None}
 use Rattle.std.specs.{Prelude.decimal, List.AllByRecursion, Str.Parse.{IsNumeral, digits_value}}
 use Rattle.ppdb_base.specs.declared.{limits.TheConstants.{MAX_ROWS, MAX_OFFSET}, offsets.Run.Run}
 use Rattle.ppdb_base.specs.Escaped.{escaped}
@@ -9,17 +10,18 @@ use Rattle.ppdb_maps.specs.declared.line.Form.TheVariants.{TableRows, RowMove, M
 use Rattle.ppdb_maps.specs.declared.line.Form.TheVariants.{OffsetRun, MethodDrop, MethodSlots}
 use Rattle.ppdb_maps.specs.declared.line.Form.TheVariants.{SlotMove, MethodSignature}
 use Rattle.ppdb_maps.specs.declared.line.Form.TheVariants.{DocumentRename, LinkValue, CrossMove}
-use Rattle.ppdb_maps.specs.declared.line.Form.TheVariants.{RowGone, Sharing}
+use Rattle.ppdb_maps.specs.declared.line.Form.TheVariants.{RowGone, Sharing, SlotSharing, Hiding}
 use Rattle.ppdb_maps.specs.declared.entries.{CrossLine.CrossLine, NameLine.NameLine}
 use Rattle.ppdb_maps.specs.declared.line.Line.{Line}
 use Rattle.ppdb_maps.specs.declared.line.Line.TheVariants.{Silent, Rows, Row, Cross, Gone, Method}
 use Rattle.ppdb_maps.specs.declared.line.Line.TheVariants.{Kept, Dropped, Slots, Slot, Signature}
-use Rattle.ppdb_maps.specs.declared.line.Line.TheVariants.{Document, Link, Shares}
+use Rattle.ppdb_maps.specs.declared.line.Line.TheVariants.{Document, Link, Shares, SharesSlots}
+use Rattle.ppdb_maps.specs.declared.line.Line.TheVariants.{Hidden}
 
 -- line 1 of a text of the version: 48 is the digit 0
 pub record IsHead (line : List ℕ) (version : ℕ) : Type 0 where
   pub from : 1 ≤ version
-  pub to : version ≤ 4
+  pub to : version ≤ 5
   pub spelled : line ≡ codes "ppdbmap " ++ (48 + version) ∷ []
 
 -- a form's first word, the number of words of its lines with that one, and the version from which
@@ -43,6 +45,8 @@ shape LinkValue = record { name = codes "link"; words = 2; since = 4 }
 shape CrossMove = record { name = codes "row"; words = 5; since = 4 }
 shape RowGone = record { name = codes "gone"; words = 3; since = 4 }
 shape Sharing = record { name = codes "shares"; words = 1; since = 4 }
+shape SlotSharing = record { name = codes "shares"; words = 2; since = 5 }
+shape Hiding = record { name = codes "hide"; words = 3; since = 5 }
 
 -- the first word of a form
 abbrev pub name_of : Form → List ℕ
@@ -108,45 +112,53 @@ pub record IsEscaped (word bytes : List ℕ) : Type 0 where
 abbrev pub MAX_SLOT : ℕ
 MAX_SLOT = 65535
 
--- what the values after the first word say, each in its range
-pub data Values : Form → List (List ℕ) → Line → Type 0 where
+-- what becomes of a slot: a slot; or, from version 5 on, nothing
+abbrev pub SaysSlot : ℕ → List ℕ → Option ℕ → Type 0
+SaysSlot version word (Some new) = IsNumber word 0 MAX_SLOT new
+SaysSlot version word None = (word ≡ codes "gone") × (5 ≤ version)
+
+-- what the values after the first word say in a text of the version, each in its range
+pub data Values (version : ℕ) : Form → List (List ℕ) → Line → Type 0 where
   rows_line : {t n : List ℕ} {table rows : ℕ} → IsTable t table → IsNumber n 0 MAX_ROWS rows
-      → Values TableRows (t ∷ n ∷ []) (Rows table rows)
+      → Values version TableRows (t ∷ n ∷ []) (Rows table rows)
   row_line : {t o n : List ℕ} {table old new : ℕ} → IsTable t table → IsNumber o 1 MAX_ROWS old
       → IsNumber n 1 MAX_ROWS new
-      → Values RowMove (t ∷ o ∷ n ∷ []) (Row table old new)
+      → Values version RowMove (t ∷ o ∷ n ∷ []) (Row table old new)
   method_line : {m o n : List ℕ} {method old_size new_size : ℕ} → IsNumber m 1 MAX_ROWS method
       → IsNumber o 0 MAX_OFFSET old_size → IsNumber n 0 MAX_OFFSET new_size
-      → Values MethodSizes (m ∷ o ∷ n ∷ []) (Method method old_size new_size)
+      → Values version MethodSizes (m ∷ o ∷ n ∷ []) (Method method old_size new_size)
   run_line : {o n l : List ℕ} {run : Run} → IsNumber o 0 MAX_OFFSET run.old
       → IsNumber n 0 MAX_OFFSET run.new
-      → IsNumber l 1 MAX_OFFSET run.length → Values OffsetRun (o ∷ n ∷ l ∷ []) (Kept run)
+      → IsNumber l 1 MAX_OFFSET run.length → Values version OffsetRun (o ∷ n ∷ l ∷ []) (Kept run)
   drop_line : {m : List ℕ} {method : ℕ} → IsNumber m 1 MAX_ROWS method
-      → Values MethodDrop (m ∷ []) (Dropped method)
+      → Values version MethodDrop (m ∷ []) (Dropped method)
   slots_line : {m : List ℕ} {method : ℕ} → IsNumber m 1 MAX_ROWS method
-      → Values MethodSlots (m ∷ []) (Slots method)
-  slot_line : {m o n : List ℕ} {method old new : ℕ} → IsNumber m 1 MAX_ROWS method
+      → Values version MethodSlots (m ∷ []) (Slots method)
+  slot_line : {m o n : List ℕ} {method old : ℕ} {new : Option ℕ} → IsNumber m 1 MAX_ROWS method
       → IsNumber o 0 MAX_SLOT old
-      → IsNumber n 0 MAX_SLOT new → Values SlotMove (m ∷ o ∷ n ∷ []) (Slot method old new)
+      → SaysSlot version n new → Values version SlotMove (m ∷ o ∷ n ∷ []) (Slot method old new)
   signature_line : {m n : List ℕ} {method new : ℕ} → IsNumber m 1 MAX_ROWS method
       → IsNumber n 0 MAX_ROWS new
-      → Values MethodSignature (m ∷ n ∷ []) (Signature method new)
+      → Values version MethodSignature (m ∷ n ∷ []) (Signature method new)
   document_line : {o n : List ℕ} {d : NameLine} → IsEscaped o d.old → IsEscaped n d.new
-      → Values DocumentRename (o ∷ n ∷ []) (Document d)
+      → Values version DocumentRename (o ∷ n ∷ []) (Document d)
   cross_line : {t o u n : List ℕ} {line : CrossLine} → IsTable t line.table
       → IsNumber o 1 MAX_ROWS line.old → IsTable u line.to
       → IsNumber n 1 MAX_ROWS line.new → Crosses line
-      → Values CrossMove (t ∷ o ∷ u ∷ n ∷ []) (Cross line)
+      → Values version CrossMove (t ∷ o ∷ u ∷ n ∷ []) (Cross line)
   gone_line : {t o : List ℕ} {table old : ℕ} → IsTable t table → table ≢ 0x06
-      → IsNumber o 1 MAX_ROWS old → Values RowGone (t ∷ o ∷ []) (Gone table old)
-  shares_line : Values Sharing [] Shares
+      → IsNumber o 1 MAX_ROWS old → Values version RowGone (t ∷ o ∷ []) (Gone table old)
+  shares_line : Values version Sharing [] Shares
+  shares_slots_line : Values version SlotSharing (codes "slots" ∷ []) SharesSlots
+  hide_line : {n l : List ℕ} {new length : ℕ} → IsNumber n 0 MAX_OFFSET new
+      → IsNumber l 1 MAX_OFFSET length → Values version Hiding (n ∷ l ∷ []) (Hidden new length)
   link_line : {v : List ℕ} {value : List ℕ} → IsEscaped v value
-      → Values LinkValue (v ∷ []) (Link value)
+      → Values version LinkValue (v ∷ []) (Link value)
 
 -- what a line after the first says: its words are those of a form of the version, and their values
 -- are in range
 pub data Tells (version : ℕ) (text : List ℕ) : Line → Type 0 where
   silent : IsSilent text → Tells version text Silent
   reported : {line : Line} (form : Form) → (IsSilent text → ⊥)
-      → (has : HasForm version (line_words text) form) → Values form has.values line
+      → (has : HasForm version (line_words text) form) → Values version form has.values line
       → Tells version text line

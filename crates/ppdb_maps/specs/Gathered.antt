@@ -1,9 +1,9 @@
 -- The entries of a map's lists, from those of the maps in which they were gathered.
-use Rattle.std.specs.{Prelude.{ℕ, ◌&&◌, Bool, List, nat_eq}, Cmp.Lexicographic.slice_cmp}
+use Rattle.std.specs.{Prelude.{ℕ, ◌&&◌, Bool, List, nat_eq, Option}, Cmp.Lexicographic.slice_cmp}
 use Rattle.std.specs.Ordering.{nat_cmp}
 use Rattle.std.specs.declared.{cmp.Ordering.Ordering, alloc.Global.Global, vec.Vec.Vec}
 use Rattle.ppdb_maps.specs.declared.entries.{Count.Count, RowLine.RowLine, CrossLine.CrossLine}
-use Rattle.ppdb_maps.specs.declared.entries.{GoneLine.GoneLine, SlotImage.SlotImage}
+use Rattle.ppdb_maps.specs.declared.entries.{GoneLine.GoneLine, SlotLine.SlotLine}
 use Rattle.ppdb_maps.specs.declared.entries.{SignatureImage.SignatureImage, NameLine.NameLine}
 use Rattle.ppdb_maps.specs.{Map.MethodLine}
 
@@ -23,7 +23,7 @@ abbrev pub gone_key : GoneLine → ℕ × ℕ
 gone_key line = (line.table, line.old)
 
 -- the slot line of a pair of a method and a slot, and the new slot
-abbrev pub slot_entry : (ℕ × ℕ) × ℕ → SlotImage
+abbrev pub slot_entry : (ℕ × ℕ) × Option ℕ → SlotLine
 slot_entry e = record { method = e.0.0; old = e.0.1; new = e.1 }
 
 -- what `method` lines are ordered by

@@ -1,3 +1,4 @@
+pub mod Stretches
 pub mod Says
 pub mod Runs
 pub mod Map

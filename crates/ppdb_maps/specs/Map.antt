@@ -1,22 +1,28 @@
 -- What a map says: one entry for each of its lines that says something, and the questions that are
 -- asked of it.
 use Rattle.std.specs.Prelude.{ℕ, ◌&&◌, not, Bool, true, false, cond, nat_eq, bytes_eq, List, []}
-use Rattle.std.specs.Prelude.{Option, Some, None, unwrap_or, filter, map, find, option_map}
+use Rattle.std.specs.Prelude.{Option, Some, None, is_some, unwrap_or, filter, map, find}
+use Rattle.std.specs.Prelude.{option_map, option_and_then}
 use Rattle.std.specs.{List.list_any, List.Sorted.IsStrictlySortedBy, Option.option_map_or}
 use Rattle.std.specs.{Ordering.{nat_cmp, ordering_then}, Cmp.Lexicographic.slice_cmp}
 use Rattle.std.specs.declared.cmp.Ordering.{Ordering}
 use Rattle.ppdb_base.specs.{declared.offsets.Run.Run, Offsets.{Offsets, every, gone, lined}}
 use Rattle.ppdb_maps.specs.declared.entries.{Count.Count, RowLine.RowLine, CrossLine.CrossLine}
-use Rattle.ppdb_maps.specs.declared.entries.{GoneLine.GoneLine, SlotImage.SlotImage}
+use Rattle.ppdb_maps.specs.declared.entries.{GoneLine.GoneLine, SlotLine.SlotLine, Shared.Shared}
 use Rattle.ppdb_maps.specs.declared.entries.{SignatureImage.SignatureImage, NameLine.NameLine}
 use Rattle.ppdb_maps.specs.declared.image.RowImage.{RowImage, TheVariants.{Row, Gone, Missing}}
+use Rattle.ppdb_maps.specs.declared.image.SlotImage.{SlotImage, TheVariants.Slot}
+use Rattle.ppdb_maps.specs.declared.image.SlotImage.TheVariants.{Gone as GoneSlot}
+use Rattle.ppdb_maps.specs.declared.image.SlotImage.TheVariants.{Missing as MissingSlot}
 
--- a method's IL sizes and the runs of its kept offsets
+-- a method's IL sizes, the runs of its kept offsets, and its hidden stretches: the new offsets from
+-- the first of each to before the second, which no source belongs to
 pub record MethodLine : Type 0 where
   pub method : ℕ
   pub old_size : ℕ
   pub new_size : ℕ
   pub runs : List Run
+  pub stretches : List (ℕ × ℕ)
 
 -- a map
 pub record Map : Type 0 where
@@ -27,16 +33,16 @@ pub record Map : Type 0 where
   pub methods : List MethodLine
   pub drops : List ℕ
   pub slotted : List ℕ
-  pub slots : List SlotImage
+  pub slots : List SlotLine
   pub signatures : List SignatureImage
   pub documents : List NameLine
   pub link : Option (List ℕ)
-  pub shares : Bool
+  pub shares : Shared
 
 -- the map of these lists
 abbrev pub map_of : List Count → List RowLine → List CrossLine → List GoneLine → List MethodLine
-    → List ℕ → List ℕ → List SlotImage → List SignatureImage
-    → List NameLine → Option (List ℕ) → Bool → Map
+    → List ℕ → List ℕ → List SlotLine → List SignatureImage
+    → List NameLine → Option (List ℕ) → Shared → Map
 map_of counts rows crossed gone_lines methods drops slotted slots signatures documents link shares =
     record {
       counts = counts;
@@ -53,6 +59,10 @@ map_of counts rows crossed gone_lines methods drops slotted slots signatures doc
       shares = shares;
     }
 
+-- nothing may have one image
+abbrev pub none_shared : Shared
+none_shared = record { rows = false; slots = false }
+
 -- the map without lines
 abbrev pub no_lines : Map
 no_lines = record {
@@ -67,7 +77,7 @@ no_lines = record {
   signatures = [];
   documents = [];
   link = None;
-  shares = false;
+  shares = none_shared;
 }
 
 -- by the first number, and by the second where the first are equal
@@ -83,7 +93,7 @@ pub record Ascends (said : Map) : Type 0 where
   pub methods : IsStrictlySortedBy nat_cmp (map (λ (m : MethodLine). m.method) said.methods)
   pub drops : IsStrictlySortedBy nat_cmp said.drops
   pub slotted : IsStrictlySortedBy nat_cmp said.slotted
-  pub slots : IsStrictlySortedBy pair_cmp (map (λ (s : SlotImage). (s.method, s.old)) said.slots)
+  pub slots : IsStrictlySortedBy pair_cmp (map (λ (s : SlotLine). (s.method, s.old)) said.slots)
   pub signatures : IsStrictlySortedBy nat_cmp
       (map (λ (s : SignatureImage). s.method) said.signatures)
   pub documents : IsStrictlySortedBy (slice_cmp nat_cmp)
@@ -119,9 +129,9 @@ is_dropped said method = list_any (nat_eq method) said.drops
 abbrev pub has_slots : Map → ℕ → Bool
 has_slots said method = list_any (nat_eq method) said.slotted
 
--- the NEW of the slot's line
-abbrev pub slot_line : Map → ℕ → ℕ → Option ℕ
-slot_line said method old = option_map (λ (s : SlotImage). s.new)
+-- the slot's line: its NEW, or none where the line says `gone`
+abbrev pub slot_line : Map → ℕ → ℕ → Option (Option ℕ)
+slot_line said method old = option_map (λ (s : SlotLine). s.new)
     (find (λ s. nat_eq s.method method && nat_eq s.old old) said.slots)
 
 -- the NEW of the method's `signature` line: the row of its local signature in the output, 0 for
@@ -204,9 +214,27 @@ offsets_in said method =
     cond (is_dropped said method) gone (option_map_or
     (λ line. lined line.runs line.old_size line.new_size) (method_line said method) every)
 
--- the image of a slot: the slot itself where the method has no `slots` line, else that of its line
+-- what the method's hidden stretches are: none if it is dropped or has no line
+abbrev pub stretches_in : Map → ℕ → List (ℕ × ℕ)
+stretches_in said method = cond (is_dropped said method) [] (option_map_or
+    (λ (line : MethodLine). line.stretches) (method_line said method) [])
+
+-- what a slot's line makes of it
+abbrev pub slot_becomes : Option (Option ℕ) → SlotImage
+slot_becomes None = MissingSlot
+slot_becomes (Some None) = GoneSlot
+slot_becomes (Some (Some new)) = Slot new
+
+-- what a slot becomes: itself where the method has no `slots` line; else what its line says, a slot
+-- or nothing; missing where it has no line
+abbrev pub moved_slot : Map → ℕ → ℕ → SlotImage
+moved_slot said method old =
+    cond (has_slots said method) (slot_becomes (slot_line said method old)) (Slot old)
+
+-- the slot that a slot becomes, where it becomes one
 abbrev pub slot_image : Map → ℕ → ℕ → Option ℕ
-slot_image said method old = cond (has_slots said method) (slot_line said method old) (Some old)
+slot_image said method old = cond (has_slots said method)
+    (option_and_then (λ new. new) (slot_line said method old)) (Some old)
 
 -- the `row` lines of four words and of five, and the `gone` lines, of a table; the `slot` lines of
 -- a method
@@ -219,5 +247,12 @@ crossed_of said table = filter (λ r. nat_eq r.table table) said.crossed
 abbrev pub gone_of : Map → ℕ → List GoneLine
 gone_of said table = filter (λ r. nat_eq r.table table) said.gone
 
-abbrev pub slots_of : Map → ℕ → List SlotImage
+abbrev pub slots_of : Map → ℕ → List SlotLine
 slots_of said method = filter (λ s. nat_eq s.method method) said.slots
+
+-- those with a number, and those that say `gone`
+abbrev pub numbered_slots_of : Map → ℕ → List SlotLine
+numbered_slots_of said method = filter (λ (s : SlotLine). is_some s.new) (slots_of said method)
+
+abbrev pub gone_slots_of : Map → ℕ → List SlotLine
+gone_slots_of said method = filter (λ (s : SlotLine). not (is_some s.new)) (slots_of said method)

@@ -5,10 +5,12 @@ use Rattle.std.specs.Prelude.{Some, None}
 use Rattle.ppdb_maps.specs.declared.line.{Line.Line, Line.TheVariants.{Silent, Rows, Row, Cross}}
 use Rattle.ppdb_maps.specs.declared.line.Line.TheVariants.{Gone, Method, Kept, Dropped, Slots, Slot}
 use Rattle.ppdb_maps.specs.declared.line.Line.TheVariants.{Signature, Document, Link, Shares}
+use Rattle.ppdb_maps.specs.declared.line.Line.TheVariants.{SharesSlots, Hidden}
 
 -- what a line speaks of
 pub data Place : Type 0 where
   shares_place : Place
+  shares_slots_place : Place
   link_place : Place
   rows_place : (table : ℕ) → Place
   row_place : (table old : ℕ) → Place
@@ -22,6 +24,7 @@ pub data Place : Type 0 where
 -- whether two places are one
 abbrev pub same_place : Place → Place → Bool
 same_place shares_place shares_place = true
+same_place shares_slots_place shares_slots_place = true
 same_place link_place link_place = true
 same_place (rows_place table) (rows_place other) = nat_eq table other
 same_place (row_place table old) (row_place other row) = nat_eq table other && nat_eq old row
@@ -33,10 +36,11 @@ same_place (document_place name) (document_place other) = bytes_eq name other
 same_place (method_place method) (method_place other) = nat_eq method other
 same_place place other = false
 
--- The place of a line: a text has at most one line at it. A line that says nothing has none, and so
--- has a `run`.
+-- The place of a line: a text has at most one line at it. A line that says nothing, a `run` and a
+-- `hide` have none.
 abbrev pub place : Line → Option Place
 place Shares = Some shares_place
+place SharesSlots = Some shares_slots_place
 place (Link value) = Some link_place
 place (Rows table rows) = Some (rows_place table)
 place (Row table old new) = Some (row_place table old)
@@ -49,6 +53,7 @@ place (Signature method new) = Some (signature_place method)
 place (Document d) = Some (document_place d.old)
 place (Method method old_size new_size) = Some (method_place method)
 place (Kept run) = None
+place (Hidden new length) = None
 place Silent = None
 
 -- whether the second place is there and is the first

@@ -3,13 +3,19 @@
 use Rattle.std.specs.Prelude.{◌≡◌, ◌≢◌, ℕ, ◌≤◌, false, None, IfSome, IsSome, IsTrue, List}
 use Rattle.std.specs.List.{AllByRecursion}
 use Rattle.ppdb_base.specs.Offsets.{Rise, lined}
+use Rattle.ppdb_maps.specs.{Says.AreHidden, Stretches.EndBy}
 use Rattle.ppdb_maps.specs.declared.entries.{Count.Count, RowLine.RowLine, CrossLine.CrossLine}
-use Rattle.ppdb_maps.specs.declared.entries.{GoneLine.GoneLine, SlotImage.SlotImage}
+use Rattle.ppdb_maps.specs.declared.entries.{GoneLine.GoneLine, SlotLine.SlotLine}
 use Rattle.ppdb_maps.specs.declared.entries.{SignatureImage.SignatureImage, NameLine.NameLine}
 use Rattle.ppdb_maps.specs.Forms.{AreBytes, Crosses, MAX_SLOT}
 use Rattle.ppdb_maps.specs.Map.{Map, MethodLine, Ascends, count_of, row_line, cross_line}
 use Rattle.ppdb_maps.specs.{Map.{is_dropped, has_slots}, Text.{IsMapOf, Refused}}
 use Rattle.ppdb_base.specs.declared.limits.TheConstants.{MAX_ROWS, MAX_OFFSET}
+
+-- the stretches rise within the new size, and what is kept has its image before or after each
+pub record HidesApart (line : MethodLine) : Type 0 where
+  pub hidden : AreHidden (lined line.runs line.old_size line.new_size) line.stretches
+  pub within : EndBy line.new_size line.stretches
 
 -- the number of a row that is there
 abbrev pub IsRow : ℕ → Type 0
@@ -38,19 +44,22 @@ IsGoneOf m line =
     IsRow line.old × (line.table ≢ 0x06) × IsSome (count_of m line.table)
     × (row_line m line.table line.old ≡ None) × (cross_line m line.table line.old ≡ None)
 
--- a method that is not dropped, its sizes, and runs that rise within them
+-- a method that is not dropped, its sizes, runs that rise within them, and stretches that lie apart
+-- from the images of the runs and within the new size
 abbrev pub IsLineOf : Map → MethodLine → Type 0
 IsLineOf m line =
     IsRow line.method × (line.old_size ≤ MAX_OFFSET) × (line.new_size ≤ MAX_OFFSET)
-    × Rise (lined line.runs line.old_size line.new_size) × (is_dropped m line.method ≡ false)
+    × Rise (lined line.runs line.old_size line.new_size) × HidesApart line
+    × (is_dropped m line.method ≡ false)
 
 -- a method with slots that is not dropped
 abbrev pub IsSlottedOf : Map → ℕ → Type 0
 IsSlottedOf m method = IsRow method × (is_dropped m method ≡ false)
 
--- a slot and its image, of a method with slots
-abbrev pub IsSlotOf : Map → SlotImage → Type 0
-IsSlotOf m slot = (slot.old ≤ MAX_SLOT) × (slot.new ≤ MAX_SLOT) × IsTrue (has_slots m slot.method)
+-- a slot and its image, if it has one, of a method with slots
+abbrev pub IsSlotOf : Map → SlotLine → Type 0
+IsSlotOf m slot = (slot.old ≤ MAX_SLOT) × IfSome slot.new (λ new. new ≤ MAX_SLOT)
+    × IsTrue (has_slots m slot.method)
 
 -- a method that is not dropped, and the row of its local signature, 0 for none
 abbrev pub IsSignatureOf : Map → SignatureImage → Type 0

@@ -1,5 +1,5 @@
 -- What the readers of a line answer.
-use Rattle.std.specs.Prelude.{◌≡◌, ℕ, ◌≤◌, codes, List, [], ◌∷◌, Option, Result, MatchOption}
+use Rattle.std.specs.Prelude.{◌≡◌, ℕ, ◌≤◌, ◌⊎◌, codes, List, [], ◌∷◌, Option, Result, MatchOption}
 use Rattle.std.specs.Prelude.{MatchResult}
 use Rattle.ppdb_maps.specs.{Forms.{name_of, words_in, since, Values, Tells}, Rules.BreaksFirst}
 use Rattle.ppdb_maps.specs.declared.{words.Words.Words, line.Form.Form}
@@ -7,7 +7,7 @@ use Rattle.ppdb_maps.specs.declared.line.Form.TheVariants.{TableRows, RowMove, M
 use Rattle.ppdb_maps.specs.declared.line.Form.TheVariants.{OffsetRun, MethodDrop, MethodSlots}
 use Rattle.ppdb_maps.specs.declared.line.Form.TheVariants.{SlotMove, MethodSignature}
 use Rattle.ppdb_maps.specs.declared.line.Form.TheVariants.{DocumentRename, LinkValue, CrossMove}
-use Rattle.ppdb_maps.specs.declared.line.Form.TheVariants.{RowGone, Sharing}
+use Rattle.ppdb_maps.specs.declared.line.Form.TheVariants.{RowGone, Sharing, SlotSharing, Hiding}
 use Rattle.ppdb_maps.specs.declared.{line.Line.Line, refusal.Refusal.Refusal}
 use Rattle.ppdb_maps.specs.declared.refusal.Refusal.TheVariants.{Breaks as refused}
 use Rattle.ppdb_maps.specs.declared.refusal.Refusal.TheVariants.{Memory as no_memory}
@@ -18,10 +18,10 @@ IsNamed word count result =
     MatchOption result ((form : Form) → word ≡ name_of form → count ≡ words_in form
     → ⊥) (λ form. (word ≡ name_of form) × (count ≡ words_in form))
 
--- the form other than that of a row with this first word
+-- the form with this first word, other than those of `row` and `shares`, of which there are two each
 abbrev pub IsNamedAlone : List ℕ → Option Form → Type 0
 IsNamedAlone word result = MatchOption result ((form : Form) → word ≡ name_of form
-    → word ≡ codes "row") (λ form. word ≡ name_of form)
+    → (word ≡ codes "row") ⊎ (word ≡ codes "shares")) (λ form. word ≡ name_of form)
 
 -- the words that were read are those of a form of the version
 pub record FitsForm (version : ℕ) (words : Words) (form : Form) : Type 0 where
@@ -49,11 +49,15 @@ values_of CrossMove words =
     words.first.now ∷ words.second.now ∷ words.third.now ∷ words.fourth.now ∷ []
 values_of RowGone words = words.first.now ∷ words.second.now ∷ []
 values_of Sharing words = []
+values_of SlotSharing words = words.first.now ∷ []
+values_of Hiding words = words.first.now ∷ words.second.now ∷ []
 
--- what the values of a form say, or that one is misspelled or out of its range
-abbrev pub IsLineOfForm : Form → Words → Option Line → Type 0
-IsLineOfForm form words result = MatchOption result ((line : Line)
-    → Values form (values_of form words) line → ⊥) (Values form (values_of form words))
+-- what the values of a form say in a text of the version, or that one is misspelled or out of its
+-- range
+abbrev pub IsLineOfForm : ℕ → Form → Words → Option Line → Type 0
+IsLineOfForm version form words result = MatchOption result ((line : Line)
+    → Values version form (values_of form words) line → ⊥)
+    (Values version form (values_of form words))
 
 -- the first rule that a line breaks, whatever the lines before it say
 abbrev pub RefusedAlone : ℕ → List ℕ → Refusal → Type 0

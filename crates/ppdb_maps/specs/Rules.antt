@@ -1,11 +1,12 @@
 -- The rules of map texts and their numbers; a line breaks one by the lines before it alone, of
 -- which the last one stands first.
-use Rattle.std.specs.Prelude.{◌≡◌, ℕ, ◌<◌, ◌≤◌, ◌⊎◌, false, List, [], ◌∷◌, Some, None, IsSome}
+use Rattle.std.specs.Prelude.{◌≡◌, ℕ, ◌+◌, ◌<◌, ◌≤◌, ◌⊎◌, false, List, [], ◌∷◌, map, Some, None}
+use Rattle.std.specs.Prelude.{IsSome}
 use Rattle.ppdb_base.specs.{declared.offsets.Run.Run, Offsets.{end_of, new_end_of}}
 use Rattle.ppdb_maps.specs.{Map.MethodLine, Words.{IsSilent, line_words}, Forms.{HasForm, Values}}
 use Rattle.ppdb_maps.specs.{Forms.Tells, Places.{Place, place, needs, names, named_at, drop_place}}
 use Rattle.ppdb_maps.specs.{Before.{reported, methods_of, follows_method}, declared.line.Form.Form}
-use Rattle.ppdb_maps.specs.declared.line.{Line.Line, Line.TheVariants.{Kept, Dropped}}
+use Rattle.ppdb_maps.specs.declared.line.{Line.Line, Line.TheVariants.{Kept, Dropped, Hidden}}
 use Rattle.ppdb_maps.specs.declared.rule.Rule.{Rule}
 use Rattle.ppdb_maps.specs.declared.rule.Rule.TheVariants.{FirstLine, UnknownForm, NumberFaults}
 use Rattle.ppdb_maps.specs.declared.rule.Rule.TheVariants.{Repeated, Undeclared, NoMethod, Overlap}
@@ -24,10 +25,28 @@ kind_of Beyond = 8
 kind_of NamesDropped = 9
 
 -- OLD or NEW is below the end of the last run
-abbrev pub BeginsEarly : Run → List Run → Type 0
-BeginsEarly run [] = ⊥
-BeginsEarly run (last ∷ []) = (run.old < end_of last) ⊎ (run.new < new_end_of last)
-BeginsEarly run (first ∷ second ∷ runs) = BeginsEarly run (second ∷ runs)
+abbrev pub Overlaps : Run → List Run → Type 0
+Overlaps run [] = ⊥
+Overlaps run (last ∷ []) = (run.old < end_of last) ⊎ (run.new < new_end_of last)
+Overlaps run (first ∷ second ∷ runs) = Overlaps run (second ∷ runs)
+
+-- NEW is below the end of the last of these
+abbrev pub IsWithin : ℕ → List (ℕ × ℕ) → Type 0
+IsWithin new [] = ⊥
+IsWithin new (last ∷ []) = new < last.1
+IsWithin new (first ∷ second ∷ others) = IsWithin new (second ∷ others)
+
+-- the new offsets of a run
+abbrev pub new_range : Run → ℕ × ℕ
+new_range run = (run.new, new_end_of run)
+
+-- a run: OLD or NEW is below the end of the last run, or NEW below that of the last stretch
+abbrev pub BeginsEarly : Run → MethodLine → Type 0
+BeginsEarly run line = Overlaps run line.runs ⊎ IsWithin run.new line.stretches
+
+-- a `hide`: NEW is below the end of the last run or of the last stretch
+abbrev pub HidesEarly : ℕ → MethodLine → Type 0
+HidesEarly new line = IsWithin new (map new_range line.runs) ⊎ IsWithin new line.stretches
 
 -- OLD + LENGTH is above OLDSIZE, or NEW + LENGTH above NEWSIZE
 abbrev pub EndsBeyond : Run → MethodLine → Type 0
@@ -50,10 +69,18 @@ pub data Breaks (before : List Line) : Rule → Line → Type 0 where
   run_alone : {run : Run} → follows_method before ≡ false → Breaks before NoMethod (Kept run)
   run_early : {run : Run} {line : MethodLine} {lines : List MethodLine}
       → methods_of before ≡ line ∷ lines
-      → BeginsEarly run line.runs → Breaks before Overlap (Kept run)
+      → BeginsEarly run line → Breaks before Overlap (Kept run)
   run_long : {run : Run} {line : MethodLine} {lines : List MethodLine}
       → methods_of before ≡ line ∷ lines
       → EndsBeyond run line → Breaks before Beyond (Kept run)
+  hide_alone : {new length : ℕ} → follows_method before ≡ false
+      → Breaks before NoMethod (Hidden new length)
+  hide_early : {new length : ℕ} {line : MethodLine} {lines : List MethodLine}
+      → methods_of before ≡ line ∷ lines
+      → HidesEarly new line → Breaks before Overlap (Hidden new length)
+  hide_long : {new length : ℕ} {line : MethodLine} {lines : List MethodLine}
+      → methods_of before ≡ line ∷ lines
+      → line.new_size < new + length → Breaks before Beyond (Hidden new length)
   -- it drops a method that is named, or names a dropped one
   drop_named : {m : ℕ} → IsNamed before m → Breaks before NamesDropped (Dropped m)
   names_dropped : {line : Line} (m : ℕ) → names line ≡ Some m
@@ -64,7 +91,7 @@ pub data BreaksLine (version : ℕ) (before : List Line) (text : List ℕ) : Rul
   no_form : (IsSilent text → ⊥) → ((form : Form) → HasForm version (line_words text) form → ⊥)
       → BreaksLine version before text UnknownForm
   no_value : {form : Form} → (IsSilent text → ⊥) → (has : HasForm version (line_words text) form)
-      → ((line : Line) → Values form has.values line → ⊥)
+      → ((line : Line) → Values version form has.values line → ⊥)
       → BreaksLine version before text NumberFaults
   by_lines : {line : Line} {rule : Rule} → Tells version text line → Breaks before rule line
       → BreaksLine version before text rule

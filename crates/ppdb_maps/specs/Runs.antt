@@ -1,7 +1,6 @@
 -- Where an offset stands among runs that rise.
 use Rattle.std.specs.Prelude.{◌≡◌, ℕ, ◌<◌, ◌≤◌, ◌⊎◌, List, Option, Some, None}
 use Rattle.ppdb_base.specs.{declared.offsets.Run.Run, Offsets.{Takes, Moves, end_of}}
-use Rattle.ppdb_maps.specs.{Map.MethodLine, Rules.{BeginsEarly, EndsBeyond}}
 use Rattle.ppdb_maps.specs.declared.refusal.{Refusal.Refusal, Refusal.TheVariants.Breaks as refused}
 use Rattle.ppdb_maps.specs.declared.refusal.Refusal.TheVariants.{Memory}
 use Rattle.ppdb_maps.specs.declared.rule.Rule.TheVariants.{Overlap, Beyond}
@@ -19,8 +18,15 @@ abbrev pub RunIs : List Run → ℕ → Option Run → Type 0
 RunIs runs x None = (u v : ℕ) → Moves runs u v → u < x
 RunIs runs x (Some run) = IsRunAt runs x run
 
--- why a run is refused
-abbrev pub RefusesRun : Run → MethodLine → Refusal → Type 0
-RefusesRun run line (refused rule) = ((rule ≡ Overlap) × BeginsEarly run line.runs)
-    ⊎ ((rule ≡ Beyond) × (BeginsEarly run line.runs → ⊥) × EndsBeyond run line)
-RefusesRun run line Memory = Unit {0}
+-- y is the least image of an offset that the runs keep that is not below the new offset
+pub record IsLeastImage (runs : List Run) (new y : ℕ) : Type 0 where
+  pub offset : ℕ
+  pub kept : Moves runs offset y
+  pub after : new ≤ y
+  pub least : (other image : ℕ) → Moves runs other image → new ≤ image → y ≤ image
+
+-- why a line of offsets that may begin early or end beyond a size is refused
+abbrev pub RefusesOffsets : Type 0 → Type 0 → Refusal → Type 0
+RefusesOffsets early beyond (refused rule) =
+    ((rule ≡ Overlap) × early) ⊎ ((rule ≡ Beyond) × (early → ⊥) × beyond)
+RefusesOffsets early beyond Memory = Unit {0}

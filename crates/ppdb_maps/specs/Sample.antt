@@ -11,7 +11,8 @@ sample_runs =
     record { old = 0; new = 0; length = 4 } ∷ record { old = 8; new = 10; length = 8 } ∷ []
 
 abbrev pub sample_method : ℕ → MethodLine
-sample_method i = record { method = i; old_size = 16; new_size = 20; runs = sample_runs }
+sample_method i =
+    record { method = i; old_size = 16; new_size = 20; runs = sample_runs; stretches = [] }
 
 -- the method i of n becomes the method n + 1 - i
 abbrev pub sample_map_of : ℕ → Map

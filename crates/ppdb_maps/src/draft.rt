@@ -6,7 +6,7 @@ ghost use Rattle.ppdb_maps.specs.Text.{HoldsWhat, Read};
 ghost use Rattle.ppdb_maps.specs.declared.line.Line.{Line};
 ghost use Rattle.ppdb_maps.specs.declared.line.Line.TheVariants.{Rows, Row, Cross, Gone, Kept};
 ghost use Rattle.ppdb_maps.specs.declared.line.Line.TheVariants.{Dropped, Slots, Slot, Signature};
-ghost use Rattle.ppdb_maps.specs.declared.line.Line.TheVariants.{Document};
+ghost use Rattle.ppdb_maps.specs.declared.line.Line.TheVariants.{Document, Hidden};
 ghost use Rattle.ppdb_maps.specs.Drafts.{Holds, IsClosed, HasNaming, IsChecked, IsPut, IsAddedTo};
 ghost use Rattle.ppdb_maps.specs.Drafts.{HasLength};
 ghost use Rattle.ppdb_maps.specs.Places.{place};
@@ -15,7 +15,7 @@ ghost use Rattle.ppdb_maps.specs.declared.rule.Rule.TheVariants.{Repeated, Undec
 ghost use Rattle.ppdb_maps.specs.declared.rule.Rule.TheVariants.{NamesDropped};
 
 use crate::bit_set::{BitSet, RowSet};
-use crate::entries::{CrossLine, GoneLine, NameLine, RowLine, SignatureImage};
+use crate::entries::{CrossLine, GoneLine, NameLine, RowLine, Shared, SignatureImage};
 use crate::finish::{
     counts_of, crossed_in_order, documents_of, gone_in_order, methods_in_order, numbers_of,
     rows_in_order, signatures_in_order, slots_of,
@@ -45,11 +45,11 @@ pub struct Draft {
     methods: Vec<Method>,
     /// The numbers of `methods`.
     listed: BitSet,
-    /// The last method, while its runs may follow; it is not among `methods` yet.
+    /// The last method, while its runs and stretches may follow; it is not among `methods` yet.
     current: Option<Method>,
     drops: BTreeSet<u32>,
     slotted: BTreeSet<u32>,
-    slots: BTreeMap<(u32, u16), u16>,
+    slots: BTreeMap<(u32, u16), Option<u16>>,
     /// In the order of their lines.
     signatures: Vec<SignatureImage>,
     /// The methods of `signatures`.
@@ -57,7 +57,7 @@ pub struct Draft {
     /// The new names of documents, by their names.
     documents: BTreeMap<Vec<u8>, Bytes>,
     link: Option<Bytes>,
-    shares: bool,
+    shares: Shared,
 }
 
 impl Draft {
@@ -81,7 +81,10 @@ impl Draft {
             signed: BitSet::new(alloc),
             documents: BTreeMap::new(alloc),
             link: None,
-            shares: false,
+            shares: Shared {
+                rows: false,
+                slots: false,
+            },
         }
     }
 
@@ -103,7 +106,7 @@ impl Draft {
             → IsTrue result ↔ Breaks before Repeated line.now }
     {
         match line {
-            Line::Silent | Line::Kept(_) => false,
+            Line::Silent | Line::Kept(_) | Line::Hidden { .. } => false,
             Line::Rows { table, .. } => self.counts.contains_key(table),
             Line::Row { table, old, .. } => self.moved.contains(*table, *old),
             Line::Gone { table, old } => self.moved.contains(*table, *old),
@@ -115,7 +118,8 @@ impl Draft {
             Line::Signature { method, .. } => self.signed.contains(*method),
             Line::Document(names) => self.documents.contains_key(names.get().old.as_slice()),
             Line::Link(_) => self.link.is_some(),
-            Line::Shares => self.shares,
+            Line::Shares => self.shares.rows,
+            Line::SharesSlots => self.shares.slots,
         }
     }
 
@@ -236,7 +240,7 @@ impl Draft {
         Ok(())
     }
 
-    fn put_slot(&mut self, method: u32, old: u16, new: u16) -> Result<(), Memory>
+    fn put_slot(&mut self, method: u32, old: u16, new: Option<u16>) -> Result<(), Memory>
         ensures { IsPut (Slot method old new) self.old result self.new }
     {
         self.slots.insert((method, old), new)?;
@@ -249,7 +253,7 @@ impl Draft {
         ensures { IsPut line self.old result self.new }
     {
         match line {
-            Line::Silent | Line::Kept(_) => Ok(()),
+            Line::Silent | Line::Kept(_) | Line::Hidden { .. } => Ok(()),
             Line::Rows { table, rows } => self.put_rows(table, rows),
             Line::Row { table, old, new } => self.put_row(alloc, RowLine { table, old, new }),
             Line::Cross(line) => self.put_cross(alloc, line),
@@ -272,7 +276,11 @@ impl Draft {
                 Ok(())
             }
             Line::Shares => {
-                self.shares = true;
+                self.shares.rows = true;
+                Ok(())
+            }
+            Line::SharesSlots => {
+                self.shares.slots = true;
                 Ok(())
             }
         }
@@ -284,6 +292,16 @@ impl Draft {
     {
         match &mut self.current {
             Some(method) => method.add(run),
+            None => Err(Refusal::Breaks(Rule::NoMethod)),
+        }
+    }
+
+    fn add_hidden(&mut self, new: u32, length: u32) -> Result<(), Refusal>
+        requires { 0 < length }
+        ensures { IsAddedTo (Hidden new length) self.old result self.new }
+    {
+        match &mut self.current {
+            Some(method) => method.hide(new, length),
             None => Err(Refusal::Breaks(Rule::NoMethod)),
         }
     }
@@ -307,6 +325,7 @@ impl Draft {
         match line {
             Line::Silent => Ok(()),
             Line::Kept(run) => self.add_run(run),
+            Line::Hidden { new, length } => self.add_hidden(new, length),
             line => self.add_placed(alloc, line),
         }
     }

@@ -33,12 +33,21 @@ pub struct GoneLine {
     pub old: u32,
 }
 
-/// The image of a local's slot in a method.
+/// The image of a local's slot in a method; none where the slot was removed.
 #[derive(Clone, Copy)]
-pub struct SlotImage {
+pub struct SlotLine {
     pub method: u32,
     pub old: u16,
-    pub new: u16,
+    pub new: Option<u16>,
+}
+
+/// What may have one image.
+#[derive(Clone, Copy)]
+pub struct Shared {
+    /// Rows of the tables of types and of AssemblyRef.
+    pub rows: bool,
+    /// Slots of one method.
+    pub slots: bool,
 }
 
 /// The local signature of a method: a row of StandAloneSig, or 0 for none.

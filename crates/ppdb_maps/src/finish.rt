@@ -8,7 +8,7 @@ ghost use Rattle.ppdb_maps.specs.Gathered.{count_entry, row_key, cross_key, gone
 ghost use Rattle.ppdb_maps.specs.Gathered.{signature_key, slot_entry, name_entry, name_cmp};
 ghost use Rattle.std.specs.List.Sorted.{IsPermutation, IsSortedByKey};
 
-use crate::entries::{Count, CrossLine, GoneLine, NameLine, RowLine, SignatureImage, SlotImage};
+use crate::entries::{Count, CrossLine, GoneLine, NameLine, RowLine, SignatureImage, SlotLine};
 use crate::method::Method;
 use ppdb_base::Bytes;
 use std::alloc::{AllocError, Global};
@@ -53,14 +53,14 @@ pub fn gone_in_order(mut lines: Vec<GoneLine>) -> Result<Vec<GoneLine>, AllocErr
 
 pub fn slots_of(
     alloc: Global,
-    slots: BTreeMap<(u32, u16), u16>,
-) -> Result<Vec<SlotImage>, AllocError>
+    slots: BTreeMap<(u32, u16), Option<u16>>,
+) -> Result<Vec<SlotLine>, AllocError>
     ensures ordered { IsOrdered pair_cmp slots }
     ensures items { IfOk result (λ v. v.items ≡ map slot_entry slots.entries) }
 {
     slots
         .into_iter()
-        .map(|((method, old), new)| SlotImage { method, old, new })
+        .map(|((method, old), new)| SlotLine { method, old, new })
         .collect(alloc)
 }
 

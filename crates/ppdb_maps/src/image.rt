@@ -1,4 +1,4 @@
-// What a row becomes.
+// What a row and a slot become.
 
 /// What a row of a table becomes.
 #[derive(Clone, Copy, Debug, PartialEq, Eq)]
@@ -8,5 +8,16 @@ pub enum RowImage {
     /// Nothing: the row was removed, and has no successor.
     Gone,
     /// The map has no image for the row.
+    Missing,
+}
+
+/// What a local's slot becomes.
+#[derive(Clone, Copy, Debug, PartialEq, Eq)]
+pub enum SlotImage {
+    /// A slot.
+    Slot(u16),
+    /// Nothing: the slot was removed, and its variables go.
+    Gone,
+    /// The map has no image for the slot.
     Missing,
 }

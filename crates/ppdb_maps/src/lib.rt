@@ -26,7 +26,7 @@ mod search;
 mod starts;
 mod words;
 
-pub use image::RowImage;
+pub use image::{RowImage, SlotImage};
 pub use laws::{
     kept_offsets_rise, maps_are_readable, next_image_never_falls, refusals_are_one,
     sample_texts_have_their_maps, texts_have_one_map,

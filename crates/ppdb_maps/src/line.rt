@@ -18,7 +18,7 @@ pub enum Form {
     MethodDrop,
     /// `slots M`
     MethodSlots,
-    /// `slot M OLD NEW`
+    /// `slot M OLD NEW`, `slot M OLD gone`
     SlotMove,
     /// `signature M NEW`
     MethodSignature,
@@ -32,6 +32,10 @@ pub enum Form {
     RowGone,
     /// `shares`
     Sharing,
+    /// `shares slots`
+    SlotSharing,
+    /// `hide NEW LENGTH`
+    Hiding,
 }
 
 /// What a line after the first says.
@@ -70,11 +74,11 @@ pub enum Line {
     Dropped(u32),
     /// The method's slots have images: those of its `slot` lines.
     Slots(u32),
-    /// The image of a slot of a method.
+    /// The image of a slot of a method; none where the slot was removed.
     Slot {
         method: u32,
         old: u16,
-        new: u16,
+        new: Option<u16>,
     },
     /// The local signature of a method.
     Signature {
@@ -87,4 +91,11 @@ pub enum Line {
     Link(Boxed<Bytes>),
     /// Rows of the tables of types and of AssemblyRef may have one image.
     Shares,
+    /// Slots of one method may have one image.
+    SharesSlots,
+    /// New offsets of the last method that no source belongs to.
+    Hidden {
+        new: u32,
+        length: u32,
+    },
 }

@@ -4,7 +4,8 @@ ghost use Rattle.std.specs.Prelude.{option_copied, slice_get, option_map};
 ghost use Rattle.ppdb_maps.specs.Map.{MethodLine, map_of, count_of, row_line, row_within};
 ghost use Rattle.ppdb_maps.specs.Map.{moved_row, said_image, cross_line, has_gone_line, row_image};
 ghost use Rattle.ppdb_maps.specs.Map.{is_dropped, has_slots, slot_line, slot_image, offsets_in};
-ghost use Rattle.ppdb_maps.specs.Map.{rows_of, crossed_of, gone_of, slots_of};
+ghost use Rattle.ppdb_maps.specs.Map.{rows_of, crossed_of, gone_of, slots_of, stretches_in};
+ghost use Rattle.ppdb_maps.specs.Map.{moved_slot, none_shared, numbered_slots_of, gone_slots_of};
 ghost use Rattle.ppdb_maps.specs.Map.{signature_line, moved_signature, document_line, moved_name};
 ghost use Rattle.ppdb_maps.specs.Readable.{IsReadable};
 ghost use Rattle.ppdb_maps.specs.declared.entries.NameLine.{NameLine};
@@ -12,11 +13,13 @@ ghost use Rattle.ppdb_maps.specs.declared.entries.CrossLine.{CrossLine};
 ghost use Rattle.ppdb_maps.specs.declared.entries.GoneLine.{GoneLine};
 ghost use Rattle.ppdb_maps.specs.declared.entries.RowLine.{RowLine};
 ghost use Rattle.ppdb_maps.specs.declared.entries.SignatureImage.{SignatureImage};
-ghost use Rattle.ppdb_maps.specs.declared.entries.SlotImage.{SlotImage};
-ghost use Rattle.ppdb_maps.specs.Says.{offsets_of};
+ghost use Rattle.ppdb_maps.specs.declared.entries.SlotImage.{SlotLine};
+ghost use Rattle.ppdb_maps.specs.Says.{offsets_of, stretches_of};
 
-use crate::entries::{Count, CrossLine, GoneLine, NameLine, RowLine, SignatureImage, SlotImage};
-use crate::image::RowImage;
+use crate::entries::{
+    Count, CrossLine, GoneLine, NameLine, RowLine, Shared, SignatureImage, SlotLine,
+};
+use crate::image::{RowImage, SlotImage};
 use crate::method::Method;
 use crate::method_map::MethodMap;
 use crate::search::{
@@ -40,11 +43,11 @@ pub struct MapText {
     methods: Vec<Method>,
     drops: Vec<u32>,
     slotted: Vec<u32>,
-    slots: Vec<SlotImage>,
+    slots: Vec<SlotLine>,
     signatures: Vec<SignatureImage>,
     documents: Vec<NameLine>,
     link: Option<Bytes>,
-    shares: bool,
+    shares: Shared,
 }
 
 impl Model for MapText {
@@ -66,7 +69,7 @@ impl Model for MapText {
 impl MapText {
     /// The map without lines: nothing changes. It takes no memory.
     pub fn empty(alloc: Global) -> MapText
-        ensures { result ≡ map_of [] [] [] [] [] [] [] [] [] [] None false }
+        ensures { result ≡ map_of [] [] [] [] [] [] [] [] [] [] None none_shared }
     {
         MapText {
             counts: Vec::new(alloc),
@@ -81,7 +84,10 @@ impl MapText {
             signatures: Vec::new(alloc),
             documents: Vec::new(alloc),
             link: None,
-            shares: false,
+            shares: Shared {
+                rows: false,
+                slots: false,
+            },
         }
     }
 
@@ -94,11 +100,11 @@ impl MapText {
         methods: Vec<Method>,
         drops: Vec<u32>,
         slotted: Vec<u32>,
-        slots: Vec<SlotImage>,
+        slots: Vec<SlotLine>,
         signatures: Vec<SignatureImage>,
         documents: Vec<NameLine>,
         link: Option<Bytes>,
-        shares: bool,
+        shares: Shared,
     ) -> MapText
         requires { IsReadable (map_of counts.items rows.items crossed.items gone.items methods.items
             drops.items slotted.items slots.items signatures.items
@@ -214,9 +220,16 @@ impl MapText {
     /// Whether rows of the tables of types and of AssemblyRef may have one image: there is a
     /// `shares` line.
     pub fn shares(&self) -> bool
-        ensures { result ≡ self.now.shares }
+        ensures { result ≡ self.now.shares.rows }
     {
-        self.shares
+        self.shares.rows
+    }
+
+    /// Whether slots of one method may have one image: there is a `shares slots` line.
+    pub fn shares_slots(&self) -> bool
+        ensures { result ≡ self.now.shares.slots }
+    {
+        self.shares.slots
     }
 
     /// The row of the same table that a row becomes, where 0 is no row; 0 where there is none.
@@ -231,7 +244,8 @@ impl MapText {
 
     /// What becomes of the offsets of a method.
     pub fn method(&self, method: u32) -> MethodMap<'_>
-        ensures { offsets_of result.says ≡ offsets_in self.now method }
+        ensures offsets { offsets_of result.says ≡ offsets_in self.now method }
+        ensures stretches { stretches_of result.says ≡ stretches_in self.now method }
     {
         if self.dropped(method) {
             return MethodMap::dropped();
@@ -256,20 +270,34 @@ impl MapText {
         has_number(self.slotted.as_slice(), method)
     }
 
-    /// The NEW of the slot's `slot` line.
-    fn new_slot(&self, method: u32, old: u16) -> Option<u16>
+    /// The NEW of the slot's `slot` line, which is none where the line says `gone`.
+    fn new_slot(&self, method: u32, old: u16) -> Option<Option<u16>>
         ensures { result ≡ slot_line self.now method old }
     {
         slot_at(self.slots.as_slice(), method, old).map(|slot| slot.new)
     }
 
-    /// The image of a slot of a method: the slot itself where the method has no `slots` line, else
-    /// the image that its `slot` line names.
+    /// What a slot of a method becomes: itself where the method has no `slots` line; else what its
+    /// `slot` line says, and missing where there is none.
+    pub fn slot_image(&self, method: u32, old: u16) -> SlotImage
+        ensures { result ≡ moved_slot self.now method old }
+    {
+        if !self.has_slots(method) {
+            return SlotImage::Slot(old);
+        }
+        match self.new_slot(method, old) {
+            Some(Some(new)) => SlotImage::Slot(new),
+            Some(None) => SlotImage::Gone,
+            None => SlotImage::Missing,
+        }
+    }
+
+    /// The slot that a slot of a method becomes, where it becomes one.
     pub fn slot(&self, method: u32, old: u16) -> Option<u16>
         ensures { result ≡ slot_image self.now method old }
     {
         if self.has_slots(method) {
-            self.new_slot(method, old)
+            self.new_slot(method, old)?
         } else {
             Some(old)
         }
@@ -369,10 +397,10 @@ impl MapText {
         nth_gone(self.gone.as_slice(), table, index).map(|line| line.old)
     }
 
-    /// The slots of a method with a `slot` line and their images, in ascending order; none past
-    /// the last.
-    pub fn slot_line(&self, method: u32, index: u32) -> Option<(u16, u16)>
-        ensures { result ≡ option_map (λ (s : SlotImage). (s.old, s.new))
+    /// The slots of a method with a `slot` line, each with its image or none where it is gone, in
+    /// ascending order; none past the last.
+    pub fn slot_entry(&self, method: u32, index: u32) -> Option<(u16, Option<u16>)>
+        ensures { result ≡ option_map (λ (s : SlotLine). (s.old, s.new))
             (slice_get (slots_of self.now method) index) }
     {
         nth_slot(self.slots.as_slice(), method, index).map(|slot| (slot.old, slot.new))

@@ -1,10 +1,11 @@
 // How a map moves the offsets of one method.
-ghost use Rattle.std.specs.Prelude.{◌≡◌, ◌≤◌, slice_get, option_map};
+ghost use Rattle.std.specs.Prelude.{◌≡◌, ◌≤◌, [], slice_get, option_map};
 ghost use Rattle.ppdb_base.specs.Offsets.{Rise, RiseFrom-prop, stop_runs, old_size, every, gone};
 ghost use Rattle.ppdb_base.specs.Offsets.{lined};
-ghost use Rattle.ppdb_maps.specs.Says.{offsets_of, sizes_of, lined_runs, run_numbers};
+ghost use Rattle.ppdb_maps.specs.Says.{offsets_of, stretches_of, sizes_of, lined_runs, run_numbers};
+ghost use Rattle.ppdb_maps.specs.Says.{AreHidden, AreHidden-prop, are_apart};
 
-use crate::runs::{image_in, is_kept_in, next_image_in};
+use crate::runs::{image_from_in, image_in, is_kept_in, next_image_in, stretch_after};
 use crate::says::Says;
 use ppdb_base::{OffsetImage, Run};
 
@@ -14,6 +15,7 @@ pub struct MethodMap<'a> {
     says: Says<'a>,
     ghost rises: { Rise (offsets_of says) } by { RiseFrom-prop 0 0 (stop_runs (offsets_of says)) },
     ghost short: { old_size (offsets_of says) ≤ 4294967295 },
+    ghost hides: { AreHidden (offsets_of says) (stretches_of says) } by { AreHidden-prop (offsets_of says) (stretches_of says) },
 }
 
 impl OffsetImage for MethodMap<'_> {
@@ -27,6 +29,7 @@ impl OffsetImage for MethodMap<'_> {
                 runs,
                 old_size,
                 new_size,
+                ..
             } => image_in(runs, old_size, new_size, offset),
         }
     }
@@ -39,6 +42,7 @@ impl OffsetImage for MethodMap<'_> {
                 runs,
                 old_size,
                 new_size,
+                ..
             } => { next_image_in(runs, old_size, new_size, offset) }
         }
     }
@@ -51,6 +55,25 @@ impl OffsetImage for MethodMap<'_> {
         }
     }
 
+    ghost stretches = { λ m. stretches_of m.says };
+
+    fn hidden(&self, from: u32) -> Option<(u32, u32)> {
+        match self.says {
+            Says::Lined { stretches, .. } => stretch_after(stretches, from),
+            _ => None,
+        }
+    }
+
+    fn image_from(&self, new: u32) -> Option<u32> {
+        match self.says {
+            Says::Every => Some(new),
+            Says::Gone => None,
+            Says::Lined { runs, .. } => image_from_in(runs, new),
+        }
+    }
+
+    ghost apart = { λ m. are_apart (offsets_of m.says) (stretches_of m.says) m.hides };
+
     ghost rise = { λ m. m.rises };
 
     ghost size = { λ m. m.short };
@@ -59,28 +82,38 @@ impl OffsetImage for MethodMap<'_> {
 impl<'a> MethodMap<'a> {
     /// Each offset is kept, and is its own image.
     pub(crate) fn unchanged() -> MethodMap<'a>
-        ensures { offsets_of result.says ≡ every }
+        ensures offsets { offsets_of result.says ≡ every }
+        ensures stretches { stretches_of result.says ≡ [] }
     {
         MethodMap { says: Says::Every }
     }
 
     /// No offset is kept.
     pub(crate) fn dropped() -> MethodMap<'a>
-        ensures { offsets_of result.says ≡ gone }
+        ensures offsets { offsets_of result.says ≡ gone }
+        ensures stretches { stretches_of result.says ≡ [] }
     {
         MethodMap { says: Says::Gone }
     }
 
-    /// The offsets of these runs are kept.
-    pub(crate) fn lined(runs: &'a [Run], old_size: u32, new_size: u32) -> MethodMap<'a>
-        requires { Rise (lined runs.now old_size new_size) }
-        ensures { offsets_of result.says ≡ lined runs.now old_size new_size }
+    /// The offsets of these runs are kept, and these stretches are hidden.
+    pub(crate) fn lined(
+        runs: &'a [Run],
+        old_size: u32,
+        new_size: u32,
+        stretches: &'a [(u32, u32)],
+    ) -> MethodMap<'a>
+        requires rise { Rise (lined runs.now old_size new_size) }
+        requires hidden { AreHidden (lined runs.now old_size new_size) stretches.now }
+        ensures offsets { offsets_of result.says ≡ lined runs.now old_size new_size }
+        ensures stretches { stretches_of result.says ≡ stretches.now }
     {
         MethodMap {
             says: Says::Lined {
                 runs,
                 old_size,
                 new_size,
+                stretches,
             },
         }
     }
@@ -111,6 +144,17 @@ impl MethodMap<'_> {
                 let run = runs.get(index as usize)?;
                 Some((run.old, run.new, run.length))
             }
+            _ => None,
+        }
+    }
+
+    /// The hidden stretches, in ascending order: the first new offset of each and the one after its
+    /// last; none past the last.
+    pub fn hide_line(&self, index: u32) -> Option<(u32, u32)>
+        ensures { result ≡ slice_get (stretches_of self.now.says) index }
+    {
+        match self.says {
+            Says::Lined { stretches, .. } => stretches.get(index as usize).copied(),
             _ => None,
         }
     }

@@ -1,7 +1,7 @@
 // What one line of a map text says.
-ghost use Rattle.std.specs.Prelude.{◌≡◌, ℕ, codes, IfOk, IfSome, IfNone, IsTrue, ◌↔◌};
+ghost use Rattle.std.specs.Prelude.{◌≡◌, ℕ, codes, IfOk, IfSome, IfNone, IsTrue, ◌↔◌, Option};
 ghost use Rattle.ppdb_maps.specs.Words.{IsSilent};
-ghost use Rattle.ppdb_maps.specs.Forms.{Crosses, IsHead, IsTypeTable, words_in, since};
+ghost use Rattle.ppdb_maps.specs.Forms.{Crosses, IsHead, IsTypeTable, SaysSlot, words_in, since};
 ghost use Rattle.ppdb_maps.specs.Reading.{IsNamed, IsNamedAlone, IsFormOf, IsLineOfForm};
 ghost use Rattle.ppdb_maps.specs.Reading.{IsReported};
 ghost use Rattle.ppdb_maps.specs.declared.line.Form.TheVariants.{TableRows, RowMove, MethodSizes};
@@ -9,7 +9,8 @@ ghost use Rattle.ppdb_maps.specs.declared.line.Form.TheVariants.{OffsetRun, Meth
 ghost use Rattle.ppdb_maps.specs.declared.line.Form.TheVariants.{MethodSlots, SlotMove};
 ghost use Rattle.ppdb_maps.specs.declared.line.Form.TheVariants.{MethodSignature};
 ghost use Rattle.ppdb_maps.specs.declared.line.Form.TheVariants.{DocumentRename, LinkValue};
-ghost use Rattle.ppdb_maps.specs.declared.line.Form.TheVariants.{CrossMove, RowGone};
+ghost use Rattle.ppdb_maps.specs.declared.line.Form.TheVariants.{CrossMove, RowGone, Hiding};
+ghost use Rattle.ppdb_maps.specs.declared.line.Form.TheVariants.{SlotSharing};
 
 use crate::boxed::Boxed;
 use crate::entries::{CrossLine, NameLine};
@@ -30,7 +31,7 @@ pub fn version_of(line: &[u8]) -> Option<u8>
     let [prefix @ .., digit] = line else {
         return None;
     };
-    if prefix == b"ppdbmap ".as_slice() && b'1' <= *digit && *digit <= b'4' {
+    if prefix == b"ppdbmap ".as_slice() && b'1' <= *digit && *digit <= b'5' {
         Some(*digit - b'0')
     } else {
         None
@@ -54,6 +55,17 @@ fn row_form(count: usize) -> Option<Form>
     match count {
         4 => Some(Form::RowMove),
         5 => Some(Form::CrossMove),
+        _ => None,
+    }
+}
+
+/// The form of a `shares` line of so many words.
+fn shares_form(count: usize) -> Option<Form>
+    ensures { IsNamed (codes "shares") count result }
+{
+    match count {
+        1 => Some(Form::Sharing),
+        2 => Some(Form::SlotSharing),
         _ => None,
     }
 }
@@ -92,8 +104,8 @@ fn named(word: &[u8]) -> Option<Form>
     if word == b"rows".as_slice() {
         return Some(Form::TableRows);
     }
-    if word == b"shares".as_slice() {
-        return Some(Form::Sharing);
+    if word == b"hide".as_slice() {
+        return Some(Form::Hiding);
     }
     None
 }
@@ -105,8 +117,12 @@ impl Form {
     {
         match self {
             Form::Sharing => 1,
-            Form::MethodDrop | Form::MethodSlots | Form::LinkValue => 2,
-            Form::TableRows | Form::MethodSignature | Form::DocumentRename | Form::RowGone => 3,
+            Form::MethodDrop | Form::MethodSlots | Form::LinkValue | Form::SlotSharing => 2,
+            Form::TableRows
+            | Form::MethodSignature
+            | Form::DocumentRename
+            | Form::RowGone
+            | Form::Hiding => 3,
             Form::RowMove | Form::MethodSizes | Form::OffsetRun | Form::SlotMove => 4,
             Form::CrossMove => 5,
         }
@@ -126,6 +142,7 @@ impl Form {
             | Form::CrossMove
             | Form::RowGone
             | Form::Sharing => 4,
+            Form::SlotSharing | Form::Hiding => 5,
         }
     }
 }
@@ -136,6 +153,8 @@ fn form_of(version: u8, words: &Words<'_>) -> Option<Form>
 {
     let form = if words.name == b"row".as_slice() {
         row_form(words.count)?
+    } else if words.name == b"shares".as_slice() {
+        shares_form(words.count)?
     } else {
         named(words.name)?
     };
@@ -147,7 +166,7 @@ fn form_of(version: u8, words: &Words<'_>) -> Option<Form>
 }
 
 fn rows_line(words: &Words<'_>) -> Option<Line>
-    ensures { IsLineOfForm TableRows words.now result }
+    ensures { (version : ℕ) → IsLineOfForm version TableRows words.now result }
 {
     let table = table(words.first)?;
     let rows = row_or_zero(words.second)?;
@@ -155,7 +174,7 @@ fn rows_line(words: &Words<'_>) -> Option<Line>
 }
 
 fn row_line(words: &Words<'_>) -> Option<Line>
-    ensures { IsLineOfForm RowMove words.now result }
+    ensures { (version : ℕ) → IsLineOfForm version RowMove words.now result }
 {
     let table = table(words.first)?;
     let old = row(words.second)?;
@@ -181,7 +200,7 @@ pub fn crosses(line: CrossLine) -> bool
 }
 
 fn cross_line(words: &Words<'_>) -> Option<Line>
-    ensures { IsLineOfForm CrossMove words.now result }
+    ensures { (version : ℕ) → IsLineOfForm version CrossMove words.now result }
 {
     let line = CrossLine {
         table: table(words.first)?,
@@ -197,7 +216,7 @@ fn cross_line(words: &Words<'_>) -> Option<Line>
 }
 
 fn gone_line(words: &Words<'_>) -> Option<Line>
-    ensures { IsLineOfForm RowGone words.now result }
+    ensures { (version : ℕ) → IsLineOfForm version RowGone words.now result }
 {
     let table = table(words.first)?;
     let old = row(words.second)?;
@@ -208,7 +227,7 @@ fn gone_line(words: &Words<'_>) -> Option<Line>
 }
 
 fn method_line(words: &Words<'_>) -> Option<Line>
-    ensures { IsLineOfForm MethodSizes words.now result }
+    ensures { (version : ℕ) → IsLineOfForm version MethodSizes words.now result }
 {
     let method = row(words.first)?;
     let old_size = offset(words.second)?;
@@ -221,7 +240,7 @@ fn method_line(words: &Words<'_>) -> Option<Line>
 }
 
 fn run_line(words: &Words<'_>) -> Option<Line>
-    ensures { IsLineOfForm OffsetRun words.now result }
+    ensures { (version : ℕ) → IsLineOfForm version OffsetRun words.now result }
 {
     let old = offset(words.first)?;
     let new = offset(words.second)?;
@@ -230,30 +249,60 @@ fn run_line(words: &Words<'_>) -> Option<Line>
 }
 
 fn drop_line(words: &Words<'_>) -> Option<Line>
-    ensures { IsLineOfForm MethodDrop words.now result }
+    ensures { (version : ℕ) → IsLineOfForm version MethodDrop words.now result }
 {
     let method = row(words.first)?;
     Some(Line::Dropped(method))
 }
 
 fn slots_line(words: &Words<'_>) -> Option<Line>
-    ensures { IsLineOfForm MethodSlots words.now result }
+    ensures { (version : ℕ) → IsLineOfForm version MethodSlots words.now result }
 {
     let method = row(words.first)?;
     Some(Line::Slots(method))
 }
 
-fn slot_line(words: &Words<'_>) -> Option<Line>
-    ensures { IsLineOfForm SlotMove words.now result }
+/// What becomes of a slot; none where the word says neither a slot nor, from version 5 on, nothing.
+fn slot_said(version: u8, word: &[u8]) -> Option<Option<u16>>
+    ensures some { IfSome result (SaysSlot version word.now) }
+    ensures none { IfNone result ((new : Option ℕ) → SaysSlot version word.now new → ⊥) }
+{
+    if version >= 5 && word == b"gone".as_slice() {
+        return Some(None);
+    }
+    let new = slot(word)?;
+    Some(Some(new))
+}
+
+fn slot_line(version: u8, words: &Words<'_>) -> Option<Line>
+    ensures { IsLineOfForm version SlotMove words.now result }
 {
     let method = row(words.first)?;
     let old = slot(words.second)?;
-    let new = slot(words.third)?;
+    let new = slot_said(version, words.third)?;
     Some(Line::Slot { method, old, new })
 }
 
+fn shares_slots_line(words: &Words<'_>) -> Option<Line>
+    ensures { (version : ℕ) → IsLineOfForm version SlotSharing words.now result }
+{
+    if words.first == b"slots".as_slice() {
+        Some(Line::SharesSlots)
+    } else {
+        None
+    }
+}
+
+fn hide_line(words: &Words<'_>) -> Option<Line>
+    ensures { (version : ℕ) → IsLineOfForm version Hiding words.now result }
+{
+    let new = offset(words.first)?;
+    let length = number(words.second, 1, 2_147_483_647)?;
+    Some(Line::Hidden { new, length })
+}
+
 fn signature_line(words: &Words<'_>) -> Option<Line>
-    ensures { IsLineOfForm MethodSignature words.now result }
+    ensures { (version : ℕ) → IsLineOfForm version MethodSignature words.now result }
 {
     let method = row(words.first)?;
     let new = row_or_zero(words.second)?;
@@ -261,7 +310,8 @@ fn signature_line(words: &Words<'_>) -> Option<Line>
 }
 
 fn document_line(alloc: Global, words: &Words<'_>) -> Result<Option<Line>, Memory>
-    ensures { IfOk result (IsLineOfForm DocumentRename words.now) }
+    ensures { IfOk result (λ line. (version : ℕ)
+        → IsLineOfForm version DocumentRename words.now line) }
 {
     let Some(old) = unescaped(alloc, words.first)? else {
         return Ok(None);
@@ -274,7 +324,8 @@ fn document_line(alloc: Global, words: &Words<'_>) -> Result<Option<Line>, Memor
 }
 
 fn link_line(alloc: Global, words: &Words<'_>) -> Result<Option<Line>, Memory>
-    ensures { IfOk result (IsLineOfForm LinkValue words.now) }
+    ensures { IfOk result (λ line. (version : ℕ)
+        → IsLineOfForm version LinkValue words.now line) }
 {
     let Some(value) = unescaped(alloc, words.first)? else {
         return Ok(None);
@@ -284,8 +335,13 @@ fn link_line(alloc: Global, words: &Words<'_>) -> Result<Option<Line>, Memory>
 }
 
 /// What the values of a form say; none where one is misspelled or out of its range.
-fn line_of(alloc: Global, form: Form, words: &Words<'_>) -> Result<Option<Line>, Memory>
-    ensures { IfOk result (IsLineOfForm form words.now) }
+fn line_of(
+    alloc: Global,
+    version: u8,
+    form: Form,
+    words: &Words<'_>,
+) -> Result<Option<Line>, Memory>
+    ensures { IfOk result (IsLineOfForm version form words.now) }
 {
     match form {
         Form::TableRows => Ok(rows_line(words)),
@@ -294,13 +350,15 @@ fn line_of(alloc: Global, form: Form, words: &Words<'_>) -> Result<Option<Line>,
         Form::OffsetRun => Ok(run_line(words)),
         Form::MethodDrop => Ok(drop_line(words)),
         Form::MethodSlots => Ok(slots_line(words)),
-        Form::SlotMove => Ok(slot_line(words)),
+        Form::SlotMove => Ok(slot_line(version, words)),
         Form::MethodSignature => Ok(signature_line(words)),
         Form::DocumentRename => document_line(alloc, words),
         Form::LinkValue => link_line(alloc, words),
         Form::CrossMove => Ok(cross_line(words)),
         Form::RowGone => Ok(gone_line(words)),
         Form::Sharing => Ok(Some(Line::Shares)),
+        Form::SlotSharing => Ok(shares_slots_line(words)),
+        Form::Hiding => Ok(hide_line(words)),
     }
 }
 
@@ -315,7 +373,7 @@ pub fn said(alloc: Global, version: u8, line: &[u8]) -> Result<Line, Refusal>
     let Some(form) = form_of(version, &words) else {
         return Err(Refusal::Breaks(Rule::UnknownForm));
     };
-    match line_of(alloc, form, &words)? {
+    match line_of(alloc, version, form, &words)? {
         Some(line) => Ok(line),
         None => Err(Refusal::Breaks(Rule::NumberFaults)),
     }

@@ -2,7 +2,7 @@
 ghost use Rattle.std.specs.Prelude.{◌≡◌, ◌≤◌, IfOk};
 ghost use Rattle.ppdb_maps.specs.Sample.{sample_method, sample_runs, sample_map_of};
 
-use crate::entries::{Count, RowLine};
+use crate::entries::{Count, RowLine, Shared};
 use crate::map_text::MapText;
 use crate::method::Method;
 use ppdb_base::{List, Memory, Run};
@@ -32,7 +32,7 @@ fn sample_method(alloc: Global, method: u32) -> Result<Method, Memory>
     ensures { IfOk result (λ line. line ≡ sample_method method) }
 {
     let runs = sample_runs(alloc)?;
-    Ok(Method::with_runs(method, 16, 20, runs))
+    Ok(Method::with_runs(alloc, method, 16, 20, runs))
 }
 
 /// The map that turns the order of a sample file's `n` methods round, with sizes and kept offsets
@@ -63,8 +63,12 @@ pub fn sample_map(alloc: Global, n: u32) -> Result<MapText, Memory>
     let slots = Vec::new(alloc);
     let signatures = Vec::new(alloc);
     let documents = Vec::new(alloc);
+    let shares = Shared {
+        rows: false,
+        slots: false,
+    };
     Ok(MapText::new(
         counts, rows, crossed, gone, methods, drops, slotted, slots, signatures, documents, None,
-        false,
+        shares,
     ))
 }

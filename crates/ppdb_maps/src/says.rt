@@ -7,10 +7,11 @@ pub enum Says<'a> {
     Every,
     /// The method is dropped: no offset is kept.
     Gone,
-    /// Its runs and its sizes.
+    /// Its runs, its sizes and its hidden stretches.
     Lined {
         runs: &'a [Run],
         old_size: u32,
         new_size: u32,
+        stretches: &'a [(u32, u32)],
     },
 }

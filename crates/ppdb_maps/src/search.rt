@@ -12,11 +12,11 @@ ghost use Rattle.ppdb_maps.specs.declared.entries.RowLine.{RowLine};
 ghost use Rattle.ppdb_maps.specs.declared.entries.CrossLine.{CrossLine};
 ghost use Rattle.ppdb_maps.specs.declared.entries.GoneLine.{GoneLine};
 ghost use Rattle.ppdb_maps.specs.declared.entries.SignatureImage.{SignatureImage};
-ghost use Rattle.ppdb_maps.specs.declared.entries.SlotImage.{SlotImage};
+ghost use Rattle.ppdb_maps.specs.declared.entries.SlotLine.{SlotLine};
 ghost use Rattle.ppdb_maps.specs.Map.{MethodLine, pair_cmp};
 ghost use Rattle.ppdb_maps.specs.Search.{FindsBy, CountsBy};
 
-use crate::entries::{Count, CrossLine, GoneLine, NameLine, RowLine, SignatureImage, SlotImage};
+use crate::entries::{Count, CrossLine, GoneLine, NameLine, RowLine, SignatureImage, SlotLine};
 use crate::method::Method;
 
 /// The item that is `at` a key, where all items before it are `before` the key.
@@ -119,8 +119,8 @@ pub fn is_gone_at(lines: &[GoneLine], table: u8, old: u32) -> bool
 }
 
 /// The image of a slot.
-pub fn slot_at(slots: &[SlotImage], method: u32, old: u16) -> Option<&SlotImage>
-    requires { IsStrictlySortedBy pair_cmp (map (λ (s : SlotImage). (s.method, s.old)) slots.now) }
+pub fn slot_at(slots: &[SlotLine], method: u32, old: u16) -> Option<&SlotLine>
+    requires { IsStrictlySortedBy pair_cmp (map (λ (s : SlotLine). (s.method, s.old)) slots.now) }
     ensures { option_copied result
         ≡ find (λ s. nat_eq s.method method && nat_eq s.old old) slots.now }
 {
@@ -219,8 +219,8 @@ pub fn nth_gone(lines: &[GoneLine], table: u8, index: u32) -> Option<&GoneLine>
 }
 
 /// The image of a slot of the method, by its index among those of the method.
-pub fn nth_slot(slots: &[SlotImage], method: u32, index: u32) -> Option<&SlotImage>
-    requires { IsStrictlySortedBy pair_cmp (map (λ (s : SlotImage). (s.method, s.old)) slots.now) }
+pub fn nth_slot(slots: &[SlotLine], method: u32, index: u32) -> Option<&SlotLine>
+    requires { IsStrictlySortedBy pair_cmp (map (λ (s : SlotLine). (s.method, s.old)) slots.now) }
     ensures { option_copied result
         ≡ slice_get (filter (λ s. nat_eq s.method method) slots.now) index }
 {

@@ -1,6 +1,6 @@
 use Rattle.std.{proofs.Common.{◌≡◌, ◌+◌, ◌-◌, ◌∷◌, ◌++◌, [], None, false, ℕ, map, refl, sym, ap, subst, ◌∙◌, arith}, specs.List.{range_with_len}}
 use Rattle.std.proofs.lemmas.List.FromFn.{map-range_with_len_more}
-use Rattle.ppdb_maps.specs.{declared.entries.Count.{Count}, declared.entries.RowLine.{RowLine}, Readable.{IsReadable}, Sample.{sample_method}}
+use Rattle.ppdb_maps.specs.{declared.entries.Count.{Count}, declared.entries.RowLine.{RowLine}, Readable.{IsReadable}, Sample.{sample_method}, Map.{none_shared}}
 use Rattle.ppdb_maps.proofs.SampleMap.{sample_readable, sample_of}
 use Rattle.ppdb_maps.proofs.sample.sample_map.Goals as goal
 use Rattle.ppdb_maps.proofs.Parts.{sample_row}
@@ -26,7 +26,7 @@ new-requires c =
     subst IsReadable
     (sym (sample_of n c.push.new.self.items c.loop-before.rows.items c.new-crossed.result.items c.new-gone.result.items
     c.loop-before.methods.items c.new-drops.result.items c.new-slotted.result.items
-    c.new-slots.result.items c.new-signatures.result.items c.new-documents.result.items None false
+    c.new-slots.result.items c.new-signatures.result.items c.new-documents.result.items None none_shared
     (c.in_ok-push.ensures.items ∙ ap (λ xs. xs ++ one ∷ []) c.new-counts.ensures.items) (c.loop-before.invariant.rows
     ∙ ap (λ k. map (sample_row n) (range_with_len 1 k)) end) c.new-crossed.ensures.items c.new-gone.ensures.items
     (c.loop-before.invariant.methods ∙ ap (λ k. map sample_method (range_with_len 1 k)) end) c.new-drops.ensures.items c.new-slotted.ensures.items

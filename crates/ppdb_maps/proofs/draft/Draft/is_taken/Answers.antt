@@ -1,6 +1,6 @@
 use Rattle.std.{proofs.Common.{ap, ◌∙◌}, specs.Prelude.{is_some}}
 use Rattle.ppdb_maps.specs.Places.{place, shares_place, link_place, rows_place, row_place, drop_place, slots_place, slot_place, signature_place, document_place}
-use Rattle.ppdb_maps.{specs.Places.{method_place}, proofs.Refusing.{taken}, proofs.Telling.{has_rows, has_slot, has_document, has_link, has_method}}
+use Rattle.ppdb_maps.{specs.Places.{method_place, shares_slots_place}, specs.declared.entries.Shared.{Shared}, proofs.Refusing.{taken}, proofs.Telling.{has_rows, has_slot, has_document, has_link, has_method}}
 use Rattle.ppdb_maps.proofs.draft.Draft.is_taken.Goals as goal
 
 pub returns-in-Rows : goal.returns-in-Rows
@@ -49,4 +49,8 @@ returns-in-Link c = λ before closed. taken before c.args.line.now link_place _ 
     (c.is_some.ensures ∙ (ap is_some closed.others.link ∙ has_link before))
 
 pub returns-in-Shares : goal.returns-in-Shares
-returns-in-Shares c = λ before closed. taken before c.args.line.now shares_place _ (ap place c.in-Shares.is) closed.others.shares
+returns-in-Shares c = λ before closed. taken before c.args.line.now shares_place _ (ap place c.in-Shares.is) (ap (λ (s : Shared). s.rows) closed.others.shares)
+
+pub returns-in-SharesSlots : goal.returns-in-SharesSlots
+returns-in-SharesSlots c = λ before closed. taken before c.args.line.now shares_slots_place _ (ap place c.in-SharesSlots.is)
+    (ap (λ (s : Shared). s.slots) closed.others.shares)

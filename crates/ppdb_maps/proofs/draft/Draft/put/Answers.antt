@@ -1,6 +1,6 @@
 use Rattle.std.proofs.Common.{subst}
 use Rattle.ppdb_maps.{specs.Rules.{Breaks}, specs.declared.line.Line.{Line}, specs.declared.rule.Rule.TheVariants.{Repeated}, proofs.Adding.{method_added, link_put}}
-use Rattle.ppdb_maps.proofs.Adding.{shares_put}
+use Rattle.ppdb_maps.proofs.Adding.{shares_put, shares_slots_put}
 use Rattle.ppdb_maps.proofs.draft.Draft.put.Goals as goal
 
 pub returns-in-Method : goal.returns-in-Method
@@ -13,3 +13,6 @@ returns-in-Link c = λ before closed once. rw (c.in-Link.is, c.into_inner-in-Lin
 
 pub returns-in-Shares : goal.returns-in-Shares
 returns-in-Shares c = λ before closed once. rw c.in-Shares.is (shares_put before c.args.self.now closed)
+
+pub returns-in-SharesSlots : goal.returns-in-SharesSlots
+returns-in-SharesSlots c = λ before closed once. rw c.in-SharesSlots.is (shares_slots_put before c.args.self.now closed)

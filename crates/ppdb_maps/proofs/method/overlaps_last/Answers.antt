@@ -1,6 +1,6 @@
 use Rattle.std.proofs.Common.{◌-◌, length, arith}
 use Rattle.ppdb_maps.proofs.Rising.{early_at_last}
-use Rattle.ppdb_maps.proofs.method.begins_early.Goals as goal
+use Rattle.ppdb_maps.proofs.method.overlaps_last.Goals as goal
 
 pub returns-in-len1-up : goal.returns-in-len1-up
 returns-in-len1-up c =
