@@ -265,6 +265,10 @@ data BreaksIn (before : List Line) (early beyond : MethodLine → Type 0) : Rule
   in_early : (line : MethodLine) (lines : List MethodLine) → methods_of before ≡ line ∷ lines → early line → BreaksIn before early beyond Overlap
   in_beyond : (line : MethodLine) (lines : List MethodLine) → methods_of before ≡ line ∷ lines → beyond line → BreaksIn before early beyond Beyond
 
+pub on_ok : {E : Type 0} (r : Result (Unit {0}) E) (P Q : Type 0) → (P → Q) → OnOk r P → OnOk r Q
+on_ok (Ok u) P Q f holds = f holds
+on_ok (Err e) P Q f holds = tt
+
 pub record IsOfOffsets (before : List Line) (line : Line) (early beyond : MethodLine → Type 0) : Type 0 where
   breaks : (rule : Rule) → BreaksIn before early beyond rule → Breaks before rule line
   broken : (rule : Rule) → Breaks before rule line → BreaksIn before early beyond rule

@@ -8,7 +8,7 @@ use Rattle.ppdb_maps.specs.{Forms.{shares_line, shares_slots_line, hide_line, Sa
 use Rattle.ppdb_maps.specs.{Rules.{Breaks, alone, run_early, run_long, hide_early, hide_long, drop_named, names_dropped, by_lines}, Text.{Read, start, further}, declared.line.Form.{Form}}
 use Rattle.ppdb_maps.specs.declared.line.{Line.{Line}, Line.TheVariants.{Silent, Rows, Row, Cross, Gone, Method, Kept, Dropped, Slots, Slot, Signature, Document}}
 use Rattle.ppdb_maps.specs.declared.{line.Line.TheVariants.{Link, Shares, SharesSlots, Hidden}, rule.Rule.{Rule}, rule.Rule.TheVariants.{Undeclared, Overlap, Beyond, NamesDropped}}
-use Rattle.ppdb_maps.proofs.{Hidden.{with_run_fits, with_stretch_hides, nothing_hides}, Telling.{reported_at, dropped}}
+use Rattle.ppdb_maps.proofs.{Stretching.{with_run_fits, with_stretch_hides, nothing_hides}, Telling.{reported_at, dropped}}
 
 -- the numbers of a line
 abbrev pub InRange : Line → Type 0

@@ -6,7 +6,7 @@ pub mod Named
 pub mod Cutting
 pub mod Saying
 pub mod Rising
-pub mod Hidden
+pub mod Stretching
 pub mod Telling
 pub mod Refusing
 pub mod Adding

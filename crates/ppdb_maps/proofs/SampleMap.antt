@@ -6,7 +6,7 @@ use Rattle.ppdb_base.specs.Offsets.{Rise, lined}
 use Rattle.ppdb_maps.specs.declared.entries.{Count.{Count}, RowLine.{RowLine}, CrossLine.{CrossLine}, GoneLine.{GoneLine}, SlotLine.{SlotLine}, Shared.{Shared}}
 use Rattle.ppdb_maps.specs.{declared.entries.SignatureImage.{SignatureImage}, declared.entries.NameLine.{NameLine}, Map.{MethodLine, pair_cmp, map_of, none_shared}}
 use Rattle.ppdb_maps.{specs.Readable.{IsRowOf, IsLineOf, IsReadable}, specs.Sample.{sample_method, sample_runs, sample_map_of}, proofs.OneMap.{maps_made}}
-use Rattle.ppdb_maps.proofs.{Parts.{sample_row}, Hidden.{nothing_hides}}
+use Rattle.ppdb_maps.proofs.{Parts.{sample_row}, Stretching.{nothing_hides}}
 
 pub sample_rise : Rise (lined sample_runs 16 20)
 sample_rise = (omega arith, omega arith, omega arith, (omega arith, omega arith, omega arith, (omega arith, omega arith, omega arith, tt)))

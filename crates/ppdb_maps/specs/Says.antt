@@ -40,7 +40,8 @@ AreHidden offsets stretches =
 
 pub AreHidden-prop : (offsets : Offsets) (stretches : List (ℕ × ℕ))
     → IsProp (AreHidden offsets stretches)
-AreHidden-prop offsets stretches = hlevel (props, StretchesRise-prop 0 stretches, λ y. IsOutside-prop y stretches)
+AreHidden-prop offsets stretches =
+    hlevel (props, StretchesRise-prop 0 stretches, λ (y : ℕ). IsOutside-prop y stretches)
 
 pub are_apart : (offsets : Offsets) (stretches : List (ℕ × ℕ)) → AreHidden offsets stretches
     → AreApart offsets stretches

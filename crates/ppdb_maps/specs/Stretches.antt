@@ -31,9 +31,9 @@ EndBy end (s ∷ ss) = (s.1 ≤ end) × EndBy end ss
 
 pub later_apart : (end from : ℕ) (stretches : List (ℕ × ℕ)) → StretchesRise from stretches
     → end < from → All (λ (t : ℕ × ℕ). end < t.0) stretches
-later_apart end from [] rise less = All-nil _
-later_apart end from (t ∷ ts) rise less = All-cons _ t ts (omega (arith, rise.0))
-    (later_apart end (t.1 + 1) ts rise.2 (omega (arith, rise.0, rise.1)))
+later_apart end from [] rise less = All-nil (λ (t : ℕ × ℕ). end < t.0)
+later_apart end from (t ∷ ts) rise less = All-cons (λ (u : ℕ × ℕ). end < u.0) t ts
+    (omega (arith, rise.0)) (later_apart end (t.1 + 1) ts rise.2 (omega (arith, rise.0, rise.1)))
 
 pub rises_apart : (from : ℕ) (stretches : List (ℕ × ℕ)) → StretchesRise from stretches
     → AllPairs (λ (s t : ℕ × ℕ). s.1 < t.0) stretches
@@ -43,12 +43,13 @@ rises_apart from (s ∷ ss) rise = AllPairs-cons (λ (s t : ℕ × ℕ). s.1 < t
 
 pub none_empty : (from : ℕ) (stretches : List (ℕ × ℕ)) → StretchesRise from stretches
     → All (λ (s : ℕ × ℕ). s.0 < s.1) stretches
-none_empty from [] rise = All-nil _
-none_empty from (s ∷ ss) rise = All-cons _ s ss rise.1 (none_empty (s.1 + 1) ss rise.2)
+none_empty from [] rise = All-nil (λ (s : ℕ × ℕ). s.0 < s.1)
+none_empty from (s ∷ ss) rise =
+    All-cons (λ (s : ℕ × ℕ). s.0 < s.1) s ss rise.1 (none_empty (s.1 + 1) ss rise.2)
 
 pub outside_apart : (y : ℕ) (stretches : List (ℕ × ℕ)) → IsOutside y stretches
     → All (λ (s : ℕ × ℕ). (y < s.0) ⊎ (s.1 ≤ y)) stretches
-outside_apart y [] outside = All-nil _
-outside_apart y (s ∷ ss) outside = All-cons _ s ss
+outside_apart y [] outside = All-nil (λ (s : ℕ × ℕ). (y < s.0) ⊎ (s.1 ≤ y))
+outside_apart y (s ∷ ss) outside = All-cons (λ (s : ℕ × ℕ). (y < s.0) ⊎ (s.1 ≤ y)) s ss
     (elim (cases_lt y s.0) [ inl less ↦ inl less | inr le ↦ inr (outside.0 le) ])
     (outside_apart y ss outside.1)

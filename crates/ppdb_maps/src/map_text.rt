@@ -13,7 +13,7 @@ ghost use Rattle.ppdb_maps.specs.declared.entries.CrossLine.{CrossLine};
 ghost use Rattle.ppdb_maps.specs.declared.entries.GoneLine.{GoneLine};
 ghost use Rattle.ppdb_maps.specs.declared.entries.RowLine.{RowLine};
 ghost use Rattle.ppdb_maps.specs.declared.entries.SignatureImage.{SignatureImage};
-ghost use Rattle.ppdb_maps.specs.declared.entries.SlotImage.{SlotLine};
+ghost use Rattle.ppdb_maps.specs.declared.entries.SlotLine.{SlotLine};
 ghost use Rattle.ppdb_maps.specs.Says.{offsets_of, stretches_of};
 
 use crate::entries::{

@@ -1,12 +1,13 @@
 -- The map that lines say which were read.
-use Rattle.std.proofs.Common.{ℕ, ◌≡◌, ◌++◌, Bool, true, false, cond, List, [], ◌∷◌, Option, Some, None, map, refl, sym, ap, ◌∙◌, subst, rules}
+use Rattle.std.proofs.Common.{ℕ, ◌≡◌, ◌+◌, ◌++◌, Bool, true, false, cond, List, [], ◌∷◌, Option, Some, None, map, refl, sym, ap, ◌∙◌, subst, rules}
 use Rattle.std.specs.{Prelude.{nat_eq, bytes_eq, is_some, option_map, option_and_then}, Cmp.{IsTotalOrder}, Cmp.Lexicographic.{slice_cmp, nat_list_cmp_total}}
 use Rattle.std.specs.{List.{find, list_any}, List.Sorted.{IsStrictlySortedBy}, Ordering.{nat_cmp}, declared.cmp.Ordering.{Ordering}}
 use Rattle.std.proofs.lemmas.{Cmp.{nat_cmp_total}, Map.Lookups.{CmpEqualImpliesEq, exact_unsigned, exact_bytes}}
 use Rattle.ppdb_base.specs.declared.offsets.Run.{Run}
-use Rattle.ppdb_maps.specs.declared.entries.{Count.{Count}, RowLine.{RowLine}, CrossLine.{CrossLine}, GoneLine.{GoneLine}, SlotImage.{SlotImage}}
+use Rattle.ppdb_maps.specs.declared.entries.{Count.{Count}, RowLine.{RowLine}, CrossLine.{CrossLine}, GoneLine.{GoneLine}, SlotLine.{SlotLine}}
 use Rattle.ppdb_maps.specs.declared.{entries.SignatureImage.{SignatureImage}, entries.NameLine.{NameLine}, line.Line.{Line}, line.Line.TheVariants.{Silent, Rows}}
 use Rattle.ppdb_maps.specs.declared.line.Line.TheVariants.{Row, Cross, Gone, Method, Kept, Dropped, Slots, Slot, Signature, Document, Link, Shares}
+use Rattle.ppdb_maps.specs.{declared.line.Line.TheVariants.{SharesSlots, Hidden}, declared.entries.Shared.{Shared}, Map.{none_shared}, Before.{and_stretch}}
 use Rattle.ppdb_maps.specs.{declared.rule.Rule.TheVariants.{Repeated}, Before.{reported, methods_of, rows_said, row_said, cross_said, gone_said, slot_said}}
 use Rattle.ppdb_maps.specs.Before.{signature_said, document_said, count_in, row_in, cross_in, gone_in, slot_in, drop_in, slots_in, signature_in, document_in}
 use Rattle.ppdb_maps.specs.{Places.{rows_place, row_place, drop_place, slots_place, slot_place, signature_place, document_place}, Gathered.{same_pair, row_key}}
@@ -60,7 +61,7 @@ number_rises x xs rise = subst (IsStrictlySortedBy nat_cmp) (itself (by_number (
 
 -- ---- a line more
 
-none_held : HoldsWhat [] (map_of [] [] [] [] [] [] [] [] [] [] None false)
+none_held : HoldsWhat [] (map_of [] [] [] [] [] [] [] [] [] [] None none_shared)
 unfolding IsStrictlySortedBy
 none_held = search rules
 
@@ -145,15 +146,15 @@ module _ (said : List Line) (m : Map) (h : HoldsWhat said m) where
       let b = number_rises k m.slotted up.slotted in
       search rules
 
-  slot_held : (k o n : ℕ)
-      → HoldsWhat (Slot k o n ∷ said) (record m { slots = by_pair (λ (s : SlotImage). (s.method, s.old)) (record { method = k; old = o; new = n }) m.slots })
+  slot_held : (k o : ℕ) (n : Option ℕ)
+      → HoldsWhat (Slot k o n ∷ said) (record m { slots = by_pair (λ (s : SlotLine). (s.method, s.old)) (record { method = k; old = o; new = n }) m.slots })
   slot_held k o n =
-      let x : SlotImage = record { method = k; old = o; new = n } in
-      let key : SlotImage → ℕ × ℕ = λ s. (s.method, s.old) in
-      let a : (i j : ℕ) → slot_line (record m { slots = by_pair (λ (s : SlotImage). (s.method, s.old)) x m.slots }) i j ≡ slot_in (Slot k o n ∷ said) i j =
-      λ i j. put_says (λ (s : SlotImage). (s.method, s.old)) same_pair pair_cmp pair_is pair_total pair_exact (λ (s : SlotImage). s.new) slot_said x m.slots
+      let x : SlotLine = record { method = k; old = o; new = n } in
+      let key : SlotLine → ℕ × ℕ = λ s. (s.method, s.old) in
+      let a : (i j : ℕ) → slot_line (record m { slots = by_pair (λ (s : SlotLine). (s.method, s.old)) x m.slots }) i j ≡ slot_in (Slot k o n ∷ said) i j =
+      λ i j. put_says (λ (s : SlotLine). (s.method, s.old)) same_pair pair_cmp pair_is pair_total pair_exact (λ (s : SlotLine). s.new) slot_said x m.slots
       (Slot k o n) (reported said (slot_place i j)) (i, j) refl (h.slots i j) in
-      let b = put_rises (λ (s : SlotImage). (s.method, s.old)) same_pair pair_cmp pair_is pair_total pair_exact x m.slots up.slots in
+      let b = put_rises (λ (s : SlotLine). (s.method, s.old)) same_pair pair_cmp pair_is pair_total pair_exact x m.slots up.slots in
       search rules
 
   signature_held : (k n : ℕ) → HoldsWhat (Signature k n ∷ said) (record m { signatures = by_number signature_key (record { method = k; new = n }) m.signatures })
@@ -176,8 +177,11 @@ module _ (said : List Line) (m : Map) (h : HoldsWhat said m) where
   link_held : (value : List ℕ) → HoldsWhat (Link value ∷ said) (record m { link = Some value })
   link_held value = search rules
 
-  shares_held : HoldsWhat (Shares ∷ said) (record m { shares = true })
-  shares_held = search rules
+  shares_held : HoldsWhat (Shares ∷ said) (record m { shares = record m.shares { rows = true } })
+  shares_held = let a = ap (λ (s : Shared). record s { rows = true }) h.shares in search rules
+
+  shares_slots_held : HoldsWhat (SharesSlots ∷ said) (record m { shares = record m.shares { slots = true } })
+  shares_slots_held = let a = ap (λ (s : Shared). record s { slots = true }) h.shares in search rules
 
   silent_held : HoldsWhat (Silent ∷ said) m
   silent_held = search rules
@@ -191,34 +195,51 @@ module _ (said : List Line) (m : Map) (h : HoldsWhat said m) where
       ∙ (ap (cond (nat_eq l.method k) (Some l)) (h.methods k) ∙ sym (says k))
 
   method_held : (k o n : ℕ) → HoldsWhat (Method k o n ∷ said)
-      (record m { methods = by_number method_key (record { method = k; old_size = o; new_size = n; runs = [] }) m.methods })
+      (record m { methods = by_number method_key (record { method = k; old_size = o; new_size = n; runs = []; stretches = [] }) m.methods })
   method_held k o n =
-      let l : MethodLine = record { method = k; old_size = o; new_size = n; runs = [] } in
+      let l : MethodLine = record { method = k; old_size = o; new_size = n; runs = []; stretches = [] } in
       let a = line_held (Method k o n) l (λ j. refl) in
       let b = put_rises method_key nat_eq nat_cmp same_number nat_cmp_total exact_unsigned l m.methods up.methods in
       search rules
 
-  -- a run goes to the last method, if there is one
-  run_held : (run : Run) → (held : Map) × HoldsWhat (Kept run ∷ said) held
-  run_held run = of (methods_of said) refl
-    where
-      twice : (b : Bool) (x y : MethodLine) (rest : Option MethodLine) → cond b (Some x) rest ≡ cond b (Some x) (cond b (Some y) rest)
-      twice b x y rest = search rules
+  -- a line of offsets goes to the last method, if there is one
+  module _ (line : Line) (more : MethodLine → MethodLine) (named : (l : MethodLine) → (more l).method ≡ l.method)
+      (none : methods_of said ≡ [] → methods_of (line ∷ said) ≡ [])
+      (last : (l : MethodLine) (ls : List MethodLine) → methods_of said ≡ l ∷ ls → methods_of (line ∷ said) ≡ more l ∷ ls)
+      (others : (n : Map) → HoldsWhat said n → (methods : List MethodLine)
+      → ((k : ℕ) → method_line (record n { methods = methods }) k ≡ find (λ l. nat_eq l.method k) (methods_of (line ∷ said)))
+      → IsStrictlySortedBy nat_cmp (map method_key methods) → HoldsWhat (line ∷ said) (record n { methods = methods })) where
+    offsets_held : (held : Map) × HoldsWhat (line ∷ said) held
+    offsets_held = of (methods_of said) refl
+      where
+        twice : (b : Bool) (x y : MethodLine) (rest : Option MethodLine) → cond b (Some x) rest ≡ cond b (Some x) (cond b (Some y) rest)
+        twice b x y rest = search rules
 
-      of : (lines : List MethodLine) → methods_of said ≡ lines → (held : Map) × HoldsWhat (Kept run ∷ said) held
-      of [] is =
-          let a : (k : ℕ) → method_line m k ≡ find (λ l. nat_eq l.method k) (methods_of (Kept run ∷ said)) = λ k. h.methods k ∙ rw is refl in
-          let held : HoldsWhat (Kept run ∷ said) m = search rules in (m, held)
-      of (line ∷ lines) is =
-          let longer : MethodLine = record line { runs = line.runs ++ run ∷ [] } in
-          let a = line_held (Kept run) longer (λ k. rw is (twice (nat_eq line.method k) longer line (find (λ l. nat_eq l.method k) lines))) in
-          let b = put_rises method_key nat_eq nat_cmp same_number nat_cmp_total exact_unsigned longer m.methods up.methods in
-          let held : HoldsWhat (Kept run ∷ said) (record m { methods = by_number method_key longer m.methods }) = search rules in
-          (record m { methods = by_number method_key longer m.methods }, held)
+        of : (lines : List MethodLine) → methods_of said ≡ lines → (held : Map) × HoldsWhat (line ∷ said) held
+        of [] is = (_, others m h m.methods (λ k. h.methods k ∙ ap (find (λ (l : MethodLine). nat_eq l.method k)) (is ∙ sym (none is))) up.methods)
+        of (l ∷ lines) is =
+            let longer : MethodLine = more l in (
+              _,
+              others m h (by_number method_key longer m.methods)
+                  (line_held line longer (λ k. ap (find (λ (x : MethodLine). nat_eq x.method k)) (last l lines is)
+                  ∙ (twice (nat_eq longer.method k) longer l (find (λ x. nat_eq x.method k) lines)
+                  ∙ (ap (λ n. cond (nat_eq longer.method k) (Some longer) (cond (nat_eq n k) (Some l) (find (λ x. nat_eq x.method k) lines))) (named l)
+                  ∙ ap (λ ls. cond (nat_eq longer.method k) (Some longer) (find (λ (x : MethodLine). nat_eq x.method k) ls)) (sym is)))))
+                  (put_rises method_key nat_eq nat_cmp same_number nat_cmp_total exact_unsigned longer m.methods up.methods),
+            )
+
+  run_held : (run : Run) → (held : Map) × HoldsWhat (Kept run ∷ said) held
+  run_held run = offsets_held (Kept run) (λ l. record l { runs = l.runs ++ run ∷ [] }) (λ l. refl) (λ e. rw e refl) (λ l ls e. rw e refl)
+      (λ n h methods a b. search rules)
+
+  hide_held : (new length : ℕ) → (held : Map) × HoldsWhat (Hidden new length ∷ said) held
+  hide_held new length =
+      offsets_held (Hidden new length) (λ l. record l { stretches = and_stretch l.stretches new (new + length) }) (λ l. refl) (λ e. rw e refl)
+      (λ l ls e. rw e refl) (λ n h methods a b. search rules)
 
 -- lines that were read have a map
 pub held : (version : ℕ) (texts : List (List ℕ)) (said : List Line) → Read version texts said → (m : Map) × HoldsWhat said m
-held version texts said start = (map_of [] [] [] [] [] [] [] [] [] [] None false, none_held)
+held version texts said start = (map_of [] [] [] [] [] [] [] [] [] [] None none_shared, none_held)
 held version texts said (further {texts = prefix} {before} {text} {line} read tells keeps) =
     let m = held version prefix before read in of line (λ broken. keeps Repeated (by_lines tells broken)) m.0 m.1
   where
@@ -230,6 +251,7 @@ held version texts said (further {texts = prefix} {before} {text} {line} read te
     of (Gone t o) once m h = (_, gone_held before m h t o once)
     of (Method k o n) once m h = (_, method_held before m h k o n)
     of (Kept run) once m h = run_held before m h run
+    of (Hidden new length) once m h = hide_held before m h new length
     of (Dropped k) once m h = (_, drop_held before m h k)
     of (Slots k) once m h = (_, slots_held before m h k)
     of (Slot k o n) once m h = (_, slot_held before m h k o n)
@@ -237,3 +259,4 @@ held version texts said (further {texts = prefix} {before} {text} {line} read te
     of (Document d) once m h = (_, document_held before m h d)
     of (Link value) once m h = (_, link_held before m h value)
     of Shares once m h = (_, shares_held before m h)
+    of SharesSlots once m h = (_, shares_slots_held before m h)

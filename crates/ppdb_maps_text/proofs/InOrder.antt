@@ -4,9 +4,9 @@ use Rattle.std.{proofs.Common.{arith, map}, specs.Prelude.{is_some, unwrap_or}, 
 use Rattle.std.specs.{List.Sorted.{IsStrictlySortedBy}, Ordering.{nat_cmp, ordering_reverse, ordering_then}, Cmp.Lexicographic.{slice_cmp, nat_list_cmp_total}}
 use Rattle.std.{specs.declared.cmp.Ordering.{Ordering}, specs.declared.cmp.Ordering.TheVariants.{Less, Equal}, proofs.lemmas.List.{append_assoc}}
 use Rattle.ppdb_base.specs.declared.offsets.Run.{Run}
-use Rattle.ppdb_maps.specs.{Before.{reported}, Places.{Place, place, is_place, needs, names, named_at, shares_place, link_place, rows_place, row_place, drop_place}}
+use Rattle.ppdb_maps.specs.{Before.{reported}, Places.{Place, place, is_place, needs, names, named_at, shares_place, shares_slots_place, link_place, rows_place, row_place, drop_place}}
 use Rattle.ppdb_maps.specs.{Places.{slots_place, slot_place, signature_place, document_place, method_place}, Rules.{IsNamed, Breaks}, Text.{Read, further}}
-use Rattle.ppdb_maps.specs.declared.{line.Line.{Line}, line.Line.TheVariants.{Dropped, Cross, Gone, Kept}, rule.Rule.{Rule}}
+use Rattle.ppdb_maps.specs.declared.{line.Line.{Line}, line.Line.TheVariants.{Dropped, Cross, Gone, Kept, Hidden}, rule.Rule.{Rule}}
 use Rattle.ppdb_maps.proofs.{InRange.{InRange, IsPlaced}, Refusing.{fits_in, keeps_all}, Saying.breaks_said, Telling.{none_there, reported_at, placed, place_itself}}
 use Rattle.ppdb_maps.proofs.Telling.{from_some}
 use Rattle.ppdb_maps_text.{specs.MapTexts.{line_text}, proofs.OneLine.{methods_stay}, proofs.Reported.{IsReported}, proofs.Words.{IsPlain}, proofs.Orders.{is_less}}
@@ -19,6 +19,7 @@ places = slice_cmp nat_cmp
 
 abbrev pub order : Place → List ℕ
 order shares_place = 0 ∷ []
+order shares_slots_place = 0 ∷ 0 ∷ []
 order link_place = 1 ∷ []
 order (rows_place table) = 2 ∷ table ∷ []
 order (row_place table old) = 2 ∷ table ∷ old ∷ []
@@ -318,6 +319,23 @@ module _ (version : ℕ) (texts : List (List ℕ)) (all : Place → Option Line)
     stand = g.stand;
     fits = g.fits;
   }
+
+  -- nor has a `hide`
+  pub hide_next : (said ahead rest : List Line) (new length : ℕ) → IsReported version (Hidden new length)
+      → ((rule : Rule) → Breaks said rule (Hidden new length) → ⊥)
+      → Reads version texts all said ahead (Hidden new length ∷ rest) → Reads version texts all (Hidden new length ∷ said) ahead rest
+  hide_next said ahead rest new length is keeps g =
+      record {
+        prefix = g.prefix ++ line_text (Hidden new length) ∷ [];
+        read = further g.read is.tells (λ rule broken. keeps rule (breaks_said version said (line_text (Hidden new length)) (Hidden new length) rule is.tells broken));
+        plain = all_then g.prefix (line_text (Hidden new length)) g.plain is.plain;
+        cut = append_assoc g.prefix (line_text (Hidden new length) ∷ []) (map line_text rest) ∙ g.cut;
+        whole = g.whole;
+        below = g.below;
+        rises = g.rises;
+        stand = g.stand;
+        fits = g.fits;
+      }
 
   pub reported_all : (said : List Line) → Reads version texts all said [] [] → (at : Place) → reported said at ≡ all at
   reported_all said g at = sym (or_nothing (reported said at)) ∙ g.whole at

@@ -1,11 +1,12 @@
 -- What the lines of a map tell at each place: they stand in the order of their places, and each of them fits among all.
 use Rattle.std.proofs.Common.{◌≡◌, ◌⊎◌, inl, inr, ℕ, ◌+◌, ◌≤◌, ◌&&◌, ◌||◌, Bool, true, false, cond, List, [], ◌∷◌, ◌++◌, Option, Some, None, refl, sym, ap, ◌∙◌, map}
-use Rattle.std.{proofs.Common.{subst, lit≤, rules, arith}, specs.Prelude.{nat_eq, bytes_eq, is_some, IfSome, filter}, specs.List.{AllByRecursion, find, flat_map}}
+use Rattle.std.{proofs.Common.{subst, lit≤, rules, arith}, specs.Prelude.{nat_eq, bytes_eq, is_some, not, IfSome, filter}, specs.List.{AllByRecursion, find, flat_map}}
 use Rattle.std.specs.{List.{list_any}, List.Sorted.{IsStrictlySortedBy}, Option.{option_map, option_or}, Ordering.{nat_cmp}, Cmp.Lexicographic.{slice_cmp}}
 use Rattle.std.{specs.Cmp.Lexicographic.{nat_list_cmp_total}, specs.declared.cmp.Ordering.TheVariants.{Less}, proofs.lemmas.Bool.{eqb-true, eq-eqb, and_parts}}
 use Rattle.std.proofs.lemmas.{Cmp.{nat_cmp_total}, List.Folds.{find-append}}
-use Rattle.ppdb_maps.specs.declared.entries.{Count.{Count}, SlotImage.{SlotImage}, SignatureImage.{SignatureImage}, NameLine.{NameLine}}
+use Rattle.ppdb_maps.specs.declared.entries.{Count.{Count}, SlotLine.{SlotLine}, SignatureImage.{SignatureImage}, NameLine.{NameLine}}
 use Rattle.ppdb_maps.specs.declared.line.{Line.{Line}, Line.TheVariants.{Rows, Row, Cross, Gone, Method, Dropped, Slots, Slot, Signature, Document, Link, Shares}}
+use Rattle.ppdb_maps.specs.{declared.line.Line.TheVariants.{SharesSlots}, Places.{shares_slots_place}}
 use Rattle.ppdb_maps.specs.declared.{entries.CrossLine.{CrossLine}, image.RowImage.{RowImage}, image.RowImage.TheVariants.{Row as Becomes, Gone as Vanishes}}
 use Rattle.ppdb_maps.specs.{declared.image.RowImage.TheVariants.{Missing}, Before.{reported}, Forms.{AreBytes}, Places.{Place, place, is_place, needs, names}}
 use Rattle.ppdb_maps.specs.Places.{named_at, shares_place, link_place, rows_place, row_place, drop_place, slots_place, slot_place, signature_place, document_place}
@@ -14,10 +15,10 @@ use Rattle.ppdb_maps.specs.{Map.{line_image, method_line, is_dropped, has_slots,
 use Rattle.ppdb_maps.{specs.Readable.{IsRow, IsLineOf, IsSlottedOf, IsSlotOf, IsSignatureOf, AreNames}, proofs.InRange.{InRange}, proofs.Named.{same_bytes}}
 use Rattle.ppdb_maps.proofs.{Named.{bytes_same}, OneList.{each_found}, OneMap.{same_number, number_same, pair_is, is_pair, pair_total, number_found, map_itself}}
 use Rattle.ppdb_maps.proofs.{Readable.{each_number}, Telling.{from_some}}
-use Rattle.ppdb_maps_text.{specs.MapTexts.{version_of, has_items, image_says, olds_of, count_says, slots_say}, proofs.Found.{find_filter}, proofs.Groups.{of_found}}
-use Rattle.ppdb_maps_text.proofs.{Groups.{of_any, of_passed, of_each}, Reported.{is_newer, line_reported, to_known}, Orders.{key_up}, OneLine.{has_line, OneLine}}
+use Rattle.ppdb_maps_text.{specs.MapTexts.{version_of, has_items, has_newer, has_newest, shares_say, image_says, olds_of, count_says, slots_say}, proofs.Found.{find_filter}, proofs.Groups.{of_found}}
+use Rattle.ppdb_maps_text.proofs.{Groups.{of_any, of_passed, of_each}, Reported.{line_since, line_reported, to_known}, Orders.{key_up}, OneLine.{has_line, OneLine}}
 use Rattle.ppdb_maps_text.proofs.{OneLine.{by_row, by_cross, by_gone, one_line, some_items, says_row, says_cross, says_gone}, Parts.{slot_says, signature_says}}
-use Rattle.ppdb_maps_text.proofs.{Parts.{link_says, shares_says, has_newer}, Starting.{some_mapped, olds_have, olds_lined, olds_up, line_counted}, InOrder.{Up}}
+use Rattle.ppdb_maps_text.proofs.{Parts.{link_says}, Starting.{some_mapped, olds_have, olds_lined, olds_up, line_counted}, InOrder.{Up}}
 use Rattle.ppdb_maps_text.proofs.InOrder.{Each, Starts, each_made, made_in_order, prefixed, beyond, first_less, groups_up, groups_start, groups_above, places, Rises}
 use Rattle.ppdb_maps_text.proofs.InOrder.{last_section, section, Stands, stand_whole}
 
@@ -28,7 +29,8 @@ first_of [] = None
 first_of (line ∷ lines) = Some line
 
 abbrev pub at_place : Map → Place → Option Line
-at_place m shares_place = cond m.shares (Some Shares) None
+at_place m shares_place = cond m.shares.rows (Some Shares) None
+at_place m shares_slots_place = cond m.shares.slots (Some SharesSlots) None
 at_place m link_place = option_map Link m.link
 at_place m (rows_place t) = option_map (Rows t) (count_of m t)
 at_place m (row_place t o) = first_of (image_says t o (line_image m t o))
@@ -45,7 +47,7 @@ sizes_say l = Method l.method l.old_size l.new_size
 -- its lines with a place
 abbrev pub placed_lines : Map → List Line
 placed_lines m =
-    shares_says m.shares
+    shares_say m.shares
     ++ (link_says m.link
     ++ (flat_map (count_says m) m.counts
     ++ (map Dropped m.drops
@@ -56,14 +58,28 @@ placed_lines m =
 any_of : (a b c d e f : Bool) → (a ≡ true) ⊎ ((b ≡ true) ⊎ ((c ≡ true) ⊎ ((d ≡ true) ⊎ ((e ≡ true) ⊎ (f ≡ true))))) → (a || (b || (c || (d || (e || f))))) ≡ true
 any_of a b c d e f some = search rules
 
-pub version_known : (m : Map) → (version_of m ≡ 3) ⊎ (version_of m ≡ 4)
-version_known m = of (has_newer m)
+pub version_known : (m : Map) → (3 ≤ version_of m) × (version_of m ≤ 5)
+version_known m = of (has_newest m) (has_newer m)
   where
-    of : (b : Bool) → (◌≡◌ {A = ℕ} (cond b 4 3) 3) ⊎ (◌≡◌ {A = ℕ} (cond b 4 3) 4)
-    of b = search rules
+    of : (a b : Bool) → (3 ≤ cond a 5 (cond b 4 3)) × (cond a 5 (cond b 4 3) ≤ 5)
+    of true b = (lit≤ tt, lit≤ tt)
+    of false true = (lit≤ tt, lit≤ tt)
+    of false false = (lit≤ tt, lit≤ tt)
 
 pub from_three : (m : Map) → 3 ≤ version_of m
-from_three m = elim (version_known m) [ inl e ↦ omega (arith, e) | inr e ↦ omega (arith, e) ]
+from_three m = (version_known m).0
+
+-- an item of which it holds is among those of a list
+found_any : {X : Type 0} (p q : X → Bool) (xs : List X) (x : X) → find p xs ≡ Some x → q x ≡ true → list_any q xs ≡ true
+found_any p q [] x found holds = absurd (cc)
+found_any {X} p q (y ∷ ys) x found holds = of (p y) found (found_any p q ys x)
+  where
+    of : (b : Bool) → cond b (Some y) (find p ys) ≡ Some x → (find p ys ≡ Some x → q x ≡ true → list_any q ys ≡ true) → (q y || list_any q ys) ≡ true
+    of true found rest = let e : x ≡ y = cc in rw (sym (ap q e) ∙ holds) refl
+    of false found rest = either (q y) (list_any q ys) (rest found holds)
+
+    either : (b c : Bool) → c ≡ true → (b || c) ≡ true
+    either b c is = search rules
 
 -- ---- lists
 
@@ -81,17 +97,17 @@ made_all P f [] all = tt
 made_all P f (x ∷ xs) all = (all.0, made_all P f xs all.1)
 
 -- the slots of a method name it
-own_slots : (n : ℕ) (xs : List SlotImage) → map slot_says (filter (λ (s : SlotImage). nat_eq s.method n) xs)
-    ≡ map (λ (s : SlotImage). Slot n s.old s.new) (filter (λ (s : SlotImage). nat_eq s.method n) xs)
+own_slots : (n : ℕ) (xs : List SlotLine) → map slot_says (filter (λ (s : SlotLine). nat_eq s.method n) xs)
+    ≡ map (λ (s : SlotLine). Slot n s.old s.new) (filter (λ (s : SlotLine). nat_eq s.method n) xs)
 own_slots n [] = refl
 own_slots n (x ∷ xs) = of (nat_eq x.method n) refl (own_slots n xs)
   where
-    of : (b : Bool) → nat_eq x.method n ≡ b → map slot_says (filter (λ (s : SlotImage). nat_eq s.method n) xs)
-        ≡ map (λ (s : SlotImage). Slot n s.old s.new) (filter (λ (s : SlotImage). nat_eq s.method n) xs)
-        → map slot_says (cond b (x ∷ filter (λ (s : SlotImage). nat_eq s.method n) xs) (filter (λ (s : SlotImage). nat_eq s.method n) xs))
-        ≡ map (λ (s : SlotImage). Slot n s.old s.new)
-        (cond b (x ∷ filter (λ (s : SlotImage). nat_eq s.method n) xs) (filter (λ (s : SlotImage). nat_eq s.method n) xs))
-    of true hit rest = ap (λ k. Slot k x.old x.new ∷ map slot_says (filter (λ (s : SlotImage). nat_eq s.method n) xs)) (eqb-true x.method n hit)
+    of : (b : Bool) → nat_eq x.method n ≡ b → map slot_says (filter (λ (s : SlotLine). nat_eq s.method n) xs)
+        ≡ map (λ (s : SlotLine). Slot n s.old s.new) (filter (λ (s : SlotLine). nat_eq s.method n) xs)
+        → map slot_says (cond b (x ∷ filter (λ (s : SlotLine). nat_eq s.method n) xs) (filter (λ (s : SlotLine). nat_eq s.method n) xs))
+        ≡ map (λ (s : SlotLine). Slot n s.old s.new)
+        (cond b (x ∷ filter (λ (s : SlotLine). nat_eq s.method n) xs) (filter (λ (s : SlotLine). nat_eq s.method n) xs))
+    of true hit rest = ap (λ k. Slot k x.old x.new ∷ map slot_says (filter (λ (s : SlotLine). nat_eq s.method n) xs)) (eqb-true x.method n hit)
         ∙ ap (λ l. Slot n x.old x.new ∷ l) rest
     of false miss rest = rest
 
@@ -139,23 +155,26 @@ module _ (m : Map) (is : IsReadable m) where
   slots_start n = (
     ([], refl),
     subst (Each (Starts (4 ∷ n ∷ []))) (sym (own_slots n m.slots))
-        (each_made (Starts (4 ∷ n ∷ [])) (λ (s : SlotImage). Slot n s.old s.new) (λ s. (s.old ∷ [], refl)) (slots_of m n)),
+        (each_made (Starts (4 ∷ n ∷ [])) (λ (s : SlotLine). Slot n s.old s.new) (λ s. (s.old ∷ [], refl)) (slots_of m n)),
   )
 
   slots_up : (n : ℕ) → Up (slots_say m n)
   unfolding IsStrictlySortedBy
   slots_up n = (
     subst (Each (λ o. places (4 ∷ n ∷ []) o ≡ Less)) (sym (own_slots n m.slots)) (each_made (λ o. places (4 ∷ n ∷ []) o ≡ Less)
-        (λ (s : SlotImage). Slot n s.old s.new) (λ s. beyond (4 ∷ n ∷ []) s.old []) (slots_of m n)),
-    subst Up (sym (own_slots n m.slots)) (made_in_order (λ (s : SlotImage). s.old) nat_cmp (λ (s : SlotImage). Slot n s.old s.new)
+        (λ (s : SlotLine). Slot n s.old s.new) (λ s. beyond (4 ∷ n ∷ []) s.old []) (slots_of m n)),
+    subst Up (sym (own_slots n m.slots)) (made_in_order (λ (s : SlotLine). s.old) nat_cmp (λ (s : SlotLine). Slot n s.old s.new)
         (λ x y less. prefixed (4 ∷ n ∷ []) (x.old ∷ []) (y.old ∷ []) (first_less x.old y.old [] [] less)) (slots_of m n)
-        (key_up (λ (s : SlotImage). s.method) (λ (s : SlotImage). s.old) n m.slots is.ascends.slots)),
+        (key_up (λ (s : SlotLine). s.method) (λ (s : SlotLine). s.old) n m.slots is.ascends.slots)),
   )
 
-  shares_rise : (b : Bool) → Each (Starts (0 ∷ [])) (shares_says b) × Up (shares_says b)
+  shares_rise : (a b : Bool) → Each (Starts (0 ∷ [])) (cond a (Shares ∷ []) [] ++ cond b (SharesSlots ∷ []) [])
+      × Up (cond a (Shares ∷ []) [] ++ cond b (SharesSlots ∷ []) [])
   unfolding IsStrictlySortedBy
-  shares_rise true = ((([], refl), tt), (tt, tt))
-  shares_rise false = (tt, tt)
+  shares_rise true true = ((([], refl), ((0 ∷ [], refl), tt)), ((refl, tt), (tt, tt)))
+  shares_rise true false = ((([], refl), tt), (tt, tt))
+  shares_rise false true = (((0 ∷ [], refl), tt), (tt, tt))
+  shares_rise false false = (tt, tt)
 
   link_rises : (o : Option (List ℕ)) → Each (Starts (1 ∷ [])) (link_says o) × Up (link_says o)
   unfolding IsStrictlySortedBy
@@ -164,7 +183,7 @@ module _ (m : Map) (is : IsReadable m) where
 
   pub rises : Rises 0 (placed_lines m)
   rises =
-      section 0 (shares_says m.shares) _ (shares_rise m.shares).0 (shares_rise m.shares).1
+      section 0 (shares_say m.shares) _ (shares_rise m.shares.rows m.shares.slots).0 (shares_rise m.shares.rows m.shares.slots).1
       (section 1 (link_says m.link) _ (link_rises m.link).0 (link_rises m.link).1
       (section 2 (flat_map (count_says m) m.counts) _ (groups_start (2 ∷ []) (λ (c : Count). c.table) (count_says m) count_starts count_up m.counts)
       (groups_up (2 ∷ []) (λ (c : Count). c.table) (count_says m) count_starts count_up m.counts is.ascends.counts)
@@ -185,11 +204,18 @@ module _ (m : Map) (is : IsReadable m) where
 
   -- ---- each fits among all
 
-  newer : (m.shares ≡ true) ⊎ ((is_some m.link ≡ true) ⊎ ((has_items m.crossed ≡ true) ⊎ ((has_items m.gone ≡ true) ⊎ ((has_items m.signatures ≡ true)
+  newer : (m.shares.rows ≡ true) ⊎ ((is_some m.link ≡ true) ⊎ ((has_items m.crossed ≡ true) ⊎ ((has_items m.gone ≡ true) ⊎ ((has_items m.signatures ≡ true)
       ⊎ (has_items m.documents ≡ true))))) → 4 ≤ version_of m
   newer some = let new : has_newer m ≡ true =
-      any_of m.shares (is_some m.link) (has_items m.crossed) (has_items m.gone) (has_items m.signatures) (has_items m.documents) some in
-      rw new (lit≤ tt)
+      any_of m.shares.rows (is_some m.link) (has_items m.crossed) (has_items m.gone) (has_items m.signatures) (has_items m.documents) some in
+      rw new (of (has_newest m))
+    where
+      of : (b : Bool) → 4 ≤ cond b 5 4
+      of true = lit≤ tt
+      of false = lit≤ tt
+
+  newest : has_newest m ≡ true → 5 ≤ version_of m
+  newest some = rw some (lit≤ tt)
 
   not_dropped : (k : ℕ) → is_dropped m k ≡ false → at_place m (drop_place k) ≡ None
   not_dropped k live = ap (λ b. cond b (Some (Dropped k)) None) live
@@ -198,14 +224,14 @@ module _ (m : Map) (is : IsReadable m) where
   Stand = Stands (version_of m) (at_place m)
 
   -- a line that needs no other one, and one that names no method
-  stand : (line : Line) (at : Place) → place line ≡ Some at → at_place m at ≡ Some line → InRange line → (is_newer line ≡ true → 4 ≤ version_of m)
+  stand : (line : Line) (at : Place) → place line ≡ Some at → at_place m at ≡ Some line → InRange line → line_since line ≤ version_of m
       → ((p : Place) → needs line ≡ Some p → is_some (at_place m p) ≡ true) → ((k : ℕ) → names line ≡ Some k → at_place m (drop_place k) ≡ None) → Stand line
   stand line at own there range new needed live = record {
     at = at;
     own = own;
     there = there;
     fits = record { range = range; needed = needed; live = live };
-    reported = line_reported (version_of m) (from_three m) line (λ silent. let e : None ≡ Some at = sym (ap place silent) ∙ own in absurd (cc)) range new;
+    reported = line_reported (version_of m) line (λ silent. let e : None ≡ Some at = sym (ap place silent) ∙ own in absurd (cc)) range new;
   }
 
   counted : (t : ℕ) → is_some (count_of m t) ≡ true → (p : Place) → Some (rows_place t) ≡ Some p → is_some (at_place m p) ≡ true
@@ -225,7 +251,7 @@ module _ (m : Map) (is : IsReadable m) where
   image_stands _ _ (by_row line of row crossed gone) le =
       let says = says_row m line.table line.old line.new row in
       subst (AllByRecursion Stand) (sym says) (
-        stand (Row line.table line.old line.new) (row_place line.table line.old) refl (ap first_of says) (le, of.0, of.1) (λ e. absurd (cc))
+        stand (Row line.table line.old line.new) (row_place line.table line.old) refl (ap first_of says) (le, of.0, of.1) (from_three m)
             (counted line.table of.2) (λ k named. row_live line.table line.old k named of.3),
         tt,
       )
@@ -233,14 +259,14 @@ module _ (m : Map) (is : IsReadable m) where
       let says = says_cross m line of.2 row crossed in
       subst (AllByRecursion Stand) (sym says) (
         stand (Cross line) (row_place line.table line.old) refl (ap first_of says) (le, to_known line of.2, of.0, of.1, of.2)
-            (λ e. newer (inr (inr (inl some)))) (counted line.table of.3) (λ k named. absurd (cc)),
+            (newer (inr (inr (inl some)))) (counted line.table of.3) (λ k named. absurd (cc)),
         tt,
       )
   image_stands _ _ (by_gone line of some row crossed gone) le =
       let says = says_gone m line.table line.old row crossed gone in
       subst (AllByRecursion Stand) (sym says) (
         stand (Gone line.table line.old) (row_place line.table line.old) refl (ap first_of says) (le, of.0, of.1)
-            (λ e. newer (inr (inr (inr (inl some))))) (counted line.table of.2) (λ k named. absurd (cc)),
+            (newer (inr (inr (inr (inl some))))) (counted line.table of.2) (λ k named. absurd (cc)),
         tt,
       )
 
@@ -250,52 +276,74 @@ module _ (m : Map) (is : IsReadable m) where
       is.ascends.counts
       (λ c found. let h = (of_found IsCount (λ (x : Count). nat_eq x.table c.table) m.counts c is.counts found).0 in (
         stand (Rows c.table c.rows) (rows_place c.table) refl (ap (λ o. option_map (Rows c.table) (option_map (λ (x : Count). x.rows) o)) found) h
-            (λ e. absurd (cc)) (λ p e. absurd (cc)) (λ k e. absurd (cc)),
+            (from_three m) (λ p e. absurd (cc)) (λ k e. absurd (cc)),
         flat_all Stand (λ o. image_says c.table o (line_image m c.table o)) (olds_of m c.table)
             (of_each (λ o. has_line m c.table o ≡ true) (λ o. AllByRecursion Stand (image_says c.table o (line_image m c.table o)))
             (λ o there. image_stands c.table o (one_line m is c.table o there) h.0) (olds_of m c.table) (olds_lined m c.table)),
       )))
 
+  -- a slot that goes is among those of the map
+  slot_since : (s : SlotLine) (o : Option ℕ) → s.new ≡ o → find (λ (x : SlotLine). same_pair (x.method, x.old) (s.method, s.old)) m.slots ≡ Some s
+      → line_since (Slot s.method s.old o) ≤ version_of m
+  slot_since s (Some n) is found = from_three m
+  slot_since s None is found = newest (either m.shares.slots
+      (found_any (λ (x : SlotLine). same_pair (x.method, x.old) (s.method, s.old)) (λ (x : SlotLine). not (is_some x.new)) m.slots s found (rw is refl)))
+    where
+      either : (a : Bool) {b c : Bool} → b ≡ true → (a || (b || c)) ≡ true
+      either a some = search rules
+
   slot_stands : AllByRecursion (λ s. Stand (slot_says s)) m.slots
-  slot_stands = each_found (λ (s : SlotImage). (s.method, s.old)) same_pair pair_cmp pair_is is_pair pair_total (λ s. Stand (slot_says s)) m.slots is.ascends.slots
+  slot_stands = each_found (λ (s : SlotLine). (s.method, s.old)) same_pair pair_cmp pair_is is_pair pair_total (λ s. Stand (slot_says s)) m.slots is.ascends.slots
       (λ s found.
-      let h = (of_found (IsSlotOf m) (λ (x : SlotImage). same_pair (x.method, x.old) (s.method, s.old)) m.slots s is.slots found).0 in
+      let h = (of_found (IsSlotOf m) (λ (x : SlotLine). same_pair (x.method, x.old) (s.method, s.old)) m.slots s is.slots found).0 in
       let row = (of_any (IsSlottedOf m) s.method m.slotted is.slotted h.2).0 in
       stand (slot_says s) (slot_place s.method s.old) refl
-      (ap (λ o. option_map (Slot s.method s.old) (option_map (λ (x : SlotImage). x.new) o)) found) (row, h.0, h.1) (λ e. absurd (cc))
+      (ap (λ o. option_map (Slot s.method s.old) (option_map (λ (x : SlotLine). x.new) o)) found) (row, h.0, h.1) (slot_since s s.new refl found)
       (λ p own. let e : slots_place s.method ≡ p = cc in
       subst (λ q. is_some (at_place m q) ≡ true) e (ap (λ b. is_some (cond b (Some (Slots s.method)) None)) h.2)) (λ k e. absurd (cc)))
 
   slotted_stand : AllByRecursion Stand (flat_map (slots_say m) m.slotted)
   slotted_stand = flat_all Stand (slots_say m) m.slotted (each_number (λ n. AllByRecursion Stand (slots_say m n)) m.slotted
       (λ n there. let h = of_any (IsSlottedOf m) n m.slotted is.slotted there in (
-        stand (Slots n) (slots_place n) refl (ap (λ b. cond b (Some (Slots n)) None) there) h.0 (λ e. absurd (cc)) (λ p e. absurd (cc)) (λ k e. own_live n k h.1 e),
+        stand (Slots n) (slots_place n) refl (ap (λ b. cond b (Some (Slots n)) None) there) h.0 (from_three m) (λ p e. absurd (cc)) (λ k e. own_live n k h.1 e),
         made_all Stand slot_says (slots_of m n) (of_each (λ s. Stand (slot_says s) × (nat_eq s.method n ≡ true)) (λ s. Stand (slot_says s)) (λ s both. both.0)
-            (slots_of m n) (of_passed (λ s. Stand (slot_says s)) (λ (s : SlotImage). nat_eq s.method n) m.slots slot_stands)),
+            (slots_of m n) (of_passed (λ s. Stand (slot_says s)) (λ (s : SlotLine). nat_eq s.method n) m.slots slot_stands)),
       )))
 
-  shares_stand : (b : Bool) → m.shares ≡ b → AllByRecursion Stand (shares_says b)
-  shares_stand false e = tt
-  shares_stand true e = (
-    stand Shares shares_place refl (ap (λ b. cond b (Some Shares) None) e) tt (λ new. newer (inl e)) (λ p e. absurd (cc)) (λ k e. absurd (cc)),
-    tt,
-  )
+  shares_stand : (a b : Bool) → m.shares.rows ≡ a → m.shares.slots ≡ b
+      → AllByRecursion Stand (cond a (Shares ∷ []) [] ++ cond b (SharesSlots ∷ []) [])
+  shares_stand a b e f = both_all Stand (cond a (Shares ∷ []) []) (cond b (SharesSlots ∷ []) []) (rows a e) (slots b f)
+    where
+      rows : (a : Bool) → m.shares.rows ≡ a → AllByRecursion Stand (cond a (Shares ∷ []) [])
+      rows false e = tt
+      rows true e = (
+        stand Shares shares_place refl (ap (λ b. cond b (Some Shares) None) e) tt (newer (inl e)) (λ p e. absurd (cc)) (λ k e. absurd (cc)),
+        tt,
+      )
+
+      slots : (b : Bool) → m.shares.slots ≡ b → AllByRecursion Stand (cond b (SharesSlots ∷ []) [])
+      slots false e = tt
+      slots true e = (
+        stand SharesSlots shares_slots_place refl (ap (λ b. cond b (Some SharesSlots) None) e) tt (newest (rw e refl)) (λ p e. absurd (cc))
+            (λ k e. absurd (cc)),
+        tt,
+      )
 
   link_stands : (o : Option (List ℕ)) → m.link ≡ o → IfSome o AreBytes → AllByRecursion Stand (link_says o)
   link_stands None e all = tt
   link_stands (Some value) e all = (
-    stand (Link value) link_place refl (ap (option_map Link) e) all (λ new. newer (inr (inl (ap is_some e)))) (λ p e. absurd (cc))
+    stand (Link value) link_place refl (ap (option_map Link) e) all (newer (inr (inl (ap is_some e)))) (λ p e. absurd (cc))
         (λ k e. absurd (cc)),
     tt,
   )
 
   pub all_stand : AllByRecursion Stand (placed_lines m)
   all_stand =
-      both_all Stand (shares_says m.shares) _ (shares_stand m.shares refl)
+      both_all Stand (shares_say m.shares) _ (shares_stand m.shares.rows m.shares.slots refl refl)
       (both_all Stand (link_says m.link) _ (link_stands m.link refl is.link)
       (both_all Stand (flat_map (count_says m) m.counts) _ counts_stand
       (both_all Stand (map Dropped m.drops) _ (made_all Stand Dropped m.drops (each_number (λ n. Stand (Dropped n)) m.drops
-      (λ n there. stand (Dropped n) (drop_place n) refl (ap (λ b. cond b (Some (Dropped n)) None) there) (of_any IsRow n m.drops is.drops there) (λ e. absurd (cc))
+      (λ n there. stand (Dropped n) (drop_place n) refl (ap (λ b. cond b (Some (Dropped n)) None) there) (of_any IsRow n m.drops is.drops there) (from_three m)
       (λ p e. absurd (cc)) (λ k e. absurd (cc)))))
       (both_all Stand (flat_map (slots_say m) m.slotted) _ slotted_stand
       (both_all Stand (map signature_says m.signatures) _ (made_all Stand signature_says m.signatures
@@ -304,7 +352,7 @@ module _ (m : Map) (is : IsReadable m) where
       (λ s found. let h = (of_found (IsSignatureOf m) (λ (x : SignatureImage). nat_eq x.method s.method) m.signatures s is.signatures found).0 in
       stand (signature_says s) (signature_place s.method) refl
       (ap (λ o. option_map (Signature s.method) (option_map (λ (x : SignatureImage). x.new) o)) found) (h.0, h.1)
-      (λ e. newer (inr (inr (inr (inr (inl (some_items (λ (x : SignatureImage). nat_eq x.method s.method) m.signatures s found)))))))
+      (newer (inr (inr (inr (inr (inl (some_items (λ (x : SignatureImage). nat_eq x.method s.method) m.signatures s found)))))))
       (λ p e. absurd (cc)) (λ k e. own_live s.method k h.2 e))))
       (both_all Stand (map Document m.documents) _ (made_all Stand Document m.documents
       (each_found (λ (d : NameLine). d.old) bytes_eq (slice_cmp nat_cmp) same_bytes bytes_same nat_list_cmp_total (λ d. Stand (Document d)) m.documents
@@ -312,13 +360,13 @@ module _ (m : Map) (is : IsReadable m) where
       (λ d found. stand (Document d) (document_place d.old) refl
       (ap (λ o. option_map (λ new. Document (record { old = d.old; new = new })) (option_map (λ (x : NameLine). x.new) o)) found)
       (of_found AreNames (λ (x : NameLine). bytes_eq x.old d.old) m.documents d is.documents found).0
-      (λ e. newer (inr (inr (inr (inr (inr (some_items (λ (x : NameLine). bytes_eq x.old d.old) m.documents d found)))))))
+      (newer (inr (inr (inr (inr (inr (some_items (λ (x : NameLine). bytes_eq x.old d.old) m.documents d found)))))))
       (λ p e. absurd (cc)) (λ k e. absurd (cc)))))
       (made_all Stand sizes_say m.methods
       (each_found (λ (l : MethodLine). l.method) nat_eq nat_cmp same_number number_same nat_cmp_total (λ l. Stand (sizes_say l)) m.methods is.ascends.methods
       (λ l found. let h = (of_found (IsLineOf m) (λ (x : MethodLine). nat_eq x.method l.method) m.methods l is.methods found).0 in
       stand (sizes_say l) (method_place l.method) refl (ap (option_map (λ (x : MethodLine). Method l.method x.old_size x.new_size)) found) (h.0, h.1, h.2)
-      (λ e. absurd (cc)) (λ p e. absurd (cc)) (λ k e. own_live l.method k h.4 e))))))))))
+      (from_three m) (λ p e. absurd (cc)) (λ k e. own_live l.method k h.5 e))))))))))
 
 -- ---- and none is missing
 
@@ -391,23 +439,28 @@ module _ (m : Map) (is : IsReadable m) where
 
   slot_reported : (k o : ℕ) → is_some (slot_line m k o) ≡ true → is_some (reported (flat_map (slots_say m) m.slotted) (slot_place k o)) ≡ true
   slot_reported k o some =
-      let test : SlotImage → Bool = λ s. nat_eq s.method k && nat_eq s.old o in
-      let there : is_some (find (λ (s : SlotImage). nat_eq s.method k && nat_eq s.old o) m.slots) ≡ true
-      = sym (some_mapped (λ (s : SlotImage). s.new) (find (λ (s : SlotImage). nat_eq s.method k && nat_eq s.old o) m.slots)) ∙ some in
-      let s = from_some (find (λ (s : SlotImage). nat_eq s.method k && nat_eq s.old o) m.slots) there in
-      let h = of_found (IsSlotOf m) (λ (s : SlotImage). nat_eq s.method k && nat_eq s.old o) m.slots s.0 is.slots s.1 in
+      let test : SlotLine → Bool = λ s. nat_eq s.method k && nat_eq s.old o in
+      let there : is_some (find (λ (s : SlotLine). nat_eq s.method k && nat_eq s.old o) m.slots) ≡ true
+      = sym (some_mapped (λ (s : SlotLine). s.new) (find (λ (s : SlotLine). nat_eq s.method k && nat_eq s.old o) m.slots)) ∙ some in
+      let s = from_some (find (λ (s : SlotLine). nat_eq s.method k && nat_eq s.old o) m.slots) there in
+      let h = of_found (IsSlotOf m) (λ (s : SlotLine). nat_eq s.method k && nat_eq s.old o) m.slots s.0 is.slots s.1 in
       let same : s.0.method ≡ k = eqb-true s.0.method k (and_parts (nat_eq s.0.method k) (nat_eq s.0.old o) h.1).0 in
       flat_reported (slots_say m) (λ x. nat_eq x k) (slot_place k o) m.slotted k (number_there k m.slotted (subst (λ n. has_slots m n ≡ true) same h.0.2))
       (subst (λ ls. is_some (reported ls (slot_place k o)) ≡ true) (sym (own_slots k m.slots))
-      (made_reported (λ (s : SlotImage). Slot k s.old s.new) (λ (s : SlotImage). nat_eq s.old o) (slot_place k o)
+      (made_reported (λ (s : SlotLine). Slot k s.old s.new) (λ (s : SlotLine). nat_eq s.old o) (slot_place k o)
       (λ x. ap (λ b. b && nat_eq x.old o) (number_same k)) (slots_of m k)
-      (ap is_some (find_filter (λ (s : SlotImage). nat_eq s.method k) (λ (s : SlotImage). nat_eq s.old o) m.slots) ∙ there)))
+      (ap is_some (find_filter (λ (s : SlotLine). nat_eq s.method k) (λ (s : SlotLine). nat_eq s.old o) m.slots) ∙ there)))
 
   some_if : (b : Bool) (l : Line) → is_some (cond b (Some l) None) ≡ true → b ≡ true
   some_if b l some = search rules
 
-  shares_reported : (b : Bool) → is_some (cond b (Some Shares) None) ≡ true → is_some (reported (shares_says b) shares_place) ≡ true
-  shares_reported b some = search rules
+  shares_reported : (a b : Bool) → is_some (cond a (Some Shares) None) ≡ true
+      → is_some (reported (cond a (Shares ∷ []) [] ++ cond b (SharesSlots ∷ []) []) shares_place) ≡ true
+  shares_reported a b some = search rules
+
+  shares_slots_reported : (a b : Bool) → is_some (cond b (Some SharesSlots) None) ≡ true
+      → is_some (reported (cond a (Shares ∷ []) [] ++ cond b (SharesSlots ∷ []) []) shares_slots_place) ≡ true
+  shares_slots_reported a b some = search rules
 
   link_reported : (o : Option (List ℕ)) → is_some (option_map Link o) ≡ true → is_some (reported (link_says o) link_place) ≡ true
   link_reported o some = search rules
@@ -427,7 +480,7 @@ module _ (m : Map) (is : IsReadable m) where
 
   from_tables : (at : Place) → is_some (reported (tables ++ after) at) ≡ true → is_some (reported (placed_lines m) at) ≡ true
   from_tables at some =
-      later (shares_says m.shares) (link_says m.link ++ (tables ++ after)) at (later (link_says m.link) (tables ++ after) at some)
+      later (shares_say m.shares) (link_says m.link ++ (tables ++ after)) at (later (link_says m.link) (tables ++ after) at some)
 
   after_tables : (at : Place) → is_some (reported after at) ≡ true → is_some (reported (placed_lines m) at) ≡ true
   after_tables at some = from_tables at (later tables after at some)
@@ -442,8 +495,10 @@ module _ (m : Map) (is : IsReadable m) where
   after_slots at some = after_tables at (later (map Dropped m.drops) (slots ++ ends) at (later slots ends at some))
 
   pub full : (at : Place) → is_some (at_place m at) ≡ true → is_some (reported (placed_lines m) at) ≡ true
-  full shares_place some = sooner (shares_says m.shares) _ shares_place (shares_reported m.shares some)
-  full link_place some = later (shares_says m.shares) _ link_place (sooner (link_says m.link) _ link_place (link_reported m.link some))
+  full shares_place some = sooner (shares_say m.shares) _ shares_place (shares_reported m.shares.rows m.shares.slots some)
+  full shares_slots_place some =
+      sooner (shares_say m.shares) _ shares_slots_place (shares_slots_reported m.shares.rows m.shares.slots some)
+  full link_place some = later (shares_say m.shares) _ link_place (sooner (link_says m.link) _ link_place (link_reported m.link some))
   full (rows_place t) some = in_tables (rows_place t) (table_reported t (rows_place t) (sym (some_mapped (Rows t) (count_of m t)) ∙ some)
       (λ c same. ap (λ b. is_some (cond b (Some (Rows c.table c.rows))
       (reported (flat_map (λ o. image_says c.table o (line_image m c.table o)) (olds_of m c.table)) (rows_place t)))) (eq-eqb c.table t same)))

@@ -3,16 +3,17 @@ use Rattle.std.proofs.Common.{ℕ, ◌≡◌, ◌||◌, ◌++◌, Bool, true, fa
 use Rattle.std.specs.{Prelude.{nat_eq, is_some, option_and_then}, List.{AllByRecursion, flat_map}, Option.{option_map, option_or}}
 use Rattle.std.proofs.lemmas.{Bool.{false≢true}, List.{append-nil}}
 use Rattle.ppdb_maps.specs.declared.{entries.CrossLine.{CrossLine}, line.Line.{Line}, line.Line.TheVariants.{Rows, Row, Cross, Gone, Dropped, Slots, Slot}}
-use Rattle.ppdb_maps.specs.{declared.line.Line.TheVariants.{Signature, Document, Link, Shares}, Before.{reported, methods_of, rows_said, row_said, cross_said}}
-use Rattle.ppdb_maps.specs.{Before.{gone_said, slot_said, signature_said, document_said, link_said, row_in, cross_in, gone_in}, Places.{Place, shares_place}}
+use Rattle.ppdb_maps.specs.{declared.line.Line.TheVariants.{Signature, Document, Link, Shares, SharesSlots}, Before.{reported, methods_of, rows_said, row_said, cross_said}}
+use Rattle.ppdb_maps.specs.{Before.{gone_said, slot_said, signature_said, document_said, link_said, row_in, cross_in, gone_in}, Places.{Place, shares_place, shares_slots_place}}
+use Rattle.ppdb_maps.specs.declared.entries.Shared.{Shared}
 use Rattle.ppdb_maps.specs.Places.{link_place, rows_place, row_place, drop_place, slots_place, slot_place, signature_place, document_place, method_place}
 use Rattle.ppdb_maps.specs.{Map.{Map, MethodLine, row_line, cross_line, has_gone_line, said_image, line_image, method_line}, Readable.{IsReadable}, Forms.{IsHead}}
 use Rattle.ppdb_maps.{specs.Text.{Read, HoldsWhat, start}, proofs.OneMap.{number_same}, proofs.Telling.{has_method}}
-use Rattle.ppdb_maps_text.specs.{Laws.{TextsAreRead}, MapTexts.{version_of, head_text, line_text, image_says, count_says, slots_say, method_says, map_says}}
+use Rattle.ppdb_maps_text.specs.{Laws.{TextsAreRead}, MapTexts.{version_of, shares_say, head_text, line_text, image_says, count_says, slots_say, method_says, map_says}}
 use Rattle.ppdb_maps_text.proofs.{InOrder.{Reads, next, reported_all, none_below, some_not, or_some, or_nothing}, Lined.{at_place, first_of, placed_lines}}
 use Rattle.ppdb_maps_text.proofs.{Lined.{sizes_say, rises, all_stand, placed_whole, made_reported, version_known, from_three}, OneLine.{has_line, OneLine, by_row}}
-use Rattle.ppdb_maps_text.proofs.{OneLine.{by_cross, by_gone, one_line, says_row, says_cross, says_gone}, Methods.{add_methods, LinesAhead, line_among}}
-use Rattle.ppdb_maps_text.proofs.{Starting.{some_mapped}, Words.{IsPlain, lines_ended}, Parts.{signature_says, link_says, shares_says}}
+use Rattle.ppdb_maps_text.proofs.{OneLine.{by_cross, by_gone, one_line, says_row, says_cross, says_gone}, Methods.{add_methods, stretches_newest, LinesAhead, line_among}}
+use Rattle.ppdb_maps_text.proofs.{Starting.{some_mapped}, Words.{IsPlain, lines_ended}, Parts.{signature_says, link_says}}
 
 module _ (m : Map) (is : IsReadable m) where
   abbrev texts : List (List ℕ)
@@ -56,14 +57,14 @@ module _ (m : Map) (is : IsReadable m) where
 
   all_read : (lines : List Line) × Got lines [] [] × LinesAhead m (methods_of lines) []
   all_read =
-      let shares = reads_on (shares_says m.shares) [] _ _ nothing_read in
+      let shares = reads_on (shares_say m.shares) [] _ _ nothing_read in
       let link = reads_on (link_says m.link) shares.0 _ _ shares.1 in
       let tables = reads_on (flat_map (count_says m) m.counts) link.0 _ _ link.1 in
       let drops = reads_on (map Dropped m.drops) tables.0 _ _ tables.1 in
       let slots = reads_on (flat_map (slots_say m) m.slotted) drops.0 _ _ drops.1 in
       let signatures = reads_on (map signature_says m.signatures) slots.0 _ _ slots.1 in
       let documents = reads_on (map Document m.documents) signatures.0 (map sizes_say m.methods) (flat_map method_says m.methods) signatures.1 in
-      add_methods m texts documents.0 m.methods is.methods documents.1
+      add_methods m texts documents.0 m.methods is.methods (stretches_newest m) documents.1
       (λ k. ap (λ ls. option_or (line_among ls k) (method_line m k)) (no_methods documents.0 _ documents.1))
 
   -- ---- what the lines say of a row
@@ -119,13 +120,16 @@ module _ (m : Map) (is : IsReadable m) where
         documents = λ name. sym (ap (option_and_then document_said) (t (document_place name))
             ∙ again (λ new. Document (record { old = name; new = new })) document_said (λ n. refl) _);
         link = sym (ap (option_and_then link_said) (t link_place) ∙ again Link link_said (λ n. refl) _);
-        shares = sym (ap is_some (t shares_place) ∙ some_if _ Shares);
+        shares = sym (both _ _ _ _ (ap is_some (t shares_place) ∙ some_if _ Shares) (ap is_some (t shares_slots_place) ∙ some_if _ SharesSlots));
         ascends = is.ascends;
       }
     where
       again : {A : Type 0} (make : A → Line) (says : Line → Option A) → ((a : A) → says (make a) ≡ Some a) → (o : Option A)
           → option_and_then says (option_map make o) ≡ o
       again make says is o = search rules
+
+      both : (a b c d : Bool) → a ≡ b → c ≡ d → ◌≡◌ {A = Shared} (record { rows = a; slots = c }) (record { rows = b; slots = d })
+      both a b c d e f = cc
 
       some_if : (b : Bool) (l : Line) → is_some (cond b (Some l) None) ≡ b
       some_if b l = search rules
@@ -137,7 +141,7 @@ head_is_plain version =
 head_is : (m : Map) → IsHead (head_text (version_of m)) (version_of m)
 head_is m = record {
   from = let h = from_three m in omega (arith, h);
-  to = elim (version_known m) [ inl e ↦ omega (arith, e) | inr e ↦ omega (arith, e) ];
+  to = (version_known m).1;
   spelled = refl;
 }
 

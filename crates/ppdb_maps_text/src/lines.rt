@@ -5,6 +5,7 @@ ghost use Rattle.std.specs.Fmt.{decimal};
 ghost use Rattle.ppdb_maps.specs.declared.line.Line.TheVariants.{Rows, Row, Cross, Gone, Method};
 ghost use Rattle.ppdb_maps.specs.declared.line.Line.TheVariants.{Kept, Dropped, Slots, Slot};
 ghost use Rattle.ppdb_maps.specs.declared.line.Line.TheVariants.{Signature, Document, Link, Shares};
+ghost use Rattle.ppdb_maps.specs.declared.line.Line.TheVariants.{SharesSlots, Hidden};
 ghost use Rattle.ppdb_maps_text.specs.MapTexts.{spaced, ended, head_text, line_text};
 ghost use Rattle.ppdb_maps_text.specs.Putting.{Puts};
 
@@ -65,6 +66,13 @@ impl Counted {
         self.put_line(b"shares", &[])
     }
 
+    /// Puts the line `shares slots`.
+    pub fn put_shares_slots(&mut self) -> Result<(), Memory>
+        ensures { OnOk result (Puts self.old self.new (ended (line_text SharesSlots))) }
+    {
+        self.put_line(b"shares slots", &[])
+    }
+
     /// Puts the line `drop M`.
     pub fn put_drop(&mut self, method: u32) -> Result<(), Memory>
         ensures { OnOk result (Puts self.old self.new (ended (line_text (Dropped method)))) }
@@ -79,11 +87,17 @@ impl Counted {
         self.put_line(b"slots", &[method])
     }
 
-    /// Puts the line `slot M OLD NEW`.
-    pub fn put_slot(&mut self, method: u32, old: u16, new: u16) -> Result<(), Memory>
+    /// Puts the line `slot M OLD NEW`, or `slot M OLD gone` where there is no new slot.
+    pub fn put_slot(&mut self, method: u32, old: u16, new: Option<u16>) -> Result<(), Memory>
         ensures { OnOk result (Puts self.old self.new (ended (line_text (Slot method old new)))) }
     {
-        self.put_line(b"slot", &[method, u32::from(old), u32::from(new)])
+        if let Some(new) = new {
+            return self.put_line(b"slot", &[method, u32::from(old), u32::from(new)]);
+        }
+        self.put(b"slot")?;
+        self.put_number(method)?;
+        self.put_number(u32::from(old))?;
+        self.put(b" gone\n")
     }
 
     /// Puts the line `signature M NEW`.
@@ -126,6 +140,13 @@ impl Counted {
         ensures { OnOk result (Puts self.old self.new (ended (line_text (Kept run.now)))) }
     {
         self.put_line(b"run", &[run.old, run.new, run.length])
+    }
+
+    /// Puts the line `hide NEW LENGTH`.
+    pub fn put_hide(&mut self, new: u32, length: u32) -> Result<(), Memory>
+        ensures { OnOk result (Puts self.old self.new (ended (line_text (Hidden new length)))) }
+    {
+        self.put_line(b"hide", &[new, length])
     }
 
     /// Puts words, decimal numbers after them, and the line's end.

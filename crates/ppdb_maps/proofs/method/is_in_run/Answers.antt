@@ -1,5 +1,5 @@
 use Rattle.std.proofs.{Common.{◌-◌, length, arith, ltb-true}, lemmas.Bool.{lt-ltb}}
-use Rattle.ppdb_maps.proofs.Hidden.{in_run_at_last}
+use Rattle.ppdb_maps.proofs.Stretching.{in_run_at_last}
 use Rattle.ppdb_maps.proofs.method.is_in_run.Goals as goal
 
 pub returns-in-len1-up : goal.returns-in-len1-up

@@ -1,5 +1,5 @@
 use Rattle.std.proofs.{Common.{◌-◌, length, arith, ltb-true}, lemmas.Bool.{lt-ltb}}
-use Rattle.ppdb_maps.proofs.Hidden.{within_at_last}
+use Rattle.ppdb_maps.proofs.Stretching.{within_at_last}
 use Rattle.ppdb_maps.proofs.method.is_within.Goals as goal
 
 pub returns-in-len1-up : goal.returns-in-len1-up

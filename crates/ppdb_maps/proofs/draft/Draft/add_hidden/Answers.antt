@@ -1,12 +1,12 @@
 use Rattle.std.proofs.Common.{◌+◌, ◌<◌, refl}
-use Rattle.ppdb_maps.{specs.Rules.{HidesEarly}, specs.declared.line.Line.TheVariants.{Hidden}, proofs.Adding.{hide_line_is, unowned, offsets_added}}
+use Rattle.ppdb_maps.{specs.Rules.{HidesEarly}, specs.declared.line.Line.TheVariants.{Hidden}, proofs.Adding.{hide_line_is, unowned, offsets_added, on_ok}}
 use Rattle.ppdb_maps.proofs.draft.Draft.add_hidden.Goals as goal
 
 pub returns-in-Some : goal.returns-in-Some
 returns-in-Some c = λ before holds.
     offsets_added before (Hidden c.args.new c.args.length) (HidesEarly c.args.new) (λ l. l.new_size < c.args.new + c.args.length)
     (hide_line_is before c.args.new c.args.length) c.args.self.now c.in-Some.method
-    c.hide.new.self c.hide.result holds c.in-Some.is (λ ok. (λ lines is. rw (is, c.hide.ensures.added ok) refl, rw (c.hide.ensures.added ok) refl))
+    c.hide.new.self c.hide.result holds c.in-Some.is (on_ok c.hide.result _ _ (λ taken. (λ lines is. rw (is, taken) refl, rw taken refl)) c.hide.ensures.added)
     c.hide.ensures.kept c.hide.ensures.refused
 
 pub returns-in-None : goal.returns-in-None
