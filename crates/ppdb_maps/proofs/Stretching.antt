@@ -1,10 +1,11 @@
 -- Hidden stretches that lie apart from the images of runs, and stay so when a run or a stretch is added.
-use Rattle.std.proofs.Common.{zero, suc, inl, inr, ◌⊎◌, ◌↔◌, ℕ, ◌≡◌, ◌+◌, ◌-◌, ◌<◌, ◌≤◌, ◌++◌, Bool, true, false, cond, List, [], ◌∷◌, Option, Some, None, map, length, refl, sym, ap, arith}
-use Rattle.std.{specs.Prelude.{nat_eq, nat_lt, find, slice_index_or, slice_set}, proofs.lemmas.Bool.{cases_lt, eq-eqb, ne_eqb, lt-ltb, le-ltb}}
+use Rattle.std.proofs.Common.{zero, suc, inl, inr, ◌⊎◌, ◌↔◌, ℕ, ◌≡◌, ◌+◌, ◌-◌, ◌<◌, ◌≤◌, ◌++◌, Bool, true, false, cond, List, [], ◌∷◌, Option, Some, None, map, length, refl, sym, ap, subst, arith}
+use Rattle.std.{specs.Prelude.{nat_eq, nat_lt, max, find, slice_index_or, slice_set}, proofs.lemmas.Bool.{cases_lt, eq-eqb, ne_eqb, lt-ltb, le-ltb}}
 use Rattle.ppdb_base.specs.{declared.offsets.Run.{Run}, Offsets.{end_of, new_end_of, Takes, Moves, RiseFrom, Rise, Kept, lined}}
 use Rattle.ppdb_maps.specs.{Stretches.{StretchesRise, IsOutside, EndBy}, Map.{MethodLine}, Readable.{HidesApart}, Before.{and_stretch}}
 use Rattle.ppdb_maps.specs.Rules.{BeginsEarly, EndsBeyond, HidesEarly, IsWithin, new_range}
 use Rattle.ppdb_base.proofs.Stops.{moves_from}
+use Rattle.ppdb_maps.specs.Runs.{IsLeastImage}
 use Rattle.ppdb_maps.proofs.{Rising.{rise_with, not_less}, Lines.{moves_cases, line_rises}}
 
 pub nothing_hides : (m o n : ℕ) (runs : List Run) → HidesApart (record { method = m; old_size = o; new_size = n; runs = runs; stretches = [] })
@@ -58,7 +59,7 @@ with_run_fits line run some fits early beyond = (
 and_rises : (from a b : ℕ) (ss : List (ℕ × ℕ)) → StretchesRise from ss → EndBy a ss → from ≤ a → a < b → StretchesRise from (and_stretch ss a b)
 and_rises from a b [] rise ends le less = (le, less, tt)
 and_rises from a b (s ∷ []) rise ends le less = elim (cases_lt s.1 a) [
-  | inl apart ↦ rw (ne_eqb s.1 a (λ e. omega (arith, e))) (rise.0, rise.1, omega arith, less, tt)
+  | inl apart ↦ rw (ne_eqb s.1 a (λ e. omega (arith, e))) (rise.0, rise.1, (omega arith, less, tt))
   | inr touch ↦ rw (eq-eqb s.1 a (omega (arith, ends.0))) (rise.0, omega (arith, rise.1, ends.0), tt)
 ]
 and_rises from a b (s ∷ t ∷ ss) rise ends le less =
@@ -70,19 +71,19 @@ and_ends size a b (s ∷ []) ends le = of (nat_eq s.1 a)
   where
     of : (c : Bool) → EndBy size (cond c ((s.0, b) ∷ []) (s ∷ (a, b) ∷ []))
     of true = (le, tt)
-    of false = (ends.0, le, tt)
+    of false = (ends.0, (le, tt))
 and_ends size a b (s ∷ t ∷ ss) ends le = (ends.0, and_ends size a b (t ∷ ss) ends.1 le)
 
 and_outside : (y a b : ℕ) (ss : List (ℕ × ℕ)) → IsOutside y ss → y < a → IsOutside y (and_stretch ss a b)
 and_outside y a b [] outside less = ((λ begun. absurd (omega arith)), tt)
 and_outside y a b (s ∷ []) outside less = elim (cases_lt s.1 a) [
-  | inl apart ↦ rw (ne_eqb s.1 a (λ e. omega (arith, e))) (outside.0, (λ begun. absurd (omega arith)), tt)
+  | inl apart ↦ rw (ne_eqb s.1 a (λ e. omega (arith, e))) (outside.0, ((λ begun. absurd (omega arith)), tt))
   | inr le ↦ of (nat_eq s.1 a) le
 ]
   where
     of : (c : Bool) → a ≤ s.1 → IsOutside y (cond c ((s.0, b) ∷ []) (s ∷ (a, b) ∷ []))
     of true le = ((λ begun. absurd (omega (arith, outside.0 begun))), tt)
-    of false le = (outside.0, (λ begun. absurd (omega arith)), tt)
+    of false le = (outside.0, ((λ begun. absurd (omega arith)), tt))
 and_outside y a b (s ∷ t ∷ ss) outside less = (outside.0, and_outside y a b (t ∷ ss) outside.1 less)
 
 pub with_stretch_hides : (line : MethodLine) (new length : ℕ) → 0 < length → Rise (lined line.runs line.old_size line.new_size) → HidesApart line
@@ -168,3 +169,27 @@ image_is old new (r ∷ rs) rise x = elim (cases_lt x (new_end_of r)) [
   })
   | inr past ↦ rw (le-ltb x (new_end_of r) past) (after_run r rs x past _ (image_is (end_of r) (new_end_of r) rs rise.3 x))
 ]
+
+least_at : (runs : List Run) (x : ℕ) (run : Run) → IsImageAt runs x run → IsLeastImage runs x (max run.new x)
+least_at runs x run at = elim (cases_lt x run.new) [
+  | inl less ↦ subst (IsLeastImage runs x) (omega arith) (record {
+    offset = run.old;
+    kept = at.held run.old run.new (record { step = 0; inside = at.long; old = omega arith; new = omega arith });
+    after = omega arith;
+    least = λ other image moves after. at.least other image moves after;
+  })
+  | inr le ↦ subst (IsLeastImage runs x) (omega arith) (record {
+    offset = run.old + (x - run.new);
+    kept = at.held (run.old + (x - run.new)) x (record { step = x - run.new; inside = omega (arith, at.later); old = refl; new = omega arith });
+    after = omega arith;
+    least = λ other image moves after. after;
+  })
+]
+
+pub image_least : (runs : List Run) → RiseFrom 0 0 runs → (x : ℕ) (run : Run) → Some run ≡ find (λ (r : Run). nat_lt x (new_end_of r)) runs
+    → IsLeastImage runs x (max run.new x)
+image_least runs rise x run found = least_at runs x run (subst (ImageIs runs x) (sym found) (image_is 0 0 runs rise x))
+
+pub image_none : (runs : List Run) → RiseFrom 0 0 runs → (x : ℕ) → None ≡ find (λ (r : Run). nat_lt x (new_end_of r)) runs
+    → (u v : ℕ) → Moves runs u v → v < x
+image_none runs rise x found = subst (ImageIs runs x) (sym found) (image_is 0 0 runs rise x)

@@ -1,6 +1,6 @@
 // A method's line, with the runs of its kept offsets and its hidden stretches.
 ghost use Rattle.std.specs.Prelude.{◌≡◌, ◌+◌, ◌<◌, ◌⊎◌, ◌↔◌, ◌++◌, [], ◌∷◌, map, IsTrue, IfErr};
-ghost use Rattle.std.specs.Prelude.{OnOk, OnErr, IfSome, IfNone, ◌-◌, ℕ, slice_set, length};
+ghost use Rattle.std.specs.Prelude.{OnOk, OnErr, IfSome, IfNone, ◌×◌, ℕ, slice_set, slice_index_or, length};
 ghost use Rattle.ppdb_base.specs.Offsets.{end_of, new_end_of, lined, Rise};
 ghost use Rattle.ppdb_maps.specs.Says.{offsets_of, stretches_of};
 ghost use Rattle.ppdb_maps.specs.Before.{and_stretch};
@@ -72,13 +72,20 @@ fn is_within(new: u32, stretches: &[(u32, u32)]) -> bool
     }
 }
 
+/// Whether a new offset is below the end of the run.
+fn is_below(new: u32, run: Run) -> bool
+    ensures { IsTrue result ↔ (new < new_end_of run) }
+{
+    u64::from(new) < u64::from(run.new) + u64::from(run.length)
+}
+
 /// Whether a new offset is below the end of the last run.
 fn is_in_run(new: u32, runs: &[Run]) -> bool
     ensures { IsTrue result ↔ IsWithin new (map new_range runs.now) }
 {
     match runs {
         [] => false,
-        [.., last] => u64::from(new) < u64::from(last.new) + u64::from(last.length),
+        [.., last] => is_below(new, *last),
     }
 }
 
@@ -91,17 +98,37 @@ fn ends_beyond(run: Run, old_size: u32, new_size: u32) -> bool
         || u64::from(new_size) < u64::from(run.new) + length
 }
 
-/// Where the last stretch begins, if it ends where another begins.
-fn touched(stretches: &[(u32, u32)], from: u32) -> Option<u32>
-    ensures some { IfSome result (λ start. (to : ℕ) → and_stretch stretches.now from to
-        ≡ slice_set stretches.now (length stretches.now - 1) (start, to)) }
+/// The place of the last stretch, if it ends where another begins.
+fn touched(stretches: &[(u32, u32)], from: u32) -> Option<usize>
+    ensures some { IfSome result (λ place. (place < length stretches.now) × ((to : ℕ)
+        → and_stretch stretches.now from to
+        ≡ slice_set stretches.now place ((slice_index_or stretches.now place (0, 0)).0, to))) }
     ensures none { IfNone result ((to : ℕ) → and_stretch stretches.now from to
         ≡ stretches.now ++ (from, to) ∷ []) }
 {
-    match stretches {
-        [.., last] if last.1 == from => Some(last.0),
-        _ => None,
+    if stretches.is_empty() {
+        return None;
     }
+    let place = stretches.len() - 1;
+    if ends_at(stretches[place], from) {
+        Some(place)
+    } else {
+        None
+    }
+}
+
+/// Whether a stretch ends at an offset.
+fn ends_at(stretch: (u32, u32), offset: u32) -> bool
+    ensures { IsTrue result ↔ (stretch.1 ≡ offset) }
+{
+    stretch.1 == offset
+}
+
+/// Whether new offsets end above the size.
+fn is_above(new: u32, length: u32, size: u32) -> bool
+    ensures { IsTrue result ↔ (size < new + length) }
+{
+    u64::from(size) < u64::from(new) + u64::from(length)
 }
 
 /// Puts a stretch after the others; it is one with the last where they touch.
@@ -111,13 +138,15 @@ fn push_stretch(stretches: &mut Vec<(u32, u32)>, from: u32, to: u32) -> Result<(
     ensures kept { OnErr result (stretches.new.items ≡ stretches.old.items) }
 {
     match touched(stretches.as_slice(), from) {
-        Some(start) => {
-            let last = stretches.len() - 1;
-            stretches[last] = (start, to);
+        Some(place) => {
+            stretches[place].1 = to;
+            Ok(())
         }
-        None => stretches.push((from, to))?,
+        None => {
+            stretches.push((from, to))?;
+            Ok(())
+        }
     }
-    Ok(())
 }
 
 impl Method {
@@ -214,7 +243,7 @@ impl Method {
         if is_in_run(new, self.runs.as_slice()) || is_within(new, self.stretches.as_slice()) {
             return Err(Refusal::Breaks(Rule::Overlap));
         }
-        if u64::from(self.new_size) < u64::from(new) + u64::from(length) {
+        if is_above(new, length, self.new_size) {
             return Err(Refusal::Breaks(Rule::Beyond));
         }
         push_stretch(&mut self.stretches, new, new + length)?;

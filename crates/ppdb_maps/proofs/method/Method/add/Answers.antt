@@ -1,16 +1,21 @@
-use Rattle.std.proofs.{Common.{List, ◌<◌, inl, inr, subst, sym, ◌∙◌, arith}, lemmas.Bool.{false≢true}}
-use Rattle.ppdb_base.specs.{declared.offsets.Run.{Run}, Offsets.{end_of, new_end_of}}
-use Rattle.ppdb_maps.{specs.Rules.{BeginsEarly}, proofs.Rising.{rise_with, not_less}}
+use Rattle.std.proofs.{Common.{inl, inr, subst, sym, ◌∙◌, List}, lemmas.Bool.{false≢true}}
+use Rattle.ppdb_base.specs.declared.offsets.Run.{Run}
+use Rattle.ppdb_maps.{specs.Rules.{Overlaps}, specs.Map.{MethodLine}, proofs.Stretching.{with_run_fits}}
 use Rattle.ppdb_maps.proofs.method.Method.add.Goals as goal
 
 pub invariant_of-self-2 : goal.invariant_of-self-2
 invariant_of-self-2 c =
-    let within : (c.self.inside.old_size < end_of c.args.run → ⊥) × (c.self.inside.new_size < new_end_of c.args.run → ⊥) = (
-      (λ h. false≢true (sym c.if-ends_beyond.false ∙ c.ends_beyond.ensures.1 (inl h))),
-      (λ h. false≢true (sym c.if-ends_beyond.false ∙ c.ends_beyond.ensures.1 (inr h))),
-    ) in
+    let line : MethodLine = record {
+      method = c.self.inside.method;
+      old_size = c.self.inside.old_size;
+      new_size = c.self.inside.new_size;
+      runs = c.self.inside.runs;
+      stretches = c.self.inside.stretches.items;
+    } in
     rw c.in_ok-push.ensures.ok
-    (rise_with 0 0 c.self.inside.runs c.args.run (record { old = c.self.inside.old_size; new = c.self.inside.new_size; length = 1 }) c.requires
-    (not_less _ _ within.0) (not_less _ _ within.1)
-    (λ e. false≢true (sym c.if-begins_early.false ∙ c.begins_early.ensures.1 (subst (λ (r : List Run). BeginsEarly c.args.run r) (sym c.as_slice.ensures) e)))
-    (λ _. (omega arith, omega arith)) c.self.invariant)
+    (with_run_fits line c.args.run c.requires c.self.invariant
+    (λ early. elim early [
+      | inl h ↦ false≢true (sym c.if-overlaps_last.false ∙ c.overlaps_last.ensures.1 (subst (λ (r : List Run). Overlaps c.args.run r) (sym c.as_slice.ensures) h))
+      | inr h ↦ false≢true (sym c.if-is_within.false ∙ c.is_within.ensures.1 h)
+    ])
+    (λ beyond. false≢true (sym c.if-ends_beyond.false ∙ c.ends_beyond.ensures.1 beyond)))
