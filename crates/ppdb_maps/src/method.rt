@@ -1,6 +1,6 @@
 // A method's line, with the runs of its kept offsets and its hidden stretches.
 ghost use Rattle.std.specs.Prelude.{◌≡◌, ◌+◌, ◌<◌, ◌⊎◌, ◌↔◌, ◌++◌, [], ◌∷◌, map, IsTrue, IfErr};
-ghost use Rattle.std.specs.Prelude.{OnOk, OnErr, IfSome, IfNone, ◌×◌, ℕ, slice_set, slice_index_or, length};
+ghost use Rattle.std.specs.Prelude.{OnOk, OnErr, IfSome, IfNone, ℕ, slice_set, slice_index_or, length};
 ghost use Rattle.ppdb_base.specs.Offsets.{end_of, new_end_of, lined, Rise};
 ghost use Rattle.ppdb_maps.specs.Says.{offsets_of, stretches_of};
 ghost use Rattle.ppdb_maps.specs.Before.{and_stretch};
@@ -106,7 +106,7 @@ fn touched(stretches: &[(u32, u32)], from: u32) -> Option<usize>
     ensures none { IfNone result ((to : ℕ) → and_stretch stretches.now from to
         ≡ stretches.now ++ (from, to) ∷ []) }
 {
-    if stretches.is_empty() {
+    if stretches.len() == 0 {
         return None;
     }
     let place = stretches.len() - 1;

@@ -18,7 +18,8 @@ invariant_of-self-2 c =
           (λ early. elim early [
             | inl h ↦
                 false≢true (sym c.if-is_in_run.false ∙ c.is_in_run.ensures.1 (subst (λ (r : List Run). IsWithin c.args.new (map new_range r)) (sym c.as_slice.ensures) h))
-            | inr h ↦ false≢true (sym c.if-is_within.false ∙ c.is_within.ensures.1 h)
+            | inr h ↦ false≢true (sym c.if-is_within.false ∙ c.is_within.ensures.1
+                (subst (IsWithin c.args.new) (sym c.as_slice-else-is_in_run.ensures.value) h))
           ])
           (λ beyond. false≢true (sym c.if-is_above.false ∙ c.is_above.ensures.1 beyond)),
     )
