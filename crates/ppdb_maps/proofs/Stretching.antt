@@ -1,11 +1,10 @@
 -- Hidden stretches that lie apart from the images of runs, and stay so when a run or a stretch is added.
 use Rattle.std.proofs.Common.{zero, suc, inl, inr, ◌⊎◌, ◌↔◌, ℕ, ◌≡◌, ◌+◌, ◌-◌, ◌<◌, ◌≤◌, ◌++◌, Bool, true, false, cond, List, [], ◌∷◌, Option, Some, None, map, length, refl, sym, ap, subst, arith}
 use Rattle.std.{specs.Prelude.{nat_eq, nat_lt, max, find, slice_index_or, slice_set}, proofs.lemmas.Bool.{cases_lt, eq-eqb, ne_eqb, lt-ltb, le-ltb}}
-use Rattle.ppdb_base.specs.{declared.offsets.Run.{Run}, Offsets.{end_of, new_end_of, Takes, Moves, RiseFrom, Rise, Kept, lined}}
+use Rattle.ppdb_base.specs.{declared.offsets.Run.{Run}, Offsets.{end_of, new_end_of, Takes, Moves, RiseFrom, Rise, IsImageFrom, lined}}
 use Rattle.ppdb_maps.specs.{Stretches.{StretchesRise, IsOutside, EndBy}, Map.{MethodLine}, Readable.{HidesApart}, Before.{and_stretch}}
 use Rattle.ppdb_maps.specs.Rules.{BeginsEarly, EndsBeyond, HidesEarly, IsWithin, new_range}
 use Rattle.ppdb_base.proofs.Stops.{moves_from}
-use Rattle.ppdb_maps.specs.Runs.{IsLeastImage}
 use Rattle.ppdb_maps.proofs.{Rising.{rise_with, not_less}, Lines.{moves_cases, line_rises}}
 
 pub nothing_hides : (m o n : ℕ) (runs : List Run) → HidesApart (record { method = m; old_size = o; new_size = n; runs = runs; stretches = [] })
@@ -170,15 +169,15 @@ image_is old new (r ∷ rs) rise x = elim (cases_lt x (new_end_of r)) [
   | inr past ↦ rw (le-ltb x (new_end_of r) past) (after_run r rs x past _ (image_is (end_of r) (new_end_of r) rs rise.3 x))
 ]
 
-least_at : (runs : List Run) (x : ℕ) (run : Run) → IsImageAt runs x run → IsLeastImage runs x (max run.new x)
-least_at runs x run at = elim (cases_lt x run.new) [
-  | inl less ↦ subst (IsLeastImage runs x) (omega arith) (record {
+least_at : (runs : List Run) (old new x : ℕ) (run : Run) → IsImageAt runs x run → IsImageFrom (lined runs old new) x (max run.new x)
+least_at runs old new x run at = elim (cases_lt x run.new) [
+  | inl less ↦ subst (IsImageFrom (lined runs old new) x) (omega arith) (record {
     offset = run.old;
     kept = at.held run.old run.new (record { step = 0; inside = at.long; old = omega arith; new = omega arith });
     after = omega arith;
     least = λ other image moves after. at.least other image moves after;
   })
-  | inr le ↦ subst (IsLeastImage runs x) (omega arith) (record {
+  | inr le ↦ subst (IsImageFrom (lined runs old new) x) (omega arith) (record {
     offset = run.old + (x - run.new);
     kept = at.held (run.old + (x - run.new)) x (record { step = x - run.new; inside = omega (arith, at.later); old = refl; new = omega arith });
     after = omega arith;
@@ -187,8 +186,8 @@ least_at runs x run at = elim (cases_lt x run.new) [
 ]
 
 pub image_least : (runs : List Run) → RiseFrom 0 0 runs → (x : ℕ) (run : Run) → Some run ≡ find (λ (r : Run). nat_lt x (new_end_of r)) runs
-    → IsLeastImage runs x (max run.new x)
-image_least runs rise x run found = least_at runs x run (subst (ImageIs runs x) (sym found) (image_is 0 0 runs rise x))
+    → (old new : ℕ) → IsImageFrom (lined runs old new) x (max run.new x)
+image_least runs rise x run found old new = least_at runs old new x run (subst (ImageIs runs x) (sym found) (image_is 0 0 runs rise x))
 
 pub image_none : (runs : List Run) → RiseFrom 0 0 runs → (x : ℕ) → None ≡ find (λ (r : Run). nat_lt x (new_end_of r)) runs
     → (u v : ℕ) → Moves runs u v → v < x

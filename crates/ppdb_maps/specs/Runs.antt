@@ -18,13 +18,6 @@ abbrev pub RunIs : List Run → ℕ → Option Run → Type 0
 RunIs runs x None = (u v : ℕ) → Moves runs u v → u < x
 RunIs runs x (Some run) = IsRunAt runs x run
 
--- y is the least image of an offset that the runs keep that is not below the new offset
-pub record IsLeastImage (runs : List Run) (new y : ℕ) : Type 0 where
-  pub offset : ℕ
-  pub kept : Moves runs offset y
-  pub after : new ≤ y
-  pub least : (other image : ℕ) → Moves runs other image → new ≤ image → y ≤ image
-
 -- why a line of offsets that may begin early or end beyond a size is refused
 abbrev pub RefusesOffsets : Type 0 → Type 0 → Refusal → Type 0
 RefusesOffsets early beyond (refused rule) =
