@@ -323,7 +323,7 @@ first_line : (before : List Line) (line other : MethodLine) (lines others : List
 first_line before line other lines others a b = let e : line ∷ lines ≡ other ∷ others = sym a ∙ b in cc
 
 module _ (before : List Line) (line : Line) (early beyond : MethodLine → Type 0) (is_line : IsOfOffsets before line early beyond) where
-  -- it is refused where no method is open
+  -- it is refused where no method is opened
   pub unowned : (draft : Draft) → Holds before draft → draft.current ≡ None → RefusedBy before line (refused NoMethod)
   unowned draft holds is =
       let h : HoldsMethods before None draft = subst (λ (m : Option MethodLine). HoldsMethods before m draft) is holds.methods in
@@ -334,20 +334,20 @@ module _ (before : List Line) (line : Line) (early beyond : MethodLine → Type 
       least other (in_early l ls is h) = lit≤ tt
       least other (in_beyond l ls is h) = lit≤ tt
 
-  -- the open method took it, or refused it
-  pub offsets_added : (draft : Draft) (open taken : MethodLine) (result : Result (Unit {0}) Refusal) → Holds before draft → draft.current ≡ Some open
-      → OnOk result (((lines : List MethodLine) → methods_of before ≡ open ∷ lines → methods_of (line ∷ before) ≡ taken ∷ lines) × (taken.method ≡ open.method))
-      → OnOk result ((early open → ⊥) × (beyond open → ⊥)) → IfErr result (RefusesOffsets (early open) (beyond open))
+  -- the opened method took it, or refused it
+  pub offsets_added : (draft : Draft) (opened taken : MethodLine) (result : Result (Unit {0}) Refusal) → Holds before draft → draft.current ≡ Some opened
+      → OnOk result (((lines : List MethodLine) → methods_of before ≡ opened ∷ lines → methods_of (line ∷ before) ≡ taken ∷ lines) × (taken.method ≡ opened.method))
+      → OnOk result ((early opened → ⊥) × (beyond opened → ⊥)) → IfErr result (RefusesOffsets (early opened) (beyond opened))
       → AddsLine before line result (record draft { current = Some taken })
-  offsets_added draft open taken result holds is added kept why =
+  offsets_added draft opened taken result holds is added kept why =
       of result (subst (λ (m : Option MethodLine). HoldsMethods before m draft) is holds.methods) added kept why
     where
       follows : follows_method before ≡ true → follows_method before ≡ false → ⊥
       follows there absent = false≢true (sym absent ∙ there)
 
-      of : (result : Result (Unit {0}) Refusal) → HoldsMethods before (Some open) draft
-          → OnOk result (((lines : List MethodLine) → methods_of before ≡ open ∷ lines → methods_of (line ∷ before) ≡ taken ∷ lines) × (taken.method ≡ open.method))
-          → OnOk result ((early open → ⊥) × (beyond open → ⊥)) → IfErr result (RefusesOffsets (early open) (beyond open))
+      of : (result : Result (Unit {0}) Refusal) → HoldsMethods before (Some opened) draft
+          → OnOk result (((lines : List MethodLine) → methods_of before ≡ opened ∷ lines → methods_of (line ∷ before) ≡ taken ∷ lines) × (taken.method ≡ opened.method))
+          → OnOk result ((early opened → ⊥) × (beyond opened → ⊥)) → IfErr result (RefusesOffsets (early opened) (beyond opened))
           → AddsLine before line result (record draft { current = Some taken })
       of (Ok u) h added kept why = (
         record {
@@ -359,12 +359,12 @@ module _ (before : List Line) (line : Line) (early beyond : MethodLine → Type 
         where
           keeps : (rule : Rule) → BreaksIn before early beyond rule → ⊥
           keeps rule (in_none k) = follows h.3 k
-          keeps rule (in_early other others e k) = kept.0 (subst early (first_line before open other h.0 others h.1 e) k)
-          keeps rule (in_beyond other others e k) = kept.1 (subst beyond (first_line before open other h.0 others h.1 e) k)
+          keeps rule (in_early other others e k) = kept.0 (subst early (first_line before opened other h.0 others h.1 e) k)
+          keeps rule (in_beyond other others e k) = kept.1 (subst beyond (first_line before opened other h.0 others h.1 e) k)
       of (Err Memory) h added kept why = tt
       of (Err (refused rule)) h added kept (inl w) =
           subst (λ (r : Rule). RefusedBy before line (refused r)) (sym w.0)
-          (is_line.breaks Overlap (in_early open h.0 h.1 w.1), λ other b. least other (is_line.broken other b))
+          (is_line.breaks Overlap (in_early opened h.0 h.1 w.1), λ other b. least other (is_line.broken other b))
         where
           least : (other : Rule) → BreaksIn before early beyond other → 7 ≤ kind_of other
           least other (in_none k) = absurd (follows h.3 k)
@@ -372,9 +372,9 @@ module _ (before : List Line) (line : Line) (early beyond : MethodLine → Type 
           least other (in_beyond l ls e k) = lit≤ tt
       of (Err (refused rule)) h added kept (inr w) =
           subst (λ (r : Rule). RefusedBy before line (refused r)) (sym w.0)
-          (is_line.breaks Beyond (in_beyond open h.0 h.1 w.2), λ other b. least other (is_line.broken other b))
+          (is_line.breaks Beyond (in_beyond opened h.0 h.1 w.2), λ other b. least other (is_line.broken other b))
         where
           least : (other : Rule) → BreaksIn before early beyond other → 8 ≤ kind_of other
           least other (in_none k) = absurd (follows h.3 k)
-          least other (in_early other_line others e k) = absurd (w.1 (subst early (first_line before open other_line h.0 others h.1 e) k))
+          least other (in_early other_line others e k) = absurd (w.1 (subst early (first_line before opened other_line h.0 others h.1 e) k))
           least other (in_beyond l ls e k) = lit≤ tt

@@ -29,30 +29,30 @@ InRange Shares = Unit {0}
 InRange SharesSlots = Unit {0}
 InRange (Hidden new length) = (new ≤ MAX_OFFSET) × (0 < length) × (length ≤ MAX_OFFSET)
 
-slot_range : {version : ℕ} (word : List ℕ) (n : Option ℕ) → SaysSlot version word n → IfSome n (λ new. new ≤ MAX_SLOT)
-slot_range word None says = tt
-slot_range word (Some n) says = says.to
+slot_range : (version : ℕ) (word : List ℕ) (n : Option ℕ) → SaysSlot version word n → IfSome n (λ new. new ≤ MAX_SLOT)
+slot_range version word None says = tt
+slot_range version word (Some n) says = says.to
 
-values_range : {version : ℕ} (form : Form) (values : List (List ℕ)) (line : Line) → Values version form values line → InRange line
-values_range form values line (rows_line a b) = (a.1, b.to)
-values_range form values line (row_line a b d) = (a.1, (b.from, b.to), (d.from, d.to))
-values_range form values line (cross_line a b d e f) = (a.1, d.1, (b.from, b.to), (e.from, e.to), f)
-values_range form values line (gone_line a b d) = (a.1, (d.from, d.to), b)
-values_range form values line (method_line a b d) = ((a.from, a.to), b.to, d.to)
-values_range form values line (run_line a b d) = (a.to, b.to, d.from, d.to)
-values_range form values line (drop_line a) = (a.from, a.to)
-values_range form values line (slots_line a) = (a.from, a.to)
-values_range form values line (slot_line {new = n} a b d) = ((a.from, a.to), b.to, slot_range _ n d)
-values_range form values line (signature_line a b) = ((a.from, a.to), b.to)
-values_range form values line (document_line a b) = (a.within, b.within)
-values_range form values line (link_line a) = a.within
-values_range form values line shares_line = tt
-values_range form values line shares_slots_line = tt
-values_range form values line (hide_line a b) = (a.to, b.from, b.to)
+values_range : (version : ℕ) (form : Form) (values : List (List ℕ)) (line : Line) → Values version form values line → InRange line
+values_range version form values line (rows_line a b) = (a.1, b.to)
+values_range version form values line (row_line a b d) = (a.1, (b.from, b.to), (d.from, d.to))
+values_range version form values line (cross_line a b d e f) = (a.1, d.1, (b.from, b.to), (e.from, e.to), f)
+values_range version form values line (gone_line a b d) = (a.1, (d.from, d.to), b)
+values_range version form values line (method_line a b d) = ((a.from, a.to), b.to, d.to)
+values_range version form values line (run_line a b d) = (a.to, b.to, d.from, d.to)
+values_range version form values line (drop_line a) = (a.from, a.to)
+values_range version form values line (slots_line a) = (a.from, a.to)
+values_range version form values line (slot_line {new = n} a b d) = ((a.from, a.to), b.to, slot_range version _ n d)
+values_range version form values line (signature_line a b) = ((a.from, a.to), b.to)
+values_range version form values line (document_line a b) = (a.within, b.within)
+values_range version form values line (link_line a) = a.within
+values_range version form values line shares_line = tt
+values_range version form values line shares_slots_line = tt
+values_range version form values line (hide_line a b) = (a.to, b.from, b.to)
 
 tells_range : (version : ℕ) (text : List ℕ) (line : Line) → Tells version text line → InRange line
 tells_range version text line (silent h) = tt
-tells_range version text line (tells form loud has values) = values_range form has.values line values
+tells_range version text line (tells form loud has values) = values_range version form has.values line values
 
 -- a line fits among lines: its numbers are in range, the line that it needs is there, and it names no dropped method
 pub record IsPlaced (all : Place → Option Line) (line : Line) : Type 0 where

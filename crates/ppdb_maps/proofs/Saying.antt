@@ -1,7 +1,7 @@
 -- A line of a form has its values; a line says one thing.
 use Rattle.std.proofs.Common.{rules, zero, suc, inl, inr, lit<, lit≤, ℕ, ◌≡◌, ◌<◌, ◌≤◌, ◌^◌, List, [], ◌∷◌, Option, Some, None, length, take, refl, sym, ap, ◌∙◌, subst, arith}
 use Rattle.std.{specs.Prelude.{find, bytes_eq, nat_eq, ◌&&◌, codes, decimal}, proofs.lemmas.Bool.{cases_lt}, proofs.lemmas.List.{length-take-le}}
-use Rattle.ppdb_base.specs.declared.{offsets.Run.{Run}, limits.TheConstants.{MAX_ROWS}}
+use Rattle.ppdb_base.specs.declared.{offsets.Run.{Run}, limits.TheConstants.{MAX_ROWS, MAX_OFFSET}}
 use Rattle.ppdb_maps.specs.{Words.{IsSilent, line_words}, Forms.{Crosses, name_of, words_in, HasForm, IsNumber, IsTable, Values, Tells, rows_line, row_line}}
 use Rattle.ppdb_maps.specs.Forms.{method_line, run_line, drop_line, slots_line, slot_line, signature_line, document_line, link_line, cross_line, gone_line}
 use Rattle.ppdb_maps.specs.{Forms.{shares_line, shares_slots_line, hide_line, SaysSlot, MAX_SLOT, silent, reported}, declared.entries.CrossLine.{CrossLine}, declared.entries.NameLine.{NameLine}}
@@ -48,6 +48,13 @@ cross_values a b d e line (cross_line t o u n f) = ((_, t), (_, o), (_, u), (_, 
 pub gone_values : {version : ℕ} (a b : List ℕ) (line : Line) → Values version RowGone (a ∷ b ∷ []) line → ((t : ℕ) × IsTable a t) × ((n : ℕ) × IsNumber b 1 MAX_ROWS n)
 gone_values a b line (gone_line t k o) = ((_, t), (_, o))
 
+pub slot_values : {version : ℕ} (a b d : List ℕ) (line : Line) → Values version SlotMove (a ∷ b ∷ d ∷ []) line → (n : Option ℕ) × SaysSlot version d n
+slot_values a b d line (slot_line m o n) = (_, n)
+
+pub hide_values : {version : ℕ} (a b : List ℕ) (line : Line) → Values version Hiding (a ∷ b ∷ []) line
+    → ((n : ℕ) × IsNumber a 0 MAX_OFFSET n) × ((n : ℕ) × IsNumber b 1 MAX_OFFSET n)
+hide_values a b line (hide_line n l) = ((_, n), (_, l))
+
 -- words that say a line that does not cross have no value
 pub cross_none : {version : ℕ} (a b d e : List ℕ) (ours : CrossLine) → IsTable a ours.table → IsNumber b 1 MAX_ROWS ours.old → IsTable d ours.to
     → IsNumber e 1 MAX_ROWS ours.new → (Crosses ours → ⊥) → (line : Line) → Values version CrossMove (a ∷ b ∷ d ∷ e ∷ []) line → ⊥
@@ -58,57 +65,57 @@ cross_none a b d e ours t o u n never line (cross_line {line = k} t2 o2 u2 n2 f)
 gone_is_none : (n : ℕ) → n < 2 ^ 32 → codes "gone" ≡ decimal n → ⊥
 gone_is_none n small is = absurd (omega (arith, all_digits_decimal n (codes "gone") small is))
 
-one_slot : {version : ℕ} (word : List ℕ) (m n : Option ℕ) → SaysSlot version word m → SaysSlot version word n → m ≡ n
-one_slot word None None a b = refl
-one_slot word None (Some n) a b = absurd (gone_is_none n (omega (arith, b.to)) (sym a.0 ∙ b.spelled))
-one_slot word (Some m) None a b = absurd (gone_is_none m (omega (arith, a.to)) (sym b.0 ∙ a.spelled))
-one_slot word (Some m) (Some n) a b = ap Some (one_number word 0 MAX_SLOT m n (lit< tt) a b)
+one_slot : (version : ℕ) (word : List ℕ) (m n : Option ℕ) → SaysSlot version word m → SaysSlot version word n → m ≡ n
+one_slot version word None None a b = refl
+one_slot version word None (Some n) a b = absurd (gone_is_none n (omega (arith, b.to)) (sym a.0 ∙ b.spelled))
+one_slot version word (Some m) None a b = absurd (gone_is_none m (omega (arith, a.to)) (sym b.0 ∙ a.spelled))
+one_slot version word (Some m) (Some n) a b = ap Some (one_number word 0 MAX_SLOT m n (lit< tt) a b)
 
 -- a line of a form says one thing
-one_of_form : {version : ℕ} (form : Form) (values : List (List ℕ)) (x y : Line) → Values version form values x → Values version form values y → x ≡ y
-one_of_form form values x y (rows_line {table = t} {rows = n} a b) (rows_line {table = t2} {rows = n2} a2 b2) =
+one_of_form : (version : ℕ) (form : Form) (values : List (List ℕ)) (x y : Line) → Values version form values x → Values version form values y → x ≡ y
+one_of_form version form values x y (rows_line {table = t} {rows = n} a b) (rows_line {table = t2} {rows = n2} a2 b2) =
     let table = one_table _ t t2 a a2 in
     let rows = one_number _ _ _ n n2 (lit< tt) b b2 in
     cc
-one_of_form form values x y (row_line {table = t} {old = o} {new = n} a b d) (row_line {table = t2} {old = o2} {new = n2} a2 b2 d2) =
+one_of_form version form values x y (row_line {table = t} {old = o} {new = n} a b d) (row_line {table = t2} {old = o2} {new = n2} a2 b2 d2) =
     let table = one_table _ t t2 a a2 in
     let old = one_number _ _ _ o o2 (lit< tt) b b2 in
     let new = one_number _ _ _ n n2 (lit< tt) d d2 in
     cc
-one_of_form form values x y (cross_line {line = l} a b d e f) (cross_line {line = m} a2 b2 d2 e2 f2) =
+one_of_form version form values x y (cross_line {line = l} a b d e f) (cross_line {line = m} a2 b2 d2 e2 f2) =
     ap Cross (cross_one _ _ _ _ l m a b d e a2 b2 d2 e2)
-one_of_form form values x y (gone_line {table = t} {old = o} a k b) (gone_line {table = t2} {old = o2} a2 k2 b2) =
+one_of_form version form values x y (gone_line {table = t} {old = o} a k b) (gone_line {table = t2} {old = o2} a2 k2 b2) =
     let table = one_table _ t t2 a a2 in
     let old = one_number _ _ _ o o2 (lit< tt) b b2 in
     cc
-one_of_form form values x y (method_line {method = m} {old_size = o} {new_size = n} a b d)
+one_of_form version form values x y (method_line {method = m} {old_size = o} {new_size = n} a b d)
     (method_line {method = m2} {old_size = o2} {new_size = n2} a2 b2 d2) =
     let method = one_number _ _ _ m m2 (lit< tt) a a2 in
     let old = one_number _ _ _ o o2 (lit< tt) b b2 in
     let new = one_number _ _ _ n n2 (lit< tt) d d2 in
     cc
-one_of_form form values x y (run_line {run = r} a b d) (run_line {run = s} a2 b2 d2) =
+one_of_form version form values x y (run_line {run = r} a b d) (run_line {run = s} a2 b2 d2) =
     let old = one_number _ _ _ r.old s.old (lit< tt) a a2 in
     let new = one_number _ _ _ r.new s.new (lit< tt) b b2 in
     let long = one_number _ _ _ r.length s.length (lit< tt) d d2 in
     ap Kept (same_run r s old new long)
-one_of_form form values x y (drop_line {method = m} a) (drop_line {method = m2} a2) = let method = one_number _ _ _ m m2 (lit< tt) a a2 in cc
-one_of_form form values x y (slots_line {method = m} a) (slots_line {method = m2} a2) = let method = one_number _ _ _ m m2 (lit< tt) a a2 in cc
-one_of_form form values x y (slot_line {method = m} {old = o} {new = n} a b d) (slot_line {method = m2} {old = o2} {new = n2} a2 b2 d2) =
+one_of_form version form values x y (drop_line {method = m} a) (drop_line {method = m2} a2) = let method = one_number _ _ _ m m2 (lit< tt) a a2 in cc
+one_of_form version form values x y (slots_line {method = m} a) (slots_line {method = m2} a2) = let method = one_number _ _ _ m m2 (lit< tt) a a2 in cc
+one_of_form version form values x y (slot_line {method = m} {old = o} {new = n} a b d) (slot_line {method = m2} {old = o2} {new = n2} a2 b2 d2) =
     let method = one_number _ _ _ m m2 (lit< tt) a a2 in
     let old = one_number _ _ _ o o2 (lit< tt) b b2 in
-    let new = one_slot _ n n2 d d2 in
+    let new = one_slot version _ n n2 d d2 in
     cc
-one_of_form form values x y (signature_line {method = m} {new = n} a b) (signature_line {method = m2} {new = n2} a2 b2) =
+one_of_form version form values x y (signature_line {method = m} {new = n} a b) (signature_line {method = m2} {new = n2} a2 b2) =
     let method = one_number _ _ _ m m2 (lit< tt) a a2 in
     let new = one_number _ _ _ n n2 (lit< tt) b b2 in
     cc
-one_of_form form values x y (document_line {d = d} a b) (document_line {d = e} a2 b2) =
+one_of_form version form values x y (document_line {d = d} a b) (document_line {d = e} a2 b2) =
     ap Document (same_names d e (one_spelling _ d.old e.old a a2) (one_spelling _ d.new e.new b b2))
-one_of_form form values x y (link_line {value = v} a) (link_line {value = w} b) = ap Link (one_spelling _ v w a b)
-one_of_form form values x y shares_line shares_line = refl
-one_of_form form values x y shares_slots_line shares_slots_line = refl
-one_of_form form values x y (hide_line {new = n} {length = l} a b) (hide_line {new = n2} {length = l2} a2 b2) =
+one_of_form version form values x y (link_line {value = v} a) (link_line {value = w} b) = ap Link (one_spelling _ v w a b)
+one_of_form version form values x y shares_line shares_line = refl
+one_of_form version form values x y shares_slots_line shares_slots_line = refl
+one_of_form version form values x y (hide_line {new = n} {length = l} a b) (hide_line {new = n2} {length = l2} a2 b2) =
     let new = one_number _ _ _ n n2 (lit< tt) a a2 in
     let long = one_number _ _ _ l l2 (lit< tt) b b2 in
     cc
@@ -247,7 +254,7 @@ one_said version text x y (reported one loud a says) (reported other loud2 b say
     let names : name_of one ≡ name_of other = cc in
     let values : b.values ≡ a.values = cc in
     let form : other ≡ one = one_form other one (sym names) (sym b.counted ∙ a.counted) in
-    one_of_form one a.values x y says (subst (λ (f : Form). Values version f a.values y) form (subst (λ v. Values version other v y) values says2))
+    one_of_form version one a.values x y says (subst (λ (f : Form). Values version f a.values y) form (subst (λ v. Values version other v y) values says2))
 
 -- a line that says something breaks rules by what it says
 pub breaks_said : (version : ℕ) (before : List Line) (text : List ℕ) (says : Line) (rule : Rule) → Tells version text says

@@ -283,10 +283,17 @@ fn slot_line(version: u8, words: &Words<'_>) -> Option<Line>
     Some(Line::Slot { method, old, new })
 }
 
+/// Whether a word is `slots`.
+fn is_slots(word: &[u8]) -> bool
+    ensures { IsTrue result ↔ (word.now ≡ codes "slots") }
+{
+    word == b"slots".as_slice()
+}
+
 fn shares_slots_line(words: &Words<'_>) -> Option<Line>
     ensures { (version : ℕ) → IsLineOfForm version SlotSharing words.now result }
 {
-    if words.first == b"slots".as_slice() {
+    if is_slots(words.first) {
         Some(Line::SharesSlots)
     } else {
         None
