@@ -8,6 +8,7 @@ mod Reported
 pub mod InOrder
 pub mod Lined
 pub mod Starting
+pub mod Between
 mod Methods
 pub mod Reading
 pub mod Entries

@@ -69,6 +69,9 @@ version_known m = of (has_newest m) (has_newer m)
 pub from_three : (m : Map) → 3 ≤ version_of m
 from_three m = (version_known m).0
 
+or_true : (b c : Bool) → c ≡ true → (b || c) ≡ true
+or_true b c is = search rules
+
 -- an item of which it holds is among those of a list
 found_any : {X : Type 0} (p q : X → Bool) (xs : List X) (x : X) → find p xs ≡ Some x → q x ≡ true → list_any q xs ≡ true
 found_any p q [] x found holds = absurd (cc)
@@ -76,10 +79,7 @@ found_any {X} p q (y ∷ ys) x found holds = of (p y) found (found_any p q ys x)
   where
     of : (b : Bool) → cond b (Some y) (find p ys) ≡ Some x → (find p ys ≡ Some x → q x ≡ true → list_any q ys ≡ true) → (q y || list_any q ys) ≡ true
     of true found rest = let e : x ≡ y = cc in rw (sym (ap q e) ∙ holds) refl
-    of false found rest = either (q y) (list_any q ys) (rest found holds)
-
-    either : (b c : Bool) → c ≡ true → (b || c) ≡ true
-    either b c is = search rules
+    of false found rest = or_true (q y) (list_any q ys) (rest found holds)
 
 -- ---- lists
 
@@ -286,11 +286,12 @@ module _ (m : Map) (is : IsReadable m) where
   slot_since : (s : SlotLine) (o : Option ℕ) → s.new ≡ o → find (λ (x : SlotLine). same_pair (x.method, x.old) (s.method, s.old)) m.slots ≡ Some s
       → line_since (Slot s.method s.old o) ≤ version_of m
   slot_since s (Some n) is found = from_three m
-  slot_since s None is found = newest (either m.shares.slots
+  slot_since s None is found = newest (either m.shares.slots (list_any (λ (x : SlotLine). not (is_some x.new)) m.slots)
+      (list_any (λ (l : MethodLine). has_items l.stretches) m.methods)
       (found_any (λ (x : SlotLine). same_pair (x.method, x.old) (s.method, s.old)) (λ (x : SlotLine). not (is_some x.new)) m.slots s found (rw is refl)))
     where
-      either : (a : Bool) {b c : Bool} → b ≡ true → (a || (b || c)) ≡ true
-      either a some = search rules
+      either : (a b c : Bool) → b ≡ true → (a || (b || c)) ≡ true
+      either a b c some = search rules
 
   slot_stands : AllByRecursion (λ s. Stand (slot_says s)) m.slots
   slot_stands = each_found (λ (s : SlotLine). (s.method, s.old)) same_pair pair_cmp pair_is is_pair pair_total (λ s. Stand (slot_says s)) m.slots is.ascends.slots
