@@ -42,13 +42,16 @@ with_run_fits line run some fits early beyond = (
   rise_with 0 0 line.runs run (record { old = line.old_size; new = line.new_size; length = 1 }) some
       (not_less _ _ (λ h. beyond (inl h))) (not_less _ _ (λ h. beyond (inr h))) (λ e. early (inl e)) (λ _. (omega arith, omega arith)) fits.0,
   record {
-    hidden = (fits.1.hidden.0, λ x y kept. elim (moves_cases line.runs (run ∷ []) x y kept) [
-      | inl m ↦ fits.1.hidden.1 x y m
-      | inr m ↦ elim m [
-        | inl t ↦ outside_after run.new y line.stretches (ends_by 0 run.new line.stretches fits.1.hidden.0 (λ e. early (inr e))) (omega (arith, t.new))
-        | inr n ↦ absurd n
-      ]
-    ]);
+    hidden = (
+      fits.1.hidden.0,
+      λ x y kept. elim (moves_cases line.runs (run ∷ []) x y kept) [
+        | inl m ↦ fits.1.hidden.1 x y m
+        | inr m ↦ elim m [
+          | inl t ↦ outside_after run.new y line.stretches (ends_by 0 run.new line.stretches fits.1.hidden.0 (λ e. early (inr e))) (omega (arith, t.new))
+          | inr n ↦ absurd n
+        ]
+      ],
+    );
     within = fits.1.within;
   },
 )

@@ -250,9 +250,13 @@ gone_of said table = filter (λ r. nat_eq r.table table) said.gone
 abbrev pub slots_of : Map → ℕ → List SlotLine
 slots_of said method = filter (λ s. nat_eq s.method method) said.slots
 
--- those with a number, and those that say `gone`
+-- whether a line is one of the method's with a number, or that says `gone`
+abbrev pub is_slot_of : ℕ → Bool → SlotLine → Bool
+is_slot_of method numbered s =
+    nat_eq s.method method && cond numbered (is_some s.new) (not (is_some s.new))
+
 abbrev pub numbered_slots_of : Map → ℕ → List SlotLine
-numbered_slots_of said method = filter (λ (s : SlotLine). is_some s.new) (slots_of said method)
+numbered_slots_of said method = filter (is_slot_of method true) said.slots
 
 abbrev pub gone_slots_of : Map → ℕ → List SlotLine
-gone_slots_of said method = filter (λ (s : SlotLine). not (is_some s.new)) (slots_of said method)
+gone_slots_of said method = filter (is_slot_of method false) said.slots

@@ -24,7 +24,7 @@ use crate::method::Method;
 use crate::method_map::MethodMap;
 use crate::search::{
     count_at, cross_at, document_at, has_number, is_gone_at, method_at, nth_cross, nth_gone,
-    nth_row, nth_slot, row_near, signature_at, slot_at,
+    nth_row, nth_slot, nth_slot_that, row_near, signature_at, slot_at,
 };
 use crate::starts::Starts;
 use ppdb_base::Bytes;
@@ -404,6 +404,26 @@ impl MapText {
             (slice_get (slots_of self.now method) index) }
     {
         nth_slot(self.slots.as_slice(), method, index).map(|slot| (slot.old, slot.new))
+    }
+
+    /// The slots of a method with a `slot` line that names their image, and these, in ascending
+    /// order; none past the last.
+    pub fn slot_line(&self, method: u32, index: u32) -> Option<(u16, u16)>
+        ensures { result ≡ option_map (λ (s : SlotLine). (s.old, unwrap_or s.new 0))
+            (slice_get (numbered_slots_of self.now method) index) }
+    {
+        let slot = nth_slot_that(self.slots.as_slice(), method, true, index)?;
+        Some((slot.old, slot.new.unwrap_or(0)))
+    }
+
+    /// The slots of a method with a `slot` line that says `gone`, in ascending order; none past the
+    /// last.
+    pub fn gone_slot_line(&self, method: u32, index: u32) -> Option<u16>
+        ensures { result ≡ option_map (λ (s : SlotLine). s.old)
+            (slice_get (gone_slots_of self.now method) index) }
+    {
+        let slot = nth_slot_that(self.slots.as_slice(), method, false, index)?;
+        Some(slot.old)
     }
 
     /// The methods with a `signature` line and their local signatures, in ascending order; none

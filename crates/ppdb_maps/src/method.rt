@@ -32,15 +32,25 @@ impl Model for Method {
     ghost Value = { MethodLine };
 
     ghost view = { λ m.
-        record { method = m.method; old_size = m.old_size; new_size = m.new_size; runs = m.runs;
-            stretches = m.stretches.items } };
+        record {
+          method = m.method;
+          old_size = m.old_size;
+          new_size = m.new_size;
+          runs = m.runs;
+          stretches = m.stretches.items;
+        } };
 
     ghost use Rattle.ppdb_base.specs.Offsets.{Rise, lined};
     ghost use Rattle.ppdb_maps.specs.Readable.{HidesApart};
 
     ghost invariant = { λ m. Rise (lined m.runs m.old_size m.new_size) × HidesApart
-        (record { method = m.method; old_size = m.old_size; new_size = m.new_size; runs = m.runs;
-            stretches = m.stretches.items }) };
+        (record {
+          method = m.method;
+          old_size = m.old_size;
+          new_size = m.new_size;
+          runs = m.runs;
+          stretches = m.stretches.items;
+        }) };
 }
 
 /// Whether a run begins before the end of another, on one side at least.
@@ -153,8 +163,13 @@ impl Method {
     /// A method without runs and stretches.
     pub fn new(alloc: Global, method: u32, old_size: u32, new_size: u32) -> Method
         ensures { result
-            ≡ record { method = method; old_size = old_size; new_size = new_size; runs = [];
-                stretches = [] } }
+            ≡ record {
+              method = method;
+              old_size = old_size;
+              new_size = new_size;
+              runs = [];
+              stretches = [];
+            } }
     {
         Method {
             method,
@@ -175,8 +190,13 @@ impl Method {
     ) -> Method
         requires { Rise (lined runs old_size new_size) }
         ensures { result
-            ≡ record { method = method; old_size = old_size; new_size = new_size; runs = runs;
-                stretches = [] } }
+            ≡ record {
+              method = method;
+              old_size = old_size;
+              new_size = new_size;
+              runs = runs;
+              stretches = [];
+            } }
     {
         Method {
             method,
@@ -218,7 +238,8 @@ impl Method {
         ensures refused { IfErr result
             (RefusesOffsets (BeginsEarly run self.old) (EndsBeyond run self.old)) }
     {
-        if overlaps_last(run, self.runs.as_slice()) || is_within(run.new, self.stretches.as_slice())
+        if overlaps_last(run, self.runs.as_slice())
+            || is_within(run.new, self.stretches.as_slice())
         {
             return Err(Refusal::Breaks(Rule::Overlap));
         }

@@ -13,7 +13,7 @@ ghost use Rattle.ppdb_maps.specs.declared.entries.CrossLine.{CrossLine};
 ghost use Rattle.ppdb_maps.specs.declared.entries.GoneLine.{GoneLine};
 ghost use Rattle.ppdb_maps.specs.declared.entries.SignatureImage.{SignatureImage};
 ghost use Rattle.ppdb_maps.specs.declared.entries.SlotLine.{SlotLine};
-ghost use Rattle.ppdb_maps.specs.Map.{MethodLine, pair_cmp};
+ghost use Rattle.ppdb_maps.specs.Map.{MethodLine, pair_cmp, is_slot_of};
 ghost use Rattle.ppdb_maps.specs.Search.{FindsBy, CountsBy};
 
 use crate::entries::{Count, CrossLine, GoneLine, NameLine, RowLine, SignatureImage, SlotLine};
@@ -230,4 +230,32 @@ pub fn nth_slot(slots: &[SlotLine], method: u32, index: u32) -> Option<&SlotLine
         |slot| slot.method == method,
         index,
     )
+}
+
+/// Whether a line is one of the method's, and has a number or says `gone` as it is asked for.
+fn is_slot_of(slot: &SlotLine, method: u32, numbered: bool) -> bool
+    ensures { result ≡ is_slot_of method numbered slot.now }
+{
+    slot.method == method && slot.new.is_some() == numbered
+}
+
+/// The line of a slot of the method, by its index among those with a number, or that say `gone`.
+pub fn nth_slot_that(
+    slots: &[SlotLine],
+    method: u32,
+    numbered: bool,
+    index: u32,
+) -> Option<SlotLine>
+    ensures { result ≡ slice_get (filter (is_slot_of method numbered) slots.now) index }
+{
+    let mut left = index;
+    for slot in slots {
+        if is_slot_of(slot, method, numbered) {
+            if left == 0 {
+                return Some(*slot);
+            }
+            left -= 1;
+        }
+    }
+    None
 }

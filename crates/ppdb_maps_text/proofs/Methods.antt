@@ -181,8 +181,7 @@ module _ (m : Map) (texts : List (List ℕ)) (l : MethodLine) (is : IsLineOf m l
       let long : s.0 < s.1 = (rise_at 0 hid s ss all).1 in
       let ends : s.1 ≤ l.new_size = ends_at l.new_size hid s ss (subst (EndBy l.new_size) (sym reached.stretches_are) is.4.within) in
       let new_to : l.new_size ≤ MAX_OFFSET = is.2 in
-      let late : HidesEarly s.0 (with_parts l done hid) → ⊥ = λ early. elim early [ inl e ↦ reached.stretch_late s ss refl e | inr e ↦ late_at 0 hid s ss all e ] in
-      (
+      let late : HidesEarly s.0 (with_parts l done hid) → ⊥ = λ early. elim early [ inl e ↦ reached.stretch_late s ss refl e | inr e ↦ late_at 0 hid s ss all e ] in (
         hide_next (version_of m) texts (at_place m) said ahead rest s.0 (s.1 - s.0)
             (line_reported (version_of m) (Hidden s.0 (s.1 - s.0)) (λ e. absurd (cc)) (omega arith, omega arith, omega arith)
             (newest (ap has_items (sym reached.stretches_are) ∙ some_item hid s ss)))
