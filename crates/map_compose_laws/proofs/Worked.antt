@@ -168,7 +168,7 @@ line_is : (old new : ℕ) (runs : List Run) (method : ℕ) (a : MethodLine) → 
     → (a.old_size ≡ old) × (a.new_size ≡ new)
 line_is old new runs method a is = by_method (nat_eq 1 method) is
   where
-    by_method : (b : Bool) → cond b (Some (record { method = 1; old_size = old; new_size = new; runs = runs })) None ≡ Some a
+    by_method : (b : Bool) → cond b (Some (record { method = 1; old_size = old; new_size = new; runs = runs; stretches = [] })) None ≡ Some a
         → (a.old_size ≡ old) × (a.new_size ≡ new)
     by_method true eq =
         let same = some_of _ a eq in

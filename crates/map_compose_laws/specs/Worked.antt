@@ -1,7 +1,7 @@
 -- A file that says after two steps the same as after one but for edges, and not wholly the same.
 use Rattle.ppdb_values.specs.Names.{Point, Lines, Run}
 use Rattle.std.specs.Prelude.{◌≡◌, ℕ, false, List, [], ◌∷◌, Some, None}
-use Rattle.ppdb_maps.specs.Map.{Map, map_of}
+use Rattle.ppdb_maps.specs.Map.{Map, map_of, none_shared}
 use Rattle.map_compose.specs.{Composed.composed, Sizes.SizesAgree}
 use Rattle.ppdb_values.specs.declared.{file.FileValue.FileValue, scope.VariableValue.VariableValue}
 use Rattle.ppdb_values.specs.Meaning.{Meaning, ScopeMeaning, meaning}
@@ -51,8 +51,9 @@ one_kept old new = record { old = old; new = new; length = 1 }
 -- a map of the method's sizes and runs
 abbrev pub map_with : ℕ → ℕ → List Run → Map
 map_with old_size new_size runs =
-    map_of [] [] [] [] (record { method = 1; old_size = old_size; new_size = new_size; runs = runs }
-    ∷ []) [] [] [] [] [] None false
+    map_of [] [] [] [] (record
+    { method = 1; old_size = old_size; new_size = new_size; runs = runs; stretches = [] }
+    ∷ []) [] [] [] [] [] None none_shared
 
 abbrev pub first_step : Map
 first_step = map_with 9 12 (one_kept 0 0 ∷ one_kept 5 6 ∷ one_kept 8 9 ∷ [])

@@ -30,6 +30,7 @@ prefix_kept size length = record {
   old_size = size;
   new_size = size;
   runs = record { old = 0; new = 0; length = length } ∷ [];
+  stretches = [];
 }
 
 abbrev pub keeps_prefix : ℕ → ℕ → Map
@@ -44,6 +45,7 @@ all_but offset = record no_lines {
     new_size = 30;
     runs = record { old = 0; new = 0; length = offset }
         ∷ record { old = offset + 1; new = offset + 1; length = 29 - offset } ∷ [];
+    stretches = [];
   } ∷ [];
 }
 

@@ -24,7 +24,7 @@ IsImaged m n = (table image : ℕ) × (row_image m n.table n.row ≡ Row table i
 
 -- the map has a `shares` line, and it is a table of types or AssemblyRef
 abbrev pub may_share : Map → ℕ → Bool
-may_share m table = m.shares
+may_share m table = m.shares.rows
     && (nat_eq table 0x01 || (nat_eq table 0x02 || (nat_eq table 0x1b || nat_eq table 0x23)))
 
 -- two rows of one table with one image are one row, unless rows of the table may share an image
