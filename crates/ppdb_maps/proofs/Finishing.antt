@@ -1,12 +1,11 @@
 -- The lists of a map answer as the maps in which they were gathered.
-use Rattle.std.proofs.Common.{rules, ℕ, ◌≡◌, ◌&&◌, Bool, true, false, List, [], ◌∷◌, Option, None, Some, map, refl, sym, ap, ◌∙◌, subst, arith}
+use Rattle.std.proofs.Common.{rules, ℕ, ◌≡◌, ◌&&◌, Bool, true, false, List, [], ◌∷◌, Option, Some, map, refl, sym, ap, ◌∙◌, arith}
 use Rattle.std.specs.{Prelude.{find, nat_eq, bytes_eq, is_some, option_map, Vec}, declared.alloc.Global.{Global}, List.{list_any, AllByRecursion}}
 use Rattle.std.specs.{declared.cmp.Ordering.TheVariants.{Less}, List.Sorted.{IsStrictlySortedBy, IsSortedByKey, IsPermutation}, Ordering.{nat_cmp}}
 use Rattle.std.specs.{Cmp.Lexicographic.{slice_cmp}, Map.{lookup, keys_of}, BTreeMap.{BTreeMap, is_at, IsOrdered, get, get_by}}
 use Rattle.std.specs.BTreeSet as sorted
 use Rattle.std.proofs.lemmas.{Bool.Decides.{nat_tests}, Cmp.{nat_cmp_total, nat_eq_equiv}, List.Sorted.{list_any-IsPermutation}, Map.Lookups.{exact_unsigned}}
-use Rattle.std.proofs.lemmas.Map.Views.{exact_unsigned_eq}
-use Rattle.ppdb_maps.specs.{Map.{Map, MethodLine, Ascends, pair_cmp}, Gathered.{count_entry, row_key, cross_key, gone_key, method_key, signature_key, same_pair}}
+use Rattle.ppdb_maps.specs.{Map.{Map, Ascends, pair_cmp}, Gathered.{count_entry, row_key, cross_key, gone_key, method_key, signature_key, same_pair}}
 use Rattle.ppdb_maps.specs.{Gathered.{slot_entry, name_entry, name_cmp}, Drafts.{IsClosed}, Text.{HoldsWhat}, declared.entries.Count.{Count}}
 use Rattle.ppdb_maps.specs.declared.entries.{RowLine.{RowLine}, GoneLine.{GoneLine}, SlotLine.{SlotLine}, SignatureImage.{SignatureImage}, NameLine.{NameLine}}
 use Rattle.ppdb_maps.{specs.declared.draft.Draft.{Draft}, specs.declared.line.Line.{Line}, proofs.Named.{at_name}, proofs.OneList.{any_is}}

@@ -1,8 +1,8 @@
 -- Lines that are read one after another.
 use Rattle.std.proofs.Common.{rules, ℕ, ◌≡◌, ◌<◌, ◌+◌, ◌++◌, List, [], ◌∷◌, Result, Ok, Err, length, append_assoc, length-append, refl, sym, ap, ◌∙◌, subst, arith}
 use Rattle.std.specs.{Prelude.{MatchResult}, Str.Lines.{lines}}
-use Rattle.ppdb_maps.specs.Forms.{Tells, Values, silent, reported, run_line, rows_line, row_line, method_line, drop_line, slots_line, slot_line, signature_line}
-use Rattle.ppdb_maps.specs.{Forms.{IsHead, document_line, link_line, cross_line, gone_line, shares_line, shares_slots_line, hide_line}, Cuts.{IsLineOf}, Rules.{by_lines}, Text.{Read, start}}
+use Rattle.ppdb_maps.specs.Forms.{Tells, Values, silent, reported}
+use Rattle.ppdb_maps.specs.{Forms.{IsHead}, Cuts.{IsLineOf}, Rules.{by_lines}, Text.{Read, start}}
 use Rattle.ppdb_maps.specs.{Text.{further, Refused, at_line, at_head}, Drafts.{Holds, AddsLine, HasLength}, Loops.{TextAdded, TextRefused, IsAt, RefusedIn}}
 use Rattle.ppdb_maps.specs.{Loops.{RefusedAs}, Reading.{RefusedAlone}, declared.draft.Draft.{Draft}, declared.line.Form.{Form}, declared.line.Line.{Line}}
 use Rattle.ppdb_maps.specs.declared.refusal.{Refusal.{Refusal}, Refusal.TheVariants.{Breaks as refused, Memory as no_memory}, MapError.{MapError}}

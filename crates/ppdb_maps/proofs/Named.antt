@@ -3,7 +3,7 @@ use Rattle.std.{proofs.Common.{rules, ◌≡◌, ℕ, true, cond, List, [], ◌�
 use Rattle.std.specs.{Ordering.{nat_cmp, is_eq, eq_by_cmp, match_ordering}, declared.alloc.Global.{Global}, declared.cmp.Ordering.TheVariants.{Less, Equal, Greater}}
 use Rattle.std.specs.{BTreeMap.{insert_entry, is_at}, Cmp.Lexicographic.{slice_cmp, nat_list_cmp_total, nat_list_eq_equiv}, Map.{lookup}}
 use Rattle.std.specs.FinMap as maps
-use Rattle.std.{specs.FinMap.Entries.{find-put, by_order}, proofs.lemmas.Bool.{false≢true}, proofs.lemmas.Map.Lookups.{exact_bytes}}
+use Rattle.std.{specs.FinMap.Entries.{find-put, by_order}, proofs.lemmas.Map.Lookups.{exact_bytes}}
 use Rattle.std.proofs.lemmas.Map.Text.{is_eq-slice_cmp}
 
 abbrev pub Name : Type 0

@@ -1,7 +1,7 @@
 -- Lists that strictly ascend by a key: each item is found by its own, and lists that answer alike are the same.
 use Rattle.std.{proofs.Common.{rules, ◌≡◌, ◌||◌, Bool, true, false, cond, List, [], ◌∷◌, Option, Some, None, refl, sym, ◌∙◌, ap, map, subst}, specs.List.{find}}
 use Rattle.std.specs.{List.{list_any, AllByRecursion}, Prelude.{is_some}, List.Sorted.{IsStrictlySortedBy}, Ordering.{ordering_reverse}, Cmp.{IsTotalOrder}}
-use Rattle.std.specs.declared.cmp.{Ordering.{Ordering}, Ordering.TheVariants.{Less, Equal, Greater}}
+use Rattle.std.specs.declared.cmp.{Ordering.{Ordering}, Ordering.TheVariants.{Less}}
 
 -- an item passes exactly where one is found
 pub any_is : {X : Type 0} (p : X → Bool) (xs : List X) → list_any p xs ≡ is_some (find p xs)

@@ -1,5 +1,5 @@
 -- A text has one map: its lines say one thing, and a map that holds it is one.
-use Rattle.std.proofs.Common.{◌≡◌, ℕ, ◌+◌, ◌⊎◌, ◌&&◌, ◌||◌, ◌++◌, Bool, true, false, cond, List, [], ◌∷◌, Option, Some, None, refl, sym, ◌∙◌, ap, arith, inl, inr}
+use Rattle.std.proofs.Common.{◌≡◌, ℕ, ◌+◌, ◌⊎◌, ◌&&◌, ◌||◌, ◌++◌, Bool, true, false, cond, List, [], ◌∷◌, Some, None, refl, sym, ◌∙◌, ap, arith, inl, inr}
 use Rattle.std.{proofs.Common.{map, subst}, specs.Prelude.{nat_eq, bytes_eq, codes}, specs.List.{find, list_any}, specs.List.Sorted.{IsStrictlySortedBy}}
 use Rattle.std.specs.{Option.{option_map}, Ordering.{nat_cmp}, Cmp.Lexicographic.{slice_cmp, nat_list_cmp_total}, Cmp.{IsTotalOrder, IsEquivalence}}
 use Rattle.std.proofs.lemmas.{Map.Lookups.{CmpEqualImpliesEq, exact_pairs, exact_unsigned}, Bool.{cases_lt, eq-eqb, ne_eqb, eqb-true, and_parts, and_from}}

@@ -1,5 +1,5 @@
 -- What the lines of a text say is one thing.
-use Rattle.std.proofs.Common.{rules, ◌≡◌, ℕ, ◌++◌, List, [], ◌∷◌, refl, sym, ap, ◌∙◌, subst}
+use Rattle.std.proofs.Common.{◌≡◌, ℕ, ◌++◌, List, [], ◌∷◌, refl, sym, ap, ◌∙◌, subst}
 use Rattle.ppdb_maps.{specs.Forms.{Tells}, specs.Text.{Read, start, further}, specs.declared.line.Line.{Line}, proofs.Saying.{one_said}}
 
 snoc_apart : {A : Type 0} (xs : List A) (x : A) → xs ++ x ∷ [] ≡ [] → ⊥

@@ -1,5 +1,5 @@
 -- A text with a map has no refused line, and a refused line and its number are one.
-use Rattle.std.proofs.Common.{rules, ◌≡◌, ℕ, ◌+◌, ◌≤◌, ◌++◌, List, [], ◌∷◌, refl, sym, ◌∙◌, ap, arith, subst, length}
+use Rattle.std.proofs.Common.{◌≡◌, ℕ, ◌+◌, ◌≤◌, ◌++◌, List, [], ◌∷◌, refl, sym, ◌∙◌, ap, arith, subst, length}
 use Rattle.ppdb_maps.specs.{declared.line.Line.{Line}, declared.rule.Rule.{Rule}, Forms.{IsHead}, Map.{Map}, Rules.{BreaksFirst, BreaksLine, Keeps, kind_of}}
 use Rattle.ppdb_maps.{specs.Text.{Read, start, further, Refused, at_head, at_line, IsMapOf}, specs.Readable.{RefusalsAreOne}, proofs.OneReading.{read_same}}
 use Rattle.ppdb_maps.proofs.{OneReading.{snoc_same}, OneMap.{version_same}}

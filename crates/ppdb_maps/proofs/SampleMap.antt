@@ -1,5 +1,5 @@
 -- The sample's map keeps what maps keep.
-use Rattle.std.{proofs.Common.{◌≡◌, ℕ, Bool, false, zero, suc, ◌+◌, ◌<◌, ◌≤◌, List, [], ◌∷◌, Option, None, map, refl, sym, arith}, specs.List.{range_with_len}}
+use Rattle.std.{proofs.Common.{◌≡◌, ℕ, zero, suc, ◌+◌, ◌<◌, ◌≤◌, List, [], ◌∷◌, Option, None, map, refl, sym, arith}, specs.List.{range_with_len}}
 use Rattle.std.specs.{List.{AllByRecursion}, List.Sorted.{IsStrictlySortedBy}, Ordering.{nat_cmp}, Cmp.Lexicographic.{slice_cmp}, Cmp.{nat_cmp_is}}
 use Rattle.std.specs.declared.cmp.Ordering.TheVariants.{Less}
 use Rattle.ppdb_base.specs.Offsets.{Rise, lined}

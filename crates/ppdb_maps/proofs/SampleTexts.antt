@@ -1,5 +1,5 @@
 -- The texts of three samples have the samples' maps.
-use Rattle.std.{proofs.Common.{rules, ◌≡◌, ℕ, Bool, true, false, [], ◌∷◌, Option, Some, None, refl, sym, ap, arith}, specs.Prelude.{codes, cond, nat_eq, ◌&&◌}}
+use Rattle.std.{proofs.Common.{rules, ◌≡◌, ℕ, Bool, true, [], ◌∷◌, Option, Some, None, refl, sym, ap, arith}, specs.Prelude.{codes, cond, nat_eq, ◌&&◌}}
 use Rattle.std.{specs.Prelude.{is_some, option_and_then}, specs.Option.{option_map}, proofs.lemmas.Bool.Decides.{nat_tests}}
 use Rattle.ppdb_maps.specs.{Map.{MethodLine, count_of}, declared.entries.Count.{Count}, declared.entries.RowLine.{RowLine}, Sample.{sample_map_of}, Forms.{IsHead}}
 use Rattle.ppdb_maps.specs.{Forms.{Tells}, Text.{Read, start, further, HoldsWhat}, SampleTexts.{SampleTexts}, declared.line.Line.{Line}}

@@ -8,7 +8,7 @@ use Rattle.ppdb_maps.specs.{Forms.{shares_line, shares_slots_line, hide_line, Sa
 use Rattle.ppdb_maps.specs.declared.line.{Form.{Form}, Form.TheVariants.{TableRows, RowMove, MethodSizes, OffsetRun, MethodDrop, MethodSlots, SlotMove}}
 use Rattle.ppdb_maps.specs.declared.line.{Form.TheVariants.{MethodSignature, DocumentRename, LinkValue, CrossMove, RowGone, Sharing, SlotSharing, Hiding}, Line.{Line}}
 use Rattle.ppdb_maps.specs.{declared.line.Line.TheVariants.{Cross, Kept, Document, Link}, Cuts.{AreWordsOf}, Reading.{FitsForm, values_of}, Rules.{kind_of, Breaks}}
-use Rattle.ppdb_maps.specs.Rules.{BreaksLine, BreaksFirst, no_form, no_value, by_lines, second, alone, run_alone, run_early, run_long, drop_named, names_dropped}
+use Rattle.ppdb_maps.specs.Rules.{BreaksLine, BreaksFirst, no_form, no_value, by_lines, second}
 use Rattle.ppdb_maps.specs.declared.{rule.Rule.{Rule}, rule.Rule.TheVariants.{UnknownForm, NumberFaults}, words.Words.{Words}}
 use Rattle.ppdb_maps.proofs.{Numbers.{one_number, one_table, all_digits_decimal}, Spelled.{one_spelling}}
 

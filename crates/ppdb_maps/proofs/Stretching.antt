@@ -1,5 +1,5 @@
 -- Hidden stretches that lie apart from the images of runs, and stay so when a run or a stretch is added.
-use Rattle.std.proofs.Common.{zero, suc, inl, inr, ◌⊎◌, ◌↔◌, ℕ, ◌≡◌, ◌+◌, ◌-◌, ◌<◌, ◌≤◌, ◌++◌, Bool, true, false, cond, List, [], ◌∷◌, Option, Some, None, map, length, refl, sym, ap, subst, arith}
+use Rattle.std.proofs.Common.{zero, suc, inl, inr, ◌↔◌, ℕ, ◌≡◌, ◌+◌, ◌-◌, ◌<◌, ◌≤◌, ◌++◌, Bool, true, false, cond, List, [], ◌∷◌, Option, Some, None, map, length, refl, sym, ap, subst, arith}
 use Rattle.std.{specs.Prelude.{nat_eq, nat_lt, max, find, slice_index_or, slice_set}, proofs.lemmas.Bool.{cases_lt, eq-eqb, ne_eqb, lt-ltb, le-ltb}}
 use Rattle.ppdb_base.specs.{declared.offsets.Run.{Run}, Offsets.{end_of, new_end_of, Takes, Moves, RiseFrom, Rise, IsImageFrom, lined}}
 use Rattle.ppdb_maps.specs.{Stretches.{StretchesRise, IsOutside, EndBy}, Map.{MethodLine}, Readable.{HidesApart}, Before.{and_stretch}}

@@ -1,6 +1,5 @@
 -- What a map says of one method's offsets.
-use Rattle.std.specs.Prelude.{ℕ, ◌≤◌, List, [], Option, Some, None}
-use Rattle.std.specs.List.{AllByRecursion}
+use Rattle.std.specs.Prelude.{ℕ, List, [], Option, Some, None}
 use Rattle.std.proofs.Props.{props}
 use Rattle.ppdb_base.specs.{declared.offsets.Run.Run, Offsets.{Offsets, every, gone, lined, Kept, AreApart}}
 use Rattle.ppdb_maps.specs.Stretches.{StretchesRise, StretchesRise-prop, IsOutside, IsOutside-prop}

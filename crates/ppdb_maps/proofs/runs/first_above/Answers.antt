@@ -1,4 +1,4 @@
-use Rattle.std.proofs.{Common.{rules, ◌≡◌, ◌∙◌, arith, leb, leb-true}, lemmas.Bool.{leb-false}, lemmas.List.Sorted.{IsPartitionPoint-from_clause}}
+use Rattle.std.proofs.{Common.{rules, ◌∙◌, arith, leb, leb-true}, lemmas.Bool.{leb-false}, lemmas.List.Sorted.{IsPartitionPoint-from_clause}}
 use Rattle.std.proofs.lemmas.List.Sorted.{IsPartitionedBy-leb}
 use Rattle.ppdb_base.specs.Offsets.{new_end_of}
 use Rattle.ppdb_maps.proofs.Searching.{ends_rise, images_rise, found_at, item_copied}

@@ -1,4 +1,3 @@
-use Rattle.std.proofs.Common.{sym}
 use Rattle.ppdb_maps.proofs.Stretching.{image_least, image_none}
 use Rattle.ppdb_maps.proofs.runs.image_from_in.Goals as goal
 

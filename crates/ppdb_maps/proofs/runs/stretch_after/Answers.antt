@@ -1,4 +1,4 @@
-use Rattle.std.proofs.{Common.{rules, ◌≡◌, ◌∙◌, ℕ, arith, leb, leb-true}, lemmas.Bool.{leb-false}, lemmas.List.Sorted.{IsPartitionPoint-from_clause}}
+use Rattle.std.proofs.{Common.{rules, ◌∙◌, ℕ, arith, leb, leb-true}, lemmas.Bool.{leb-false}, lemmas.List.Sorted.{IsPartitionPoint-from_clause}}
 use Rattle.std.proofs.lemmas.List.Sorted.{IsPartitionedBy-leb}
 use Rattle.ppdb_maps.proofs.Searching.{ends_rise, stretches_rise, found_at, item_copied}
 use Rattle.ppdb_maps.proofs.runs.stretch_after.Goals as goal

@@ -1,4 +1,4 @@
-use Rattle.std.{proofs.Common.{◌≡◌, ◌+◌, ◌-◌, ◌∷◌, ◌++◌, [], None, false, ℕ, map, refl, sym, ap, subst, ◌∙◌, arith}, specs.List.{range_with_len}}
+use Rattle.std.{proofs.Common.{◌≡◌, ◌+◌, ◌-◌, ◌∷◌, ◌++◌, [], None, ℕ, map, refl, sym, ap, subst, ◌∙◌, arith}, specs.List.{range_with_len}}
 use Rattle.std.proofs.lemmas.List.FromFn.{map-range_with_len_more}
 use Rattle.ppdb_maps.specs.{declared.entries.Count.{Count}, declared.entries.RowLine.{RowLine}, Readable.{IsReadable}, Sample.{sample_method}, Map.{none_shared}}
 use Rattle.ppdb_maps.proofs.SampleMap.{sample_readable, sample_of}
