@@ -7,7 +7,7 @@ use Rattle.ppdb_run.proofs.rebuild.file_bytes.Goals as goal
 pub returns-in-Ok-clause-again : goal.returns-in-Ok-clause-again
 returns-in-Ok-clause-again g c =
     rebuilds (record { keep_id = c.args.keep_id; marks = c.args.marks.now }) (value_of (raw_file c.args.input.now.file)) c.in-Ok.bytes
-    (sym c.in_ok-unknown.ensures ∙ c.in_default.is) (rw c.choice.ensures at c.in-Ok.ensures.written) c.in-Ok.ensures.accepted
+    (sym c.in_ok-error.ensures ∙ c.in_default.is) (rw c.choice.ensures at c.in-Ok.ensures.written) c.in-Ok.ensures.accepted
     (rw c.choice.ensures at c.in-Ok.ensures.reread)
     (rw c.choice.ensures at c.in-Ok.ensures.again)
 
