@@ -1,5 +1,5 @@
 -- A file that is joined alone and moved by no line: its file is that of its value.
-use Rattle.std.proofs.Common.{◌≡◌, ℕ, List, [], ◌∷◌, Option, Some, IfSome, sym, ap, subst, ◌∙◌}
+use Rattle.std.proofs.Common.{◌≡◌, List, [], ◌∷◌, sym, ap, subst, ◌∙◌}
 use Rattle.ppdb_maps.specs.Map.{Map, no_lines}
 use Rattle.ppdb_values.specs.{declared.file.FileValue.{FileValue}, Value.{value_of}}
 use Rattle.ppdb_values_sound.specs.Sound.{IsSound}
@@ -24,7 +24,3 @@ module _ (stay : SoundFilesStay) (input : RowInput) (none : input.map ≡ no_lin
 
   pub alone_sound : IsSound (joined_inputs (moved_inputs inputs))
   alone_sound = subst IsSound (sym alone_same) sound
-
--- what holds of the bytes, if there are some, holds of those that are there
-pub there : (P : List ℕ → Type 0) (o : Option (List ℕ)) (bytes : List ℕ) → o ≡ Some bytes → IfSome o P → P bytes
-there P o bytes is holds = subst (λ (x : Option (List ℕ)). IfSome x P) is holds

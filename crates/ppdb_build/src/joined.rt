@@ -1,6 +1,6 @@
 // Files that are moved by their maps and joined, as the one file that says what they are joined
 // into.
-ghost use Rattle.std.specs.Prelude.{◌≡◌, ◌≤◌, ◌↔◌, IsTrue, None, length, IfOk, IfErr, IfSome};
+ghost use Rattle.std.specs.Prelude.{◌≡◌, ◌≤◌, ◌↔◌, IsTrue, None, length, OnOk, IfOk, IfErr};
 ghost use Rattle.ppdb_base.specs.First.{IsAccepted};
 ghost use Rattle.ppdb_values.specs.declared.FileValue.{FileValue};
 ghost use Rattle.ppdb_values.specs.RawFile.{RawFile};
@@ -21,12 +21,14 @@ use crate::error::BuildError;
 use crate::finish::file_of_draft;
 use crate::joined_head::{joined_has_types, joined_head};
 use crate::lists::list_limit;
+use crate::write::write_file;
 use ppdb_base::{Bytes, Limit, MAX_ROWS, Memory, Steps};
 use ppdb_build_canon::IdChoice;
 use ppdb_build_draft::{Drafted, drafts_are_canonical};
 use ppdb_build_joined::draft_of_inputs;
 use ppdb_build_layout::Rows;
 use ppdb_merge_moved_rows::RowInput;
+use ppdb_merge_values::value_of_inputs;
 use std::alloc::Global;
 use std::sync::ledger::Ledger;
 
@@ -60,51 +62,47 @@ fn early_limit_in(draft: &Drafted) -> Option<Limit>
     list_limit(draft)
 }
 
-/// The file of the draft of inputs that are joined, whose points have forms, or the first limit
-/// that it passes. None where a table has more rows than three bytes can name.
+/// The file of the draft of inputs that are joined, with few rows and with points that have forms,
+/// or the first limit that it passes.
 fn joined_bytes(
     alloc: Global,
     inputs: &[RowInput<'_>],
     draft: &Drafted,
     id: IdChoice,
-) -> Result<Option<Bytes>, BuildError>
+) -> Result<Bytes, BuildError>
     requires some { 1 ≤ length inputs.now }
     requires fit { InputsFit (moved_inputs inputs.now) }
     requires sound { IsSound (joined_inputs (moved_inputs inputs.now)) }
     requires draft { draft.now ≡ drafted (joined_inputs (moved_inputs inputs.now)) }
     requires points { Each HasForms (joined_inputs (moved_inputs inputs.now)).methods }
-    ensures written { IfOk result (λ file.
-        IfSome file (λ bytes. bytes ≡ canon (joined_inputs (moved_inputs inputs.now)) id)) }
-    ensures within { IfOk result
-        (λ file. IfSome file (λ _. first_limit (joined_inputs (moved_inputs inputs.now)) ≡ None)) }
+    requires few { AreRowsFew draft.now.rows }
+    ensures written { IfOk result
+        (λ bytes. bytes ≡ canon (joined_inputs (moved_inputs inputs.now)) id) }
+    ensures within { OnOk result (first_limit (joined_inputs (moved_inputs inputs.now)) ≡ None) }
     ensures limit { IfErr result (IsLimitOf (joined_inputs (moved_inputs inputs.now))) }
-    ensures accepted { IfOk result (λ file. IfSome file (λ bytes. IsAccepted (FileFaults bytes))) }
-    ensures reread { IfOk result (λ file. IfSome file (λ bytes.
-        Says bytes (with_id (joined_inputs (moved_inputs inputs.now))
-        (chosen_id (joined_inputs (moved_inputs inputs.now)) id)))) }
-    ensures again { IfOk result (λ file. IfSome file (λ bytes.
-        (again : RawFile) → IsRawOf bytes again
-        → IsSameAgain (joined_inputs (moved_inputs inputs.now)) id again)) }
+    ensures accepted { IfOk result (λ bytes. IsAccepted (FileFaults bytes)) }
+    ensures reread { IfOk result
+        (λ bytes. Says bytes (with_id (joined_inputs (moved_inputs inputs.now))
+        (chosen_id (joined_inputs (moved_inputs inputs.now)) id))) }
+    ensures again { IfOk result (λ bytes. (again : RawFile) → IsRawOf bytes again
+        → IsSameAgain (joined_inputs (moved_inputs inputs.now)) id again) }
 {
     drafts_are_canonical();
     joined_has_types(inputs, draft);
-    if !are_few(draft.rows()) {
-        return Ok(None);
-    }
     match early_limit_in(draft) {
         Some(limit) => return Err(BuildError::Limit(limit)),
         None => {}
     }
     let head = joined_head(inputs);
     match file_of_draft(alloc, &head, draft, id) {
-        Ok(bytes) => Ok(Some(bytes)),
+        Ok(bytes) => Ok(bytes),
         Err(error) => Err(error),
     }
 }
 
 /// The one file that says what inputs are joined into, each moved by its map, with the identity
-/// that is chosen. Rows are read in place, some of LocalScope several times, and no value of them
-/// is made. None where rows alone do not tell whether the file passes a limit.
+/// that is chosen. Rows are read in place, some of LocalScope several times. A value is made only
+/// where rows do not tell which limit the file passes, if any.
 ///
 /// # Errors
 ///
@@ -114,28 +112,31 @@ pub fn write_joined<L: Ledger>(
     inputs: &[RowInput<'_>],
     id: IdChoice,
     steps: &mut Steps<L>,
-) -> Result<Option<Bytes>, BuildError>
+) -> Result<Bytes, BuildError>
     requires some { 1 ≤ length inputs.now }
     requires most { length inputs.now ≤ 256 }
     requires fit { InputsFit (moved_inputs inputs.now) }
     requires sound { IsSound (joined_inputs (moved_inputs inputs.now)) }
-    ensures written { IfOk result (λ file.
-        IfSome file (λ bytes. bytes ≡ canon (joined_inputs (moved_inputs inputs.now)) id)) }
-    ensures within { IfOk result
-        (λ file. IfSome file (λ _. first_limit (joined_inputs (moved_inputs inputs.now)) ≡ None)) }
+    ensures written { IfOk result
+        (λ bytes. bytes ≡ canon (joined_inputs (moved_inputs inputs.now)) id) }
+    ensures within { OnOk result (first_limit (joined_inputs (moved_inputs inputs.now)) ≡ None) }
     ensures limit { IfErr result (IsLimitOf (joined_inputs (moved_inputs inputs.now))) }
-    ensures accepted { IfOk result (λ file. IfSome file (λ bytes. IsAccepted (FileFaults bytes))) }
-    ensures reread { IfOk result (λ file. IfSome file (λ bytes.
-        Says bytes (with_id (joined_inputs (moved_inputs inputs.now))
-        (chosen_id (joined_inputs (moved_inputs inputs.now)) id)))) }
-    ensures again { IfOk result (λ file. IfSome file (λ bytes.
-        (again : RawFile) → IsRawOf bytes again
-        → IsSameAgain (joined_inputs (moved_inputs inputs.now)) id again)) }
+    ensures accepted { IfOk result (λ bytes. IsAccepted (FileFaults bytes)) }
+    ensures reread { IfOk result
+        (λ bytes. Says bytes (with_id (joined_inputs (moved_inputs inputs.now))
+        (chosen_id (joined_inputs (moved_inputs inputs.now)) id))) }
+    ensures again { IfOk result (λ bytes. (again : RawFile) → IsRawOf bytes again
+        → IsSameAgain (joined_inputs (moved_inputs inputs.now)) id again) }
 {
-    let draft = match draft_of_inputs(alloc, inputs, steps) {
-        Ok(Some(draft)) => draft,
-        Ok(None) => return Ok(None),
+    match draft_of_inputs(alloc, inputs, steps) {
+        Ok(Some(draft)) => {
+            if are_few(draft.rows()) {
+                return joined_bytes(alloc, inputs, &draft, id);
+            }
+        }
+        Ok(None) => {}
         Err(Memory) => return Err(BuildError::Memory),
-    };
-    joined_bytes(alloc, inputs, &draft, id)
+    }
+    let value = value_of_inputs(alloc, inputs, steps)?;
+    write_file(alloc, &value, id)
 }

@@ -13,39 +13,13 @@ ghost use Rattle.ppdb_build.specs.Building.{IsLimitOf};
 
 use crate::error::BuildError;
 use crate::joined::write_joined;
-use crate::write::write_file;
-use ppdb_base::{Bytes, Memory, Steps};
+use ppdb_base::{Bytes, Steps};
 use ppdb_build_canon::IdChoice;
 use ppdb_merge_moved_rows::RowInput;
 use ppdb_merge_unmoved_laws::sound_files_stay;
-use ppdb_values_reading::value_of;
-use ppdb_verify::Verified;
 use std::alloc::Global;
 use std::slice;
 use std::sync::ledger::Ledger;
-
-/// The file of the value of a verified file.
-fn value_bytes<L: Ledger>(
-    alloc: Global,
-    file: &Verified<'_>,
-    id: IdChoice,
-    steps: &mut Steps<L>,
-) -> Result<Bytes, BuildError>
-    ensures written { IfOk result (λ bytes. bytes ≡ canon (value_in (raw_file file.now)) id) }
-    ensures within { OnOk result (first_limit (value_in (raw_file file.now)) ≡ None) }
-    ensures limit { IfErr result (IsLimitOf (value_in (raw_file file.now))) }
-    ensures accepted { IfOk result (λ bytes. IsAccepted (FileFaults bytes)) }
-    ensures reread { IfOk result (λ bytes. Says bytes
-        (with_id (value_in (raw_file file.now)) (chosen_id (value_in (raw_file file.now)) id))) }
-    ensures again { IfOk result (λ bytes. (again : RawFile) → IsRawOf bytes again
-        → IsSameAgain (value_in (raw_file file.now)) id again) }
-{
-    let value = match value_of(alloc, file, steps) {
-        Ok(value) => value,
-        Err(Memory) => return Err(BuildError::Memory),
-    };
-    write_file(alloc, &value, id)
-}
 
 /// The one file that says what a verified file says, with the identity that is chosen: that of the
 /// file joined alone, moved by the map without lines.
@@ -72,12 +46,8 @@ pub fn rebuild<L: Ledger>(
 {
     let _ = input.file.facts();
     sound_files_stay();
-    let written = match write_joined(alloc, slice::from_ref(input), id, steps) {
-        Ok(written) => written,
-        Err(error) => return Err(error),
-    };
-    match written {
-        Some(bytes) => Ok(bytes),
-        None => value_bytes(alloc, &input.file, id, steps),
+    match write_joined(alloc, slice::from_ref(input), id, steps) {
+        Ok(bytes) => Ok(bytes),
+        Err(error) => Err(error),
     }
 }

@@ -3,8 +3,7 @@ use Rattle.std.proofs.Common.{◌≡◌, ◌≢◌, ℕ, suc, ◌+◌, ◌<◌, 
 use Rattle.std.{proofs.Common.{arith}, specs.Prelude.{slice_get, Result, Ok, Err, IfOk}, specs.Option.{option_or}}
 use Rattle.ppdb_base.specs.declared.{merge_error.MergeError.{MergeError}, list.Memory.{Memory}}
 use Rattle.ppdb_maps.specs.{Map.{Map}, Readable.{IsReadable}}
-use Rattle.ppdb_tables.specs.{declared.rows.CustomRow.{CustomRow}, declared.rows.DocumentRow.{DocumentRow}, RawTables.{HasShape}}
-use Rattle.ppdb_values.specs.{Customs.{custom_of}, Documents.{document_of}, declared.custom.CustomValue.{CustomValue}, declared.file.DocumentValue.{DocumentValue}}
+use Rattle.ppdb_values.specs.declared.file.DocumentValue.{DocumentValue}
 use Rattle.ppdb_values.specs.{declared.file.FileValue.{FileValue}, declared.annotation.Annotation.{Annotation}, Meaning.{annotated_from}, RawFile.{RawFile}}
 use Rattle.ppdb_values.specs.{Rules.{KeepsRules}, Value.{value_of}}
 use Rattle.ppdb_values_sound.specs.Sound.{IsSound}
@@ -14,13 +13,15 @@ use Rattle.ppdb_merge_annotated.specs.SoundParts.{SoundMoved}
 use Rattle.ppdb_merge_names_laws.specs.Laws.{ReferencesAreNamed}
 use Rattle.ppdb_merge_joined.specs.{Joined.{joined}, Laws.{JoinedIsSound}, Small.{AreFew, HasFewRows}}
 use Rattle.ppdb_merge_moved.{specs.Fits.{Fits}, specs.Moved.{moved_file, moved_document}, proofs.SoundMoves.{moved_sound}}
+use Rattle.ppdb_merge_values.proofs.Few.{few_rows}
 use Rattle.ppdb_merge_meaning_laws.{specs.Kept.{MovedBy, InputsFit, joined_inputs}, proofs.Counts.{moved_counts_sound}}
 use Rattle.ppdb_merge_names.specs.declared.imaged.Imaged.{Imaged}
 use Rattle.ppdb_merge_fits.{specs.Clashes.{first_clash}, specs.Signatures.{all_images}, proofs.First.{nil_parts, no_first}}
-use Rattle.ppdb_merge.specs.{declared.index.Index.{Index}, declared.summary.Summary.{Summary}, Indexes.{Indexes}, Kept.{AreInputs}, Merged.{summary_of, moved_files}}
+use Rattle.ppdb_merge.specs.{declared.row_index.RowIndex.RowIndex, declared.summary.Summary.Summary, Kept.AreInputs, Rows.IndexesRows}
+use Rattle.ppdb_merge.specs.Merged.{summary_of, moved_files}
 use Rattle.ppdb_merge.specs.{Merged.{is_first, unless}, Refusals.{methods_taken, documents_differ, links_differ, clashes_before, refusal_of, added}}
 use Rattle.ppdb_merge.{specs.Sound.{SoundSummary, SoundSummaries, AreMethodsApart, HasEntry, documents_in}, specs.Together.{misfit_of}, proofs.Apart.{all_apart}}
-use Rattle.ppdb_merge.proofs.{Apart.{one_by_name, Pairs-push}, Counted.{can_be_joined, counts_rows}, Few.few_rows, Indexing.documents_more, Summarized.file_sound}
+use Rattle.ppdb_merge.proofs.{Apart.{one_by_name, Pairs-push}, Counted.{can_be_joined, counts_rows}, Indexing.documents_more, Summarized.file_sound}
 use Rattle.ppdb_merge.proofs.Summarized.{moved_images, moved_entry}
 
 -- the documents of a moved file, with their records, are its documents with the names that the map gives
@@ -56,13 +57,9 @@ pub refused_first : (marks : List (List ℕ)) (summaries : List Summary) (m : Ma
 refused_first marks summaries m raw e is =
     ap (λ (first : Option MergeError). option_or first (slice_get (clashes_before summaries m (summary_of (is_first summaries) m raw).rows (value_of raw)) 0)) is
 
--- a moved file has few documents
-pub few_moved : (m : Map) (raw : RawFile) → HasShape raw.tables → length (moved_file m (annotated_file (value_of raw))).documents < 0x20000000
-few_moved m raw shape = let few = (few_rows m raw shape).documents in omega (arith, few)
-
 module _ (annotated : SoundnessIsAnnotated) (named : ReferencesAreNamed) (m : Map) (raw : RawFile) (keeps : KeepsRules raw) (sound : IsSound (value_of raw))
     (ready : IsReadable m) where
-  pub moved_is_sound : (first : Bool) → Fits first m (annotated_file (value_of raw)) → SoundMoved (moved_file m (annotated_file (value_of raw)))
+  moved_is_sound : (first : Bool) → Fits first m (annotated_file (value_of raw)) → SoundMoved (moved_file m (annotated_file (value_of raw)))
   moved_is_sound first fits = moved_sound first m (annotated_file (value_of raw)) ready (file_sound annotated named first m raw keeps sound ready fits) fits
 
   summary_sound : (first : Bool) → Fits first m (annotated_file (value_of raw)) → SoundSummary (summary_of first m raw)
@@ -138,41 +135,17 @@ if_sound (Ok value) files summaries is same sound =
 
 -- ---- a file that is read
 
-pub few_documents : (raw : RawFile) (documents : List DocumentValue) → HasShape raw.tables → documents ≡ (value_of raw).documents
-    → length documents < 4294967295
-few_documents raw documents shape is =
-    let many = length_all raw.tables.documents in
-    let same = ap (λ (l : List DocumentValue). length l) is in
-    let counted = shape.documents in let small = shape.small 0x30 in omega (arith, many, same, counted, small)
-  where
-    length_all : (ds : List DocumentRow) → length (map (document_of raw.tables) ds) ≡ length ds
-    length_all [] = refl
-    length_all (d ∷ ds) = ap suc (length_all ds)
-
-pub few_customs : (raw : RawFile) (customs : List CustomValue) → HasShape raw.tables → customs ≡ (value_of raw).customs → length customs < 4294967295
-few_customs raw customs shape is =
-    let many = length_all raw.tables.customs in
-    let same = ap (λ (l : List CustomValue). length l) is in
-    let counted = shape.customs in let small = shape.small 0x37 in omega (arith, many, same, counted, small)
-  where
-    length_all : (cs : List CustomRow) → length (map (custom_of raw.tables) cs) ≡ length cs
-    length_all [] = refl
-    length_all (c ∷ cs) = ap suc (length_all cs)
-
 pub refused_as : (marks : List (List ℕ)) (summaries : List Summary) (m : Map) (raw : RawFile) (o : Option MergeError) (rows : List Imaged)
-    (value : FileValue) → first_clash marks (is_first summaries) m raw ≡ None → rows ≡ all_images (is_first summaries) m raw
-    → value ≡ value_of raw → o ≡ slice_get (clashes_before summaries m rows value) 0 → refusal_of marks summaries m raw ≡ o
-refused_as marks summaries m raw o rows value none same also is =
-    refused_by marks summaries m raw o none
-    (is ∙ ap (λ l. slice_get (clashes_before summaries m l value) 0) same
-    ∙ ap (λ v. slice_get (clashes_before summaries m (all_images (is_first summaries) m raw) v) 0) also)
+    → first_clash marks (is_first summaries) m raw ≡ None → rows ≡ all_images (is_first summaries) m raw
+    → o ≡ slice_get (clashes_before summaries m rows (value_of raw)) 0 → refusal_of marks summaries m raw ≡ o
+refused_as marks summaries m raw o rows none same is =
+    refused_by marks summaries m raw o none (is ∙ ap (λ l. slice_get (clashes_before summaries m l (value_of raw)) 0) same)
 
-pub is_sound : (summaries : List Summary) (m : Map) (raw : RawFile) (moved annotated : AnnotatedFile) (rows : List Imaged) → moved ≡ moved_file m annotated
-    → annotated ≡ annotated_file (value_of raw) → rows ≡ all_images (is_first summaries) m raw
-    → SoundSummaries (summaries ++ summary_of (is_first summaries) m raw ∷ [])
-    → SoundSummaries (summaries ++ record { moved = moved; rows = rows } ∷ [])
-is_sound summaries m raw moved annotated rows is from same sound =
-    subst (λ file. SoundSummaries (summaries ++ record { moved = file; rows = rows } ∷ [])) (sym (is ∙ ap (moved_file m) from))
+pub is_sound : (summaries : List Summary) (m : Map) (raw : RawFile) (moved : AnnotatedFile) (rows : List Imaged)
+    → moved ≡ moved_file m (annotated_file (value_of raw)) → rows ≡ all_images (is_first summaries) m raw
+    → SoundSummaries (summaries ++ summary_of (is_first summaries) m raw ∷ []) → SoundSummaries (summaries ++ record { moved = moved; rows = rows } ∷ [])
+is_sound summaries m raw moved rows is same sound =
+    subst (λ file. SoundSummaries (summaries ++ record { moved = file; rows = rows } ∷ [])) (sym is)
     (subst (λ l. SoundSummaries (summaries ++ record { moved = moved_file m (annotated_file (value_of raw)); rows = l } ∷ [])) (sym same) sound)
 
 pub added_as : (marks : List (List ℕ)) (summaries : List Summary) (m : Map) (raw : RawFile) (t : Summary) → t ≡ summary_of (is_first summaries) m raw
@@ -181,12 +154,13 @@ added_as marks summaries m raw t is none =
     ap (λ (o : Option MergeError). unless o (Ok (summaries ++ summary_of (is_first summaries) m raw ∷ []))) none ∙ ap (λ x. Ok (summaries ++ x ∷ [])) (sym is)
 
 -- the inputs with one more, of which the index holds all but the last
-pub grown : (summaries new : List Summary) (t : Summary) (index : Index) → new ≡ summaries ++ t ∷ [] → Indexes summaries index → SoundSummaries (summaries ++ t ∷ [])
-    → SoundSummaries new × (index.inputs ≤ length new) × Indexes (take index.inputs new) index
-grown summaries new t index is holds sound = (
+pub grown : (summaries new : List Summary) (t : Summary) (rows : RowIndex) → new ≡ summaries ++ t ∷ [] → IndexesRows summaries rows
+    → SoundSummaries (summaries ++ t ∷ []) → SoundSummaries new × (rows.index.inputs ≤ length new) × IndexesRows (take rows.index.inputs new) rows
+grown summaries new t rows is holds sound = (
   subst SoundSummaries (sym is) sound,
-  (let counted = holds.inputs in let more = length_next summaries t in let same = ap (λ (l : List Summary). length l) is in omega (arith, counted, more, same)),
-  subst (λ l. Indexes l index) (sym (ap (take index.inputs) is ∙ ap (λ n. take n (summaries ++ t ∷ [])) holds.inputs ∙ prefix summaries)) holds,
+  (let counted = holds.index.inputs in let more = length_next summaries t in let same = ap (λ (l : List Summary). length l) is in
+      omega (arith, counted, more, same)),
+  subst (λ l. IndexesRows l rows) (sym (ap (take rows.index.inputs) is ∙ ap (λ n. take n (summaries ++ t ∷ [])) holds.index.inputs ∙ prefix summaries)) holds,
 )
   where
     prefix : (ts : List Summary) → take (length ts) (ts ++ t ∷ []) ≡ ts

@@ -2,7 +2,6 @@ pub mod Adding
 pub mod Apart
 pub mod Counted
 pub mod Counting
-pub mod Few
 pub mod Given
 pub mod Imaged
 pub mod Indexing

@@ -1,21 +1,11 @@
 -- The first Source Link record that differs from one of an earlier input.
-use Rattle.std.{proofs.Common.{◌≡◌, ℕ, ◌&&◌, ◌||◌, Bool, true, false, cond, List, [], ◌∷◌, Option, Some, None, refl, sym, ◌∙◌, ap}, specs.Prelude.{slice_get}}
-use Rattle.std.{specs.Prelude.{flat_map}, specs.List.{filter_map, list_any, cons_option}, specs.Option.{option_map, option_to_list}, proofs.lemmas.List.{append-nil}}
+use Rattle.std.{proofs.Common.{◌≡◌, ℕ, ◌&&◌, Bool, true, false, cond, List, [], ◌∷◌, Option, Some, None, refl, sym, ◌∙◌, ap}, specs.Prelude.{slice_get}}
+use Rattle.std.{specs.Prelude.{flat_map}, specs.List.{filter_map, cons_option}, specs.Option.{option_map, option_to_list}, proofs.lemmas.List.{append-nil}}
 use Rattle.ppdb_base.specs.declared.merge_error.{MergeError.{MergeError}, MergeError.TheVariants.{LinkDiffers}}
 use Rattle.ppdb_maps.specs.Map.{Map}
 use Rattle.ppdb_tables.specs.RawTables.{numbered}
 use Rattle.ppdb_values.specs.{declared.custom.CustomValue.{CustomValue}, Parts.{is_link}}
-use Rattle.ppdb_merge.specs.{declared.summary.Summary.{Summary}, Indexes.{link_row}, Refusals.{has_other_link, is_other_link, link_differs, links_differ}}
-use Rattle.ppdb_merge.specs.Refusals.{says_other_before}
-
--- ---- among the inputs
-
-abbrev pub input_has : ℕ → List ℕ → Summary → Bool
-input_has row value t = list_any (is_other_link row value) t.moved.customs
-
-pub by_inputs : (row : ℕ) (value : List ℕ) (summaries : List Summary) → list_any (input_has row value) summaries ≡ has_other_link summaries row value
-by_inputs row value [] = refl
-by_inputs row value (t ∷ ts) = ap (λ b. input_has row value t || b) (by_inputs row value ts)
+use Rattle.ppdb_merge.specs.{declared.summary.Summary.{Summary}, Indexes.{link_row}, Refusals.{link_differs, links_differ, says_other_before}}
 
 -- ---- the first record
 

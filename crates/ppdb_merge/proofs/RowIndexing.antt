@@ -8,16 +8,16 @@ use Rattle.ppdb_tables.specs.RawTables.{numbered}
 use Rattle.ppdb_values.specs.{RawFile.{RawFile}, Value.{value_of}, declared.custom.CustomValue.{CustomValue}, declared.file.DocumentValue.{DocumentValue}}
 use Rattle.ppdb_values.specs.{declared.file.FileValue.{FileValue}, Parts.{is_link}}
 use Rattle.ppdb_verify.specs.Views.{raw_file}
-use Rattle.ppdb_merge_annotated.specs.{declared.file.AnnotatedFile.{AnnotatedFile}, Each.{Each}, Sorted.{in_order}, Annotated.{annotated_file}}
+use Rattle.ppdb_merge_annotated.specs.Sorted.{in_order}
 use Rattle.ppdb_merge_joined.specs.Joined.{firsts}
-use Rattle.ppdb_merge_moved.specs.Moved.{moved_document, moved_file}
+use Rattle.ppdb_merge_moved.specs.Moved.{moved_document}
 use Rattle.ppdb_merge_names.specs.declared.imaged.Imaged.{Imaged}
 use Rattle.ppdb_merge_fits.specs.Signatures.{all_images}
 use Rattle.ppdb_merge_moved_rows.specs.declared.inputs.RowInput.{RowInput}
 use Rattle.ppdb_merge.specs.declared.{row_index.RowIndex.{RowIndex}, row_summary.RowSummary.{RowSummary}, summary.Summary.{Summary}}
 use Rattle.ppdb_merge.specs.{Indexes.{HoldsMethods, HoldsDocuments, claims_of}, Inputs.{summary_by}, Merged.{summary_of}, Refusals.{claims, clashes_before}}
 use Rattle.ppdb_merge.specs.{Refusals.{documents_differ, link_differs, links_differ, methods_in, moved_conflict, says_other_before, taken}, Rows.{IndexesRows}}
-use Rattle.ppdb_merge.specs.{Rows.{link_after, read_input, row_summary, row_summaries, summaries_in}, Sound.{SoundSummary, SoundSummaries}}
+use Rattle.ppdb_merge.specs.Rows.{link_after, read_input, row_summary, row_summaries, summaries_in}
 use Rattle.ppdb_merge.proofs.{Adding.{items_are}, Indexing.{index_more}, RowLinks.{links_more}}
 
 -- ---- one more input
@@ -114,31 +114,8 @@ none_before [] index m rows value holds none =
     ∙ ap (λ l. slice_get l 0) (no_links m value.customs))
 none_before (t ∷ summaries) index m rows value holds none = let counted = holds.index.inputs in absurd (omega (arith, counted, none))
 
--- ---- what is kept of an input, made again
-
 pub many_kept : (inputs : List RowInput) (kept : List RowSummary) → kept ≡ row_summaries inputs → length kept ≡ length inputs
 many_kept inputs kept is = ap length is ∙ length-map (summaries_in inputs) row_summary ∙ many_summaries inputs
-
-pub each_get : {A : Type 0} (P : A → Type 0) (xs : List A) (k : ℕ) (d : A) → k < length xs → Each P xs → P (get_or xs k d)
-each_get P [] k d within each = absurd (omega (arith, within))
-each_get P (x ∷ xs) zero d within each = each.0
-each_get P (x ∷ xs) (suc k) d within each = each_get P xs k d (omega (arith, within)) each.1
-
--- what is kept of the input at a place is sound
-pub sound_at : (inputs : List RowInput) (k : ℕ) (d : RowInput) → k < length inputs → SoundSummaries (summaries_in inputs)
-    → (first : Bool) × SoundSummary (summary_of first (get_or inputs k d).map (raw_file (get_or inputs k d).file))
-sound_at inputs k d within sound =
-    let t : Summary = summary_of true (get_or inputs k d).map (raw_file (get_or inputs k d).file) in
-    let at = summary_at inputs k d t within in
-    let many = many_summaries inputs in
-    (at.0, subst SoundSummary at.1 (each_get SoundSummary (summaries_in inputs) k t (omega (arith, within, many)) sound.each))
-
-pub made_again : (first : Bool) (m : Map) (raw : RawFile) (value : FileValue) (moved : AnnotatedFile) (rows : List Imaged)
-    → moved ≡ moved_file m (annotated_file value) → value ≡ value_of raw → rows ≡ all_images first m raw
-    → ◌≡◌ {A = Summary} (record { moved = moved; rows = rows }) (summary_of first m raw)
-made_again first m raw value moved rows is from same =
-    ap (λ (f : AnnotatedFile). record { moved = f; rows = rows }) (is ∙ ap (λ (v : FileValue). moved_file m (annotated_file v)) from)
-    ∙ ap (λ (l : List Imaged). record { moved = moved_file m (annotated_file (value_of raw)); rows = l }) same
 
 -- ---- of an input that stands at a place
 
@@ -152,12 +129,6 @@ summarized_by inputs kept k x y is within here beside =
       ap (λ (r : RowSummary). r.rows) beside ∙ at.1 ∙ ap (λ (i : RowInput). all_images at.0 i.map (raw_file i.file)) (sym here),
       at.2 ∙ ap (λ (i : RowInput). take k (summaries_in inputs) ++ summary_of at.0 i.map (raw_file i.file) ∷ []) (sym here),
     )
-
-pub sound_by : (inputs : List RowInput) (k : ℕ) (x : RowInput) → k < length inputs → x ≡ get_or inputs k x → SoundSummaries (summaries_in inputs)
-    → (first : Bool) × SoundSummary (summary_of first x.map (raw_file x.file))
-sound_by inputs k x within here sound =
-    let at = sound_at inputs k x within sound in
-    (at.0, subst (λ (i : RowInput). SoundSummary (summary_of at.0 i.map (raw_file i.file))) (sym here) at.1)
 
 pub named_by : (rows : List Imaged) (there y : RowSummary) (all : List Imaged) → rows ≡ there.rows → y ≡ there → y.rows ≡ all → rows ≡ all
 named_by rows there y all is here same = is ∙ ap (λ (r : RowSummary). r.rows) (sym here) ∙ same

@@ -11,15 +11,15 @@ use Rattle.ppdb_merge_moved.specs.Moved.{linked, moved_body, moved_custom, moved
 use Rattle.ppdb_merge.specs.{declared.summary.Summary.{Summary}, Indexes.{link_row}, Merged.{summary_of}, Refusals.{has_other_link, is_other_link, links_differ}}
 use Rattle.ppdb_merge.{specs.Refusals.{says_other, says_other_before}, specs.Rows.{HoldsLinks, link_after}, proofs.Linked.{reported_of}}
 
-or_assoc : (a b c : Bool) → (a || (b || c)) ≡ ((a || b) || c)
+pub or_assoc : (a b c : Bool) → (a || (b || c)) ≡ ((a || b) || c)
 or_assoc true b c = refl
 or_assoc false b c = refl
 
-or_none : (a : Bool) → (a || false) ≡ a
+pub or_none : (a : Bool) → (a || false) ≡ a
 or_none true = refl
 or_none false = refl
 
-any_append : {A : Type 0} (p : A → Bool) (xs ys : List A) → list_any p (xs ++ ys) ≡ (list_any p xs || list_any p ys)
+pub any_append : {A : Type 0} (p : A → Bool) (xs ys : List A) → list_any p (xs ++ ys) ≡ (list_any p xs || list_any p ys)
 any_append p [] ys = refl
 any_append p (x ∷ xs) ys = ap (λ b. p x || b) (any_append p xs ys) ∙ or_assoc (p x) (list_any p xs) (list_any p ys)
 
@@ -85,6 +85,12 @@ links_more summaries first m raw links more holds is = λ row value.
     ∙ ap (λ b. b || list_any (is_other_link row value) (filter_map (link_after m) (value_of raw).customs)) (holds row value)
     ∙ ap (λ b. has_other_link summaries row value || b) (links_are m row value (value_of raw).customs)
     ∙ sym (has_more summaries (summary_of first m raw) row value)
+
+pub links_kept : (summaries : List Summary) (t : Summary) (links more : List CustomValue) → HoldsLinks summaries links
+    → ((row : ℕ) (value : List ℕ) → list_any (is_other_link row value) more
+    ≡ (list_any (is_other_link row value) links || list_any (is_other_link row value) t.moved.customs)) → HoldsLinks (summaries ++ t ∷ []) more
+links_kept summaries t links more holds kept = λ row value.
+    kept row value ∙ ap (λ b. b || list_any (is_other_link row value) t.moved.customs) (holds row value) ∙ sym (has_more summaries t row value)
 
 -- ---- what is reported
 

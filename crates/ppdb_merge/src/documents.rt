@@ -1,8 +1,5 @@
 // The documents of inputs, by their names.
-ghost use Rattle.std.specs.Prelude.{◌≡◌, ◌-◌, ◌<◌, ◌^◌, List, [], ◌∷◌, ◌++◌, OnOk, IfOk, length};
-ghost use Rattle.std.specs.Prelude.{slice_get};
-ghost use Rattle.std.specs.List.{filter_map};
-ghost use Rattle.ppdb_tables.specs.RawTables.{numbered};
+ghost use Rattle.std.specs.Prelude.{◌≡◌, List, [], ◌∷◌, ◌++◌, OnOk, IfOk};
 ghost use Rattle.ppdb_merge_joined.specs.Joined.{firsts};
 ghost use Rattle.ppdb_merge_annotated.specs.Annotated.{items_of};
 ghost use Rattle.ppdb_values.specs.declared.file.DocumentValue.{DocumentValue as document_value};
@@ -109,27 +106,5 @@ impl Documents {
         }
         let joined = standing.row;
         Some(MergeError::DocumentConflict { row, joined })
-    }
-
-    /// What is reported first of the documents of a further input.
-    pub(crate) fn first_conflict(
-        &self,
-        map: &MapText,
-        documents: &[DocumentValue],
-    ) -> Option<MergeError>
-        requires { length documents.now < 2 ^ 32 - 1 }
-        ensures { (all : List document_value) → HoldsDocuments all self.now
-            → result
-            ≡ slice_get (filter_map (moved_conflict map.now all) (numbered documents.now)) 0 }
-    {
-        let mut row = 1;
-        for document in documents {
-            let reported = self.conflict(map, row, document);
-            if reported.is_some() {
-                return reported;
-            }
-            row += 1;
-        }
-        None
     }
 }

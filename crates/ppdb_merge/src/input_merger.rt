@@ -1,9 +1,8 @@
 // Inputs whose rows are moved and joined where the joined file is written, added one after the
 // other.
 ghost use Rattle.std.specs.Prelude.{◌≡◌, ◌≤◌, ◌<◌, ◌⊎◌, [], ◌∷◌, ◌++◌, Some, None, Ok, Err, OnOk};
-ghost use Rattle.std.specs.Prelude.{OnErr, IfOk, IfErr, List, length};
-ghost use Rattle.ppdb_merge_meaning_laws.specs.Kept.{MovedBy, KeepsMeaning, joined_inputs};
-ghost use Rattle.ppdb_merge_meaning_laws.specs.Origins.{KeepsOrigins};
+ghost use Rattle.std.specs.Prelude.{OnErr, IfErr, length};
+ghost use Rattle.ppdb_merge_meaning_laws.specs.Kept.{joined_inputs};
 ghost use Rattle.ppdb_base.specs.declared.merge_error.MergeError.TheVariants as merge_errors;
 ghost use Rattle.ppdb_verify.specs.Views.{raw_file};
 ghost use Rattle.ppdb_values_sound.specs.Sound.{IsSound};
@@ -12,9 +11,7 @@ ghost use Rattle.ppdb_merge.specs.Kept.{AreInputs};
 ghost use Rattle.ppdb_merge.specs.Refusals.{added, refusal_of};
 ghost use Rattle.ppdb_merge.specs.Together.{joined_of, misfit_of};
 
-use crate::joining::join_summaries;
 use crate::row_index::RowIndex;
-use crate::row_joining::moved_again;
 use crate::row_reading::read_rows;
 use crate::row_summary::RowSummary;
 use crate::together::misfit;
@@ -25,7 +22,6 @@ use ppdb_merge_fits::nothing_clashes;
 use ppdb_merge_joined::joined_is_sound;
 use ppdb_merge_moved_rows::RowInput;
 use ppdb_merge_names_laws::references_are_named;
-use ppdb_values::FileValue;
 use ppdb_values_sound::values_are_sound;
 use std::alloc::Global;
 use std::marker::Model;
@@ -153,31 +149,5 @@ impl<'a> InputMerger<'a> {
         nothing_clashes();
         joined_is_sound();
         self.inputs.as_slice()
-    }
-
-    /// The value of the joined file. The value of each input is made for it.
-    pub fn finish<L: Ledger>(self, steps: &mut Steps<L>) -> Result<FileValue, MergeError>
-        requires { 1 ≤ length self.summaries }
-        ensures joined { IfOk result (λ value. joined_of self.entry.summaries ≡ Ok value) }
-        ensures sound { IfOk result IsSound }
-        ensures kept { IfOk result (λ value. (inputs : List MovedBy)
-            → AreInputs self.entry.summaries inputs → KeepsMeaning inputs value) }
-        ensures origins { IfOk result (λ value. (inputs : List MovedBy)
-            → AreInputs self.entry.summaries inputs → KeepsOrigins inputs value) }
-        ensures fits { OnOk result (misfit_of self.entry.summaries ≡ None) }
-        ensures refused { IfErr result (λ e. (e ≡ merge_errors.Memory)
-            ⊎ (misfit_of self.entry.summaries ≡ Some e)) }
-    {
-        let reported = misfit(self.summaries.as_slice());
-        if let Some(reported) = reported {
-            return Err(reported);
-        }
-        let summaries = moved_again(
-            self.alloc,
-            self.inputs.as_slice(),
-            self.summaries.as_slice(),
-            steps,
-        )?;
-        Ok(join_summaries(self.alloc, summaries)?)
     }
 }

@@ -18,13 +18,13 @@ use ppdb_merge_meaning_laws::{inputs_keep_meaning, inputs_keep_origins};
 use ppdb_values::FileValue;
 use std::alloc::Global;
 
-/// What the inputs became, with their points in lists.
+/// What the inputs became.
 fn moved_files(alloc: Global, summaries: List<Summary>) -> Result<List<AnnotatedFile>, Memory>
     ensures { IfOk result (λ files. files ≡ moved_files summaries) }
 {
     let mut files = List::with_capacity(alloc, summaries.len())?;
     for summary in summaries.into_vec() {
-        files.push(summary.moved.unpack(alloc)?)?;
+        files.push(summary.moved)?;
     }
     Ok(files)
 }

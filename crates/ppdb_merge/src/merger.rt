@@ -10,9 +10,9 @@ ghost use Rattle.ppdb_merge.specs.Kept.{AreInputs};
 ghost use Rattle.ppdb_merge.specs.Refusals.{added, refusal_of};
 ghost use Rattle.ppdb_merge.specs.Together.{joined_of, misfit_of};
 
-use crate::index::Index;
 use crate::joining::join_summaries;
 use crate::reading::read_input;
+use crate::row_index::RowIndex;
 use crate::summary::Summary;
 use crate::together::misfit;
 use custom_info::Marks;
@@ -33,21 +33,22 @@ pub struct Merger {
     marks: Marks,
     summaries: List<Summary>,
     /// The index of all inputs, or of the first few.
-    index: Index,
+    index: RowIndex,
 }
 
 impl Model for Merger {
     ghost use Rattle.std.specs.Prelude.{◌≤◌, length, take};
-    ghost use Rattle.ppdb_merge.specs.Indexes.{Indexes};
     ghost use Rattle.ppdb_merge.specs.Merged.{Merged};
+    ghost use Rattle.ppdb_merge.specs.Rows.{IndexesRows};
     ghost use Rattle.ppdb_merge.specs.Sound.{SoundSummaries};
 
     ghost Value = { Merged };
 
     ghost view = { λ m. record { marks = m.marks; summaries = m.summaries } };
 
-    ghost invariant = { λ m. SoundSummaries m.summaries × (m.index.inputs ≤ length m.summaries)
-        × Indexes (take m.index.inputs m.summaries) m.index };
+    ghost invariant = { λ m. SoundSummaries m.summaries
+        × (m.index.index.inputs ≤ length m.summaries)
+        × IndexesRows (take m.index.index.inputs m.summaries) m.index };
 }
 
 impl Merger {
@@ -59,7 +60,7 @@ impl Merger {
             alloc,
             marks,
             summaries: List::new(alloc),
-            index: Index::new(alloc),
+            index: RowIndex::new(alloc),
         }
     }
 
@@ -80,8 +81,8 @@ impl Merger {
         ensures unchanged { OnErr result (self.new ≡ self.old) }
         ensures marks { self.new.marks ≡ self.old.marks }
     {
-        let index = mem::replace(&mut self.index, Index::new(self.alloc));
-        self.index = index.extended(self.summaries.as_slice())?;
+        let index = mem::replace(&mut self.index, RowIndex::new(self.alloc));
+        self.index = index.extended_by(self.alloc, self.summaries.as_slice())?;
         let summary = read_input(
             self.alloc,
             file,

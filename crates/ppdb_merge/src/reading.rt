@@ -2,12 +2,12 @@
 ghost use Rattle.std.specs.Prelude.{◌≡◌, ◌⊎◌, ◌<◌, ◌∷◌, ◌++◌, [], Some, None, IfOk, IfErr, length};
 ghost use Rattle.ppdb_base.specs.declared.merge_error.MergeError.TheVariants as merge_errors;
 ghost use Rattle.ppdb_verify.specs.Views.{raw_file};
-ghost use Rattle.ppdb_merge.specs.Indexes.{Indexes};
 ghost use Rattle.ppdb_merge.specs.Merged.{summary_of, is_first};
 ghost use Rattle.ppdb_merge.specs.Refusals.{refusal_of};
+ghost use Rattle.ppdb_merge.specs.Rows.{IndexesRows};
 ghost use Rattle.ppdb_merge.specs.Sound.{SoundSummaries};
 
-use crate::index::{Index, clash_before};
+use crate::row_index::RowIndex;
 use crate::summary::Summary;
 use custom_info::Marks;
 use ppdb_base::{MergeError, Steps};
@@ -15,8 +15,7 @@ use ppdb_maps::MapText;
 use ppdb_merge_annotated::soundness_is_annotated;
 use ppdb_merge_fits::{judge, nothing_clashes};
 use ppdb_merge_names_laws::references_are_named;
-use ppdb_merge_packed::PackedFile;
-use ppdb_values_reading::value_of;
+use ppdb_merge_values::moved_value;
 use ppdb_verify::Verified;
 use std::alloc::Global;
 use std::sync::ledger::Ledger;
@@ -29,12 +28,12 @@ pub(crate) fn read_input<L: Ledger>(
     map: &MapText,
     marks: &Marks,
     summaries: &[Summary],
-    index: &Index,
+    index: &RowIndex,
     steps: &mut Steps<L>,
 ) -> Result<Summary, MergeError>
     requires few { length summaries.now < 256 }
     requires sound { SoundSummaries summaries.now }
-    requires indexes { Indexes summaries.now index.now }
+    requires indexes { IndexesRows summaries.now index.now }
     ensures summary { IfOk result
         (λ summary. summary ≡ summary_of (is_first summaries.now) map.now (raw_file file.now)) }
     ensures fits { IfOk result
@@ -49,12 +48,11 @@ pub(crate) fn read_input<L: Ledger>(
     references_are_named();
     nothing_clashes();
     let first = summaries.len() == 0;
-    let value = value_of(alloc, file, steps)?;
     let rows = judge(alloc, file, map, marks, first, steps)?;
-    match clash_before(index, summaries, map, rows.as_slice(), &value) {
+    match index.clash(alloc, file, map, rows.as_slice(), steps)? {
         Some(reported) => return Err(reported),
         None => {}
     }
-    let moved = PackedFile::moved(alloc, value, map)?;
+    let moved = moved_value(alloc, file, map, steps)?;
     Ok(Summary { moved, rows })
 }

@@ -1,6 +1,6 @@
-// What is looked up of inputs whose rows are read again before a further one.
-ghost use Rattle.std.specs.Prelude.{◌≡◌, Bool, List, [], ◌∷◌, ◌++◌, ◌+◌, ◌-◌, ◌<◌, ◌^◌, OnOk, IfOk};
-ghost use Rattle.std.specs.Prelude.{length, slice_get};
+// What is looked up of inputs before a further one.
+ghost use Rattle.std.specs.Prelude.{◌≡◌, Bool, List, [], ◌∷◌, ◌++◌, ◌+◌, ◌-◌, ◌<◌, ◌≤◌, ◌^◌, OnOk};
+ghost use Rattle.std.specs.Prelude.{IfOk, length, slice_get, take};
 ghost use Rattle.ppdb_values.specs.Value.{value_of};
 ghost use Rattle.ppdb_verify.specs.Views.{raw_file};
 ghost use Rattle.ppdb_merge_fits.specs.Signatures.{all_images};
@@ -11,8 +11,9 @@ ghost use Rattle.ppdb_merge.specs.declared.summary.Summary.{Summary as summary_v
 
 use crate::index::Index;
 use crate::row_documents::{add_rows, first_conflict_in};
-use crate::row_links::{add_links, first_link_differing_in};
+use crate::row_links::{add_links, first_link_differing_in, keep_links};
 use crate::row_summary::RowSummary;
+use crate::summary::Summary;
 use ppdb_base::{List, Memory, MergeError, Steps};
 use ppdb_maps::MapText;
 use ppdb_merge_moved_rows::RowInput;
@@ -62,6 +63,44 @@ impl RowIndex {
         add_links(alloc, &mut self.links, input, steps)?;
         self.index.inputs = number;
         Ok(())
+    }
+
+    /// Adds an input of which this is kept.
+    fn add_kept(&mut self, alloc: Global, summary: &Summary) -> Result<(), Memory>
+        requires { self.old.index.inputs + 1 < 2 ^ 32 }
+        ensures inputs { OnOk result (self.new.index.inputs ≡ self.old.index.inputs + 1) }
+        ensures holds { OnOk result ((summaries : List summary_value)
+            → IndexesRows summaries self.old
+            → IndexesRows (summaries ++ summary.now ∷ []) self.new) }
+    {
+        let number = self.index.inputs + 1;
+        self.index.methods.add(number, summary.rows.as_slice())?;
+        self.index
+            .documents
+            .add(summary.moved.documents.as_slice())?;
+        keep_links(alloc, &mut self.links, summary.moved.customs.as_slice())?;
+        self.index.inputs = number;
+        Ok(())
+    }
+
+    /// The index of all inputs of which this is kept: those that are not in it yet are added.
+    pub(crate) fn extended_by(
+        self,
+        alloc: Global,
+        summaries: &[Summary],
+    ) -> Result<RowIndex, Memory>
+        requires within { self.index.inputs ≤ length summaries.now }
+        requires few { length summaries.now < 2 ^ 32 - 1 }
+        ensures { IfOk result (λ index. IndexesRows (take self.index.inputs summaries.now) self
+            → IndexesRows summaries.now index) }
+    {
+        let mut index = self;
+        let mut place = index.index.inputs as usize;
+        'inputs: while place < summaries.len() {
+            index.add_kept(alloc, &summaries[place])?;
+            place += 1;
+        }
+        Ok(index)
     }
 
     /// The index of all inputs: those that are not in it yet are added.

@@ -1,6 +1,6 @@
-// The Source Link records of inputs whose rows are read again.
-ghost use Rattle.std.specs.Prelude.{◌≡◌, ◌++◌, ◌&&◌, not, List, IfOk, IfSome, OnOk, option_to_list};
-ghost use Rattle.std.specs.Prelude.{slice_get};
+// The Source Link records of inputs, to which the `link` lines of maps give values.
+ghost use Rattle.std.specs.Prelude.{◌≡◌, ℕ, ◌++◌, ◌&&◌, ◌||◌, not, List, IfOk, IfSome, OnOk};
+ghost use Rattle.std.specs.Prelude.{option_to_list, slice_get};
 ghost use Rattle.std.specs.List.{filter_map, list_any};
 ghost use Rattle.ppdb_tables.specs.RawTables.{numbered, row_at};
 ghost use Rattle.ppdb_values.specs.Rules.{HasRow};
@@ -10,11 +10,10 @@ ghost use Rattle.ppdb_maps.specs.Map.{moved_row, is_gone_row};
 ghost use Rattle.ppdb_values.specs.Parts.{is_link};
 ghost use Rattle.ppdb_merge_moved.specs.Moved.{linked};
 ghost use Rattle.ppdb_merge.specs.Indexes.{link_row};
-ghost use Rattle.ppdb_merge.specs.Refusals.{is_other_link, links_differ};
+ghost use Rattle.ppdb_merge.specs.Refusals.{is_other_link, links_differ, says_other};
 ghost use Rattle.ppdb_merge.specs.Rows.{HoldsLinks, link_after};
 ghost use Rattle.ppdb_merge.specs.declared.summary.Summary.{Summary as summary_value};
 
-use crate::links::input_has_other;
 use custom_info::SOURCE_LINK;
 use ppdb_base::{List, Memory, MergeError, Steps};
 use ppdb_maps::MapText;
@@ -27,6 +26,77 @@ use ppdb_verify::Verified;
 use ppdb_verify_readers::count;
 use std::alloc::Global;
 use std::sync::ledger::Ledger;
+
+/// Whether a value that is not read has other bytes.
+fn says_other(body: &CustomBody, value: &[u8]) -> bool
+    ensures { result ≡ says_other value.now body.now }
+{
+    match body {
+        CustomBody::Unread(bytes) => bytes.as_slice() != value,
+        _ => false,
+    }
+}
+
+/// Whether a record is a Source Link record on this row of Module with another value.
+fn is_other_link(custom: &CustomValue, row: u32, value: &[u8]) -> bool
+    ensures { result ≡ is_other_link row value.now custom.now }
+{
+    custom.parent.table == MODULE
+        && custom.parent.row == row
+        && custom.kind == SOURCE_LINK
+        && says_other(&custom.value, value)
+}
+
+/// Whether there is one among the records of an input.
+fn input_has_other(customs: &[CustomValue], row: u32, value: &[u8]) -> bool
+    ensures { result ≡ list_any (is_other_link row value.now) customs.now }
+{
+    for custom in customs {
+        if is_other_link(custom, row, value) {
+            return true;
+        }
+    }
+    false
+}
+
+/// Adds a copy of a record, if it is a Source Link record whose value is not read.
+fn keep_link(
+    alloc: Global,
+    links: &mut List<CustomValue>,
+    custom: &CustomValue,
+) -> Result<(), Memory>
+    ensures { OnOk result ((row : ℕ) (value : List ℕ) → list_any (is_other_link row value) links.new
+        ≡ (list_any (is_other_link row value) links.old || is_other_link row value custom.now)) }
+{
+    if custom.kind != SOURCE_LINK {
+        return Ok(());
+    }
+    let CustomBody::Unread(bytes) = &custom.value else {
+        return Ok(());
+    };
+    links.push(CustomValue {
+        parent: custom.parent,
+        kind: custom.kind,
+        value: CustomBody::Unread(List::copied(alloc, bytes.as_slice())?),
+    })?;
+    Ok(())
+}
+
+/// Adds copies of the Source Link records whose values are not read.
+pub(crate) fn keep_links(
+    alloc: Global,
+    links: &mut List<CustomValue>,
+    customs: &[CustomValue],
+) -> Result<(), Memory>
+    ensures { OnOk result ((row : ℕ) (value : List ℕ) → list_any (is_other_link row value) links.new
+        ≡ (list_any (is_other_link row value) links.old
+        || list_any (is_other_link row value) customs.now)) }
+{
+    for custom in customs {
+        keep_link(alloc, links, custom)?;
+    }
+    Ok(())
+}
 
 /// The record, with the value of the map's `link` line, if it is a Source Link record on row 1 of
 /// Module and there is such a line.

@@ -30,7 +30,7 @@ impl Counted for Summary {
     ghost summary = { λ summary. summary };
 
     fn counts(&self) -> &[u32; 64] {
-        self.moved.rows()
+        &self.moved.rows
     }
 
     fn images(&self) -> &[Imaged] {

@@ -1,9 +1,9 @@
 -- What is known of inputs that are joined and written.
-use Rattle.std.{proofs.Common.{ℕ, Bool, ◌≡◌, ◌⊎◌, inl, inr, List, [], sym, ◌∙◌, ap, subst}, specs.Prelude.{Option, Some, None, option_map, Result, Ok, Err, IfOk}}
+use Rattle.std.{proofs.Common.{ℕ, Bool, ◌≡◌, ◌⊎◌, inl, inr, List, [], sym, ◌∙◌, ap, subst}, specs.Prelude.{Option, Some, None, Result, Ok, Err, IfOk}}
 use Rattle.std.specs.Prelude.{IfSome, if◌then◌else◌}
 use Rattle.ppdb_base.specs.{Files.{Files}, First.{IsAccepted}, declared.merge_error.MergeError.{MergeError}}
 use Rattle.ppdb_base.specs.declared.merge_error.MergeError.TheVariants as merge_errors
-use Rattle.ppdb_build_canon.specs.{Canon.{canon, chosen_id, with_id}, Limits.{first_limit}, declared.choice.IdChoice.{IdChoice}}
+use Rattle.ppdb_build_canon.specs.Canon.{canon, chosen_id, with_id}
 use Rattle.ppdb_build_canon.specs.declared.choice.IdChoice.TheVariants.{Hash, Keep}
 use Rattle.ppdb_merge.specs.{declared.summary.Summary.{Summary}, Merged.{moved_files, unless}, Together.{joined_of, misfit_of}}
 use Rattle.ppdb_merge_annotated.specs.Unannotated.{value_of_annotated}
@@ -11,8 +11,8 @@ use Rattle.ppdb_merge_joined.specs.Joined.{joined}
 use Rattle.ppdb_values.specs.{declared.file.FileValue.{FileValue}, RawFile.{RawFile}}
 use Rattle.ppdb_verify.specs.Files.{FileFaults, IsRawOf}
 use Rattle.ppdb_build_written_laws.specs.Written.{Says, IsSameAgain}
-use Rattle.ppdb_run_stops.specs.{declared.stop.Stop.{Stop}, Refusals.{Outcome, limited, unfit}, Causes.{cause_of, refusal_of as reported_by}}
-use Rattle.ppdb_run.specs.{Ends.{RebuildsWhereKnown}, Joined.{GivesIfSome, IsJoinedFile, joined_steps}, MeaningLaws.{SaysButForId}, Outcome.{Step, ◌>>=◌}}
+use Rattle.ppdb_run_stops.specs.{declared.stop.Stop.{Stop}, Refusals.{Outcome, unfit}, Causes.{cause_of, refusal_of as reported_by}}
+use Rattle.ppdb_run.specs.{Ends.{RebuildsWhereKnown}, Joined.{IsJoinedFile, joined_steps}, MeaningLaws.{SaysButForId}, Outcome.{Step, ◌>>=◌}}
 use Rattle.ppdb_run.specs.{Outcome.{all_joined, gives, in_limits, input_in, steps_of, unknown_kind, with_inputs, written}, Stops.{Gives}}
 use Rattle.ppdb_run.proofs.{Merges.{next_over, on_reported, stop_over}, Rebuilds.{rebuilds}, Steps.{gives_next, gives_stop}}
 use Rattle.ppdb_run_words.specs.{Task.{file_of}, Words.{Input, Options, Merge}}
@@ -57,7 +57,7 @@ module _ (inputs : List Input) (output : List ℕ) (options : Options) (summarie
   limited_from value = gives (in_limits output options value)
 
   -- they do not fit together
-  pub not_joined : (stop : Stop) → Gives (λ (v : FileValue). v) (Err stop) (gives (all_joined inputs (joined_of summaries)))
+  not_joined : (stop : Stop) → Gives (λ (v : FileValue). v) (Err stop) (gives (all_joined inputs (joined_of summaries)))
       → Gives (written output) (Err stop) (joined_steps inputs output options summaries)
   not_joined stop h = gives_stop (λ (v : FileValue). v) (written output) stop (gives (all_joined inputs (joined_of summaries))) limited_from h
 
@@ -91,26 +91,3 @@ pub rebuilds_where_known : (options : Options) (output : List ℕ) (value : File
     → ((again : RawFile) → IsRawOf bytes again → IsSameAgain value (if options.keep_id then Keep else Hash) again) → RebuildsWhereKnown options (output, bytes)
 rebuilds_where_known options output value bytes is accepted says same known =
     rebuilds options value bytes (sym (ap (unknown_kind options.marks) says.value_is) ∙ known says.raw says.is_raw) is accepted says same
-
--- ---- a file that is written where the rows tell it
-
-pub some_reported : (output : List ℕ) (options : Options) (value : FileValue) (file : Option (List ℕ))
-    → IfSome file (λ bytes. bytes ≡ canon value (if options.keep_id then Keep else Hash)) → IfSome file (λ _. first_limit value ≡ None)
-    → GivesIfSome (written output) (Ok file) (gives (in_limits output options value))
-some_reported output options value None is within = tt
-some_reported output options value (Some bytes) is within =
-    ap (λ b. Ok (written output b)) is
-    ∙ sym (ap (λ o. unless (option_map limited o) (Ok (written output (canon value (if options.keep_id then Keep else Hash))))) within)
-
-pub some_says : (value : FileValue) (choice : IdChoice) (file : Option (List ℕ))
-    → IfSome file (λ bytes. (again : RawFile) → IsRawOf bytes again → IsSameAgain value choice again) → IfSome file (λ bytes. SaysButForId bytes value)
-some_says value choice None same = tt
-some_says value choice (Some bytes) same = λ raw is. (_, (same raw is).value_is)
-
-pub some_again : (options : Options) (output : List ℕ) (value : FileValue) (file : Option (List ℕ))
-    → IfSome file (λ bytes. bytes ≡ canon value (if options.keep_id then Keep else Hash)) → IfSome file (λ bytes. IsAccepted (FileFaults bytes))
-    → IfSome file (λ bytes. Says bytes (with_id value (chosen_id value (if options.keep_id then Keep else Hash))))
-    → IfSome file (λ bytes. (again : RawFile) → IsRawOf bytes again → IsSameAgain value (if options.keep_id then Keep else Hash) again)
-    → IfSome file (λ bytes. RebuildsWhereKnown options (output, bytes))
-some_again options output value None is accepted says same = tt
-some_again options output value (Some bytes) is accepted says same = rebuilds_where_known options output value bytes is accepted says same

@@ -1,8 +1,7 @@
 -- What is left of a merge when its inputs are read.
-use Rattle.std.specs.Prelude.{◌≡◌, ℕ, Bool, List, Option, Some, None, Result, Ok, Err, IfSome}
+use Rattle.std.specs.Prelude.{◌≡◌, ℕ, Bool, List, Ok}
 use Rattle.ppdb_values.specs.declared.file.FileValue.{FileValue}
 use Rattle.ppdb_merge.specs.{declared.summary.Summary.Summary, Together.joined_of}
-use Rattle.ppdb_run_stops.specs.{declared.stop.Stop.Stop, Causes.{cause_of, refusal_of}}
 use Rattle.ppdb_run_stops.specs.Refusals.{Outcome}
 use Rattle.ppdb_run_words.specs.Words.{Input, Options}
 use Rattle.ppdb_run.specs.{Ends.RebuildsWhereKnown, MeaningLaws.SaysButForId, Outcome.{Step, ◌>>=◌}}
@@ -13,14 +12,6 @@ abbrev pub joined_steps : List Input → List ℕ → Options → List Summary �
 joined_steps inputs output options summaries = do
   value ← gives (all_joined inputs (joined_of summaries))
   gives (in_limits output options value)
-
--- an answer that is there, seen by view, is one that the step may give; a stop that is a refusal is
--- a refusal that it may give
-abbrev pub GivesIfSome : {X Y : Type 0} → (X → Y) → Result (Option X) Stop → Step Y → Type 0
-GivesIfSome view (Ok (Some x)) step = step (Ok (view x))
-GivesIfSome view (Ok None) step = Unit {0}
-GivesIfSome view (Err stop) step =
-    IfSome (refusal_of (cause_of stop)) (λ refusal. step (Err refusal))
 
 -- Bytes that say the value that inputs are joined to, and that are rebuilt to themselves where its
 -- kinds are known.

@@ -1,21 +1,20 @@
 // The canonical file of what inputs are joined to.
-ghost use Rattle.std.specs.Prelude.{◌≤◌, ℕ, List, length, None, IfOk, IfSome};
+ghost use Rattle.std.specs.Prelude.{◌≡◌, ◌≤◌, ℕ, List, length, IfOk};
 ghost use Rattle.ppdb_base.specs.First.{IsAccepted};
 ghost use Rattle.ppdb_values_sound.specs.Sound.{IsSound};
 ghost use Rattle.ppdb_verify.specs.Files.{FileFaults};
 ghost use Rattle.ppdb_merge_meaning_laws.specs.Kept.{InputsFit, joined_inputs};
 ghost use Rattle.ppdb_build.specs.Joining.{moved_inputs};
 ghost use Rattle.ppdb_run.specs.Ends.{RebuildsWhereKnown};
-ghost use Rattle.ppdb_run.specs.Joined.{GivesIfSome, IsJoinedFile, joined_steps};
+ghost use Rattle.ppdb_run.specs.Joined.{IsJoinedFile, joined_steps};
 ghost use Rattle.ppdb_run.specs.MeaningLaws.{SaysButForId};
-ghost use Rattle.ppdb_run.specs.Outcome.{gives, in_limits, written};
+ghost use Rattle.ppdb_run.specs.Outcome.{gives, in_limits, input_in, written};
 ghost use Rattle.ppdb_run.specs.Stops.{Gives};
 ghost use Rattle.ppdb_run_stops.specs.Causes.{StopsInside};
 ghost use Rattle.ppdb_run_words.specs.Task.{inputs_of};
 
-use crate::joined_value::{input_of, joined_value_bytes};
 use crate::rebuild::choice;
-use ppdb_base::{Bytes, Steps};
+use ppdb_base::{Bytes, MergeError, Steps};
 use ppdb_build::{BuildError, RowInput, write_joined};
 use ppdb_merge::InputMerger;
 use ppdb_run_stops::Stop;
@@ -43,38 +42,43 @@ pub(crate) fn joined_bytes<'a, L: Ledger>(
         Some(error) => return Err(Stop::Unfit(inputs.file(input_of(error)), error)),
         None => {}
     }
-    match rows_bytes(alloc, merger.inputs(), keep_id, steps) {
-        Ok(Some(bytes)) => Ok(bytes),
-        Ok(None) => joined_value_bytes(alloc, inputs, merger, keep_id, steps),
-        Err(stop) => Err(stop),
+    rows_bytes(alloc, merger.inputs(), keep_id, steps)
+}
+
+/// The number of the input that is reported, from 1, and else 0.
+fn input_of(error: MergeError) -> u32
+    ensures { result ≡ input_in error }
+{
+    match error {
+        MergeError::RowsDiffer { input, .. } | MergeError::ImageRange { input, .. } => input,
+        _ => 0,
     }
 }
 
-/// The canonical file of what inputs are joined to, from their rows. None where these do not tell
-/// whether it passes a limit.
+/// The canonical file of what inputs are joined to, from their rows.
 fn rows_bytes<'a, L: Ledger>(
     alloc: Global,
     inputs: &[RowInput<'_>],
     keep_id: bool,
     steps: &mut Steps<L>,
-) -> Result<Option<Bytes>, Stop<'a>>
+) -> Result<Bytes, Stop<'a>>
     requires some { 1 ≤ length inputs.now }
     requires most { length inputs.now ≤ 256 }
     requires fit { InputsFit (moved_inputs inputs.now) }
     requires sound { IsSound (joined_inputs (moved_inputs inputs.now)) }
     ensures reported { (output : List ℕ) (marks : List (List ℕ)) →
-        GivesIfSome (written output) result (gives (in_limits output
+        Gives (written output) result (gives (in_limits output
         (record { keep_id = keep_id; marks = marks }) (joined_inputs (moved_inputs inputs.now)))) }
-    ensures accepted { IfOk result (λ file. IfSome file (λ bytes. IsAccepted (FileFaults bytes))) }
-    ensures says { IfOk result (λ file.
-        IfSome file (λ bytes. SaysButForId bytes (joined_inputs (moved_inputs inputs.now)))) }
+    ensures accepted { IfOk result (λ bytes. IsAccepted (FileFaults bytes)) }
+    ensures says { IfOk result
+        (λ bytes. SaysButForId bytes (joined_inputs (moved_inputs inputs.now))) }
     ensures again { (output : List ℕ) (marks : List (List ℕ)) →
-        IfOk result (λ file. IfSome file (λ bytes.
-        RebuildsWhereKnown (record { keep_id = keep_id; marks = marks }) (output, bytes))) }
+        IfOk result (λ bytes.
+        RebuildsWhereKnown (record { keep_id = keep_id; marks = marks }) (output, bytes)) }
     ensures causes { StopsInside result }
 {
     match write_joined(alloc, inputs, choice(keep_id), steps) {
-        Ok(file) => Ok(file),
+        Ok(bytes) => Ok(bytes),
         Err(BuildError::Limit(limit)) => Err(Stop::Limit(limit)),
         Err(BuildError::Memory) => Err(Stop::Memory),
     }

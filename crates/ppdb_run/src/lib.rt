@@ -7,7 +7,6 @@ mod compose;
 mod form;
 mod input;
 mod joined;
-mod joined_value;
 pub mod laws;
 mod lookup;
 mod map;

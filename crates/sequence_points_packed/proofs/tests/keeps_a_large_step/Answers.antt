@@ -1,5 +1,0 @@
-use Rattle.sequence_points.proofs.Writable.{a_large_step}
-use Rattle.sequence_points_packed.proofs.tests.keeps_a_large_step.Goals as goal
-
-pub kept-requires : goal.kept-requires
-kept-requires g c = λ small. rw (c.on_line.ensures, c.on_line-2.ensures) a_large_step
