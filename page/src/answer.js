@@ -56,7 +56,7 @@ function placeLine(side, {method, point, index}, isFirst, line) {
     make("code", {}, hex(point.offset)), ink(excerptOf(side, point).slice(0, 90) || columnsOf(point), tintOf(method, index)), 
     make("span", {class: "dim"}, from));
 }
-const afterPlace = row => { const it = state.byNow.get(row); return it ? placeOf(it) : {n: row}; };
+const afterPlace = row => { const it = state.subjects.ofNow(row); return it ? placeOf(it) : {n: row}; };
 function whereItIsBound(found, groups, line) {
   const {side} = pane, spans = Map.groupBy(found, it => spanWords(it.point));
   const isShared = [...spans.values()].some(list => new Set(list.map(it => it.method)).size > 1), starts = found.some(it => it.point.start_line === line);
@@ -98,7 +98,7 @@ function sayMethod(subject, side, method) {
 }
 const fact = (name, ...words) => [make("dt", {}, name), make("dd", {}, words)];
 function methodLink(side, row) {
-  const it = (side === "before" ? state.byOld : state.byNow).get(row);
+  const it = side === "before" ? state.subjects.ofOld(row) : state.subjects.ofNow(row);
   const words = rawName(side, row) ?? (it ? titleWords(side, side === "before" ? it.old : it.now) : `method ${row}`);
   return it ? link(placeOf(it), words) : words;
 }

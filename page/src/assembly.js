@@ -1,4 +1,5 @@
 /** What the page reads of an assembly (ECMA-335 II.22 to II.25): the names of its methods, and its debug directory. Nothing else of it. */
+import {NameList} from "./names.js";
 
 /** The columns of the tables 00 to 2a (II.22): 2 or 4 bytes; "s", "g", "b" for an index of a heap; a row of a table as "r06"; a coded row. */
 const COLUMNS = {
@@ -130,7 +131,7 @@ class Tables {
 }
 
 /** The names of types and methods. */
-class Names {
+class NameReading {
   /** @param {Tables} tables @param {Uint8Array} texts */
   constructor(tables, texts) {
     this.tables = tables; this.texts = texts; this.outer = new Map(); this.generics = new Map(); this.made = new Map();
@@ -156,28 +157,29 @@ class Names {
     return made;
   }
   all() {
-    const {tables} = this, types = [], rows = [], last = tables.count(0x06);
-    for (let row = 1; row <= tables.count(0x02); row++) {
-      const end = row < tables.count(0x02) ? tables.cell(0x02, row + 1, 5) : last + 1, first = tables.cell(0x02, row, 5);
-      types.push(this.type(row));
-      for (let method = Math.max(1, first); method < Math.min(end, last + 1); method++)
-        rows[method] ??= [row - 1, this.text(tables.cell(0x06, method, 3)) + inBrackets(this.generics.get(method << 1 | 1) ?? [])];
+    const {tables} = this, last = tables.count(0x06), types = tables.count(0x02), found = new NameList(last, types);
+    for (let row = 1; row <= types; row++) {
+      const end = row < types ? tables.cell(0x02, row + 1, 5) : last + 1, first = tables.cell(0x02, row, 5);
+      found.addType(row - 1, this.type(row));
+      for (let method = Math.max(1, first); method < Math.min(end, last + 1); method++) {
+        if (found.owners[method] >= 0) continue;
+        found.addMethod(method, row - 1, this.text(tables.cell(0x06, method, 3)) + inBrackets(this.generics.get(method << 1 | 1) ?? []));
+      }
     }
-    return {types, rows, count: last};
+    return found.done();
   }
 }
 const inBrackets = names => names.length ? `<${names.join(", ")}>` : "";
 
 /**
- * What an assembly says of its debug file, and the names of its methods: types in their order, and for each row of MethodDef the index
- * of its type and its name. Null if the bytes are no assembly, or a damaged one.
+ * What an assembly says of its debug file, and the names of its methods. Null if the bytes are no assembly, or a damaged one.
  * @param {Uint8Array} bytes
- * @returns {{debug: DebugDirectory, names: {types: {name: string, space: string}[], rows: [number, string][], count: number}} | null}
+ * @returns {{debug: DebugDirectory, names: import("./names.js").NameTables} | null}
  */
 export function readAssembly(bytes) {
   try {
     const image = new Image(bytes), streams = image.streams();
-    const names = new Names(new Tables(streams.get("#~") ?? new Uint8Array()), streams.get("#Strings") ?? new Uint8Array());
+    const names = new NameReading(new Tables(streams.get("#~") ?? new Uint8Array()), streams.get("#Strings") ?? new Uint8Array());
     return {debug: image.debug(), names: names.all()};
   } catch (wrong) {
     if (wrong instanceof RangeError) return null;

@@ -1,26 +1,29 @@
 /** The list on the left: methods by type or document, documents, and what a search finds in names and sources. */
 import {$, button, cutInFront, fill, isThere, make} from "./dom.js";
+import {documentsPart, Entries, methodParts, MOST_LISTED, partOf} from "./entries.js";
 import {addressOf, go} from "./place.js";
+import {inSlices} from "./slices.js";
 import {rawName, sourceOf, state} from "./state.js";
-import {bodyOf, documentOf, isNamed, placeOf, sideOf, subjectAt, textOf, titleAt, titleWords, totals} from "./subjects.js";
+import {CHANGES} from "./survey.js";
+import {bodyOf, documentAt, sideOf, subjectAt, textOf, titleAt, titleWords} from "./subjects.js";
 import {baseName, cutFront, folderOf, plural, spelled, tokenOf} from "./text.js";
 import {VirtualList} from "./virtual.js";
 
 const ENTRY_TALL = 28;
 /** How many characters of a folder or a namespace are drawn: more than a list is wide. */
 const MOST_DRAWN = 200;
-/** The most methods that the list has: a search finds the others. */
-const MOST_LISTED = 100000;
-/** Which methods the list has. */
-const ONLY = {all: () => true, changed: it => it.change.kind !== "same", lost: it => it.change.lost > 0, fresh: it => it.change.fresh > 0,
-  dropped: it => it.change.kind === "dropped", added: it => it.change.kind === "added"};
+const DROPPED = CHANGES.indexOf("dropped"), survey = () => state.subjects.survey;
+/** Which methods the list has, by their changes. */
+const ONLY = {all: () => true, changed: index => survey().kinds?.[index] > 0, lost: index => survey().lost[index] > 0,
+  fresh: index => survey().fresh[index] > 0, dropped: index => survey().kinds?.[index] === DROPPED, added: index => index >= state.subjects.olds};
 
 /** What the list is about, and what it found. */
-export const list = {tab: "methods", want: "", only: "all", entries: /** @type {any[]} */ ([]), hits: null, view: /** @type {VirtualList} */ (null)};
+export const list = {tab: "methods", want: "", only: "all", entries: new Entries([]), hits: null, view: /** @type {VirtualList} */ (null),
+  found: /** @type {any} */ (null), stops: () => {}};
 
 /** @param {(want: string) => Promise<any>} searches looks for a text in the sources */
 export function startList(searches) {
-  list.view = new VirtualList($("list"), ENTRY_TALL, index => entryOf(list.entries[index], index));
+  list.view = new VirtualList($("list"), ENTRY_TALL, index => entryOf(list.entries.at(index), index));
   const box = /** @type {HTMLInputElement} */ ($("find"));
   let later = 0;
   box.oninput = () => {
@@ -30,10 +33,10 @@ export function startList(searches) {
     clearTimeout(later);
     if (list.want.length > 1) later = setTimeout(async () => {
       const want = list.want, hits = await searches(want);
-      if (want === list.want) { list.hits = hits; fillList(); }
+      if (want === list.want) { list.hits = hits; if (list.found) showList(); }
     }, 150);
   };
-  $("find-form").onsubmit = event => { event.preventDefault(); const first = list.entries.find(isChoice); if (first) go(first.place); };
+  $("find-form").onsubmit = event => { event.preventDefault(); const first = list.entries.next(-1, 1); if (first >= 0) go(list.entries.at(first).place); };
   $("list").onkeydown = onListKey;
   for (const tab of ["methods", "documents"]) $(`tab-${tab}`).onclick = () => { list.tab = tab; fillList(); bringToList(); };
 }
@@ -49,67 +52,10 @@ function isWanted(subject) {
   const raw = rawName(side, method.kickoff || method.row) ?? "", guessed = state.guesses[side].get(method.row)?.text ?? "";
   return `${titleWords(side, method)} ${raw} ${guessed}`.toLowerCase().includes(want);
 }
-/** The heading under which a subject is: its type, or its document. */
-function groupOf(subject, key, isKnown) {
-  if (!isKnown) return key;
-  const {type, space} = titleAt(subject);
-  return `type ${space}.${type}`;
-}
-/** The entry of a method; of one with code in several documents each of its entries leads to its own. */
-class Entry {
-  constructor(subject, line, key) { this.subject = subject; this.line = line; this.key = key; }
-  get place() {
-    const {subject, key} = this, isOne = subject.lines.length < 2 || !key.startsWith("before:") || isNamed(subject);
-    return {...placeOf(subject), ...isOne ? {} : {d: +key.slice(7)}};
-  }
-}
-function methodEntries() {
-  const groups = new Map(), put = (group, entry) => (groups.get(group) ?? groups.set(group, []).get(group)).push(entry);
-  let left = MOST_LISTED, more = 0;
-  for (const subject of state.subjects) {
-    if (!ONLY[list.only](subject) || !isWanted(subject)) continue;
-    if (--left < 0) { more++; continue; }
-    const isKnown = isNamed(subject), {lines} = subject;
-    if (!lines.length) put(groupOf(subject, "none", isKnown), new Entry(subject, 0, undefined));
-    for (const [key, line] of isKnown ? lines.slice(0, 1) : lines) put(groupOf(subject, key, isKnown), new Entry(subject, line, key));
-  }
-  const order = key => key === "none" ? 2 : key.startsWith("after") ? 1 : 0;
-  const listed = [...groups].sort(([one], [other]) => order(one) - order(other) || docOrder(one) - docOrder(other)).flatMap(([key, found]) =>
-    [new Head(key, found[0].subject), ...found.sort((one, other) => one.line - other.line || bodyOf(one.subject).row - bodyOf(other.subject).row)]);
-  return more ? [...listed, {note: `and ${plural(more, "method")} more: a search finds them`}] : listed;
-}
-const docOrder = key => key.startsWith("before:") ? +key.slice(7) : 0;
-/** The entry above the methods of a type or a document; its words are made when it is looked at, since there may be many. */
-class Head {
-  constructor(key, subject) { this.key = key; this.first = subject; }
-  get head() { return this.words().head; }
-  get dim() { return this.words().dim; }
-  get place() { return this.words().place; }
-  words() { return this.known ??= this.made(); }
-  made() {
-    const {key} = this;
-    if (key === "none") return {head: "Without points", dim: ""};
-    if (key.startsWith("type ")) {
-      const {type, space} = titleAt(this.first);
-      return {head: type, dim: space};
-    }
-    const [side, row] = key.split(":"), document = state[side].documents.get(+row);
-    return {head: baseName(textOf(document)), dim: folderOf(textOf(document)), place: {[side === "before" ? "d" : "e"]: +row}};
-  }
-}
-function documentEntries() {
-  const counts = new Map(), found = [];
-  for (const subject of state.subjects) {
-    for (const [key] of subject.lines) counts.set(key, (counts.get(key) ?? 0) + 1);
-  }
-  for (const side of ["before", "after"]) for (const it of state[side]?.documents.values() ?? []) {
-    if (side === "after" && documentOf("after", it.row) !== null) continue;
-    const name = textOf(it);
-    if (!list.want || name.toLowerCase().includes(list.want))
-      found.push({document: it, side, name: baseName(name), folder: folderOf(name), count: counts.get(`${side}:${it.row}`) ?? 0,
-        place: {[side === "before" ? "d" : "e"]: it.row}});
-  }
-  return found.sort((one, other) => Number(other.count > 0) - Number(one.count > 0) || one.name.localeCompare(other.name));
+/** Whether a document has the wanted text in its name. @param {number} key */
+function isWantedDocument(key) {
+  const {side, row} = documentAt(key);
+  return state[side].documents.textOf(row).toLowerCase().includes(list.want);
 }
 function hitEntries() {
   if (!list.hits || !list.want) return [];
@@ -125,26 +71,54 @@ function hitEntries() {
   }
   return found;
 }
+/** Fills the list. Where much is to be searched, it stays as it was until that is done. */
 export function fillList() {
+  list.stops();
+  list.found = null;
   if (!state.before) return;
-  const documents = list.want ? documentEntries() : [];
-  const own = list.tab === "documents" ? documentEntries() : methodEntries();
-  const extra = list.tab === "methods" && list.want && documents.length && documents.length < 50 ? [{head: "Documents", dim: ""}, ...documents] : [];
-  list.entries = [...own, ...extra, ...hitEntries()];
-  if (!list.entries.length)
-    list.entries = [{note: list.want ? `Nothing has \u201c${list.want}\u201d in its name or its source.` : "There is nothing to list."}];
+  const {documents} = survey(), isOfMethods = list.tab === "methods", count = isOfMethods ? state.subjects.count : 0;
+  const chosen = new Chosen(count), isOnly = ONLY[list.only], found = [];
+  const show = () => { list.found = {methods: isOfMethods ? chosen.parts() : null, documents: list.want ? found : documents}; showList(); };
+  if (!list.want) {
+    for (let at = 0; at < count; at++) if (isOnly(at)) chosen.add(at);
+    show();
+  } else list.stops = inSlices(count + documents.length, at => {
+    if (at >= count) { if (isWantedDocument(documents[at - count])) found.push(documents[at - count]); }
+    else if (isOnly(at) && isWanted(state.subjects.passing(at))) chosen.add(at);
+  }, show);
+}
+/** The methods that the list has: as many as it may, and how many more there are. */
+class Chosen {
+  /** @param {number} most */
+  constructor(most) { this.some = new Int32Array(Math.min(most, MOST_LISTED)); this.count = 0; }
+  add(index) { if (this.count < this.some.length) this.some[this.count] = index; this.count++; }
+  parts() {
+    const {some, count} = this;
+    return methodParts(some.subarray(0, count), Math.max(0, count - some.length), () => subjectAt(state.place)?.index ?? -1);
+  }
+}
+/** Shows what was found. */
+function showList() {
+  const {methods, documents} = list.found;
+  const isSearch = methods && list.want && documents.length > 0 && documents.length < 50;
+  const parts = methods ? [...methods.parts, ...isSearch ? [partOf([{head: "Documents", dim: ""}]), documentsPart(documents)] : []] : [documentsPart(documents)];
+  list.entries = new Entries([...parts, partOf(hitEntries())]);
+  if (!list.entries.count)
+    list.entries = new Entries([partOf([{note: list.want ? `Nothing has \u201c${list.want}\u201d in its name or its source.` : "There is nothing to list."}])]);
   list.view.active = activeIndex();
-  list.view.fill(list.entries.length);
+  list.view.fill(list.entries.count);
   for (const tab of ["methods", "documents"]) $(`tab-${tab}`).setAttribute("aria-pressed", String(list.tab === tab));
-  fill("count-methods", list.tab === "methods" && list.want ? plural(own.filter(it => it.subject).length, "method") : "");
+  fill("count-methods", methods && list.want ? plural(methods.count, "method") : "");
   drawFilter();
 }
+/** Names have come: they change what is found, and how methods are called, but not their order. */
+export function nameList() { if (list.want) fillList(); else list.view.draw(); }
 /** The counts of what changed; each shows the methods that it counts. */
 function drawFilter() {
   const box = $("only");
   box.hidden = !state.rewriting || list.tab !== "methods";
   if (box.hidden) { box.replaceChildren(); return; }
-  const sum = totals(), words = {all: `${sum.all} all`, changed: `${sum.changed} changed`, lost: `${plural(sum.lost, "point")} lost`,
+  const sum = survey().totals, words = {all: `${sum.all} all`, changed: `${sum.changed} changed`, lost: `${plural(sum.lost, "point")} lost`,
     fresh: `${plural(sum.fresh, "point")} new`, dropped: `${sum.dropped} dropped`, added: `${sum.added} added`};
   box.replaceChildren(...Object.entries(words).filter(([key]) => key === "all" || sum[key] > 0 || list.only === key)
     .map(([key, text]) => button(text, () => { list.only = key; fillList(); }, {class: `chip ${key}`, "aria-pressed": String(list.only === key)})));
@@ -164,7 +138,7 @@ function isOn(entry) {
   if (!entry.subject || entry.subject !== subjectAt(place)) return false;
   return !isThere(entry.place.d) || !isThere(place.d) || entry.place.d === place.d;
 }
-const activeIndex = () => list.entries.findIndex(isOn);
+const activeIndex = () => list.entries.find(isOn);
 function entryOf(entry, index) {
   if (entry.note) return make("div", {class: "entry note dim", role: "option", "aria-disabled": "true"}, entry.note);
   if (entry.head) {
@@ -174,7 +148,7 @@ function entryOf(entry, index) {
   }
   const [body, title] = entry.subject ? methodBody(entry) : entry.hit ? hitBody(entry) : documentBody(entry), on = isOn(entry);
   return make("a", {class: `entry${on ? " on" : ""}${entry.subject?.change.kind === "dropped" ? " dropped" : ""}`, role: "option", tabindex: -1,
-    href: addressOf(entry.place), title, "aria-selected": String(on), "aria-posinset": index + 1, "aria-setsize": list.entries.length}, body);
+    href: addressOf(entry.place), title, "aria-selected": String(on), "aria-posinset": index + 1, "aria-setsize": list.entries.count}, body);
 }
 function methodBody({subject, line}) {
   const side = sideOf(subject), method = bodyOf(subject), {name, tag, isGuess, isKnown} = titleAt(subject), {change} = subject;
@@ -201,20 +175,20 @@ function documentBody({document, side, name, folder, count}) {
 
 // ---- Moving in the list.
 
-/** Whether an entry leads to a place, and is no heading. */
-const isChoice = it => Boolean(it.subject ?? it.document ?? it.hit);
 export function bringToList() {
   const index = activeIndex();
   list.view.active = index;
   if (index >= 0) list.view.bring(index);
   list.view.draw();
 }
-/** Goes to an entry so many after the chosen one. @param {number} by */
+/** Goes to an entry so many after the chosen one, or to the first or last. @param {number} by */
 export function stepEntry(by) {
-  const places = list.entries.map((it, index) => isChoice(it) ? index : -1).filter(it => it >= 0);
-  if (!places.length) return;
-  const at = places.indexOf(activeIndex()), to = places[Math.min(places.length - 1, Math.max(0, at < 0 ? 0 : at + by))];
-  go(list.entries[to].place, true);
+  const {entries} = list, sign = Math.sign(by), on = activeIndex();
+  let at = on >= 0 ? on : entries.next(-1, 1);
+  if (at < 0) return;
+  if (on >= 0 && Math.abs(by) === Infinity) at = entries.next(by < 0 ? -1 : entries.count, -sign);
+  else if (on >= 0) for (let left = Math.abs(by), next = at; left > 0 && (next = entries.next(at, sign)) >= 0; left--) at = next;
+  go(entries.at(at).place, true);
 }
 function onListKey(event) {
   if (event.ctrlKey || event.metaKey || event.altKey) return;

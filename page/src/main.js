@@ -3,7 +3,7 @@ import {bringToAxis, drawAxis, startAxis, stepPoint, widen} from "./axis.js";
 import {say, startAnswer} from "./answer.js";
 import {$, button, fill, make} from "./dom.js";
 import {dropped, inPage, picked, save} from "./files.js";
-import {bringToList, fillList, startList, stepEntry} from "./list.js";
+import {bringToList, fillList, list, nameList, startList, stepEntry} from "./list.js";
 import {SOURCE_LINK} from "./kinds.js";
 import {isVisible, upTo} from "./model.js";
 import {bringToSource, drawSource, enterLine, lastLine, pane, shownDocument, startPane} from "./pane.js";
@@ -11,7 +11,7 @@ import {go, readPlace} from "./place.js";
 import {Port} from "./port.js";
 import {startSplitters} from "./splitters.js";
 import {sourceOf, state, take} from "./state.js";
-import {bodyOf, documentOf, placeOf, sideOf, subjectAt, totals} from "./subjects.js";
+import {bodyOf, documentOf, placeOf, sideOf, subjectAt} from "./subjects.js";
 import {baseName, nameOf, plural, seen, sizeWords, spelled, tooLong} from "./text.js";
 
 /** The script of the worker and the rules of the format, which the build puts here. */
@@ -31,7 +31,7 @@ function busy(words) {
  if not all */
 async function give(files, shows) {
   const size = files.reduce((sum, it) => sum + it.bytes.length, 0), what = files.length === 1 ? baseName(files[0].name) : plural(files.length, "file");
-  if (files.length) { busy(`Reading ${what}, ${sizeWords(size)}`); await settle(() => port.ask("add", files, shows)); }
+  if (files.length) { busy(`Reading ${what}, ${sizeWords(size)}`); await settle(() => port.add(files, shows)); }
   if (files.left) trouble(`${plural(files.left, "file")} left out: together they are too long for a page.`);
   if (files.long?.length) trouble(files.long.map(tooLong).join("; "));
 }
@@ -48,6 +48,7 @@ function trouble(words) {
 }
 /** @param {any} told what the session says @param {string | undefined} had the name of the file that was shown */
 function show(told, had) {
+  list.stops();
   take(told);
   const isOpen = state.before !== null;
   document.body.dataset.view = isOpen ? "work" : "start";
@@ -81,7 +82,7 @@ function hears({event, which, found}) {
   for (const [row, guessed] of found) state.guesses[which].set(row, guessed);
   state.age++;
   clearTimeout(later);
-  later = setTimeout(() => { fillList(); say(); }, 60);
+  later = setTimeout(() => { nameList(); say(); }, 60);
 }
 
 // ---- The head, and the page before a file is there.
@@ -94,12 +95,11 @@ function pill(side) {
 function drawHead() {
   const {told, before, after} = state, one = told.before;
   if (!before) { fill("title", "ppdb"); fill("about-file", ""); fill("actions", openButton(), helpButtons()); return; }
-  const methods = before.sorted.filter(it => it.count).length;
   fill("title", baseName(one.name), after && [make("span", {class: "dim"}, " \u2192 "), 
     told.after.note.startsWith("made") ? "remapped" : baseName(told.after.name)]);
   $("title").title = [one.name, after && told.after.name].filter(it => it).join(" \u2192 ");
   fill("about-file", pill(one), after && told.after.status > 0 && pill(told.after), one.note && make("span", {class: "dim"}, one.note),
-    after ? changes() : make("span", {class: "dim counts"}, [plural(methods, "method"), plural(before.pointCount, "point"), 
+    after ? changes() : make("span", {class: "dim counts"}, [plural(before.methodCount, "method"), plural(before.pointCount, "point"), 
       plural(before.documents.size, "document")]
       .join(" \u00b7 ")), make("span", {class: "dim id code", title: `PDB ID ${before.id}`}, before.id.slice(0, 8)),
     one.assembly ? make("span", {class: "dim", title: `names by ${one.assembly}`}, "named") : "");
@@ -108,10 +108,10 @@ function drawHead() {
 }
 /** What a rewrite changed, counted. */
 function changes() {
-  const sum = totals(), {told} = state, words = [`${spelled(sum.changed)} of ${plural(sum.all, "method")} changed`,
+  const sum = state.subjects.survey.totals, {told} = state, words = [`${spelled(sum.changed)} of ${plural(sum.all, "method")} changed`,
     `${plural(sum.lost, "point")} lost`, `${sum.fresh} new`,
     sum.dropped && `${sum.dropped} dropped`, sum.added && `${sum.added} added`].filter(it => it);
-  const by = told.map ? `by ${baseName(told.mapName)}` : state.rewriting?.isByName ? "by name" : "by row";
+  const by = told.isMapped ? `by ${baseName(told.mapName)}` : state.rewriting?.isByName ? "by name" : "by row";
   return make("span", {class: "counts", title: `${words.join(", ")}, ${by}`}, words.slice(0, 1), words.slice(1).map((it, index) =>
     [" \u00b7 ", make("span", {class: index === 0 && sum.lost ? "lost" : ""}, it)]), make("span", {class: "dim"}, ` ${by}`));
 }
@@ -125,7 +125,7 @@ function saveButtons() {
   return make("details", {class: "menu"}, make("summary", {}, "Save\u2026"), make("div", {}, choices.map(([words, what, side]) =>
     button(words, async () => { closeMenus(); const made = await port.ask("save", what, side); if (made.bytes) save(made.name, made.bytes);
       else trouble(made.line); })),
-    state.after && !told.map && button("Swap before and after", () => settle(() => port.ask("choose", [told.after.name, told.before.name]))),
+    state.after && !told.isMapped && button("Swap before and after", () => settle(() => port.ask("choose", [told.after.name, told.before.name]))),
     button("Close all files", () => { closeMenus(); location.hash = ""; port.stop(); startEngine().then(() => settle(() => port.ask("add", []))); })));
 }
 const closeMenus = () => { for (const it of document.querySelectorAll("details.menu[open]")) it.removeAttribute("open"); };
@@ -170,7 +170,7 @@ async function come() {
   const mine = ++turn;
   if (!state.before) return;
   readPlace();
-  if (!location.hash) state.place.m = firstMethod();
+  if (!location.hash) state.place.m = state.subjects.survey.start;
   const {place} = state, subject = subjectAt(place);
   if (!subject?.now) place.a = null;
   if (!subject?.old) place.o = null;
@@ -194,7 +194,7 @@ function target(subject) {
   const row = known ?? (first ? home(first) : null) ?? (pane.side === side && state[side].documents.has(pane.row) ? pane.row : null) ?? firstDocument(side);
   return {side: /** @type {"before" | "after"} */ (side), row, line: place.l ?? (first && home(first) === row ? first.start_line : undefined)};
 }
-const firstDocument = side => [...state[side].documents.keys()][0] ?? null;
+const firstDocument = side => state[side].documents.size ? 1 : null;
 /** @param {"before" | "after"} side @param {number | null} row */
 async function need(side, row) {
   if (row === null || sourceOf(side, row)) return;
@@ -210,18 +210,6 @@ async function insist(side, row) {
   const source = await port.ask("source", side, row, true);
   state.sources.set(`${side}:${row}`, source);
   come();
-}
-function firstMethod() {
-  const {before} = state, entry = before.methods.get(before.entry), main = entry?.count ? entry : before.methods.get(entry?.move);
-  const lost = state.rewriting && state.subjects.filter(it => it.old && it.now && it.change.lost > 0)
-    .reduce((most, it) => most && most.change.lost >= it.change.lost ? most : it, null), changed = state.rewriting && 
-    state.subjects.find(it => it.old?.count && it.change.kind !== "same");
-  return lost?.old.row ?? changed?.old.row ?? (main?.count ? main.row : earliest()?.old.row ?? null);
-}
-/** The method whose code comes first in the first document: the list has it on top. */
-function earliest() {
-  const place = ({lines}) => { const [key, line] = lines?.[0] ?? ["before:1e9", 0]; return +key.split(":")[1] * 1e9 + Math.min(line, 1e9 - 1); };
-  return state.subjects.filter(it => it.old?.count).reduce((first, it) => first && place(first) <= place(it) ? first : it, null);
 }
 function stepLine(by) {
   const {place} = state, subject = subjectAt(place), first = subject && bodyOf(subject).points.find(isVisible);
@@ -289,7 +277,7 @@ function listen() {
 }
 function redraw() {
   if (!state.before) return;
-  drawAxis(); fillList(); pane.view.draw();
+  drawAxis(); list.view.draw(); pane.view.draw();
 }
 
 // ---- The beginning.
@@ -309,7 +297,8 @@ async function main() {
   tab("source");
   const [example, inside] = [await inPage("example"), await inPage("files")];
   $("try").hidden = !example;
-  $("try").onclick = () => give(example.files);
+  // Files are handed over: the example is given again from a copy.
+  $("try").onclick = () => give(example.files.map(it => ({...it, bytes: it.bytes.slice()})));
   await startEngine();
   state.told = {files: [], inputs: []};
   document.body.dataset.view = "start";

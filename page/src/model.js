@@ -1,6 +1,6 @@
 /** A debug file by the columns of `show`, and what `ppdb query` and `ppdb breaks` answer of it. The check compares both with the program. */
 import {ASYNC, HOISTED} from "./kinds.js";
-import {CONSTANT, CUSTOM, SCOPE, VARIABLE, WIDTH} from "./lines.js";
+import {BODY, CONSTANT, CUSTOM, DOCUMENT, firstWith, IMPORT, listAt, METHOD, NO_LINE, parentOf, PLACE, POINT, rowWith, SCOPE, VARIABLE} from "./tables.js";
 import {nameOf} from "./text.js";
 
 /** @typedef {{offset: number, document: number, start_line?: number, start_column?: number, end_line?: number, end_column?: number}} Point */
@@ -41,18 +41,31 @@ function slotsOf(custom) {
 
 /** @typedef {{row: number, kind: string | null, value: string | null, length: number}} Custom */
 /** @typedef {{row: number, method: number, import: number, start: number, end: number, variables: any[], constants: any[]}} Scope */
+/** @typedef {{row: number, algorithm: string, hash: string, language: string, name: string, text: string}} Document */
 
 const ASCII_TEXT = new TextDecoder("latin1");
 const orNone = word => word === "-" ? null : word;
+/** A text of a heap. @param {Uint8Array} heap @param {Int32Array} table @param {number} at */
+const textIn = (heap, table, at) => ASCII_TEXT.decode(heap.subarray(table[at], table[at + 1]));
 
 /** A method about which the file says something. What it has is made when it is asked for. */
 export class Method {
-  /** @param {DebugFile} file @param {number} row */
-  constructor(file, row) { this.file = file; this.row = row; this.signature = 0; this.first = 0; this.count = 0; this.kickoff = 0; this.move = 0; }
+  /** @param {DebugFile} file @param {number} row @param {number} index its index in the bodies, or -1 */
+  constructor(file, row, index) { this.file = file; this.row = row; this.index = index; }
+  /** @param {number} column */
+  number(column) { return this.index < 0 ? 0 : this.file.columns.bodies[this.index * BODY.width + column]; }
+  get signature() { return this.number(BODY.signature); }
+  get first() { return this.number(BODY.first); }
+  get count() { return this.number(BODY.count); }
+  get kickoff() { return this.number(BODY.kickoff); }
+  get move() { return this.number(BODY.move); }
   /** The offset of a point, without making it. @param {number} index */
-  offsetAt(index) { return this.file.numbers[(this.first + index) * WIDTH]; }
+  offsetAt(index) { return this.file.numbers[(this.first + index) * POINT.width]; }
   /** @returns {Point[]} */
-  get points() { return this.madePoints ??= Array.from({length: this.count}, (_, index) => this.file.point(this.first + index)); }
+  get points() {
+    const {first, count} = this;
+    return this.madePoints ??= Array.from({length: count}, (_, index) => this.file.point(first + index));
+  }
   /** @returns {Scope[]} */
   get scopes() { return this.madeScopes ??= this.file.scopesOf(this.row); }
   /** @returns {Custom[]} */
@@ -61,55 +74,85 @@ export class Method {
   get steps() { return this.madeSteps ??= this.customs.filter(it => it.kind === ASYNC).map(stepsOf); }
 }
 
-/** The index of the first item of a table with a key of at least `key` in a column that ascends. */
-function firstWith(numbers, width, column, key) {
-  let low = 0, high = numbers.length / width;
-  while (low < high) { const middle = low + high >> 1; if (numbers[middle * width + column] < key) low = middle + 1; else high = middle; }
-  return low;
+/** The methods of a file by their rows. One that is asked for is made once, so that it is the same one again. */
+class Methods {
+  /** @param {DebugFile} file */
+  constructor(file) { this.file = file; this.count = file.columns.bodies.length / BODY.width; this.made = new Map(); }
+  /** The index of a row, or -1. @param {number} row */
+  indexOf(row) { return rowWith(this.file.columns.bodies, BODY.width, BODY.row, row); }
+  /** @param {number} index */
+  rowAt(index) { return this.file.columns.bodies[index * BODY.width]; }
+  /** A method by its index, made for this time only. @param {number} index */
+  passing(index) { return new Method(this.file, this.rowAt(index), index); }
+  /** @param {number} index @returns {Method} */
+  at(index) {
+    const known = this.made.get(index);
+    if (known) return known;
+    const method = this.passing(index);
+    this.made.set(index, method);
+    return method;
+  }
+  /** @param {number | null | undefined} row @returns {Method | undefined} */
+  get(row) {
+    const index = this.indexOf(row ?? 0);
+    return index < 0 ? undefined : this.at(index);
+  }
+  *[Symbol.iterator]() { for (let index = 0; index < this.count; index++) yield this.at(index); }
+}
+
+/** The documents of a file by their rows, which count from 1. */
+export class Documents {
+  /** @param {{documents: Int32Array, names: Uint8Array, guids: string[]}} columns */
+  constructor({documents, names, guids}) { this.table = documents; this.names = names; this.guids = guids; this.size = documents.length / DOCUMENT.width; }
+  /** @param {number | null} row */
+  has(row) { return row !== null && row >= 1 && row <= this.size; }
+  /** @param {number | null} row @returns {Document | undefined} */
+  get(row) {
+    if (row === null || !this.has(row)) return undefined;
+    const {table, guids} = this, at = (row - 1) * DOCUMENT.width, text = column => textIn(this.names, table, at + column), name = text(DOCUMENT.name);
+    return {row, algorithm: guids[table[at + DOCUMENT.algorithm]], hash: text(DOCUMENT.hash), language: guids[table[at + DOCUMENT.language]], name,
+      text: nameOf(name)};
+  }
+  /** The name of a document that there is. @param {number} row */
+  textOf(row) { return nameOf(textIn(this.names, this.table, (row - 1) * DOCUMENT.width + DOCUMENT.name)); }
+}
+
+/** An import scope by a line each: `use K` and what it has. @param {string} line */
+function useOf(line) {
+  const words = line.split(" "), use = {kind: Number(words[1])};
+  for (let at = 2; at < words.length;) {
+    if (words[at] === "type") { use.type_table = words[at + 1]; use.type_row = Number(words[at + 2]); at += 3; continue; }
+    use[words[at]] = words[at] === "assembly" ? Number(words[at + 1]) : words[at + 1];
+    at += 2;
+  }
+  return use;
 }
 
 export class DebugFile {
   /** @param {import("./lines.js").Columns} columns @param {string} name @param {number} [key] what the session calls it */
   constructor(columns, name, key = 0) {
     this.name = name; this.key = key; this.columns = columns; this.id = columns.id; this.entry = columns.entry; this.counts = new Map(columns.counts);
-      this.numbers = columns.points;
-    this.documents = new Map(columns.documents.map(it => [it.row, Object.assign(it, {text: nameOf(it.name)})]));
-    this.imports = new Map(columns.imports.map(it => [it.row, it]));
-    /** The custom records of an owner, by its table and row: their indexes. @type {Map<number, number[]>} */
-    this.owned = new Map();
-    /** @type {Map<number, Method>} */
-    this.methods = new Map();
-    const {methods, scopes, machines, customs} = columns;
-    for (let at = 0; at < methods.length; at += 3) {
-      const method = this.method(methods[at]);
-      method.signature = methods[at + 1]; method.first = methods[at + 2];
-      method.count = (at + 3 < methods.length ? methods[at + 5] : this.pointCount) - method.first;
-    }
-    for (let at = 0; at < scopes.length; at += SCOPE.width) if (scopes[at] !== scopes[at - SCOPE.width]) this.method(scopes[at]);
-    for (let at = 0; at < machines.length; at += 2) { this.method(machines[at]).kickoff = machines[at + 1]; this.method(machines[at + 1]).move = machines[at]; }
-    for (let at = 0; at < customs.length; at += CUSTOM.width) {
-      const key = ownerKey(customs[at], customs[at + 1]), known = this.owned.get(key);
-      if (known) known.push(at / CUSTOM.width); else this.owned.set(key, [at / CUSTOM.width]);
-      if (customs[at] === 0x06) this.method(customs[at + 1]);
-    }
-    this.sorted = [...this.methods.values()].sort((one, other) => one.row - other.row);
+    this.numbers = columns.points; this.methods = new Methods(this); this.documents = new Documents(columns);
   }
-  get pointCount() { return this.numbers.length / WIDTH; }
-  /** @param {number} row */
-  method(row) {
-    let found = this.methods.get(row);
-    if (!found) this.methods.set(row, found = new Method(this, row));
-    return found;
-  }
-  /** A text of the heap, as `ppdb` prints it. @param {Int32Array} numbers @param {number} at */
-  text(numbers, at) { return ASCII_TEXT.decode(this.columns.heap.subarray(numbers[at], numbers[at + 1])); }
+  get pointCount() { return this.numbers.length / POINT.width; }
+  /** How many methods have points. */
+  get methodCount() { return this.columns.methods.length / METHOD.width; }
+  /** A text of the heap, as `ppdb` prints it. @param {Int32Array} table @param {number} at */
+  text(table, at) { return textIn(this.columns.heap, table, at); }
   /** @param {number} table @param {number} row @returns {Custom[]} */
   customsOf(table, row) {
-    const {customs, kinds} = this.columns;
-    return (this.owned.get(ownerKey(table, row)) ?? []).map(index => {
-      const at = index * CUSTOM.width, value = this.text(customs, at + CUSTOM.text);
-      return {row: index + 1, kind: orNone(kinds[customs[at + CUSTOM.kind]]), value: orNone(value), length: value === "-" ? 0 : value.length / 2};
-    });
+    const {customs, guids} = this.columns, {width} = CUSTOM, parent = parentOf(table, row), found = [];
+    for (let index = firstWith(customs, width, CUSTOM.parent, parent); customs[index * width] === parent; index++) {
+      const at = index * width, value = this.text(customs, at + CUSTOM.text);
+      found.push({row: index + 1, kind: orNone(guids[customs[at + CUSTOM.kind]]), value: orNone(value), length: value === "-" ? 0 : value.length / 2});
+    }
+    return found;
+  }
+  /** An import scope. @param {number} row */
+  importOf(row) {
+    const {imports} = this.columns, at = (row - 1) * IMPORT.width;
+    if (row < 1 || at >= imports.length) return undefined;
+    return {row, parent: imports[at + IMPORT.parent], uses: this.text(imports, at + IMPORT.text).split("\n").slice(0, -1).map(useOf)};
   }
   /** The scopes of a method, by row: they are in the order of their methods. @param {number} row @returns {Scope[]} */
   scopesOf(row) {
@@ -139,35 +182,32 @@ export class DebugFile {
   }
   /** The documents of a method, each with its first visible line there, Infinity if all its points there are hidden.
    @param {Method} method @returns {[number, number][]} */
-  firstLines(method) {
-    const {numbers} = this;
-    let document = -1, first = Infinity, found = null;
-    for (let at = method.first * WIDTH, left = method.count; left > 0; left--, at += WIDTH) {
-      if (numbers[at + 1] !== document) {
-        if (document >= 0) (found ??= new Map()).set(document, first);
-        document = numbers[at + 1]; first = found?.get(document) ?? Infinity;
-      }
-      if (numbers[at + 2] >= 0 && numbers[at + 2] < first) first = numbers[at + 2];
+  firstLines({index}) {
+    const {firsts, places} = this.columns, found = [];
+    for (let place = firsts[index]; place < firsts[index + 1]; place++) {
+      const line = places[place * PLACE.width + PLACE.line];
+      found.push(/** @type {[number, number]} */ ([places[place * PLACE.width], line === NO_LINE ? Infinity : line]));
     }
-    if (found) return [...found.set(document, first)];
-    return document < 0 ? [] : [[document, first]];
+    return found;
   }
   /** Whether a point of a method covers a line of any document. @param {Method} method @param {number} line */
-  hasLine(method, line) {
-    for (let at = method.first * WIDTH, left = method.count; left > 0; left--, at += WIDTH)
-      if (this.numbers[at + 2] >= 0 && this.numbers[at + 2] <= line && line <= this.numbers[at + 4]) return true;
+  hasLine({first, count}, line) {
+    for (let at = first * POINT.width, end = at + count * POINT.width; at < end; at += POINT.width)
+      if (this.numbers[at + POINT.line] >= 0 && this.numbers[at + POINT.line] <= line && line <= this.numbers[at + POINT.endLine]) return true;
     return false;
   }
   /** @param {number} index @returns {Point} */
   point(index) {
-    const [offset, document, line, column, endLine, endColumn] = this.numbers.subarray(index * WIDTH, (index + 1) * WIDTH);
+    const [offset, document, line, column, endLine, endColumn] = this.numbers.subarray(index * POINT.width, (index + 1) * POINT.width);
     return line < 0 ? {offset, document} : {offset, document, start_line: line, start_column: column, end_line: endLine, end_column: endColumn};
   }
-  /** The method that has a point. @param {number} index */
+  /** The method that has a point. @param {number} index @returns {Method} */
   methodOf(index) {
-    this.byPoint ??= this.sorted.filter(it => it.count);
-    return this.byPoint[countUntil(this.byPoint, it => it.first > index) - 1];
+    const {methods} = this.columns;
+    return /** @type {Method} */ (this.methods.get(methods[(firstWith(methods, METHOD.width, METHOD.first, index + 1) - 1) * METHOD.width]));
   }
+  /** The methods that have code in a document, by their indexes. @param {number} row */
+  methodsIn(row) { return listAt(this.columns.documentStarts, this.columns.documentMethods, row); }
 }
 
 // ---- What `ppdb query FILE METHOD OFFSET` answers.
@@ -181,19 +221,17 @@ const holds = (range, offset) => range !== null && range.start <= offset && offs
 /** An import scope and its parents. @param {DebugFile} file @param {number} row */
 export function importsFrom(file, row) {
   const found = [];
-  for (let it = file.imports.get(row); it; it = file.imports.get(it.parent)) found.push(it);
+  for (let it = file.importOf(row); it; it = file.importOf(it.parent)) found.push(it);
   return found;
 }
 /** @param {DebugFile} file @param {number} row @param {number} offset */
 export function answer(file, row, offset) {
-  const method = file.methods.get(row) ?? new Method(file, row);
+  const method = file.methods.get(row) ?? new Method(file, row, -1);
   return {method, point: pointAt(method, offset), scopes: method.scopes.filter(scope => holds(scope, offset)),
     hoisted: method.hoisted.flatMap(slots => slots.flatMap((slot, index) => holds(slot, offset) ? [{index, ...slot}] : []))};
 }
 /** @param {Point} point */
 export const spanWords = point => isVisible(point) ? `${point.start_line}:${point.start_column} ${point.end_line}:${point.end_column}` : "hidden";
-/** An owner of custom records as one number. */
-const ownerKey = (table, row) => table * 0x1000000 + row;
 const customLines = customs => customs.map(custom => `custom ${custom.kind ?? "-"} ${custom.value ?? "-"}`);
 const useLine = use => `use ${use.kind}` + ["alias", "assembly", "namespace"].map(key => use[key] === undefined ? "" : ` ${key} ${use[key]}`).join("") +
   (use.type_row === undefined ? "" : ` type ${use.type_table} ${use.type_row}`);
@@ -227,29 +265,46 @@ export function queryLines(file, row, offset) {
 export class DocumentPoints {
   /** @param {DebugFile} file @param {number} document */
   constructor(file, document) {
-    const {numbers} = file, found = [];
-    for (let at = 0; at < numbers.length; at += WIDTH) if (numbers[at + 1] === document && numbers[at + 2] >= 0) found.push(at / WIDTH);
-    /** Indexes of points, by start line. */
-    this.order = Int32Array.from(found).sort((one, other) => numbers[one * WIDTH + 2] - numbers[other * WIDTH + 2] || one - other);
     this.file = file;
+    /** Indexes of points, by start line. */
+    this.order = byLine(file.numbers, visibleIn(file, document));
     /** The last line that one of the points up to each in the order reaches. */
     this.reach = new Int32Array(this.order.length);
-    for (let at = 0, most = -1; at < this.order.length; at++) this.reach[at] = most = Math.max(most, this.line(at, 4));
+    for (let at = 0, most = -1; at < this.order.length; at++) this.reach[at] = most = Math.max(most, this.line(at, POINT.endLine));
   }
-  line(at, column) { return this.file.numbers[this.order[at] * WIDTH + column]; }
+  line(at, column) { return this.file.numbers[this.order[at] * POINT.width + column]; }
   /** The indexes of the points that cover some of the lines. @param {number} first @param {number} last */
   over(first, last) {
     let end = 0, high = this.order.length;
-    while (end < high) { const middle = end + high >> 1; if (this.line(middle, 2) > last) high = middle; else end = middle + 1; }
+    while (end < high) { const middle = end + high >> 1; if (this.line(middle, POINT.line) > last) high = middle; else end = middle + 1; }
     const found = [];
-    for (let at = end - 1; at >= 0 && this.reach[at] >= first; at--) if (this.line(at, 4) >= first) found.push(this.order[at]);
+    for (let at = end - 1; at >= 0 && this.reach[at] >= first; at--) if (this.line(at, POINT.endLine) >= first) found.push(this.order[at]);
     return found.sort((one, other) => one - other);
   }
   /** The first line after a line on which a point begins, or Infinity. @param {number} line */
   next(line) {
-    const at = countUntil(this.order, index => this.file.numbers[index * WIDTH + 2] > line);
-    return at < this.order.length ? this.line(at, 2) : Infinity;
+    const at = countUntil(this.order, index => this.file.numbers[index * POINT.width + POINT.line] > line);
+    return at < this.order.length ? this.line(at, POINT.line) : Infinity;
   }
+}
+/** The indexes of the visible points of a document. @param {DebugFile} file @param {number} document */
+function visibleIn(file, document) {
+  const {numbers, columns: {bodies}} = file, methods = file.methodsIn(document), first = method => bodies[method * BODY.width + BODY.first];
+  const found = new Int32Array(methods.reduce((sum, method) => sum + bodies[method * BODY.width + BODY.count], 0));
+  let count = 0;
+  for (const method of methods) for (let index = first(method), end = index + bodies[method * BODY.width + BODY.count]; index < end; index++)
+    if (numbers[index * POINT.width + POINT.document] === document && numbers[index * POINT.width + POINT.line] >= 0) found[count++] = index;
+  return found.subarray(0, count);
+}
+/** The most points that are sorted by one number each. */
+const MOST_KEYS = 0x1000000;
+/** Indexes of points, by their first lines, those of one line in their order. @param {Int32Array} numbers @param {Int32Array} indexes */
+function byLine(numbers, indexes) {
+  const line = index => numbers[index * POINT.width + POINT.line];
+  if (indexes.every((it, at) => at === 0 || line(indexes[at - 1]) <= line(it))) return indexes;
+  if (indexes.length > MOST_KEYS) return indexes.sort((one, other) => line(one) - line(other) || one - other);
+  // One number for the line and the place before, so that they are sorted without a call for each pair.
+  return Int32Array.from(Float64Array.from(indexes, (index, at) => line(index) * MOST_KEYS + at).sort(), key => indexes[key % MOST_KEYS]);
 }
 /** The places of a line, by method and offset. @param {DocumentPoints} points @param {number} line */
 export function breaksAt(points, line) {

@@ -179,7 +179,7 @@ function onClick(event) {
 function choose(row, index) {
   const offset = state[pane.side].methods.get(row).points[index].offset;
   if (pane.side === "before") { go({m: row, o: offset}); return; }
-  const subject = state.byNow.get(row);
+  const subject = state.subjects.ofNow(row);
   go({...subject?.old ? {m: subject.old.row} : {n: row}, a: offset, e: pane.row});
 }
 /** Goes to the first place of the chosen line. */

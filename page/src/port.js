@@ -32,8 +32,14 @@ export class Port {
   }
   /** @param {string} name @param {...any} words @returns {Promise<any>} */
   ask(name, ...words) {
+    return this.send(name, words, []);
+  }
+  /** Hands files to the worker: their bytes are not copied. @param {{name: string, bytes: Uint8Array}[]} files @param {string[]} [shows] */
+  add(files, shows) { return this.send("add", [files, shows], files.map(it => it.bytes.buffer)); }
+  /** @param {string} name @param {any[]} words @param {Transferable[]} handed @returns {Promise<any>} */
+  send(name, words, handed) {
     const id = ++this.last;
-    return new Promise((done, fail) => { this.open.set(id, {done, fail}); this.worker.postMessage({id, name, words}); });
+    return new Promise((done, fail) => { this.open.set(id, {done, fail}); this.worker.postMessage({id, name, words}, handed); });
   }
   /** Ends all work, and begins again with a new worker. */
   stop() {

@@ -3,9 +3,15 @@ import {readAssembly} from "./assembly.js";
 import {isColoured, statesOf} from "./colours.js";
 import {guess} from "./guesses.js";
 import {LANGUAGES} from "./kinds.js";
-import {readLines, WIDTH} from "./lines.js";
+import {readLines} from "./lines.js";
+import {readMap} from "./maps.js";
+import {DebugFile, Documents} from "./model.js";
+import {Names} from "./names.js";
+import {Comparison, paired, Rewriting} from "./rewriting.js";
 import {decoded, inflated, linesOf, LONGEST, sharedParts, stateOf, unpacked, unpackedLength} from "./sources.js";
-import {baseName, LONGEST_FILE, nameOf, tooLong} from "./text.js";
+import {surveyOf} from "./survey.js";
+import {inOrder, METHOD, POINT} from "./tables.js";
+import {baseName, LONGEST_FILE, tooLong} from "./text.js";
 
 /** @typedef {{status: number, text: Uint8Array, out: Uint8Array}} Answer the exit status, standard output and the file that is written */
 /** @typedef {{run: (words: string[], files: {name: string, bytes: Uint8Array}[]) => Answer}} Engine */
@@ -26,11 +32,12 @@ export function kindOf(bytes, name = "") {
   return /\.pdb$/i.test(name) ? "pdb" : "source";
 }
 
+let inputCount = 0;
 /** A file that was given, or one that was taken out of an assembly or made by a map. */
 class Input {
   /** @param {string} name @param {Uint8Array} bytes @param {string} note */
   constructor(name, bytes, note = "") {
-    this.name = name; this.bytes = bytes; this.note = note; this.kind = kindOf(bytes, name);
+    this.name = name; this.bytes = bytes; this.note = note; this.kind = kindOf(bytes, name); this.key = ++inputCount; this.isHeard = false;
     /** @type {ReturnType<typeof readAssembly>} */
     this.assembly = this.kind === "assembly" ? readAssembly(bytes) : null;
   }
@@ -44,19 +51,27 @@ let sideCount = 0;
 class Side {
   /** @param {Input} input @param {Answer} answer what `show` said */
   constructor(input, answer) {
-    this.input = input; this.status = answer.status; this.key = ++sideCount; this.isHeard = false;
+    this.input = input; this.status = answer.status; this.key = ++sideCount;
     this.line = answer.status ? WORDS.decode(answer.text).trim() : "accepted";
-    const read = answer.status ? null : readLines(answer.text);
-    this.columns = read?.columns ?? null; this.embedded = read?.embedded ?? new Map();
+    /** Its tables, until the page has them. @type {import("./lines.js").Columns | null} */
+    this.columns = null;
+    /** @type {Map<number, Uint8Array>} */
+    this.embedded = new Map();
+    if (!answer.status) this.take(answer.text);
     /** @type {Map<number, object>} */
     this.sources = new Map();
-    this.insisted = new Set(); this.kept = 0; this.counted = new Set();
+    this.insisted = new Set(); this.kept = 0; this.counted = new Set(); this.isHeard = false;
     /** How many bytes embedded sources may still unpack to: a small file cannot ask for hours of work. */
     this.left = UNPACKED + UNPACKED_EACH * input.bytes.length;
     /** @type {Input | null} */
     this.assembly = null;
   }
-  get id() { return this.columns?.id; }
+  /** Reads what `show` said, and keeps what is asked for when the page has the tables. @param {Uint8Array} text */
+  take(text) {
+    const {columns, embedded} = readLines(text);
+    this.columns = columns; this.embedded = embedded; this.id = columns.id; this.documents = new Documents(columns); this.starts = startsOf(columns);
+    this.methodRows = columns.counts.find(([table]) => table === "06")?.[1] ?? 0;
+  }
   /** A note if an embedded source is too long together with those that were asked for before. @param {number} row @param {Uint8Array} value */
   room(row, value) {
     const length = unpackedLength(value);
@@ -80,6 +95,8 @@ export class Session {
     /** @type {{before: Side | null, after: Side | null}} */
     this.sides = {before: null, after: null};
     this.map = null; this.mapLine = ""; this.chosen = []; this.made = null; this.problem = "";
+    /** What the last survey was of, and whether the page has it. @type {{of: any[], isHeard: boolean}} */
+    this.surveyed = {of: [], isHeard: false};
   }
   /** What the engine answers. @param {string[]} words @param {...Input} inputs @returns {Answer} */
   ask(words, ...inputs) { return this.engine.run(words, inputs.map(it => it.file)); }
@@ -154,7 +171,7 @@ export class Session {
     const name = `${baseName(fits.from.name).replace(/\.pdb$/i, "")}.remapped.pdb`;
     this.made = {name, bytes: fits.answer.out};
     const known = this.sides.after?.input;
-    const isSame = known?.note && known.bytes.length === fits.answer.out.length && known.bytes.every((it, index) => it === fits.answer.out[index]);
+    const isSame = known?.note && isSameBytes(known.bytes, fits.answer.out);
     return [fits.from, fits.to ?? (isSame ? known : new Input(name, fits.answer.out, "made here by the map"))];
   }
   /** @param {Input} input @param {{before: Side | null, after: Side | null}} known */
@@ -166,7 +183,7 @@ export class Session {
    If both sides have one ID, or the rewritten assembly kept that of before, it is that of after. */
   attach() {
     const {before, after} = this.sides, assemblies = this.inputs.filter(it => it.assembly), has = (it, side) => it.assembly.debug.ids.includes(side.id);
-    const isSize = (it, side) => it.assembly.names.count === (side.columns?.counts.find(([table]) => table === "06")?.[1] ?? 0);
+    const isSize = (it, side) => it.assembly.names.count === (side.methodRows ?? 0);
     const fits = side => side?.id ? assemblies.filter(it => has(it, side) && isSize(it, side)) : [];
     for (const side of [before, after]) if (side) side.assembly = fits(side)[0] ?? null;
     if (!before || !after) return;
@@ -177,25 +194,57 @@ export class Session {
   /** What the page is told of all this. */
   told(files) {
     const sources = this.inputs.filter(it => it.kind === "source");
-    const {problem} = this;
+    const {problem} = this, survey = this.survey();
     this.problem = "";
-    return {before: this.tellSide(this.sides.before), after: this.tellSide(this.sides.after), map: this.map && WORDS.decode(this.map.bytes),
-      mapName: this.map?.name ?? null, mapLine: this.mapLine, canRemap: this.made !== null, problem, sources: sources.length,
+    return {before: this.tellSide(this.sides.before), after: this.tellSide(this.sides.after), ...survey, mapName: this.map?.name ?? null, mapLine: this.mapLine, canRemap: this.made !== null, problem, sources: sources.length,
       files: files.map(it => ({name: it.name, size: it.bytes.length, note: it.note, line: files.length > 2 ? this.verdict(it) : ""})),
       inputs: this.inputs.map(it => ({name: it.name, size: it.bytes.length, kind: it.kind, isRead: it.kind !== "assembly" || it.assembly !== null,
         path: it.assembly?.debug.path ?? "", hasInner: Boolean(it.assembly?.debug.embedded), fits: this.isUsed(it)}))};
   }
+  /** What the page asks of all methods at once, and the tables of the map; only once, unless it is of other files or names. */
+  survey() {
+    const [before, after] = [this.sides.before, this.sides.after].map(side => side?.status === 0 ? side : null);
+    const map = after && this.map, of = [before, after, map, ...map || !after ? [] : [before?.assembly, after.assembly]];
+    if (this.surveyed.isHeard && isSameList(this.surveyed.of, of)) return {survey: null, map: null, isMapped: Boolean(map), isSurveyed: true};
+    this.surveyed = {of, isHeard: false};
+    if (!before) return {survey: null, map: null, isMapped: false, isSurveyed: false};
+    const [old, now] = [before, after].map(side => side && this.fileOf(side)), read = map && readMap(WORDS.decode(map.bytes));
+    const rewriting = !now ? null : read ? new Rewriting(read.tables) : this.compared(old, now);
+    return {survey: surveyOf(old, now, rewriting, read?.renamed ?? new Map()), map: read?.tables ?? null, isMapped: Boolean(map), isSurveyed: false};
+  }
+  /** The tables of a side. If the page has them, the file is read again. @param {Side} side */
+  fileOf(side) {
+    const columns = side.columns ?? readLines(this.ask(["show", side.input.word], side.input).text).columns;
+    return new DebugFile(columns, side.input.name);
+  }
+  /** Two files without a map. */
+  compared(before, after) {
+    const names = {};
+    for (const which of /** @type {const} */ (["before", "after"])) {
+      const {assembly} = this.sides[which];
+      names[which] = assembly && new Names(assembly.assembly.names);
+    }
+    const {pairs, isByName} = paired(before, after, (side, row) => names[side]?.whole(row));
+    return new Comparison(before, after, pairs, isByName);
+  }
   /** What was told has come to the page. */
-  heard() { for (const side of [this.sides.before, this.sides.after]) if (side) side.isHeard = true; }
+  heard() {
+    for (const side of [this.sides.before, this.sides.after]) {
+      if (!side) continue;
+      side.isHeard = true; side.columns = null;
+      if (side.assembly) side.assembly.isHeard = true;
+    }
+    this.surveyed.isHeard = true;
+  }
   /** What `verify` says of a file, of several to choose from. @param {Input} input */
   verdict(input) { return input.line ??= WORDS.decode(this.ask(["verify", input.word], input).text).trim(); }
   isUsed(input) { return [this.sides.before, this.sides.after].some(side => side && (side.input === input || side.assembly === input)); }
   /** What the page is told of a side: its columns only once, since they are long. @param {Side | null} side */
   tellSide(side) {
     if (!side) return null;
-    const {input: {name, note, bytes, kind}, key, line, status, assembly, embedded} = side, columns = side.isHeard ? null : side.columns;
-    return {name, note, size: bytes.length, kind, key, line, status, columns, names: assembly?.assembly.names ?? null, assembly: assembly?.name ?? null,
-      embedded: [...embedded.keys()], isOne: side === this.sides.after && this.sides.before?.input === side.input};
+    const {input: {name, note, bytes, kind}, key, line, status, assembly} = side, columns = side.isHeard ? null : side.columns;
+    return {name, note, size: bytes.length, kind, key, line, status, columns, assembly: assembly?.name ?? null,
+      names: assembly && {key: assembly.key, tables: assembly.isHeard ? null : assembly.assembly.names}, isOne: side === this.sides.after && this.sides.before?.input === side.input};
   }
 
   // ---- Sources.
@@ -204,7 +253,7 @@ export class Session {
   async bytesOf(side, document) {
     const value = side.embedded.get(document.row), inside = value && (side.room(document.row, value) ?? await unpacked(value));
     if (inside && "bytes" in inside) return {bytes: inside.bytes, from: "embedded in the debug file", state: await stateOf(document, inside.bytes)};
-    const name = nameOf(document.name), files = this.inputs.filter(it => it.kind === "source" && sharedParts(it.name, name) > 0);
+    const name = document.text, files = this.inputs.filter(it => it.kind === "source" && sharedParts(it.name, name) > 0);
     let best = null;
     for (const file of files) {
       if (file.bytes.length > LONGEST) continue;
@@ -216,14 +265,14 @@ export class Session {
   }
   /** The source of a document, once it is asked for. @param {"before" | "after"} which @param {number} row @param {boolean} insists */
   async source(which, row, insists = false) {
-    const side = this.sides[which], document = side?.columns?.documents.find(it => it.row === row);
+    const side = this.sides[which], document = side?.documents?.get(row);
     if (!document) return null;
     if (insists) { side.insisted.add(row); side.sources.delete(row); }
     const known = side.sources.get(row);
     if (known) return known;
     const found = await this.bytesOf(side, document), isShown = found.bytes && (found.state !== "differs" || side.insisted.has(row));
     const made = {state: found.state ?? "none", from: found.from ?? "", note: found.note ?? "", canInsist: Boolean(found.bytes && !isShown),
-      ...isShown ? this.laidOut(decoded(found.bytes), LANGUAGES[document.language] ?? byEnding(nameOf(document.name))) : {}};
+      ...isShown ? this.laidOut(decoded(found.bytes), LANGUAGES[document.language] ?? byEnding(document.text)) : {}};
     if (side.kept > KEPT) { side.sources.clear(); side.kept = 0; }
     side.kept += 2 * (made.text?.length ?? 0);
     side.sources.set(row, made);
@@ -240,7 +289,7 @@ export class Session {
   async search(which, text) {
     const side = this.sides[which], hits = [], pattern = new RegExp(text.replace(/[.*+?^${}()|[\]\\]/g, "\\$&"), "giu");
     let count = 0;
-    for (const {row} of side?.columns?.documents ?? []) {
+    for (let row = 1; row <= (side?.documents?.size ?? 0); row++) {
       const source = await this.source(which, row);
       if (!source?.text) continue;
       let line = 0, last = -1;
@@ -257,15 +306,20 @@ export class Session {
   }
   /** The names that sources give to the methods of a side, document by document. @param {"before" | "after"} which */
   async *guesses(which) {
-    const side = this.sides[which], byDocument = new Map();
-    if (!side?.columns) return;
-    for (const [row, point] of firstPoints(side.columns)) (byDocument.get(point.document) ?? byDocument.set(point.document, []).get(point.document))
-      .push([row, point]);
-    for (const [document, methods] of byDocument) {
-      const source = await this.source(which, document);
+    const side = this.sides[which];
+    if (!side?.starts || !side.embedded.size && !this.inputs.some(it => it.kind === "source")) return;
+    const {starts} = side;
+    for (let at = 0, next = 0; at < starts.length; at = next) {
+      const document = starts[at], source = await this.source(which, document);
+      for (next = at; starts[next] === document;) next += START.width;
       if (!source?.text) continue;
       const {text, lines} = source, lineAt = line => text.slice(lines[2 * line - 2] ?? 0, Math.min(lines[2 * line - 1] ?? 0, (lines[2 * line - 2] ?? 0) + 500));
-      yield methods.map(([row, point]) => [row, guess(lineAt, point)]).filter(([, found]) => found);
+      const found = [];
+      for (let its = at; its < next; its += START.width) {
+        const guessed = guess(lineAt, {start_line: starts[its + START.line], start_column: starts[its + START.column]});
+        if (guessed) found.push([starts[its + START.row], guessed]);
+      }
+      yield found;
     }
   }
 
@@ -291,14 +345,26 @@ export class Session {
 function byEnding(name) {
   return {cs: "C#", vb: "Visual Basic", fs: "F#", fsx: "F#"}[name.split(".").pop().toLowerCase()] ?? "";
 }
-/** The first visible point of each method that has one. @param {import("./lines.js").Columns} columns */
-function* firstPoints({methods, points}) {
-  for (let at = 0; at < methods.length; at += 3) {
-    const end = at + 3 < methods.length ? methods[at + 5] : points.length / WIDTH;
-    for (let index = methods[at + 2]; index < end; index++) {
-      if (points[index * WIDTH + 2] < 0) continue;
-      yield [methods[at], {document: points[index * WIDTH + 1], start_line: points[index * WIDTH + 2], start_column: points[index * WIDTH + 3]}];
-      break;
-    }
+/** Where a method begins. */
+const START = {width: 4, document: 0, row: 1, line: 2, column: 3};
+/** The first visible point of each method that has one, document by document. @param {import("./lines.js").Columns} columns */
+function startsOf({methods, points}) {
+  const found = new Int32Array(methods.length / METHOD.width * START.width), {width} = POINT;
+  let length = 0;
+  for (let at = 0; at < methods.length; at += METHOD.width) {
+    const next = at + METHOD.width, end = next < methods.length ? methods[next + METHOD.first] * width : points.length;
+    let first = methods[at + METHOD.first] * width;
+    while (first < end && points[first + POINT.line] < 0) first += width;
+    if (first >= end) continue;
+    found[length] = points[first + POINT.document]; found[length + START.row] = methods[at];
+    found[length + START.line] = points[first + POINT.line]; found[length + START.column] = points[first + POINT.column];
+    length += START.width;
   }
+  return inOrder(found.subarray(0, length), START.width);
+}
+const isSameList = (one, other) => one.length === other.length && one.every((it, index) => it === other[index]);
+function isSameBytes(one, other) {
+  if (one.length !== other.length) return false;
+  for (let at = 0; at < one.length; at++) if (one[at] !== other[at]) return false;
+  return true;
 }

@@ -1,7 +1,8 @@
 /** What the page knows, and where it is. */
 import {DebugFile} from "./model.js";
+import {Names} from "./names.js";
 import {Comparison, Rewriting} from "./rewriting.js";
-import {changeOf, subjectsOf} from "./subjects.js";
+import {Subjects} from "./subjects.js";
 
 /** @typedef {"before" | "after"} SideName */
 /** @typedef {{state: string, from: string, note: string, canInsist: boolean, text?: string, lines?: Int32Array, language?: string,
@@ -16,22 +17,16 @@ export const state = {
   after: null,
   /** @type {Rewriting | Comparison | null} */
   rewriting: null,
-  /** @type {import("./subjects.js").Subject[]} */
-  subjects: [],
-  /** The subjects by the rows of their methods before and after. @type {Map<number, import("./subjects.js").Subject>} */
-  byOld: new Map(),
-  /** @type {Map<number, import("./subjects.js").Subject>} */
-  byNow: new Map(),
+  /** @type {Subjects | null} */
+  subjects: null,
+  /** The names by the assembly of each side. @type {{before: Names | null, after: Names | null}} */
+  names: {before: null, after: null},
   /** The sources that were asked for, by side and row. @type {Map<string, Source>} */
   sources: new Map(),
   /** How often names have come. */
   age: 0,
   /** The guessed names by side. */
   guesses: {before: new Map(), after: new Map()},
-  /** The documents of before by the names that they have after. @type {Map<string, number> | null} */
-  named: null,
-  /** How the list calls the documents of a side. */
-  keys: {before: new Map(), after: new Map()},
   /** The chosen place: a method before (m) or only after (n), an offset before (o) or after (a), a document before (d) or after (e), a line. */
   place: {m: null, n: null, o: null, a: null, d: null, e: null, l: null},
   zoom: 1};
@@ -39,7 +34,11 @@ export const state = {
 /** The debug file of a side. @param {SideName} side @returns {DebugFile | null} */
 export const fileOf = side => state[side];
 
-/** Takes what the session says. It sends the columns of a debug file once, and then only its key. @param {any} told */
+/** Names that have come, by the numbers of their assemblies. @type {Map<number, Names>} */
+const known = new Map();
+
+/** Takes what the session says. It sends the columns of a debug file, the names of an assembly and a survey once, and then only their numbers.
+ @param {any} told */
 export function take(told) {
   const files = [state.before, state.after];
   const kept = side => {
@@ -49,33 +48,25 @@ export function take(told) {
     files.unshift(file);
     return file;
   };
-  const [before, after] = [kept("before"), kept("after")], maps = () => ({before: new Map(), after: new Map()});
-  Object.assign(state, {told, before, after, sources: new Map(), guesses: maps(), keys: maps(), named: null, byOld: new Map(), byNow: new Map()});
+  const [before, after] = [kept("before"), kept("after")];
+  Object.assign(state, {told, before, after, sources: new Map(), guesses: {before: new Map(), after: new Map()},
+    names: {before: namesOf(told.before), after: namesOf(told.after)}});
   state.age++;
-  state.rewriting = rewritingOf(told);
-  state.subjects = before ? subjectsOf() : [];
-  for (const it of state.subjects) {
-    if (it.old) state.byOld.set(it.old.row, it);
-    if (it.now) state.byNow.set(it.now.row, it);
-  }
-  if (state.rewriting) for (const it of state.subjects) it.change = changeOf(it);
+  if (told.isSurveyed) return;
+  state.subjects = before && told.survey ? new Subjects(before, after, told.survey) : null;
+  state.rewriting = before && after && told.survey ? told.map ? new Rewriting(told.map) : new Comparison(before, after, told.survey.now, told.survey.isByName)
+    : null;
 }
-function rewritingOf(told) {
-  const {before, after} = state;
-  if (!before || !after) return null;
-  if (told.map) return new Rewriting(told.map);
-  const made = new Comparison(after, before, (side, row) => rawName(side, row));
-  made.olds = before.methods;
-  return made;
+/** @param {any} said what the session says of a side @returns {Names | null} */
+function namesOf(said) {
+  if (!said?.names) return null;
+  const {key, tables} = said.names;
+  if (tables) known.set(key, new Names(tables));
+  return known.get(key) ?? null;
 }
 
 /** The whole name of a method by the assembly of its side. @param {SideName} side @param {number} row @returns {string | undefined} */
-export function rawName(side, row) {
-  const names = state.told?.[side]?.names, found = names?.rows[row];
-  if (!found) return undefined;
-  const {space, name} = names.types[found[0]];
-  return `${space ? `${space}.` : ""}${name}.${found[1]}`;
-}
+export const rawName = (side, row) => state.names[side]?.whole(row);
 /** The source of a document, if it was asked for. @param {SideName} side @param {number} row @returns {Source | undefined} */
 export const sourceOf = (side, row) => state.sources.get(`${side}:${row}`);
 

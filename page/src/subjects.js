@@ -1,6 +1,7 @@
 /** The subjects of the page: a method before a rewrite, the one that it became, or both; their names, and what changed. */
 import {isVisible} from "./model.js";
 import {lineOf, sourceOf, state} from "./state.js";
+import {CHANGES} from "./survey.js";
 import {nameOf, plural} from "./text.js";
 
 /** @typedef {import("./model.js").Method} Method */
@@ -12,26 +13,58 @@ const SAME = Object.freeze({kind: "same", words: "", lost: 0, fresh: 0});
 
 /** A method before, after, or both. There may be many: what is known of one is made when it is asked for. */
 export class Subject {
-  /** @param {Method | null} old @param {Method | null} now */
-  constructor(old, now) {
-    this.old = old; this.now = now; this.change = SAME;
-    /** @type {[string, number][] | null} */
-    this.madeLines = null;
+  /** @param {Subjects} all @param {number} index @param {Method | null} old @param {Method | null} now */
+  constructor(all, index, old, now) {
+    this.all = all; this.index = index; this.old = old; this.now = now;
     /** @type {Title | null} */
     this.title = null;
     this.age = -1;
   }
-  /** The lines on which it begins, by document. */
-  get lines() { return this.madeLines ??= firstLines(this); }
+  /** The lines on which it begins, by the keys of documents. @returns {[number, number][]} */
+  get lines() { return this.madeLines ??= this.all.linesOf(this); }
+  /** @returns {Change} */
+  get change() { return this.madeChange ??= this.all.changeOf(this.index); }
 }
 
-/** @returns {Subject[]} */
-export function subjectsOf() {
-  const {before, after, rewriting} = state;
-  const found = before.sorted.map(old => new Subject(old, (rewriting && after.methods.get(rewriting.image(old.row))) ?? null));
-  if (!after) return found;
-  const known = new Set(found.map(it => it.now));
-  return [...found, ...after.sorted.filter(it => !known.has(it)).map(now => new Subject(null, now))];
+/** All subjects: the methods before, and those that are only after. One that is asked for is made once, so that it is the same one again. */
+export class Subjects {
+  /** @param {import("./model.js").DebugFile} before @param {import("./model.js").DebugFile | null} after @param {import("./survey.js").Survey} survey */
+  constructor(before, after, survey) {
+    this.before = before; this.after = after; this.survey = survey; this.olds = before.methods.count; this.count = this.olds + survey.added.length;
+    this.made = new Map();
+  }
+  /** A subject by its index, made for this time only. @param {number} index */
+  passing(index) { return this.of(index, (methods, at) => methods.passing(at)); }
+  /** @param {number} index @param {(methods: any, at: number) => Method} get */
+  of(index, get) {
+    const {before, after, olds, survey: {now, added}} = this, at = index < olds ? now ? now[index] : -1 : added[index - olds];
+    return new Subject(this, index, index < olds ? get(before.methods, index) : null, at < 0 ? null : get(/** @type {any} */ (after).methods, at));
+  }
+  /** @param {number} index @returns {Subject} */
+  at(index) {
+    const known = this.made.get(index);
+    if (known) return known;
+    const subject = this.of(index, (methods, at) => methods.at(at));
+    this.made.set(index, subject);
+    return subject;
+  }
+  /** The subject of a method before. @param {number} row */
+  ofOld(row) { const index = this.before.methods.indexOf(row); return index < 0 ? undefined : this.at(index); }
+  /** The subject of a method after. @param {number} row */
+  ofNow(row) { const index = this.after ? this.after.methods.indexOf(row) : -1; return index < 0 ? undefined : this.at(this.survey.origins[index]); }
+  /** @param {number} index @returns {Change} */
+  changeOf(index) {
+    const {kinds} = this.survey, kind = kinds ? CHANGES[kinds[index]] : "same", lost = this.survey.lost[index], fresh = this.survey.fresh[index];
+    if (kind === "same") return SAME;
+    if (kind === "added" || kind === "dropped") return {kind, words: kind === "added" ? "new" : kind, lost, fresh};
+    return {kind, words: [lost && `${lost} lost`, fresh && `${fresh} new`].filter(it => it).join(", ") || "changed", lost, fresh};
+  }
+  /** @param {Subject} subject @returns {[number, number][]} */
+  linesOf(subject) {
+    const method = bodyOf(subject), {keys} = this.survey;
+    return method.file.firstLines(method).map(([document, line]) => [subject.old ? document : keys[document], line]);
+  }
+  *[Symbol.iterator]() { for (let index = 0; index < this.count; index++) yield this.at(index); }
 }
 export const sideOf = subject => subject.old ? "before" : "after";
 /** @param {Subject} subject @returns {Method} */
@@ -40,8 +73,8 @@ export const bodyOf = subject => subject.old ?? subject.now;
 export const placeOf = subject => subject.old ? {m: subject.old.row} : {n: subject.now.row};
 /** @param {{m: number | null, n: number | null}} place @returns {Subject | undefined} */
 export function subjectAt({m, n}) {
-  if (m !== null) return state.byOld.get(m);
-  const found = n === null ? undefined : state.byNow.get(n);
+  if (m !== null) return state.subjects?.ofOld(m);
+  const found = n === null ? undefined : state.subjects?.ofNow(n);
   return found && !found.old ? found : undefined;
 }
 
@@ -49,12 +82,12 @@ export function subjectAt({m, n}) {
 
 /** The name of a method by an assembly: that of its own side, otherwise that of the method it became or was. */
 function known(side, row) {
-  const names = state.told?.[side]?.names;
-  if (names) return names.rows[row] ? {names, row} : null;
-  const other = side === "before" ? "after" : "before", others = state.told?.[other]?.names;
+  const names = state.names[side];
+  if (names) return names.has(row) ? {names, row} : null;
+  const others = state.names[side === "before" ? "after" : "before"];
   if (!others || !state.rewriting) return null;
-  const image = side === "before" ? state.rewriting.image(row) : state.byNow?.get(row)?.old?.row;
-  return others.rows[image] ? {names: others, row: image} : null;
+  const image = side === "before" ? state.rewriting.image(row) : state.subjects?.ofNow(row)?.old?.row;
+  return others.has(image) ? {names: others, row: /** @type {number} */ (image)} : null;
 }
 /** What a compiler calls code that has no name of its own: a lambda, a local function, the type around either. */
 function spoken(name) {
@@ -62,14 +95,19 @@ function spoken(name) {
   if (local) return `${local[2]} in ${local[1]}`;
   return lambda ? `lambda in ${lambda[1] || "a field"}` : name;
 }
+/** A type as the list has it, without those that a compiler made in it. @param {import("./names.js").Names} names @param {number} index */
+function headOf(names, index) {
+  const {name, space} = names.type(index);
+  return {type: name.replace(/\.<.*/, "") || name, space};
+}
 /** @param {"before" | "after"} side @param {Method} method @returns {Title} */
 export function titleOf(side, method) {
   const found = known(side, method.kickoff || method.row), guesses = state.guesses[side];
   const guessed = guesses.get(method.row) ?? guesses.get(method.kickoff) ?? guesses.get(method.move);
   const tag = method.kickoff ? method.steps.length ? "async" : "iterator" : "";
   if (found) {
-    const [type, name] = found.names.rows[found.row], {name: typeName, space} = found.names.types[type];
-    return {name: spoken(name), tag, type: typeName.replace(/\.<.*/, "") || typeName, space, isGuess: false, isKnown: true};
+    const {type, space} = headOf(found.names, found.names.typeOf(found.row));
+    return {name: spoken(found.names.method(found.row)), tag, type, space, isGuess: false, isKnown: true};
   }
   const bare = method.kickoff ? `MoveNext of method ${method.kickoff}` : `method ${method.row}`;
   return {name: guessed?.name || guessed?.text || bare, tag: guessed ? tag : "", type: "", space: "", isGuess: Boolean(guessed), isKnown: false};
@@ -78,6 +116,17 @@ export function titleOf(side, method) {
 export function isNamed(subject) {
   const side = sideOf(subject), method = bodyOf(subject);
   return known(side, method.kickoff || method.row) !== null;
+}
+/** The type under which the list has a subject whose name is known: the names, and the index of the type in them; null if it is not known.
+ @param {Subject} subject */
+export function typeOf(subject) {
+  const side = sideOf(subject), method = bodyOf(subject), found = known(side, method.kickoff || method.row);
+  return found && {names: found.names, index: found.names.typeOf(found.row)};
+}
+/** The text by which types are one in the list. @param {import("./names.js").Names} names @param {number} index */
+export function typeKey(names, index) {
+  const {type, space} = headOf(names, index);
+  return `${space}.${type}`;
 }
 /** The title of a subject, made again only if other names have come. @param {Subject} subject @returns {Title} */
 export function titleAt(subject) {
@@ -104,52 +153,18 @@ export function cameFrom({old}) {
   }
   return found;
 }
-/** @param {Subject} subject @returns {Change} */
-export function changeOf(subject) {
-  const {old, now} = subject, {rewriting} = state, none = {lost: 0, fresh: 0};
-  if (!rewriting) return SAME;
-  if (!old) return {kind: "added", words: "new", ...none};
-  if (rewriting.image(old.row) === null) return {kind: "dropped", words: "dropped", lost: old.count, fresh: 0};
-  const from = cameFrom(subject);
-  let lost = 0, fresh = 0;
-  for (let index = 0; index < old.count; index++) lost += Number(isLost(old, index));
-  for (let index = 0; now && index < now.count; index++) fresh += Number(!from.has(now.offsetAt(index)));
-  const words = [lost && `${lost} lost`, fresh && `${fresh} new`].filter(it => it).join(", ");
-  if (words) return {kind: lost ? "lost" : "changed", words, lost, fresh};
-  return rewriting.isChanged(old, now) ? {kind: "changed", words: "changed", ...none} : SAME;
-}
-/** What the header counts. */
-export function totals() {
-  const count = kind => state.subjects.filter(it => it.change.kind === kind).length, sum = key => state.subjects.reduce((all, it) => all + it.change[key], 0);
-  return {all: state.subjects.length, changed: state.subjects.filter(it => it.change.kind !== "same").length, same: count("same"), dropped: count("dropped"),
-    added: count("added"), lost: sum("lost"), fresh: sum("fresh")};
-}
-
 // ---- Documents of the two sides.
 
 /** The document before a rewrite for one of a side: another tool may number the documents otherwise. @returns {number | null} */
 export function documentOf(side, row) {
   if (side === "before") return row;
-  // Of several documents with one name the first counts.
-  state.named ??= new Map([...state.before.documents.values()].reverse().map(it => [state.rewriting.documentName(it.text), it.row]));
-  return state.named.get(state.after.documents.get(row)?.text) ?? null;
+  const key = state.subjects?.survey.keys[row] ?? 0;
+  return key > 0 && key <= /** @type {any} */ (state.before).documents.size ? key : null;
 }
-/** How the list calls a document of a side: `before:ROW`, or `after:ROW` of one that is only there. */
-function keyOf(side, document) {
-  const keys = state.keys[side];
-  if (keys.has(document)) return keys.get(document);
-  const row = documentOf(side, document), key = row === null ? `after:${document}` : `before:${row}`;
-  keys.set(document, key);
-  return key;
-}
-/** The lines on which a method begins, by the keys of documents. @param {Subject} subject @returns {[string, number][]} */
-function firstLines(subject) {
-  const side = sideOf(subject), method = bodyOf(subject);
-  const found = method.file.firstLines(method).map(([document, line]) => /** @type {[string, number]} */ ([keyOf(side, document), line]));
-  if (found.length < 2) return found;
-  // A hidden point alone does not bring a method to a document if it has others elsewhere.
-  const seen = found.filter(([, line]) => line < Infinity);
-  return seen.length ? seen : found.slice(0, 1);
+/** The side and the row of a document by its key. @param {number} key @returns {{side: "before" | "after", row: number}} */
+export function documentAt(key) {
+  const {size} = /** @type {any} */ (state.before).documents;
+  return key > size ? {side: "after", row: key - size} : {side: "before", row: key};
 }
 /** The points that the map makes of those of a method and that the file after does not have, and the other way round, in words. @param {Subject} subject */
 export function differenceOf({old, now}) {

@@ -27,9 +27,13 @@ const DOES = {
 
 /** Whether memory ended: for an array, for the module, or for the copy of a message. */
 const isMemory = wrong => wrong instanceof RangeError || wrong?.cause instanceof RangeError || wrong?.name === "DataCloneError";
-/** What is handed over and not copied: the worker has no more use for these columns. */
-const HANDED = ["scopes", "variables", "constants", "machines", "customs", "heap"];
-const handed = value => [value?.before?.columns, value?.after?.columns].flatMap(it => it ? HANDED.map(name => it[name].buffer) : []);
+/** What is handed over and not copied: the worker has no more use for these tables. It keeps those of documents. */
+const HANDED = /** @type {const} */ (["methods", "points", "scopes", "variables", "constants", "imports", "machines", "customs", "heap", "bodies", "firsts",
+  "places", "documentStarts", "documentMethods"]);
+/** The buffers of some tables, each once. */
+const buffersOf = tables => [...new Set(tables.filter(it => ArrayBuffer.isView(it)).map(it => it.buffer))];
+const handed = value => buffersOf([...[value?.before?.columns, value?.after?.columns].flatMap(it => it ? HANDED.map(name => it[name]) : []),
+  ...Object.values(value?.survey ?? {}), ...Object.values(value?.map ?? {})]);
 async function answer({id, name, words}) {
   try {
     const value = await DOES[name](...words);

@@ -4,7 +4,9 @@ import {join} from "node:path";
 import test from "node:test";
 import {readLines} from "../src/lines.js";
 import {breakLines, DebugFile, isVisible, queryLines, spanWords} from "../src/model.js";
+import {readMap} from "../src/maps.js";
 import {commonOf, Rewriting} from "../src/rewriting.js";
+import {CONSTANT, CUSTOM, DOCUMENT, IMPORT, METHOD, POINT, SCOPE, VARIABLE} from "../src/tables.js";
 import {bytesOf, chance, corpus, engine, lines, ppdb, ROOT} from "./program.mjs";
 
 const read = file => new DebugFile(readLines(ppdb(["show", file]).text).columns, file);
@@ -12,7 +14,7 @@ const ASKED = 40;
 const some = list => list.length <= ASKED ? list : list.filter((_, index) => index % Math.ceil(list.length / ASKED) === 0);
 
 for (const name of corpus()) test(`answers of ${name}`, () => {
-  const path = join(ROOT, name), file = read(path), points = file.sorted.flatMap(method => method.points.map(point => ({method, point})));
+  const path = join(ROOT, name), file = read(path), points = [...file.methods].flatMap(method => method.points.map(point => ({method, point})));
   for (const {method, point} of some(points)) for (const offset of [point.offset, point.offset + 1])
     assert.deepEqual(queryLines(file, method.row, offset), lines(ppdb(["query", path, String(method.row), String(offset)]).text));
   for (const {point} of some(points.filter(it => isVisible(it.point)))) for (const line of [point.start_line, point.end_line + 1]) {
@@ -26,19 +28,19 @@ test("every line of show is taken", () => {
     const {text} = ppdb(["show", join(ROOT, name)]), {columns} = readLines(text), count = word => lines(text).filter(it => it.startsWith(`${word} `)).length;
     assert.deepEqual([count("point"), count("method"), count("scope"), count("variable"), count("constant"), count("custom"), count("document"),
       count("import")],
-      [columns.points.length / 6, columns.methods.length / 3, columns.scopes.length / 4, columns.variables.length / 5, columns.constants.length / 3,
-        columns.customs.length / 5, columns.documents.length, columns.imports.length]);
+      [[columns.points, POINT], [columns.methods, METHOD], [columns.scopes, SCOPE], [columns.variables, VARIABLE], [columns.constants, CONSTANT],
+        [columns.customs, CUSTOM], [columns.documents, DOCUMENT], [columns.imports, IMPORT]].map(([table, {width}]) => table.length / width));
   }
 });
 
 test("the map of docs/FORMAT.md, section 11", () => {
-  const map = new Rewriting(["ppdbmap 4", "shares", "link x", "rows 01 2", "row 01 1 02 3", "gone 01 2", "rows 06 5", "row 06 1 2", "drop 3", "signature 1 0",
-    "document /a.cs /b\\x20.cs", "method 1 9 12", "run 0 0 1", "run 5 6 4"].join("\n")), method = {row: 1, count: 3, offsetAt: index => [0, 3, 7][index]};
+  const {tables, renamed} = readMap(["ppdbmap 4", "shares", "link x", "rows 01 2", "row 01 1 02 3", "gone 01 2", "rows 06 5", "row 06 1 2", "drop 3",
+    "signature 1 0", "document /a.cs /b\\x20.cs", "method 1 9 12", "run 0 0 1", "run 5 6 4"].join("\n")), map = new Rewriting(tables), method = {row: 1, count: 3, offsetAt: index => [0, 3, 7][index]};
   assert.deepEqual([0, 1, 2].map(index => map.point(method, index)), [0, 6, 8]);
   assert.deepEqual([0, 1, 4, 5, 8].map(offset => map.kept(1, offset)), [0, null, null, 6, 9]);
   assert.deepEqual([0, 1, 5, 6, 9, 10].map(offset => map.origin(1, offset)), [0, null, null, 5, 8, null]);
   assert.deepEqual([1, 2, 3].map(row => map.image(row)), [2, null, null]);
-  assert.equal(map.renamed.get("/a.cs"), "/b .cs");
+  assert.equal(renamed.get("/a.cs"), "/b .cs");
 });
 
 test("the points of a map are those that remap writes", () => {
@@ -47,13 +49,13 @@ test("the points of a map are those that remap writes", () => {
     const files = [before, map].map(name => ({name, bytes: bytesOf(name)})), {out} = engine.run(["remap", before, map, "out.pdb"], files);
     const shown = name => engine.run(["show", name], [{name, bytes: name === "after" ? out : files[0].bytes}]).text;
     const [old, now] = ["before", "after"].map(name => new DebugFile(readLines(shown(name)).columns, name));
-    const rewriting = new Rewriting(new TextDecoder().decode(files[1].bytes)), found = {}, want = {};
+    const rewriting = new Rewriting(readMap(new TextDecoder().decode(files[1].bytes)).tables), found = {}, want = {};
     const words = (file, offset, point) => `${offset} ${file.documents.get(point.document).name} ${spanWords(point)}`;
-    for (const method of old.sorted) for (const [index, point] of method.points.entries()) {
+    for (const method of old.methods) for (const [index, point] of method.points.entries()) {
       const to = rewriting.point(method, index);
       if (to !== null) (found[rewriting.image(method.row)] ??= []).push(words(old, to, point));
     }
-    for (const method of now.sorted) if (method.count) want[method.row] = method.points.map(point => words(now, point.offset, point));
+    for (const method of now.methods) if (method.count) want[method.row] = method.points.map(point => words(now, point.offset, point));
     assert.deepEqual(found, want);
   }
 });

@@ -19,7 +19,7 @@ const given = (...names) => names.map(name => ({name: name.split("/").pop(), byt
 const FRAMES = lines(bytesOf("examples/throw/lines")).map(text => /^ {2}at (\S+) \(.*\) in (\S+):(\d+) ?$/.exec(text)).filter(it => it)
   .map(([, name, document, line]) => ({name: name.replaceAll("+", ".").replace(/`\d+\[(\w+)\]/, "<$1>"), document, line: Number(line)}));
 /** The methods of a side with a name, by their rows. */
-const rowsOf = (side, name) => [...state[side].methods.keys()].filter(row => rawName(side, row) === name);
+const rowsOf = (side, name) => Array.from(state[side].methods, it => it.row).filter(row => rawName(side, row) === name);
 
 test("a method has the name that Mono gives to the frames at its lines", async () => {
   take(await new Session(engine).add(given("examples/throw/Throw.pdb", "examples/throw/Throw.exe")));
@@ -102,7 +102,7 @@ test("what files are", async () => {
 });
 test("a map makes the file after, or says why not", async () => {
   const told = await new Session(engine).add(given("examples/woven/async_iter.before.pdb", "examples/woven/async_iter.map"));
-  assert.ok(told.canRemap && told.map.startsWith("ppdbmap") && told.after.line === "accepted");
+  assert.ok(told.canRemap && told.map.sizes.length > 0 && told.after.line === "accepted");
   const wrong = await new Session(engine).add(given("examples/async_iter.pdb", "examples/throw/throw.map"));
   assert.match(wrong.mapLine, /^(?:unfit|map) /);
   assert.equal(wrong.map, null);
