@@ -52,7 +52,7 @@ class Entry {
   }
 }
 /** The entry above the methods of a type or a document. */
-function headOf(group, subject, keys) {
+function groupHead(group, subject, keys) {
   if (group === NONE) return {head: "Without points", dim: ""};
   if (group > keys) { const {type, space} = titleAt(subject); return {head: type, dim: space}; }
   const {side, row} = documentAt(group), text = state[side].documents.textOf(row);
@@ -76,7 +76,7 @@ class Groups {
 }
 
 /** The methods of the list, by type or document, those of one by line and row. */
-class Methods {
+class ListedMethods {
   /** @param {Int32Array} chosen the indexes of their subjects */
   constructor(chosen) {
     const groups = new Groups(state.subjects.survey.counts.length - 1);
@@ -131,7 +131,7 @@ class Methods {
   }
   at(index) {
     const entry = this.listed[index], subject = its => state.subjects.at(its);
-    if (entry < 0) return headOf(-1 - entry, subject(this.heads[-1 - entry]), this.keys);
+    if (entry < 0) return groupHead(-1 - entry, subject(this.heads[-1 - entry]), this.keys);
     const [its, group, line] = this.entries.subarray(3 * entry, 3 * entry + 3);
     return new Entry(subject(its), line === NO_LINE ? Infinity : line, group > this.keys ? NONE : group);
   }
@@ -147,7 +147,7 @@ class Methods {
 /** The part of some methods, and a note of how many are left out. @param {Int32Array} chosen the indexes of subjects @param {number} more
  @param {() => number} own the index of the chosen subject, or -1 @returns {{parts: Part[], count: number}} */
 export function methodParts(chosen, more, own) {
-  const methods = new Methods(chosen);
+  const methods = new ListedMethods(chosen);
   /** @type {Part} */
   const part = {count: methods.count, at: index => methods.at(index), isChoice: index => methods.isChoice(index),
     find: isOn => { const subject = own(); return subject < 0 ? -1 : methods.findOf(isOn, subject); }};

@@ -4,8 +4,8 @@ import {documentsPart, Entries, methodParts, MOST_LISTED, partOf} from "./entrie
 import {addressOf, go} from "./place.js";
 import {inSlices} from "./slices.js";
 import {rawName, sourceOf, state} from "./state.js";
-import {CHANGES} from "./survey.js";
 import {bodyOf, documentAt, sideOf, subjectAt, textOf, titleAt, titleWords} from "./subjects.js";
+import {CHANGES} from "./tables.js";
 import {baseName, cutFront, folderOf, plural, spelled, tokenOf} from "./text.js";
 import {VirtualList} from "./virtual.js";
 

@@ -75,7 +75,7 @@ export class Method {
 }
 
 /** The methods of a file by their rows. One that is asked for is made once, so that it is the same one again. */
-class Methods {
+class MethodTable {
   /** @param {DebugFile} file */
   constructor(file) { this.file = file; this.count = file.columns.bodies.length / BODY.width; this.made = new Map(); }
   /** The index of a row, or -1. @param {number} row */
@@ -132,7 +132,7 @@ export class DebugFile {
   /** @param {import("./lines.js").Columns} columns @param {string} name @param {number} [key] what the session calls it */
   constructor(columns, name, key = 0) {
     this.name = name; this.key = key; this.columns = columns; this.id = columns.id; this.entry = columns.entry; this.counts = new Map(columns.counts);
-    this.numbers = columns.points; this.methods = new Methods(this); this.documents = new Documents(columns);
+    this.numbers = columns.points; this.methods = new MethodTable(this); this.documents = new Documents(columns);
   }
   get pointCount() { return this.numbers.length / POINT.width; }
   /** How many methods have points. */

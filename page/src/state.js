@@ -35,7 +35,7 @@ export const state = {
 export const fileOf = side => state[side];
 
 /** Names that have come, by the numbers of their assemblies. @type {Map<number, Names>} */
-const known = new Map();
+const namesByKey = new Map();
 
 /** Takes what the session says. It sends the columns of a debug file, the names of an assembly and a survey once, and then only their numbers.
  @param {any} told */
@@ -61,8 +61,8 @@ export function take(told) {
 function namesOf(said) {
   if (!said?.names) return null;
   const {key, tables} = said.names;
-  if (tables) known.set(key, new Names(tables));
-  return known.get(key) ?? null;
+  if (tables) namesByKey.set(key, new Names(tables));
+  return namesByKey.get(key) ?? null;
 }
 
 /** The whole name of a method by the assembly of its side. @param {SideName} side @param {number} row @returns {string | undefined} */

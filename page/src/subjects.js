@@ -1,7 +1,7 @@
 /** The subjects of the page: a method before a rewrite, the one that it became, or both; their names, and what changed. */
 import {isVisible} from "./model.js";
 import {lineOf, sourceOf, state} from "./state.js";
-import {CHANGES} from "./survey.js";
+import {CHANGES} from "./tables.js";
 import {nameOf, plural} from "./text.js";
 
 /** @typedef {import("./model.js").Method} Method */
@@ -96,7 +96,7 @@ function spoken(name) {
   return lambda ? `lambda in ${lambda[1] || "a field"}` : name;
 }
 /** A type as the list has it, without those that a compiler made in it. @param {import("./names.js").Names} names @param {number} index */
-function headOf(names, index) {
+function typeHead(names, index) {
   const {name, space} = names.type(index);
   return {type: name.replace(/\.<.*/, "") || name, space};
 }
@@ -106,7 +106,7 @@ export function titleOf(side, method) {
   const guessed = guesses.get(method.row) ?? guesses.get(method.kickoff) ?? guesses.get(method.move);
   const tag = method.kickoff ? method.steps.length ? "async" : "iterator" : "";
   if (found) {
-    const {type, space} = headOf(found.names, found.names.typeOf(found.row));
+    const {type, space} = typeHead(found.names, found.names.typeOf(found.row));
     return {name: spoken(found.names.method(found.row)), tag, type, space, isGuess: false, isKnown: true};
   }
   const bare = method.kickoff ? `MoveNext of method ${method.kickoff}` : `method ${method.row}`;
@@ -125,7 +125,7 @@ export function typeOf(subject) {
 }
 /** The text by which types are one in the list. @param {import("./names.js").Names} names @param {number} index */
 export function typeKey(names, index) {
-  const {type, space} = headOf(names, index);
+  const {type, space} = typeHead(names, index);
   return `${space}.${type}`;
 }
 /** The title of a subject, made again only if other names have come. @param {Subject} subject @returns {Title} */

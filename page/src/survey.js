@@ -1,10 +1,8 @@
 /** What the page asks of all methods and documents at once: computed in the worker, by tables. */
 import {matchesOf, hasSameSpans} from "./rewriting.js";
-import {BODY, CONSTANT, firstWith, NO_LINE, PLACE, SCOPE, VARIABLE} from "./tables.js";
+import {BODY, CHANGES, CONSTANT, firstWith, NO_LINE, PLACE, SCOPE, VARIABLE} from "./tables.js";
 import {baseName} from "./text.js";
 
-/** What happened to a method, by the numbers of `kinds`. */
-export const CHANGES = /** @type {const} */ (["same", "changed", "lost", "dropped", "added"]);
 const [SAME, CHANGED, LOST, DROPPED, ADDED] = CHANGES.keys();
 
 /**

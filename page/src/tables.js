@@ -25,6 +25,9 @@ export const PLACE = {width: 2, document: 0, line: 1};
 /** In place of a line: all points there are hidden. */
 export const NO_LINE = 0x3fffffff;
 
+/** What happened to a method, by its number in a table. */
+export const CHANGES = /** @type {const} */ (["same", "changed", "lost", "dropped", "added"]);
+
 /** The tables by the tag that a parent of a custom record has for them (Portable PDB v1.0, HasCustomDebugInformation). */
 const PARENTS = [0x06, 0x04, 0x01, 0x02, 0x08, 0x09, 0x0a, 0x00, 0x0e, 0x17, 0x14, 0x11, 0x1a, 0x1b, 0x20, 0x23, 0x26, 0x27, 0x28, 0x2a, 0x2c, 0x2b,
   0x30, 0x32, 0x33, 0x34, 0x35];

@@ -34,7 +34,7 @@ const HANDED = /** @type {const} */ (["methods", "points", "scopes", "variables"
 const buffersOf = tables => [...new Set(tables.filter(it => ArrayBuffer.isView(it)).map(it => it.buffer))];
 const handed = value => buffersOf([...[value?.before?.columns, value?.after?.columns].flatMap(it => it ? HANDED.map(name => it[name]) : []),
   ...Object.values(value?.survey ?? {}), ...Object.values(value?.map ?? {})]);
-async function answer({id, name, words}) {
+async function answered({id, name, words}) {
   try {
     const value = await DOES[name](...words);
     postMessage({id, value}, handed(value));
@@ -44,5 +44,5 @@ async function answer({id, name, words}) {
 }
 onmessage = ({data}) => {
   // Names are guessed beside the other work; everything else keeps its order.
-  if (data.name === "guess") answer(data); else last = last.then(() => answer(data));
+  if (data.name === "guess") answered(data); else last = last.then(() => answered(data));
 };
