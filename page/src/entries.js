@@ -1,7 +1,7 @@
 /** The entries of the list as parts, one after the other. There may be many: of most only the order is known, and one is made when it is looked at. */
 import {documentAt, isNamed, placeOf, titleAt, typeKey, typeOf} from "./subjects.js";
 import {state} from "./state.js";
-import {BODY, NO_LINE, PLACE} from "./tables.js";
+import {NO_LINE, PLACE} from "./tables.js";
 import {baseName, folderOf, plural} from "./text.js";
 
 /** The most methods that the list has: a search finds the others. */
@@ -75,69 +75,91 @@ class Groups {
   get count() { return this.keys + 1 + this.types.size; }
 }
 
+/** An entry as numbers: the subject by its index, the group and the line. */
+const ENTRY = {width: 3, subject: 0, group: 1, line: 2};
+
 /** The methods of the list, by type or document, those of one by line and row. */
 class ListedMethods {
-  /** @param {Int32Array} chosen the indexes of their subjects */
+  /** @param {Int32Array} chosen the indexes of their subjects, in order */
   constructor(chosen) {
     const groups = new Groups(state.subjects.survey.counts.length - 1);
-    this.keys = groups.keys; this.length = 0; this.entries = new Int32Array(3 * chosen.length);
-    for (const index of chosen) this.add(index, groups);
+    this.keys = groups.keys; this.length = 0; this.entries = new Int32Array(ENTRY.width * chosen.length);
+    if (state.names.before || state.names.after) this.addNamed(chosen, groups); else this.addAll(chosen);
     this.listed = this.inOrder(groups);
     this.count = this.listed.length;
   }
   put(subject, group, line) {
-    const {length} = this;
-    if (3 * length === this.entries.length) { const more = new Int32Array(6 * length + 3); more.set(this.entries); this.entries = more; }
-    this.entries[3 * length] = subject; this.entries[3 * length + 1] = group; this.entries[3 * length + 2] = line;
-    this.length++;
+    let {entries, length} = this, at = length * ENTRY.width;
+    if (at === entries.length) { entries = new Int32Array(2 * at + ENTRY.width); entries.set(this.entries); this.entries = entries; }
+    entries[at] = subject; entries[at + ENTRY.group] = group; entries[at + ENTRY.line] = line;
+    this.length = length + 1;
   }
-  /** A method whose type is known has one entry, and any other one for each of its documents. */
-  add(index, groups) {
-    const {subjects} = state, isOld = index < subjects.olds, file = isOld ? subjects.before : subjects.after, {keys} = subjects.survey;
-    const method = isOld ? index : subjects.survey.added[index - subjects.olds], {firsts, places} = file.columns;
-    const type = state.names.before || state.names.after ? typeOf(subjects.passing(index)) : null, group = type && groups.ofType(type.names, type.index);
-    const first = firsts[method], end = type ? Math.min(first + 1, firsts[method + 1]) : firsts[method + 1];
-    if (first === end) this.put(index, group ?? NONE, 0);
-    for (let place = first, at = first * PLACE.width; place < end; place++, at += PLACE.width) this.put(index, group ?? (isOld ? places[at] : keys[places[at]]), places[at + PLACE.line]);
+  /** Methods whose names are not known: an entry for each of their documents. */
+  addAll(chosen) {
+    const {olds, before, after, survey: {added, keys}} = state.subjects;
+    let {firsts, places} = before.columns;
+    for (let at = 0; at < chosen.length; at++) {
+      const index = chosen[at], isOld = index < olds, method = isOld ? index : added[index - olds];
+      if (!isOld) ({firsts, places} = after.columns);
+      const first = firsts[method] * PLACE.width, end = firsts[method + 1] * PLACE.width;
+      if (first === end) this.put(index, NONE, 0);
+      for (let place = first; place < end; place += PLACE.width) this.put(index, isOld ? places[place] : keys[places[place]], places[place + PLACE.line]);
+    }
+  }
+  /** The same, but a method whose type is known has one entry, under its type. */
+  addNamed(chosen, groups) {
+    for (const index of chosen) {
+      const subject = state.subjects.passing(index), type = typeOf(subject);
+      if (!type) { this.addAll(Int32Array.of(index)); continue; }
+      const [, line] = subject.lines[0] ?? [NONE, 0];
+      this.put(index, groups.ofType(type.names, type.index), Math.min(line, NO_LINE));
+    }
   }
   /** The entries, those of a group after its head: a head is the group, counted down from -1. @param {Groups} groups */
   inOrder(groups) {
-    const {entries, length} = this, starts = new Int32Array(groups.count + 1), fresh = [], olds = state.before.documents.size;
+    const {entries, length} = this, {width} = ENTRY, starts = new Int32Array(groups.count + 1), fresh = [], olds = state.before.documents.size;
     this.heads = new Int32Array(groups.count);
-    for (let entry = 0; entry < length; entry++) {
-      const group = entries[3 * entry + 1];
-      if (!starts[group]) { this.heads[group] = entries[3 * entry]; if (group > olds && group <= this.keys) fresh.push(group); }
+    for (let at = 0; at < length * width; at += width) {
+      const group = entries[at + ENTRY.group];
+      if (!starts[group]) { this.heads[group] = entries[at]; if (group > olds && group <= this.keys) fresh.push(group); }
       starts[group]++;
     }
     const counts = starts.slice();
     let at = 0, heads = 0;
-    const begin = group => { if (counts[group]) { starts[group] = at + ++heads; at += counts[group]; } };
+    const begin = group => { starts[group] = at + ++heads; at += counts[group]; };
     for (let group = this.keys + 1; group < groups.count; group++) begin(group);
-    for (let group = 1; group <= olds; group++) begin(group);
+    for (let group = 1; group <= olds; group++) if (counts[group]) begin(group);
     fresh.forEach(begin);
-    begin(NONE);
+    if (counts[NONE]) begin(NONE);
     const listed = new Int32Array(length + heads);
     for (let group = 0; group < groups.count; group++) if (counts[group]) listed[starts[group] - 1] = -1 - group;
-    for (let entry = 0; entry < length; entry++) listed[starts[entries[3 * entry + 1]]++] = entry;
-    for (let group = 0; group < groups.count; group++) if (counts[group] > 1) this.sort(listed.subarray(starts[group] - counts[group], starts[group]));
+    for (let entry = 0; entry < length; entry++) listed[starts[entries[entry * width + ENTRY.group]]++] = entry;
+    for (let group = 0; group < groups.count; group++) if (counts[group] > 1) this.sort(listed, starts[group] - counts[group], starts[group]);
     return listed;
   }
-  /** Some entries by line and row. @param {Int32Array} some */
-  sort(some) {
-    const {entries} = this, row = subject => { const {subjects: {olds, before, after, survey}} = state;
-      return subject < olds ? before.columns.bodies[subject * BODY.width] : after.columns.bodies[survey.added[subject - olds] * BODY.width]; };
-    const order = (one, other) => entries[3 * one + 2] - entries[3 * other + 2] || row(entries[3 * one]) - row(entries[3 * other]);
-    for (let at = 1; at < some.length; at++) if (order(some[at - 1], some[at]) > 0) { some.sort(order); return; }
+  /** Some of the listed entries by line and row. @param {Int32Array} listed @param {number} from @param {number} end */
+  sort(listed, from, end) {
+    let at = from + 1;
+    while (at < end && this.order(listed[at - 1], listed[at]) <= 0) at++;
+    if (at < end) listed.subarray(from, end).sort((one, other) => this.order(one, other));
+  }
+  order(one, other) {
+    const {entries} = this, a = one * ENTRY.width, b = other * ENTRY.width;
+    return entries[a + ENTRY.line] - entries[b + ENTRY.line] || this.rowOf(entries[a]) - this.rowOf(entries[b]);
+  }
+  rowOf(subject) {
+    const {olds, before, after, survey} = state.subjects;
+    return subject < olds ? before.methods.rowAt(subject) : after.methods.rowAt(survey.added[subject - olds]);
   }
   at(index) {
     const entry = this.listed[index], subject = its => state.subjects.at(its);
     if (entry < 0) return groupHead(-1 - entry, subject(this.heads[-1 - entry]), this.keys);
-    const [its, group, line] = this.entries.subarray(3 * entry, 3 * entry + 3);
+    const [its, group, line] = this.entries.subarray(entry * ENTRY.width, (entry + 1) * ENTRY.width);
     return new Entry(subject(its), line === NO_LINE ? Infinity : line, group > this.keys ? NONE : group);
   }
   isChoice(index) { return this.listed[index] >= 0; }
   /** The subject of an entry, or -1 of a head. */
-  subjectOf(index) { const entry = this.listed[index]; return entry < 0 ? -1 : this.entries[3 * entry]; }
+  subjectOf(index) { const entry = this.listed[index]; return entry < 0 ? -1 : this.entries[entry * ENTRY.width]; }
   /** The first chosen entry: only those of the chosen subject are made. @param {(entry: any) => boolean} isOn @param {number} subject */
   findOf(isOn, subject) {
     for (let index = 0; index < this.count; index++) if (this.subjectOf(index) === subject && isOn(this.at(index))) return index;

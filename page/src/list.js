@@ -80,7 +80,7 @@ export function fillList() {
   const chosen = new Chosen(count), isOnly = ONLY[list.only], found = [];
   const show = () => { list.found = {methods: isOfMethods ? chosen.parts() : null, documents: list.want ? found : documents}; showList(); };
   if (!list.want) {
-    for (let at = 0; at < count; at++) if (isOnly(at)) chosen.add(at);
+    if (list.only === "all") chosen.addAll(count); else for (let at = 0; at < count; at++) if (isOnly(at)) chosen.add(at);
     show();
   } else list.stops = inSlices(count + documents.length, at => {
     if (at >= count) { if (isWantedDocument(documents[at - count])) found.push(documents[at - count]); }
@@ -92,6 +92,8 @@ class Chosen {
   /** @param {number} most */
   constructor(most) { this.some = new Int32Array(Math.min(most, MOST_LISTED)); this.count = 0; }
   add(index) { if (this.count < this.some.length) this.some[this.count] = index; this.count++; }
+  /** All of so many. @param {number} count */
+  addAll(count) { for (let at = 0; at < this.some.length; at++) this.some[at] = at; this.count = count; }
   parts() {
     const {some, count} = this;
     return methodParts(some.subarray(0, count), Math.max(0, count - some.length), () => subjectAt(state.place)?.index ?? -1);
