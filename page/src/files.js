@@ -11,9 +11,9 @@ const FIRST = /\.(?:pdb|dll|exe|netmodule|map|ppdbmap)$/i;
 /** The most bytes that are read at once. */
 const MOST_BYTES = 536870912;
 
-/** @typedef {{name: string, bytes: Uint8Array}} Given */
-/** What was read of some files: of how many there was no room, and the names of those that are longer than `ppdb` reads.
- * @typedef {Given[] & {left: number, long: string[]}} Read */
+/** A file that is given: the worker reads it, unless its bytes are here. @typedef {{name: string, size: number, file?: File, bytes?: Uint8Array}} Given */
+/** Files that are given: for how many there was no room, and the names of those that are longer than `ppdb` reads.
+ * @typedef {Given[] & {left: number, long: string[]}} Taken */
 
 /** The files below an entry that was dropped, each with its path. @returns {Promise<{file: File, path: string}[]>} */
 async function below(entry, found) {
@@ -31,27 +31,27 @@ async function below(entry, found) {
   }
   return found;
 }
-/** @param {{file: File, path: string}[]} files @param {boolean} isFolder @returns {Promise<Read>} */
-async function read(files, isFolder) {
+/** @param {{file: File, path: string}[]} files @param {boolean} isFolder @returns {Taken} */
+function taken(files, isFolder) {
   const named = files.filter(({path}) => !isFolder || ENDS.test(path)), isLong = ({file}) => file.size > LONGEST_FILE;
   const wanted = named.filter(it => !isLong(it)), long = named.filter(isLong).map(it => it.path);
   // Sources come last: there may be many.
   wanted.sort((one, other) => Number(FIRST.test(other.path)) - Number(FIRST.test(one.path)));
   let room = MOST_BYTES;
   const some = wanted.filter(({file}) => (room -= file.size) >= 0);
-  const given = await Promise.all(some.map(async ({file, path}) => ({name: path, bytes: new Uint8Array(await file.arrayBuffer())})));
+  const given = some.map(({file, path}) => ({name: path, size: file.size, file}));
   return Object.assign(given, {left: wanted.length - some.length, long});
 }
 /** @param {DataTransfer} data */
 export async function dropped(data) {
   const entries = [...data.items].map(it => it.webkitGetAsEntry?.()).filter(it => it), isFolder = entries.some(it => it.isDirectory);
-  if (!entries.length) return read([...data.files].map(file => ({file, path: file.name})), false);
+  if (!entries.length) return taken([...data.files].map(file => ({file, path: file.name})), false);
   const found = [];
   for (const it of entries) await below(it, found);
-  return read(found, isFolder);
+  return taken(found, isFolder);
 }
 /** @param {FileList} files */
-export const picked = files => read([...files].map(file => ({file, path: file.webkitRelativePath || file.name})), [...files].some(it => it.webkitRelativePath));
+export const picked = files => taken([...files].map(file => ({file, path: file.webkitRelativePath || file.name})), [...files].some(it => it.webkitRelativePath));
 
 /** The bytes of base64, deflated or not. @param {string} text @param {boolean} isPacked */
 export async function bytesOfBase64(text, isPacked) {
@@ -65,7 +65,10 @@ export async function inPage(id) {
   const node = $(id);
   if (!node?.textContent.trim()) return null;
   const said = JSON.parse(node.textContent), files = [];
-  for (const {name, data, packed} of said.files) files.push({name, bytes: await bytesOfBase64(data, packed)});
+  for (const {name, data, packed} of said.files) {
+    const bytes = await bytesOfBase64(data, packed);
+    files.push({name, size: bytes.length, bytes});
+  }
   node.remove();
   return {title: said.title, shows: said.shows, files};
 }

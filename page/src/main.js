@@ -30,7 +30,7 @@ function busy(words) {
 /** @param {import("./files.js").Given[] & {left?: number, long?: string[]}} files @param {string[]} [shows] the debug files that are to be shown,
  if not all */
 async function give(files, shows) {
-  const size = files.reduce((sum, it) => sum + it.bytes.length, 0), what = files.length === 1 ? baseName(files[0].name) : plural(files.length, "file");
+  const size = files.reduce((sum, it) => sum + it.size, 0), what = files.length === 1 ? baseName(files[0].name) : plural(files.length, "file");
   if (files.length) { busy(`Reading ${what}, ${sizeWords(size)}`); await settle(() => port.add(files, shows)); }
   if (files.left) trouble(`${plural(files.left, "file")} left out: together they are too long for a page.`);
   if (files.long?.length) trouble(files.long.map(tooLong).join("; "));
@@ -260,7 +260,7 @@ function listen() {
   });
   for (const id of ["pick", "pick-folder"]) {
     const box = /** @type {HTMLInputElement} */ ($(id));
-    box.onchange = async () => { const files = await picked(box.files); box.value = ""; give(files); };
+    box.onchange = () => { const files = picked(box.files); box.value = ""; give(files); };
   }
   $("choose").onclick = () => $("pick").click();
   $("choose-folder").onclick = () => $("pick-folder").click();

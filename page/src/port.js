@@ -34,8 +34,8 @@ export class Port {
   ask(name, ...words) {
     return this.send(name, words, []);
   }
-  /** Hands files to the worker: their bytes are not copied. @param {{name: string, bytes: Uint8Array}[]} files @param {string[]} [shows] */
-  add(files, shows) { return this.send("add", [files, shows], files.map(it => it.bytes.buffer)); }
+  /** Hands files to the worker: bytes that are here are not copied. @param {import("./files.js").Given[]} files @param {string[]} [shows] */
+  add(files, shows) { return this.send("add", [files, shows], files.flatMap(it => it.bytes ? [it.bytes.buffer] : [])); }
   /** @param {string} name @param {any[]} words @param {Transferable[]} handed @returns {Promise<any>} */
   send(name, words, handed) {
     const id = ++this.last;

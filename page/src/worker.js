@@ -7,10 +7,12 @@ import {NO_MEMORY} from "./text.js";
 let session;
 let last = Promise.resolve();
 
+/** The bytes of a file that was given. @param {import("./files.js").Given} given */
+const read = async ({name, file, bytes}) => ({name, bytes: bytes ?? new Uint8Array(await /** @type {File} */ (file).arrayBuffer())});
 /** What the page can ask for. */
 const DOES = {
   start: async module => { session = new Session(await startEngine(module)); },
-  add: (files, shows) => { session.forget(); return session.add(files, shows); },
+  add: async (files, shows) => { session.forget(); return session.add(await Promise.all(files.map(read)), shows); },
   remove: name => { session.forget(); return session.remove(name); },
   choose: names => session.choose(names),
   source: (which, row, insists) => session.source(which, row, insists),
