@@ -93,6 +93,9 @@ export declare class Ppdb {
   run(words: readonly string[], files?: Record<string, Bytes> | Iterable<readonly [string, Bytes]>): Answer;
   /** The same, with the text as its bytes: `show` of a file above some 40 MB prints more than a string may have. */
   runBytes(words: readonly string[], files?: Record<string, Bytes> | Iterable<readonly [string, Bytes]>): BytesAnswer;
+  /** The same; `takes` gets the bytes where they are, in the memory of the module, and the status. What it returns is the text of the answer. */
+  runBytes<Text>(words: readonly string[], files: Record<string, Bytes> | Iterable<readonly [string, Bytes]>,
+    takes: (text: Uint8Array, status: number) => Text): Omit<BytesAnswer, "text"> & { text: Text };
 }
 
 /** Compiles ppdb.wasm: its bytes, its address, a response to a request for it, or the module; by default the file beside ppdb.mjs. */

@@ -172,9 +172,12 @@ export class Ppdb {
     return this.#run(words, files, (text) => decoder.decode(text));
   }
 
-  /** The same, with the text as its bytes: that of a large file is longer than a string may be. */
-  runBytes(words, files = {}) {
-    return this.#run(words, files, (text) => text.slice());
+  /**
+   * The same, with the text as its bytes: that of a large file is longer than a string may be.
+   * @param takes makes what is wanted of the bytes and the status; the bytes are in the memory of the module, so only during that call
+   */
+  runBytes(words, files = {}, takes = (text, _status) => text.slice()) {
+    return this.#run(words, files, takes);
   }
 
   /** What a command answers; `takes` copies the text out of the memory of the module. */
@@ -185,7 +188,7 @@ export class Ppdb {
       return this.#call((exports, places) => ran(exports, places, spelled, given, takes));
     } catch (error) {
       if (!(error instanceof Failed)) throw error;
-      return { status: error.status, text: takes(new Uint8Array()), made: null };
+      return { status: error.status, text: takes(new Uint8Array(), error.status), made: null };
     }
   }
 
@@ -241,7 +244,7 @@ function ran(exports, places, spelled, given, takes) {
     const lengths = [0, LENGTH].map((field) => Number(places.view(needed, 2 * LENGTH).getBigUint64(field, true)));
     if (lengths.every((length, at) => length <= rooms[at])) {
       const bytes = places.bytes(made, lengths[1]);
-      return { status, text: takes(places.bytes(text, lengths[0])), made: lengths[1] ? bytes.slice() : null };
+      return { status, text: takes(places.bytes(text, lengths[0]), status), made: lengths[1] ? bytes.slice() : null };
     }
     rooms = lengths;
   }

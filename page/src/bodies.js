@@ -49,34 +49,33 @@ export function bodiesOf(tables) {
   return {bodies, firsts, places, documentStarts, documentMethods};
 }
 
-/** Where each body begins: its documents in the order of its points, with the first visible line there. A hidden point alone does not bring a
- method to a document if it has others elsewhere. */
+/** Where each body begins: its documents in the order of its points, with the first visible line there. */
 function placesOf(bodies, points) {
-  const count = bodies.length / BODY.width, firsts = new Int32Array(count + 1), several = new Map();
+  const count = bodies.length / BODY.width, firsts = new Int32Array(count + 1);
   let places = new Int32Array((count + 16) * PLACE.width), length = 0;
   for (let index = 0; index < count; index++) {
-    firsts[index] = length / PLACE.width;
     const first = bodies[index * BODY.width + BODY.first] * POINT.width, end = first + bodies[index * BODY.width + BODY.count] * POINT.width;
+    firsts[index] = length / PLACE.width;
     if (first === end) continue;
     const document = points[first + POINT.document];
     let line = NO_LINE, at = first;
     for (; at < end && points[at + POINT.document] === document; at += POINT.width)
       if (points[at + POINT.line] >= 0 && points[at + POINT.line] < line) line = points[at + POINT.line];
-    several.clear();
-    if (at < end) linesByDocument(points, first, end, several);
-    const found = [...several].filter(([, its]) => its < NO_LINE), its = at >= end ? null : found.length ? found : [[document, NO_LINE]];
-    const room = length + PLACE.width * (its?.length ?? 1);
+    const several = at < end ? placesOfSeveral(points, first, end) : [], room = length + Math.max(PLACE.width, several.length);
     if (room > places.length) { const more = new Int32Array(2 * room); more.set(places); places = more; }
-    for (const [row, where] of its ?? []) { places[length++] = row; places[length++] = where; }
-    if (!its) { places[length++] = document; places[length++] = line; }
+    if (at < end) places.set(several, length); else { places[length] = document; places[length + PLACE.line] = line; }
+    length = room;
   }
   firsts[count] = length / PLACE.width;
   return {firsts, places: places.subarray(0, length)};
 }
-/** @param {Map<number, number>} found */
-function linesByDocument(points, first, end, found) {
+/** The places of a method with code in several documents. A hidden point alone does not bring it to one if it has others elsewhere. */
+function placesOfSeveral(points, first, end) {
+  const lines = new Map();
   for (let at = first; at < end; at += POINT.width) {
     const document = points[at + POINT.document], line = points[at + POINT.line];
-    found.set(document, Math.min(found.get(document) ?? NO_LINE, line < 0 ? NO_LINE : line));
+    lines.set(document, Math.min(lines.get(document) ?? NO_LINE, line < 0 ? NO_LINE : line));
   }
+  const seen = [...lines].filter(([, line]) => line < NO_LINE);
+  return (seen.length ? seen : [[points[first + POINT.document], NO_LINE]]).flat();
 }

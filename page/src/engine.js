@@ -10,8 +10,8 @@ import {NO_MEMORY} from "./text.js";
 export async function startEngine({length, packed}) {
   const bytes = await inflated(Uint8Array.from(atob(packed), it => it.charCodeAt(0)), length, "deflate");
   const library = new Ppdb(await WebAssembly.compile(bytes));
-  return {run(words, files) {
-    const {status, text, made} = library.runBytes(words, files.map(it => [it.name, it.bytes]));
+  return {run(words, files, takes) {
+    const {status, text, made} = library.runBytes(words, files.map(it => [it.name, it.bytes]), takes);
     if (status === 5) throw new Error(NO_MEMORY);
     return {status, text, out: made ?? new Uint8Array()};
   }};

@@ -44,6 +44,8 @@ function slotsOf(custom) {
 /** @typedef {{row: number, algorithm: string, hash: string, language: string, name: string, text: string}} Document */
 
 const ASCII_TEXT = new TextDecoder("latin1");
+/** The longest text of names that is made as one. */
+const MOST_TEXT = 1e8;
 const orNone = word => word === "-" ? null : word;
 /** A text of a heap. @param {Uint8Array} heap @param {Int32Array} table @param {number} at */
 const textIn = (heap, table, at) => ASCII_TEXT.decode(heap.subarray(table[at], table[at + 1]));
@@ -109,12 +111,20 @@ export class Documents {
   /** @param {number | null} row @returns {Document | undefined} */
   get(row) {
     if (row === null || !this.has(row)) return undefined;
-    const {table, guids} = this, at = (row - 1) * DOCUMENT.width, text = column => textIn(this.names, table, at + column), name = text(DOCUMENT.name);
-    return {row, algorithm: guids[table[at + DOCUMENT.algorithm]], hash: text(DOCUMENT.hash), language: guids[table[at + DOCUMENT.language]], name,
+    const {table, guids} = this, at = (row - 1) * DOCUMENT.width, name = this.part(at + DOCUMENT.name);
+    return {row, algorithm: guids[table[at + DOCUMENT.algorithm]], hash: this.part(at + DOCUMENT.hash), language: guids[table[at + DOCUMENT.language]], name,
       text: nameOf(name)};
   }
+  /** A text of a row. A part of one long text is made sooner than a text of its own. @param {number} at */
+  part(at) {
+    const {names, table} = this;
+    if (names.length > MOST_TEXT) return textIn(names, table, at);
+    this.all ??= ASCII_TEXT.decode(names);
+    return this.all.slice(table[at], table[at + 1]);
+  }
   /** The name of a document that there is. @param {number} row */
-  textOf(row) { return nameOf(textIn(this.names, this.table, (row - 1) * DOCUMENT.width + DOCUMENT.name)); }
+  textOf(row) { return nameOf(this.part((row - 1) * DOCUMENT.width + DOCUMENT.name)); }
+  *[Symbol.iterator]() { for (let row = 1; row <= this.size; row++) yield /** @type {Document} */ (this.get(row)); }
 }
 
 /** An import scope by a line each: `use K` and what it has. @param {string} line */

@@ -13,8 +13,10 @@ import {surveyOf} from "./survey.js";
 import {inOrder, METHOD, POINT} from "./tables.js";
 import {baseName, LONGEST_FILE, tooLong} from "./text.js";
 
-/** @typedef {{status: number, text: Uint8Array, out: Uint8Array}} Answer the exit status, standard output and the file that is written */
-/** @typedef {{run: (words: string[], files: {name: string, bytes: Uint8Array}[]) => Answer}} Engine */
+/** @typedef {{status: number, text: any, out: Uint8Array}} Answer the exit status, standard output and the file that is written */
+/** What makes the text of an answer, if that is not to be the bytes: they are there only during the call.
+ * @typedef {(text: Uint8Array, status: number) => any} Takes */
+/** @typedef {{run: (words: string[], files: {name: string, bytes: Uint8Array}[], takes?: Takes) => Answer}} Engine */
 /** @typedef {"pdb" | "windows" | "assembly" | "map" | "source"} Kind */
 
 const MOST_HITS = 300, MOST_PRINTED = 400000, KEPT = 1.5e8;
@@ -49,7 +51,7 @@ class Input {
 let sideCount = 0;
 /** One debug file of the session: before a rewrite (or the only one), or after it. */
 class Side {
-  /** @param {Input} input @param {Answer} answer what `show` said */
+  /** @param {Input} input @param {Answer} answer what `show` said: its lines, as they are read, or why it refuses the file */
   constructor(input, answer) {
     this.input = input; this.status = answer.status; this.key = ++sideCount;
     this.line = answer.status ? WORDS.decode(answer.text).trim() : "accepted";
@@ -66,9 +68,8 @@ class Side {
     /** @type {Input | null} */
     this.assembly = null;
   }
-  /** Reads what `show` said, and keeps what is asked for when the page has the tables. @param {Uint8Array} text */
-  take(text) {
-    const {columns, embedded} = readLines(text);
+  /** Keeps what `show` said, and apart from it what is asked for when the page has the tables. @param {ReturnType<typeof readLines>} lines */
+  take({columns, embedded}) {
     this.columns = columns; this.embedded = embedded; this.id = columns.id; this.documents = new Documents(columns); this.starts = startsOf(columns);
     this.methodRows = columns.counts.find(([table]) => table === "06")?.[1] ?? 0;
   }
@@ -177,8 +178,10 @@ export class Session {
   /** @param {Input} input @param {{before: Side | null, after: Side | null}} known */
   sideOf(input, known) {
     const same = [known.before, known.after].find(it => it?.input === input);
-    return same ?? new Side(input, this.ask(["show", input.word], input));
+    return same ?? new Side(input, this.shown(input));
   }
+  /** What `show` says of a file. Its lines are read where they are: they are longer than the file. @param {Input} input */
+  shown(input) { return this.engine.run(["show", input.word], [input.file], (text, status) => status ? text.slice() : readLines(text)); }
   /** Which assembly gives each side its names: one whose debug directory has the PDB ID, and that has as many methods as the debug file says.
    If both sides have one ID, or the rewritten assembly kept that of before, it is that of after. */
   attach() {
@@ -214,7 +217,7 @@ export class Session {
   }
   /** The tables of a side. If the page has them, the file is read again. @param {Side} side */
   fileOf(side) {
-    const columns = side.columns ?? readLines(this.ask(["show", side.input.word], side.input).text).columns;
+    const columns = side.columns ?? this.shown(side.input).text.columns;
     return new DebugFile(columns, side.input.name);
   }
   /** Two files without a map. */

@@ -1,5 +1,5 @@
 /** What the page asks of all methods and documents at once: computed in the worker, by tables. */
-import {matchesOf, hasSameSpans} from "./rewriting.js";
+import {hasSameSpans, matchesOf} from "./rewriting.js";
 import {BODY, CHANGES, CONSTANT, firstWith, NO_LINE, PLACE, SCOPE, VARIABLE} from "./tables.js";
 import {baseName} from "./text.js";
 
@@ -140,10 +140,11 @@ function countsOf(before, after, added, keys) {
 }
 /** Those with code come first, and then the names of files count. */
 function orderOf(before, after, keys, counts) {
-  const size = before.documents.size, found = Array.from({length: size}, (_, at) => ({key: at + 1, name: baseName(before.documents.textOf(at + 1))}));
-  for (let row = 1; row < keys.length; row++) if (keys[row] > size) found.push({key: keys[row], name: baseName(after.documents.textOf(row))});
+  const size = before.documents.size, names = [""], found = [], add = (key, text) => { names[key] = baseName(text); found.push(key); };
+  for (let row = 1; row <= size; row++) add(row, before.documents.textOf(row));
+  for (let row = 1; row < keys.length; row++) if (keys[row] > size) add(keys[row], after.documents.textOf(row));
   const {compare} = new Intl.Collator();
-  return Int32Array.from(found.sort((one, other) => Number(counts[other.key] > 0) - Number(counts[one.key] > 0) || compare(one.name, other.name)), it => it.key);
+  return Int32Array.from(found.sort((one, other) => Number(counts[other] > 0) - Number(counts[one] > 0) || compare(names[one], names[other])));
 }
 
 // ---- Where the page begins.

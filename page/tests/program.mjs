@@ -15,7 +15,7 @@ export function ppdb(words, options = {}) {
   return {status: run.status, text: new Uint8Array(run.stdout)};
 }
 /** An engine as the page has one, made of the program. @type {import("../src/session.js").Engine} */
-export const engine = {run(words, files) {
+export const engine = {run(words, files, takes = text => text) {
   const folder = mkdtempSync(join(tmpdir(), "page-test-"));
   try {
     // A name may have bytes that no file of a folder can have: each file has a number, and so have the words.
@@ -23,7 +23,7 @@ export const engine = {run(words, files) {
     for (const it of files) writeFileSync(join(folder, names.get(it.name)), it.bytes);
     const {status, text} = ppdb(words.map(it => names.get(it) ?? it), {cwd: folder});
     const out = join(folder, "out.pdb");
-    return {status, text, out: existsSync(out) ? new Uint8Array(readFileSync(out)) : new Uint8Array()};
+    return {status, text: takes(text, status), out: existsSync(out) ? new Uint8Array(readFileSync(out)) : new Uint8Array()};
   } finally { rmSync(folder, {recursive: true}); }
 }};
 /** A file of the repository. @param {string} name */

@@ -122,8 +122,8 @@ test("a file that is too long is called what the program calls it", async () => 
   assert.deepEqual([problem, before], ["too long long.pdb: the file is longer than 134217728 bytes", null]);
 });
 test("where memory ends, the files that were there stay", async () => {
-  const session = new Session({run: (words, files) => { if (files.some(it => it.name === "large.pdb")) throw new RangeError("no memory");
-    return engine.run(words, files); }}), [large] = given("examples/throw/Throw.pdb");
+  const session = new Session({run: (words, files, takes) => { if (files.some(it => it.name === "large.pdb")) throw new RangeError("no memory");
+    return engine.run(words, files, takes); }}), [large] = given("examples/throw/Throw.pdb");
   await session.add(given("examples/async_iter.pdb"));
   await assert.rejects(session.add([{...large, name: "large.pdb"}]), RangeError);
   const told = await session.add(given("examples/async_iter.cs"));
