@@ -34,6 +34,7 @@ export class Entries {
     for (const part of this.parts) { const found = part.find(isOn); if (found >= 0) return before + found; before += part.count; }
     return -1;
   }
+  *[Symbol.iterator]() { for (let index = 0; index < this.count; index++) yield this.at(index); }
   /** The next entry that leads to a place, forwards or backwards, or -1. @param {number} from @param {number} by 1 or -1 */
   next(from, by) {
     for (let index = from + by; index >= 0 && index < this.count; index += by) if (this.isChoice(index)) return index;

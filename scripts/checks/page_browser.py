@@ -177,7 +177,7 @@ def check_keys(user: User) -> None:
         return [box.id, on?.getAttribute("aria-selected"), on?.getAttribute("role")]""")
     user.that(said == ["list", "true", "option"], f"after 25 steps the focus is on {said}")
     browser.key("Home")
-    user.that(user.run("return list.entries.findIndex(it => it.place && !it.head) === list.view.active"), "Home does not lead to the first method")
+    user.that(user.run("return [...list.entries].findIndex(it => it.place && !it.head) === list.view.active"), "Home does not lead to the first method")
     seen = []
     user.run("document.activeElement.blur()")
     for _ in range(40):
@@ -203,7 +203,7 @@ def check_search(user: User) -> None:
     user.new(user.root / "examples/async_iter.pdb", user.root / "examples/async_iter.cs")
     browser.key("/")
     browser.type("0x06000027")
-    user.that(user.run("return list.entries.filter(it => it.subject).length") == 1, "the search by a token finds other methods")
+    user.that(user.run("return [...list.entries].filter(it => it.subject).length") == 1, "the search by a token finds other methods")
     browser.key("Enter")
     user.that(browser.place() == "#m=39", f"the search leads to {browser.place()}")
     user.run("document.querySelector('#find').select()")
@@ -223,7 +223,7 @@ def check_search(user: User) -> None:
 def check_names(user: User) -> None:
     throw = user.root / "examples/throw"
     user.new(throw / "Throw.pdb", throw / "Throw.exe")
-    heads = user.run("return list.entries.filter(it => it.head).map(it => it.head)")
+    heads = user.run("return [...list.entries].filter(it => it.head).map(it => it.head)")
     user.that("Throw.G<T>" in heads and "lambda in Main" in user.text("#list"), f"the types are {heads}")
     user.new(throw / "Throw.exe")
     user.that("debug file beside it" in user.text("#found") and "Throw.pdb" in user.text("#found"), f"an assembly alone: {user.text('#found')}")
@@ -236,7 +236,7 @@ def check_names(user: User) -> None:
     hostile = user.check.work / "Throw.exe"
     hostile.write_bytes(data)
     user.new(throw / "Throw.pdb", hostile)
-    user.go("#m=%d" % user.run("return [...state.before.methods.keys()].find(row => rawName('before', row).includes('<img'))"))
+    user.go("#m=%d" % user.run("return Array.from(state.before.methods, it => it.row).find(row => rawName('before', row).includes('<img'))"))
     user.that("<img/onerror=a src=>" in user.text("#said"), f"a type of a hostile name is shown as {user.text('#said')}")
     user.that("⟨U+202E⟩<b>" in user.text("#list"), f"a method of a hostile name is shown as {user.text('#list')}")
     user.that(user.run("return document.querySelectorAll('img, #list b, #said b').length") == 0, "a name of an assembly became an element")

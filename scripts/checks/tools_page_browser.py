@@ -99,14 +99,14 @@ def compare_moved(pages: Pages, root: Path, pair: tuple[Path, Path]) -> None:
     check.ppdb("remap", before, mapped, moved)
     pages.open(check.page(before, "--map", mapped, moved, "--source", root / "examples"))
     want, got = Shown(check.ppdb("show", moved)), pages.run("""const {before, rewriting} = state;
-        return Object.fromEntries(before.sorted.flatMap(old => { const image = rewriting.image(old.row), found = old.points.flatMap((point, index) => {
+        return Object.fromEntries([...before.methods].flatMap(old => { const image = rewriting.image(old.row), found = old.points.flatMap((point, index) => {
           const to = image === null ? null : rewriting.point(old, index), name = before.documents.get(point.document).name;
           return to === null ? [] : [`${to} ${name} ${spanWords(point)}`]; });
           return found.length ? [[image, found]] : []; }))""")
     check.that(got == want.moved(), f"{before}: the map's points are others than those that remap writes")
-    is_same = pages.run("return state.subjects.every(it => !it.old || !it.now || differenceOf(it) === null)")
+    is_same = pages.run("return [...state.subjects].every(it => !it.old || !it.now || differenceOf(it) === null)")
     check.that(is_same, f"{before}: the page says that the files differ")
-    for subject in some(pages.run("return state.subjects.filter(it => it.old && it.now).map(it => [it.old.row, it.now.row])"), 6):
+    for subject in some(pages.run("return [...state.subjects].filter(it => it.old && it.now).map(it => [it.old.row, it.now.row])"), 6):
         pages.go(f"#m={subject[0]}")
         bars = pages.run("return [...document.querySelectorAll('#axis [data-side=after].bit.point, #axis [data-side=after].bit.hidden')].map(it => +it.dataset.from)")
         points = [int(point[0]) for point in want.points.get(subject[1], [])]
@@ -135,8 +135,8 @@ def click_through(pages: Pages) -> None:
 def check_documents(pages: Pages, page: bytes) -> None:
     """A method with code in several documents is in the list of each, and each entry leads to its document."""
     pages.open(page)
-    entries = pages.run("""return list.entries.filter(it => it.subject && it.subject.lines.length > 1)
-        .map(it => [it.subject.old.row, +it.key.split(":")[1]])""")
+    entries = pages.run("""return [...list.entries].filter(it => it.subject && it.subject.lines.length > 1)
+        .map(it => [it.subject.old.row, it.key])""")
     pages.check.that({row for row, _ in entries} == {6} and len(entries) == 3, f"the methods of several documents are {entries}")
     for row, document in entries:
         pages.go(f"#m={row}&d={document}")
