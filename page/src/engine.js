@@ -1,6 +1,6 @@
 /** The proved library: the wasm module that is in the page, compiled once. */
 import {Ppdb} from "../../bindings/js/ppdb.mjs";
-import {inflated} from "./sources.js";
+import {fromBase64, inflated} from "./sources.js";
 import {NO_MEMORY} from "./text.js";
 
 /**
@@ -8,7 +8,7 @@ import {NO_MEMORY} from "./text.js";
  * @returns {Promise<import("./session.js").Engine>}
  */
 export async function startEngine({length, packed}) {
-  const bytes = await inflated(Uint8Array.from(atob(packed), it => it.charCodeAt(0)), length, "deflate");
+  const bytes = await inflated(fromBase64(packed), length, "deflate");
   const library = new Ppdb(await WebAssembly.compile(bytes));
   return {run(words, files, takes) {
     const {status, text, made} = library.runBytes(words, files.map(it => [it.name, it.bytes]), takes);

@@ -1,5 +1,6 @@
 /** Files that are dropped, chosen, or in the page itself. */
 import {$} from "./dom.js";
+import {fromBase64} from "./sources.js";
 import {LONGEST_FILE} from "./text.js";
 
 /** The most files of a folder that are looked at. */
@@ -55,7 +56,7 @@ export const picked = files => taken([...files].map(file => ({file, path: file.w
 
 /** The bytes of base64, deflated or not. @param {string} text @param {boolean} isPacked */
 export async function bytesOfBase64(text, isPacked) {
-  const plain = atob(text.trim()), bytes = Uint8Array.from(plain, it => it.charCodeAt(0));
+  const bytes = fromBase64(text.trim());
   if (!isPacked) return bytes;
   return new Uint8Array(await new Response(new Blob([bytes]).stream().pipeThrough(new DecompressionStream("deflate"))).arrayBuffer());
 }

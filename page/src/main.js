@@ -289,6 +289,8 @@ async function main() {
   port = new Port(BUILT.worker, hears);
   engine = JSON.parse($("engine").textContent);
   $("engine").remove();
+  // The module is compiled while the page is made.
+  const started = startEngine();
   fill("made", BUILT.version);
   startPane(insist); startAxis(); startSplitters(redraw);
   startList(want => port.ask("search", "before", want));
@@ -299,7 +301,7 @@ async function main() {
   $("try").hidden = !example;
   // Files are handed over: the example is given again from a copy.
   $("try").onclick = () => give(example.files.map(it => ({...it, bytes: it.bytes.slice()})));
-  await startEngine();
+  await started;
   state.told = {files: [], inputs: []};
   document.body.dataset.view = "start";
   drawHead();

@@ -24,6 +24,12 @@ export async function inflated(packed, length, form = "deflate-raw") {
   } catch { return null; }
 }
 
+/** The bytes of base64. @param {string} text */
+export function fromBase64(text) {
+  const plain = atob(text), bytes = new Uint8Array(plain.length);
+  for (let at = 0; at < bytes.length; at++) bytes[at] = plain.charCodeAt(at);
+  return bytes;
+}
 /** The length before the bytes of an embedded source, 0 if they are not deflated. @param {Uint8Array} value */
 const lengthBefore = value => value.length < 4 ? 0 : new DataView(value.buffer, value.byteOffset, 4).getUint32(0, true);
 /** How long an embedded source is, unpacked, by its own word. @param {Uint8Array} value */
