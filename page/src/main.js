@@ -289,19 +289,16 @@ async function main() {
   port = new Port(BUILT.worker, hears);
   engine = JSON.parse($("engine").textContent);
   $("engine").remove();
-  // The module is compiled while the page is made.
-  const started = startEngine();
   fill("made", BUILT.version);
   startPane(insist); startAxis(); startSplitters(redraw);
   startList(want => port.ask("search", "before", want));
   startAnswer((side, command, rest) => port.ask("printed", side, command, rest));
   listen();
   tab("source");
-  const [example, inside] = [await inPage("example"), await inPage("files")];
+  const [example, inside] = await Promise.all([inPage("example"), inPage("files"), startEngine()]);
   $("try").hidden = !example;
   // Files are handed over: the example is given again from a copy.
   $("try").onclick = () => give(example.files.map(it => ({...it, bytes: it.bytes.slice()})));
-  await started;
   state.told = {files: [], inputs: []};
   document.body.dataset.view = "start";
   drawHead();
