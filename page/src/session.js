@@ -199,7 +199,8 @@ export class Session {
     const sources = this.inputs.filter(it => it.kind === "source");
     const {problem} = this, survey = this.survey();
     this.problem = "";
-    return {before: this.tellSide(this.sides.before), after: this.tellSide(this.sides.after), ...survey, mapName: this.map?.name ?? null, mapLine: this.mapLine, canRemap: this.made !== null, problem, sources: sources.length,
+    return {before: this.tellSide(this.sides.before), after: this.tellSide(this.sides.after), ...survey, mapName: this.map?.name ?? null,
+      mapLine: this.mapLine, canRemap: this.made !== null, problem, sources: sources.length,
       files: files.map(it => ({name: it.name, size: it.bytes.length, note: it.note, line: files.length > 2 ? this.verdict(it) : ""})),
       inputs: this.inputs.map(it => ({name: it.name, size: it.bytes.length, kind: it.kind, isRead: it.kind !== "assembly" || it.assembly !== null,
         path: it.assembly?.debug.path ?? "", hasInner: Boolean(it.assembly?.debug.embedded), fits: this.isUsed(it)}))};
@@ -247,7 +248,8 @@ export class Session {
     if (!side) return null;
     const {input: {name, note, bytes, kind}, key, line, status, assembly} = side, columns = side.isHeard ? null : side.columns;
     return {name, note, size: bytes.length, kind, key, line, status, columns, assembly: assembly?.name ?? null,
-      names: assembly && {key: assembly.key, tables: assembly.isHeard ? null : assembly.assembly.names}, isOne: side === this.sides.after && this.sides.before?.input === side.input};
+      names: assembly && {key: assembly.key, tables: assembly.isHeard ? null : assembly.assembly.names},
+      isOne: side === this.sides.after && this.sides.before?.input === side.input};
   }
 
   // ---- Sources.

@@ -35,7 +35,8 @@ test("every line of show is taken", () => {
 
 test("the map of docs/FORMAT.md, section 11", () => {
   const {tables, renamed} = readMap(["ppdbmap 4", "shares", "link x", "rows 01 2", "row 01 1 02 3", "gone 01 2", "rows 06 5", "row 06 1 2", "drop 3",
-    "signature 1 0", "document /a.cs /b\\x20.cs", "method 1 9 12", "run 0 0 1", "run 5 6 4"].join("\n")), map = new Rewriting(tables), method = {row: 1, count: 3, offsetAt: index => [0, 3, 7][index]};
+    "signature 1 0", "document /a.cs /b\\x20.cs", "method 1 9 12", "run 0 0 1", "run 5 6 4"].join("\n"));
+  const map = new Rewriting(tables), method = {row: 1, count: 3, offsetAt: index => [0, 3, 7][index]};
   assert.deepEqual([0, 1, 2].map(index => map.point(method, index)), [0, 6, 8]);
   assert.deepEqual([0, 1, 4, 5, 8].map(offset => map.kept(1, offset)), [0, null, null, 6, 9]);
   assert.deepEqual([0, 1, 5, 6, 9, 10].map(offset => map.origin(1, offset)), [0, null, null, 5, 8, null]);
