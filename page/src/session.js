@@ -248,8 +248,7 @@ export class Session {
     if (!side) return null;
     const {input: {name, note, bytes, kind}, key, line, status, assembly} = side, columns = side.isHeard ? null : side.columns;
     return {name, note, size: bytes.length, kind, key, line, status, columns, assembly: assembly?.name ?? null,
-      names: assembly && {key: assembly.key, tables: assembly.isHeard ? null : assembly.assembly.names},
-      isOne: side === this.sides.after && this.sides.before?.input === side.input};
+      names: assembly && {key: assembly.key, tables: assembly.isHeard ? null : assembly.assembly.names}};
   }
 
   // ---- Sources.
