@@ -303,6 +303,7 @@ async function main() {
   document.body.dataset.view = "start";
   drawHead();
   if (inside) { document.title = seen(inside.title || document.title); await give(inside.files, inside.shows); }
+  else if (example) port.ask("warm", example.files).catch(() => {});
   if (!state.before) { $("start").hidden = false; document.body.dataset.ready = ""; }
 }
 main().catch(wrong => { busy(""); trouble(`This page could not start: ${wrong.message}. A browser of 2024 or later is needed.`); });

@@ -175,6 +175,9 @@ export class Session {
     const isSame = known?.note && isSameBytes(known.bytes, fits.answer.out);
     return [fits.from, fits.to ?? (isSame ? known : new Input(name, fits.answer.out, "made here by the map"))];
   }
+  /** Reads a small file and forgets it: a browser makes quick code of what has run for a while, and so the first large file is read sooner.
+   @param {{name: string, bytes: Uint8Array}} file */
+  warm({name, bytes}) { this.shown(new Input(name, bytes)); }
   /** @param {Input} input @param {{before: Side | null, after: Side | null}} known */
   sideOf(input, known) {
     const same = [known.before, known.after].find(it => it?.input === input);

@@ -7,11 +7,21 @@ import {NO_MEMORY} from "./text.js";
 let session;
 let last = Promise.resolve();
 
+/** For how many milliseconds the engine is warmed at most, and whether anything was asked. */
+const WARMING = 400;
+let isAsked = false;
 /** The bytes of a file that was given. @param {import("./files.js").Given} given */
 const read = async ({name, file, bytes}) => ({name, bytes: bytes ?? new Uint8Array(await /** @type {File} */ (file).arrayBuffer())});
 /** What the page can ask for. */
 const DOES = {
   start: async module => { session = new Session(await startEngine(module)); },
+  warm: async ([file]) => {
+    for (const end = performance.now() + WARMING; session && !isAsked && performance.now() < end;) {
+      session.warm(file);
+      // A question comes first.
+      await new Promise(done => setTimeout(done));
+    }
+  },
   add: async (files, shows) => { session.forget(); return session.add(await Promise.all(files.map(read)), shows); },
   remove: name => { session.forget(); return session.remove(name); },
   choose: names => session.choose(names),
@@ -45,6 +55,7 @@ async function answered({id, name, words}) {
   catch (wrong) { postMessage({id, wrong: isMemory(wrong) ? NO_MEMORY : String(wrong?.message ?? wrong)}); }
 }
 onmessage = ({data}) => {
+  isAsked ||= data.name !== "start" && data.name !== "warm";
   // Names are guessed beside the other work; everything else keeps its order.
   if (data.name === "guess") answered(data); else last = last.then(() => answered(data));
 };

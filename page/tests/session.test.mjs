@@ -141,6 +141,27 @@ test("the columns of a file are told until they were heard", async () => {
   take(await session.add(given("examples/throw/Throw.pdb")));
   assert.deepEqual([state.before, state.after.name], [file, "Throw.pdb"]);
 });
+test("a file that warms the engine is forgotten", async () => {
+  const session = new Session(engine), [example] = given("examples/embed_link.pdb");
+  session.warm(example);
+  const told = await session.add(given("examples/async_iter.pdb"));
+  assert.deepEqual([told.before.name, told.after, told.inputs.map(it => it.name)], ["async_iter.pdb", null, ["async_iter.pdb"]]);
+});
+test("a file that comes when the page has the tables of another is compared with it", async () => {
+  const session = new Session(engine), [one, other] = given("corpus/async_iter.pdb", "corpus/async_iter-release.pdb");
+  take(await session.add([one]));
+  session.heard();
+  const told = await session.add([other]), changes = [...told.survey.kinds];
+  assert.deepEqual([told.before.columns, told.isSurveyed], [null, false]);
+  assert.deepEqual(told.survey, (await new Session(engine).add([one, other])).survey);
+  take(told);
+  session.heard();
+  assert.deepEqual([...state.subjects].map(it => it.change.kind === "same"), changes.map(it => it === 0));
+  const again = await session.add(given("examples/async_iter.cs")), {subjects} = state;
+  take(again);
+  assert.deepEqual([again.isSurveyed, again.survey], [true, null]);
+  assert.equal(state.subjects, subjects);
+});
 test("damaged debug files are refused with their line, and others are no debug files", async () => {
   const pdb = bytesOf("examples/async_iter.pdb"), cut = await new Session(engine).add([{name: "cut.pdb", bytes: pdb.slice(0, 100)}]);
   assert.equal(cut.before.columns, null);
