@@ -19,7 +19,7 @@ const ONLY = {all: () => true, changed: index => survey().kinds?.[index] > 0, lo
 
 /** What the list is about, and what it found. */
 export const list = {tab: "methods", want: "", only: "all", entries: new Entries([]), hits: null, view: /** @type {VirtualList} */ (null),
-  found: /** @type {any} */ (null), stops: () => {}};
+  found: /** @type {any} */ (null), stops: () => {}, isLate: false};
 
 /** @param {(want: string) => Promise<any>} searches looks for a text in the sources */
 export function startList(searches) {
@@ -74,11 +74,15 @@ function hitEntries() {
 /** Fills the list. Where much is to be searched, it stays as it was until that is done. */
 export function fillList() {
   list.stops();
-  list.found = null;
+  list.found = null; list.isLate = false;
   if (!state.before) return;
   const {documents} = survey(), isOfMethods = list.tab === "methods", count = isOfMethods ? state.subjects.count : 0;
   const chosen = new Chosen(count), isOnly = ONLY[list.only], found = [];
-  const show = () => { list.found = {methods: isOfMethods ? chosen.parts() : null, documents: list.want ? found : documents}; showList(); };
+  const show = () => {
+    list.found = {methods: isOfMethods ? chosen.parts() : null, documents: list.want ? found : documents};
+    showList();
+    if (list.isLate) fillList();
+  };
   if (!list.want) {
     if (list.only === "all") chosen.addAll(count); else for (let at = 0; at < count; at++) if (isOnly(at)) chosen.add(at);
     show();
@@ -113,8 +117,10 @@ function showList() {
   fill("count-methods", methods && list.want ? plural(methods.count, "method") : "");
   drawFilter();
 }
-/** Names have come: they change what is found, and how methods are called, but not their order. */
-export function nameList() { if (list.want) fillList(); else list.view.draw(); }
+/** Names have come: they change what is found, and how methods are called, but not their order. A search that goes on comes to its end first. */
+export function nameList() {
+  if (!list.want) list.view.draw(); else if (list.found) fillList(); else list.isLate = true;
+}
 /** The counts of what changed; each shows the methods that it counts. */
 function drawFilter() {
   const box = $("only");
