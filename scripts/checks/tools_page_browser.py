@@ -168,9 +168,10 @@ def check_worked(pages: Pages) -> None:
     """The map of docs/FORMAT.md, 11, makes of points at 0, 3 and 7 those that are said there, and lines of other tables change nothing."""
     text = ["ppdbmap 4", "shares", "link x", "rows 01 2", "row 01 1 02 3", "gone 01 2", "rows 06 5", "row 06 1 2", "drop 3", "signature 1 0",
             "document /a.cs /b\\x20.cs", "method 1 9 12", "run 0 0 1", "run 5 6 4"]
-    got = pages.run("""const map = new Rewriting(a[0]), offsets = [0, 3, 7], method = {row: 1, count: 3, offsetAt: index => offsets[index]};
+    got = pages.run("""const {tables, renamed} = readMap(a[0]), map = new Rewriting(tables), offsets = [0, 3, 7];
+        const method = {row: 1, count: 3, offsetAt: index => offsets[index]};
         return [[0, 1, 2].map(index => map.point(method, index)), [0, 1, 4, 5, 8].map(offset => map.kept(1, offset)),
-          [0, 1, 5, 6, 9, 10].map(offset => map.origin(1, offset)), [1, 2, 3].map(row => map.image(row)), map.renamed.get("/a.cs")]""", "\n".join(text))
+          [0, 1, 5, 6, 9, 10].map(offset => map.origin(1, offset)), [1, 2, 3].map(row => map.image(row)), renamed.get("/a.cs")]""", "\n".join(text))
     want = [[0, 6, 8], [0, None, None, 6, 9], [0, None, None, 5, 8, None], [2, None, None], "/b .cs"]
     pages.check.that(got == want, f"the map of FORMAT.md has the images {got} and not {want}")
 
